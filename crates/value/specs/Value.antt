@@ -1,0 +1,56 @@
+-- Values, their bytes and their size (document 01, "Values").
+use mathlib.Core.Bool.{Bool, true, false}
+use mathlib.Core.List.{List, [], _∷_, _++_}
+use Prim.Native.Nat.{ℕ, suc, _+_, _/_, _%_, _≤_}
+use native.Mathlib.Decide.{ℕ-discrete}
+
+-- A rest is a list by construction. A number of kind 04 is below 65,536: what reads and makes numbers sees to that.
+mutual
+  pub data Value : Type 0 where
+    vfalse vtrue : Value
+    list : Values → Value
+    number : ℕ → Value
+    pair : Value → Value → Value
+    deriving Discrete as Value-discrete
+
+  pub data Values : Type 0 where
+    nil : Values
+    cons : Value → Values → Values
+
+-- the bytes of a value: its kind, then its body; a number high byte first
+unfoldable mutual
+  pub encode : Value → List ℕ
+  encode vfalse = 0 ∷ []
+  encode vtrue = 1 ∷ []
+  encode (list l) = encodes l
+  encode (number n) = 4 ∷ n / 256 ∷ n % 256 ∷ []
+  encode (pair a b) = 5 ∷ (encode a ++ encode b)
+
+  pub encodes : Values → List ℕ
+  encodes nil = 2 ∷ []
+  encodes (cons v l) = 3 ∷ (encode v ++ encodes l)
+
+-- how many bytes that is (`size-encode`)
+unfoldable mutual
+  pub size : Value → ℕ
+  size vfalse = 1
+  size vtrue = 1
+  size (list l) = sizes l
+  size (number n) = 3
+  size (pair a b) = suc (size a + size b)
+
+  pub sizes : Values → ℕ
+  sizes nil = 1
+  sizes (cons v l) = suc (size v + sizes l)
+
+-- a value is at most 256 bytes
+abbrev pub Fits : Value → Type 0
+Fits v = size v ≤ 256
+
+-- two values are the same or not
+unfoldable pub sameValue : Discrete Value
+sameValue = Value-discrete ℕ-discrete
+
+abbrev pub truth : Bool → Value
+truth false = vfalse
+truth true = vtrue
