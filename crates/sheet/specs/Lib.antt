@@ -1,1 +1,4 @@
 pub mod Sheet
+pub mod Table
+pub mod Forms
+pub mod Places
