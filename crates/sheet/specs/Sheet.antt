@@ -101,7 +101,7 @@ module _ (nodes sections : ℕ) where
   nodeInRange own False = true
   nodeInRange own True = true
   nodeInRange own Empty = true
-  nodeInRange own (Number n) = true
+  nodeInRange own (Number n) = leb n 65535  -- (two bytes hold no other)
   nodeInRange own (Front a b) = below own a && below own b
   nodeInRange own (Pair a b) = below own a && below own b
   nodeInRange own (ListCase s e te n tn df dr) = below own s && below own e && isTest te && below own n && isTest tn && below own df && below own dr

@@ -47,6 +47,24 @@ unfoldable mutual
 abbrev pub Fits : Value → Type 0
 Fits v = size v ≤ 256
 
+-- every number in it is one that two bytes hold
+mutual
+  pub data Encodable : Value → Type 0 where
+    eFalse : Encodable vfalse
+    eTrue : Encodable vtrue
+    eList : {l : Values} → Encodables l → Encodable (list l)
+    eNumber : {n : ℕ} → n ≤ 65535 → Encodable (number n)
+    ePair : {a b : Value} → Encodable a → Encodable b → Encodable (pair a b)
+
+  pub data Encodables : Values → Type 0 where
+    eNil : Encodables nil
+    eCons : {v : Value} {l : Values} → Encodable v → Encodables l → Encodables (cons v l)
+
+-- the bytes of several values, one after another
+unfoldable pub flat : List Value → List ℕ
+flat [] = []
+flat (v ∷ vs) = encode v ++ flat vs
+
 -- two values are the same or not
 unfoldable pub sameValue : Discrete Value
 sameValue = Value-discrete ℕ-discrete
