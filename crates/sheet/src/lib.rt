@@ -2,7 +2,10 @@
 
 ghost use mathlib.Core.Path.{_≡_};
 ghost use Prim.Native.Nat.{ℕ, _+_, _*_, _<_, _≤_};
+ghost use mathlib.Core.Bool.{_&&_};
+ghost use lib.Dec.{ltb, leb};
 ghost use lib.ListN.{length, getD, drop};
+ghost use Rattle.sheet.specs.Sheet.{nodeInRange};
 ghost use Rattle.sheet.specs.Table.{nodeOf, listCase, truthCase, nodeAt, kindWidth, sectionAt, tableOf};
 
 /// A node of a sheet: one variant a kind, 10 to 1B in order. Numbers of nodes, sections and variables are `usize`.
@@ -170,4 +173,64 @@ pub fn node_at(s: &[u8], at: usize) -> Node
         return Node::False;
     }
     decode(&s[at..])
+}
+
+// Whether `n` is the number of a node behind node `own`.
+fn is_below(own: usize, n: usize, nodes: usize) -> bool
+    ensures { λ r. ⌜ r ≡ ltb own n && ltb n nodes ⌝ }
+{
+    if own < n { n < nodes } else { false }
+}
+
+// Whether both are.
+fn both_below(own: usize, a: usize, b: usize, nodes: usize) -> bool
+    ensures { λ r. ⌜ r ≡ (ltb own a && ltb a nodes) && (ltb own b && ltb b nodes) ⌝ }
+{
+    is_below(own, a, nodes) & is_below(own, b, nodes)
+}
+
+// Whether a branch is a node behind node `own` with a test.
+fn is_branch(own: usize, n: usize, test: u8, nodes: usize) -> bool
+    ensures { λ r. ⌜ r ≡ (ltb own n && ltb n nodes) && leb test 6 ⌝ }
+{
+    is_below(own, n, nodes) & (test <= 6)
+}
+
+/// Whether each number in the body of node `own` is in its range.
+pub fn in_range(n: Node, own: usize, nodes: usize, sections: usize) -> bool
+    ensures { λ r. ⌜ r ≡ nodeInRange nodes sections own n ⌝ }
+{
+    match n {
+        Node::Var(_) => true,
+        Node::False => true,
+        Node::True => true,
+        Node::Empty => true,
+        Node::Number(v) => v <= 65535,
+        Node::Front { first, rest } => both_below(own, first, rest, nodes),
+        Node::Pair { left, right } => both_below(own, left, right, nodes),
+        Node::ListCase {
+            subject,
+            empty,
+            empty_test,
+            front,
+            front_test,
+            first,
+            rest,
+        } => is_below(own, subject, nodes)
+            & is_branch(own, empty, empty_test, nodes)
+            & is_branch(own, front, front_test, nodes)
+            & both_below(own, first, rest, nodes),
+        Node::TruthCase {
+            subject,
+            no,
+            no_test,
+            yes,
+            yes_test,
+        } => is_below(own, subject, nodes)
+            & is_branch(own, no, no_test, nodes)
+            & is_branch(own, yes, yes_test, nodes),
+        Node::Split { subject, inner } => both_below(own, subject, inner, nodes),
+        Node::Call { section, .. } => section < sections,
+        Node::Add { node, .. } => is_below(own, node, nodes),
+    }
 }
