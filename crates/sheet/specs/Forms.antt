@@ -8,6 +8,7 @@ use Prim.Native.Nat.{ℕ, zero, suc, _+_, _≤_, _<_}
 use native.Mathlib.Nat.{le-of-suc-le-suc, not-suc-le-zero}
 use native.Mathlib.Omega.{arith}
 use native.Mathlib.Decide.{decLt}
+use lib.Dec.{T, leb, leb→le}
 use lib.ListN.{length, getD, replicate, List·getD-eq-default, List·getD-append, getD-replicate}
 use borrow.Author.Tests.{le-leb, lt-leb}
 use Rattle.sheet.specs.Sheet.{Form, forms, formOf}
@@ -73,3 +74,87 @@ pub node-unknown : (r : List ℕ) → formOf (getD r 0 0) ≡ none → nodeOf r 
 unfolding nodeOf ofForm
 node-unknown [] e = refl
 node-unknown (b ∷ bs) e = rw e
+
+row : {f : Form} → ((g : ℕ → ℕ) → width (f .make g) ≡ suc (f .width)) → T (leb (f .width) 7) → Wide f
+row {f} w t = record { made = w; small = leb→le (f .width) 7 t }
+
+-- THE law of the table: each row's node is as wide as the row says
+all-wide : All IfWide (replicate 16 none ++ forms)
+unfolding forms width
+all-wide = (
+  tt,
+  (
+    tt,
+    (
+      tt,
+      (
+        tt,
+        (
+          tt,
+          (
+            tt,
+            (
+              tt,
+              (
+                tt,
+                (
+                  tt,
+                  (
+                    tt,
+                    (
+                      tt,
+                      (
+                        tt,
+                        (
+                          tt,
+                          (
+                            tt,
+                            (
+                              tt,
+                              (
+                                tt,
+                                (
+                                  row (λ g. refl) tt,
+                                  (
+                                    row (λ g. refl) tt,
+                                    (
+                                      row (λ g. refl) tt,
+                                      (
+                                        row (λ g. refl) tt,
+                                        (
+                                          row (λ g. refl) tt,
+                                          (
+                                            row (λ g. refl) tt,
+                                            (
+                                              row (λ g. refl) tt,
+                                              (
+                                                row (λ g. refl) tt,
+                                                (row (λ g. refl) tt, (row (λ g. refl) tt, (row (λ g. refl) tt, (row (λ g. refl) tt, tt)))),
+                                              ),
+                                            ),
+                                          ),
+                                        ),
+                                      ),
+                                    ),
+                                  ),
+                                ),
+                              ),
+                            ),
+                          ),
+                        ),
+                      ),
+                    ),
+                  ),
+                ),
+              ),
+            ),
+          ),
+        ),
+      ),
+    ),
+  ),
+)
+
+pub wide-form : (b : ℕ) {f : Form} → formOf b ≡ some f → Wide f
+unfolding formOf
+wide-form b e = rw e at (all-at IfWide (replicate 16 none ++ forms) none all-wide tt b)

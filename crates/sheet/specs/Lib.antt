@@ -2,3 +2,5 @@ pub mod Sheet
 pub mod Table
 pub mod Forms
 pub mod Places
+pub mod Reading
+pub mod Laws
