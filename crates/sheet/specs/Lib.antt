@@ -1,1 +1,6 @@
 pub mod Sheet
+pub mod Table
+pub mod Forms
+pub mod Places
+pub mod Reading
+pub mod Laws

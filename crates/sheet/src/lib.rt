@@ -1,5 +1,13 @@
 //! Sheets: records of bytes read, judged and decoded (document 01, "Sheet records").
 
+ghost use mathlib.Core.Path.{_≡_};
+ghost use Prim.Native.Nat.{ℕ, _+_, _*_, _<_, _≤_};
+ghost use mathlib.Core.Bool.{_&&_};
+ghost use lib.Dec.{ltb, leb};
+ghost use lib.ListN.{length, getD, drop};
+ghost use Rattle.sheet.specs.Sheet.{nodeInRange};
+ghost use Rattle.sheet.specs.Table.{nodeOf, listCase, truthCase, nodeAt, kindWidth, sectionAt, tableOf};
+
 /// A node of a sheet: one variant a kind, 10 to 1B in order. Numbers of nodes, sections and variables are `usize`.
 pub enum Node {
     Var(usize),
@@ -46,13 +54,183 @@ pub enum Node {
     },
 }
 
-/// Whether a node is a constant.
-pub fn is_constant(n: Node) -> bool {
+/// What reading a sheet gives. A refusal is its number and zeros. Otherwise `refusal` is 0, and `starts` has the
+/// place of each node's record, in file order, with zeros behind.
+pub struct Table {
+    pub refusal: u8,
+    pub k: usize,
+    pub root: usize,
+    pub sections: usize,
+    pub nodes: usize,
+    pub starts: [u16; 200],
+}
+
+// A byte as a number of a node, section or variable.
+fn wide(b: u8) -> usize
+    ensures { λ r. ⌜ r ≡ b ⌝ }
+{
+    b as usize
+}
+
+// The bytes of a node record of this kind, the kind byte with them; 0 where no node has the kind.
+fn record_width(kind: u8) -> usize
+    ensures { λ r. ⌜ r ≡ kindWidth kind ⌝ }
+{
+    match kind {
+        0x10 => 2,
+        0x11 => 1,
+        0x12 => 1,
+        0x13 => 1,
+        0x14 => 3,
+        0x15 => 3,
+        0x16 => 3,
+        0x17 => 8,
+        0x18 => 6,
+        0x19 => 3,
+        0x1A => 4,
+        0x1B => 4,
+        _ => 0,
+    }
+}
+
+// The list case whose record these bytes begin with.
+fn list_case(r: &[u8]) -> Node
+    requires { ⌜ 8 ≤ length (now r) ⌝ }
+    ensures { λ n. ⌜ n ≡ listCase (now (r .entry)) ⌝ }
+{
+    Node::ListCase {
+        subject: wide(r[1]),
+        empty: wide(r[2]),
+        empty_test: r[3],
+        front: wide(r[4]),
+        front_test: r[5],
+        first: wide(r[6]),
+        rest: wide(r[7]),
+    }
+}
+
+// The truth case whose record these bytes begin with.
+fn truth_case(r: &[u8]) -> Node
+    requires { ⌜ 6 ≤ length (now r) ⌝ }
+    ensures { λ n. ⌜ n ≡ truthCase (now (r .entry)) ⌝ }
+{
+    Node::TruthCase {
+        subject: wide(r[1]),
+        no: wide(r[2]),
+        no_test: r[3],
+        yes: wide(r[4]),
+        yes_test: r[5],
+    }
+}
+
+// The node whose whole record these bytes begin with; `False` where no node has the kind.
+fn decode(r: &[u8]) -> Node
+    requires { ⌜ (1 ≤ length (now r)) × (kindWidth (getD (now r) 0 0) ≤ length (now r)) ⌝ }
+    ensures { λ n. ⌜ n ≡ nodeOf (now (r .entry)) ⌝ }
+{
+    let kind = r[0];
+    match kind {
+        0x10 => Node::Var(wide(r[1])),
+        0x11 => Node::False,
+        0x12 => Node::True,
+        0x13 => Node::Empty,
+        0x14 => Node::Number(value::number(r[1], r[2])),
+        0x15 => Node::Front {
+            first: wide(r[1]),
+            rest: wide(r[2]),
+        },
+        0x16 => Node::Pair {
+            left: wide(r[1]),
+            right: wide(r[2]),
+        },
+        0x17 => list_case(r),
+        0x18 => truth_case(r),
+        0x19 => Node::Split {
+            subject: wide(r[1]),
+            inner: wide(r[2]),
+        },
+        0x1A => Node::Call {
+            section: wide(r[1]),
+            first: wide(r[2]),
+            second: wide(r[3]),
+        },
+        0x1B => Node::Add {
+            node: wide(r[1]),
+            amount: value::number(r[2], r[3]),
+        },
+        _ => Node::False,
+    }
+}
+
+/// The node whose record starts at byte `at` of a sheet; `False` where no whole record of a known kind stands there.
+pub fn node_at(s: &[u8], at: usize) -> Node
+    ensures { λ n. ⌜ n ≡ nodeAt (now (s .entry)) at ⌝ }
+{
+    if s.len() <= at {
+        return Node::False;
+    }
+    if s.len() - at < record_width(s[at]) {
+        return Node::False;
+    }
+    decode(&s[at..])
+}
+
+// Whether `n` is the number of a node behind node `own`.
+fn is_below(own: usize, n: usize, nodes: usize) -> bool
+    ensures { λ r. ⌜ r ≡ ltb own n && ltb n nodes ⌝ }
+{
+    if own < n { n < nodes } else { false }
+}
+
+// Whether both are.
+fn both_below(own: usize, a: usize, b: usize, nodes: usize) -> bool
+    ensures { λ r. ⌜ r ≡ (ltb own a && ltb a nodes) && (ltb own b && ltb b nodes) ⌝ }
+{
+    is_below(own, a, nodes) & is_below(own, b, nodes)
+}
+
+// Whether a branch is a node behind node `own` with a test.
+fn is_branch(own: usize, n: usize, test: u8, nodes: usize) -> bool
+    ensures { λ r. ⌜ r ≡ (ltb own n && ltb n nodes) && leb test 6 ⌝ }
+{
+    is_below(own, n, nodes) & (test <= 6)
+}
+
+/// Whether each number in the body of node `own` is in its range.
+pub fn in_range(n: Node, own: usize, nodes: usize, sections: usize) -> bool
+    ensures { λ r. ⌜ r ≡ nodeInRange nodes sections own n ⌝ }
+{
     match n {
+        Node::Var(_) => true,
         Node::False => true,
         Node::True => true,
         Node::Empty => true,
-        Node::Number(_) => true,
-        _ => false,
+        Node::Number(v) => v <= 65535,
+        Node::Front { first, rest } => both_below(own, first, rest, nodes),
+        Node::Pair { left, right } => both_below(own, left, right, nodes),
+        Node::ListCase {
+            subject,
+            empty,
+            empty_test,
+            front,
+            front_test,
+            first,
+            rest,
+        } => is_below(own, subject, nodes)
+            & is_branch(own, empty, empty_test, nodes)
+            & is_branch(own, front, front_test, nodes)
+            & both_below(own, first, rest, nodes),
+        Node::TruthCase {
+            subject,
+            no,
+            no_test,
+            yes,
+            yes_test,
+        } => is_below(own, subject, nodes)
+            & is_branch(own, no, no_test, nodes)
+            & is_branch(own, yes, yes_test, nodes),
+        Node::Split { subject, inner } => both_below(own, subject, inner, nodes),
+        Node::Call { section, .. } => section < sections,
+        Node::Add { node, .. } => is_below(own, node, nodes),
     }
 }

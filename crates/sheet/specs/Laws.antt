@@ -1,0 +1,208 @@
+-- Laws of a sheet that was read, for callers: where its records stand, the range of each number, and what the table tells.
+use mathlib.Core.Path.{_≡_, refl, sym, ap, _∙_}
+use mathlib.Core.Bool.{Bool, true, false, _&&_}
+use mathlib.Core.List.{List, [], _∷_}
+use Prim.Native.Nat.{ℕ, zero, suc, _+_, _*_, _-_, _≤_, _<_}
+use native.Mathlib.Nat.{add-zero, zero-add}
+use native.Mathlib.Omega.{arith}
+use lib.Dec.{leb, ltb}
+use lib.ListN.{length, getD, replicate, List·getD-append}
+use borrow.Author.Tests.{leb-true, ltb-true}
+use Rattle.value.specs.Result.{Result, ok, refusal}
+use Rattle.sheet.specs.Sheet.{Sheet, nodeInRange, nodesInRange, rootsInRange, inRange, readSheet}
+use Rattle.sheet.specs.Table.{width, offsets, firstNode, nodeAt, sectionAt, tableOf}
+use Rattle.sheet.specs.Reading.{Fine, fine, refused, fine-ok, placed-at, rooted-at, HeaderRead, SheetRead, sheet-fine}
+use Rattle.sheet.specs.declared.Node.{Node}
+use Rattle.sheet.specs.declared.Node.the-variants.{Var, False, True, Empty, Number, Front, Pair, ListCase, TruthCase, Split, Call, Add}
+
+-- WHERE RECORDS STAND
+
+pub sheet-read : (s : List ℕ) {sh : Sheet} → readSheet s ≡ ok sh → SheetRead s sh
+sheet-read s = fine-ok (sheet-fine s)
+
+pub header-node : {s : List ℕ} {sh : Sheet} → HeaderRead s sh → (i : ℕ) → i < length (sh .nodes) → nodeAt s (getD (offsets (firstNode (length (sh .sections))) (sh .nodes)) i 0) ≡ getD (sh .nodes) i False
+header-node h i l = placed-at (h .placed) i l
+
+pub header-section : {s : List ℕ} {sh : Sheet} → HeaderRead s sh → (i : ℕ) → i < length (sh .sections) → sectionAt s i ≡ getD (sh .sections) i 0
+unfolding sectionAt
+header-section h i l = rooted-at (h .rooted) i l
+
+pub node-read : (s : List ℕ) {sh : Sheet} → readSheet s ≡ ok sh → (i : ℕ) → i < length (sh .nodes) → nodeAt s (getD (offsets (3 + 2 * length (sh .sections)) (sh .nodes)) i 0) ≡ getD (sh .nodes) i False
+node-read s e = header-node (sheet-read s e .header)
+
+pub section-read : (s : List ℕ) {sh : Sheet} → readSheet s ≡ ok sh → (i : ℕ) → i < length (sh .sections) → sectionAt s i ≡ getD (sh .sections) i 0
+section-read s e = header-section (sheet-read s e .header)
+
+-- THE RANGE OF EACH NUMBER
+
+and-true : (a b : Bool) → a && b ≡ true → (a ≡ true) × (b ≡ true)
+and-true true b e = (refl, e)
+and-true false b e = let z : _≡_ {A = ℕ} 0 1 = cc in absurd (omega arith)
+
+-- a node that node `own` names: a higher number, of a node that is there
+pub record Child (nodes own c : ℕ) : Type 0 where
+  pub above : own < c
+  pub inside : c < nodes
+
+pub record InListCase (nodes own s e te n tn df dr : ℕ) : Type 0 where
+  pub subject : Child nodes own s
+  pub empty : Child nodes own e
+  pub empty-test : te ≤ 6
+  pub front : Child nodes own n
+  pub front-test : tn ≤ 6
+  pub first : Child nodes own df
+  pub rest : Child nodes own dr
+
+pub record InTruthCase (nodes own s f tf t tt : ℕ) : Type 0 where
+  pub subject : Child nodes own s
+  pub no : Child nodes own f
+  pub no-test : tf ≤ 6
+  pub yes : Child nodes own t
+  pub yes-test : tt ≤ 6
+
+-- what a node's numbers are known to be, by its kind
+abbrev pub Ranged : ℕ → ℕ → ℕ → Node → Type 0
+Ranged nodes sections own (Var x) = Unit
+Ranged nodes sections own False = Unit
+Ranged nodes sections own True = Unit
+Ranged nodes sections own Empty = Unit
+Ranged nodes sections own (Number n) = n ≤ 65535
+Ranged nodes sections own (Front a b) = Child nodes own a × Child nodes own b
+Ranged nodes sections own (Pair a b) = Child nodes own a × Child nodes own b
+Ranged nodes sections own (ListCase s e te n tn df dr) = InListCase nodes own s e te n tn df dr
+Ranged nodes sections own (TruthCase s f tf t tt) = InTruthCase nodes own s f tf t tt
+Ranged nodes sections own (Split s i) = Child nodes own s × Child nodes own i
+Ranged nodes sections own (Call sec x y) = sec < sections
+Ranged nodes sections own (Add n a) = Child nodes own n
+
+child : (nodes own c : ℕ) → ltb own c && ltb c nodes ≡ true → Child nodes own c
+child nodes own c e =
+    let p = and-true (ltb own c) (ltb c nodes) e in
+    record { above = ltb-true own c (p .0); inside = ltb-true c nodes (p .1) }
+
+children : (nodes own a b : ℕ) → (ltb own a && ltb a nodes) && (ltb own b && ltb b nodes) ≡ true → Child nodes own a × Child nodes own b
+children nodes own a b e =
+    let p = and-true (ltb own a && ltb a nodes) (ltb own b && ltb b nodes) e in
+    (child nodes own a (p .0), child nodes own b (p .1))
+
+pub ranged : (nodes sections own : ℕ) (n : Node) → nodeInRange nodes sections own n ≡ true → Ranged nodes sections own n
+unfolding nodeInRange
+ranged nodes sections own (Var x) e = tt
+ranged nodes sections own False e = tt
+ranged nodes sections own True e = tt
+ranged nodes sections own Empty e = tt
+ranged nodes sections own (Number n) e = leb-true n 65535 e
+ranged nodes sections own (Front a b) e = children nodes own a b e
+ranged nodes sections own (Pair a b) e = children nodes own a b e
+ranged nodes sections own (ListCase s e te n tn df dr) t =
+    let p₁ = and-true _ (ltb own dr && ltb dr nodes) t in
+    let p₂ = and-true _ (ltb own df && ltb df nodes) (p₁ .0) in
+    let p₃ = and-true _ (leb tn 6) (p₂ .0) in
+    let p₄ = and-true _ (ltb own n && ltb n nodes) (p₃ .0) in
+    let p₅ = and-true _ (leb te 6) (p₄ .0) in
+    let p₆ = children nodes own s e (p₅ .0) in
+    record {
+      subject = p₆ .0;
+      empty = p₆ .1;
+      empty-test = leb-true te 6 (p₅ .1);
+      front = child nodes own n (p₄ .1);
+      front-test = leb-true tn 6 (p₃ .1);
+      first = child nodes own df (p₂ .1);
+      rest = child nodes own dr (p₁ .1);
+    }
+ranged nodes sections own (TruthCase s f tf t tt) e =
+    let p₁ = and-true _ (leb tt 6) e in
+    let p₂ = and-true _ (ltb own t && ltb t nodes) (p₁ .0) in
+    let p₃ = and-true _ (leb tf 6) (p₂ .0) in
+    let p₄ = children nodes own s f (p₃ .0) in
+    record {
+      subject = p₄ .0;
+      no = p₄ .1;
+      no-test = leb-true tf 6 (p₃ .1);
+      yes = child nodes own t (p₂ .1);
+      yes-test = leb-true tt 6 (p₁ .1);
+    }
+ranged nodes sections own (Split s i) e = children nodes own s i e
+ranged nodes sections own (Call sec x y) e = ltb-true sec sections e
+ranged nodes sections own (Add n a) e = child nodes own n e
+
+roots-in : (nodes : ℕ) (rs : List ℕ) → rootsInRange nodes rs ≡ true → (i : ℕ) → i < length rs → getD rs i 0 < nodes
+unfolding rootsInRange
+roots-in nodes [] e i h = absurd (omega arith)
+roots-in nodes (r ∷ rs) e zero h = ltb-true r nodes (and-true (ltb r nodes) (rootsInRange nodes rs) e .0)
+roots-in nodes (r ∷ rs) e (suc i) h = roots-in nodes rs (and-true (ltb r nodes) (rootsInRange nodes rs) e .1) i (omega arith)
+
+module _ (nodes sections : ℕ) where
+  nodes-in : (own : ℕ) (ns : List Node) → nodesInRange nodes sections own ns ≡ true → (i : ℕ) → i < length ns → nodeInRange nodes sections (own + i) (getD ns i False) ≡ true
+  unfolding nodesInRange
+  nodes-in own [] e i h = absurd (omega arith)
+  nodes-in own (n ∷ ns) e zero h = rw add-zero (and-true (nodeInRange nodes sections own n) (nodesInRange nodes sections (suc own) ns) e .0)
+  nodes-in own (n ∷ ns) e (suc i) h =
+      let q : suc own + i ≡ own + suc i = omega arith in
+      rw q at (nodes-in (suc own) ns (and-true (nodeInRange nodes sections own n) (nodesInRange nodes sections (suc own) ns) e .1) i (omega arith))
+
+-- every number of a sheet that was read
+pub record Ranges (sh : Sheet) : Type 0 where
+  pub some-variable : 1 ≤ sh .k
+  pub few-variables : sh .k ≤ 16
+  pub root : sh .root < length (sh .nodes)
+  pub few-sections : length (sh .sections) ≤ 8
+  pub some-node : 1 ≤ length (sh .nodes)
+  pub few-nodes : length (sh .nodes) ≤ 200
+  pub section : (i : ℕ) → i < length (sh .sections) → getD (sh .sections) i 0 < length (sh .nodes)
+  pub node : (i : ℕ) → i < length (sh .nodes) → Ranged (length (sh .nodes)) (length (sh .sections)) i (getD (sh .nodes) i False)
+
+pub sheet-ranges : (s : List ℕ) {sh : Sheet} → readSheet s ≡ ok sh → Ranges sh
+unfolding inRange
+sheet-ranges s {sh} e =
+    let h = sheet-read s e in
+    let m : ℕ = length (sh .nodes) in
+    let p₁ = and-true _ (nodesInRange m (length (sh .sections)) 0 (sh .nodes)) (h .ranged) in
+    let p₂ = and-true _ (rootsInRange m (sh .sections)) (p₁ .0) in
+    let p₃ = and-true _ (ltb (sh .root) m) (p₂ .0) in
+    let p₄ = and-true (leb 1 (sh .k)) (leb (sh .k) 16) (p₃ .0) in
+    record {
+      some-variable = leb-true 1 (sh .k) (p₄ .0);
+      few-variables = leb-true (sh .k) 16 (p₄ .1);
+      root = ltb-true (sh .root) m (p₃ .1);
+      few-sections = h .header .few-sections;
+      some-node = h .header .some-node;
+      few-nodes = h .header .few-nodes;
+      section = roots-in m (sh .sections) (p₂ .1);
+      node =
+          λ i l.
+          ranged m (length (sh .sections)) i (getD (sh .nodes) i False)
+          (rw zero-add at (nodes-in m (length (sh .sections)) 0 (sh .nodes) (p₁ .1) i l));
+    }
+
+-- WHAT THE TABLE TELLS
+
+pub length-offsets : (p : ℕ) (ns : List Node) → length (offsets p ns) ≡ length ns
+unfolding offsets
+length-offsets p [] = refl
+length-offsets p (n ∷ ns) = ap suc (length-offsets (p + width n) ns)
+
+-- the start of node i
+pub table-start : (sh : Sheet) (i : ℕ) → i < length (sh .nodes) → getD (tableOf (ok sh) .starts) i 0 ≡ getD (offsets (firstNode (length (sh .sections))) (sh .nodes)) i 0
+unfolding tableOf
+table-start sh i h =
+    let o : List ℕ = offsets (firstNode (length (sh .sections))) (sh .nodes) in
+    List·getD-append o (replicate (200 - length o) 0) 0 i (rw length-offsets h)
+
+-- a table with refusal 0 is that of a sheet, any other one is a refusal
+module _ {P : Sheet → Type 0} where
+  pub fine-table : {r : Result Sheet} → Fine P r → tableOf r .refusal ≡ 0 → (sh : Sheet) × (r ≡ ok sh)
+  unfolding tableOf
+  fine-table (fine {a = sh} p) e = (sh, refl)
+  fine-table (refused h) e = absurd (omega arith)
+
+  pub fine-refused : {r : Result Sheet} → Fine P r → (tableOf r .refusal ≡ 0 → ⊥) → r ≡ refusal (tableOf r .refusal)
+  unfolding tableOf
+  fine-refused (fine p) n = absurd (n refl)
+  fine-refused (refused h) n = refl
+
+pub table-ok : (s : List ℕ) → tableOf (readSheet s) .refusal ≡ 0 → (sh : Sheet) × (readSheet s ≡ ok sh)
+table-ok s = fine-table (sheet-fine s)
+
+pub table-refused : (s : List ℕ) → (tableOf (readSheet s) .refusal ≡ 0 → ⊥) → readSheet s ≡ refusal (tableOf (readSheet s) .refusal)
+table-refused s = fine-refused (sheet-fine s)

@@ -1,0 +1,90 @@
+-- What the sheet reader answers: a table of where each node's record starts, a node decoded from its record, a section's root.
+use mathlib.Core.Bool.{Bool, true, false}
+use mathlib.Core.Option.{Option, none, some}
+use mathlib.Core.List.{List, [], _∷_, _++_}
+use Prim.Native.Nat.{ℕ, suc, _+_, _*_, _-_}
+use lib.Dec.{ltb, leb}
+use lib.ListN.{length, getD, drop, replicate}
+use Rattle.value.specs.Result.{Result, ok, refusal}
+use Rattle.sheet.specs.Sheet.{Sheet, Form, formOf}
+use Rattle.sheet.specs.declared.Node.{Node}
+use Rattle.sheet.specs.declared.Node.the-variants.{Var, False, True, Empty, Number, Front, Pair, ListCase, TruthCase, Split, Call, Add}
+use Rattle.sheet.specs.declared.Table.{Table}
+
+-- the bytes of a node's record: its kind and its body
+unfoldable pub width : Node → ℕ
+width (Var x) = 2
+width False = 1
+width True = 1
+width Empty = 1
+width (Number n) = 3
+width (Front a b) = 3
+width (Pair a b) = 3
+width (ListCase s e te n tn df dr) = 8
+width (TruthCase s f tf t tt) = 6
+width (Split s i) = 3
+width (Call sec x y) = 4
+width (Add n a) = 4
+
+-- where each node's record starts, the first at `at`
+unfoldable pub offsets : ℕ → List Node → List ℕ
+offsets at [] = []
+offsets at (n ∷ ns) = at ∷ offsets (at + width n) ns
+
+-- where the first of a sheet's node records starts
+abbrev pub firstNode : ℕ → ℕ
+firstNode sections = 3 + 2 * sections
+
+-- a list of at most 200 numbers in an array of 200: zeros stand behind it
+abbrev pub padded : List ℕ → List ℕ
+padded l = l ++ replicate (200 - length l) 0
+
+-- a refusal is its number and zeros
+unfoldable pub tableOf : Result Sheet → Table
+tableOf (refusal c) = record { refusal = c; k = 0; root = 0; sections = 0; nodes = 0; starts = replicate 200 0 }
+tableOf (ok sh) =
+    record {
+      refusal = 0;
+      k = sh .k;
+      root = sh .root;
+      sections = length (sh .sections);
+      nodes = length (sh .nodes);
+      starts = padded (offsets (firstNode (length (sh .sections))) (sh .nodes));
+    }
+
+-- the node of a record whose form is known; False where the record is cut, or no node has its kind
+unfoldable pub ifWhole : Bool → Node → Node
+ifWhole true n = n
+ifWhole false n = False
+
+unfoldable pub ofForm : Option Form → List ℕ → Node
+ofForm none bs = False
+ofForm (some f) bs = ifWhole (leb (f .width) (length bs)) (f .make (λ i. getD bs i 0))
+
+-- the node whose record the bytes begin with
+unfoldable pub nodeOf : List ℕ → Node
+nodeOf [] = False
+nodeOf (b ∷ bs) = ofForm (formOf b) bs
+
+-- the longest two nodes, whose records the bytes begin with
+abbrev pub listCase : List ℕ → Node
+listCase r = ListCase (getD r 1 0) (getD r 2 0) (getD r 3 0) (getD r 4 0) (getD r 5 0) (getD r 6 0) (getD r 7 0)
+
+abbrev pub truthCase : List ℕ → Node
+truthCase r = TruthCase (getD r 1 0) (getD r 2 0) (getD r 3 0) (getD r 4 0) (getD r 5 0)
+
+-- the node whose record starts at byte p
+unfoldable pub nodeAt : List ℕ → ℕ → Node
+nodeAt s p = nodeOf (drop p s)
+
+-- the bytes of a record of kind b; 0 where no node has the kind
+unfoldable pub formWidth : Option Form → ℕ
+formWidth none = 0
+formWidth (some f) = suc (f .width)
+
+unfoldable pub kindWidth : ℕ → ℕ
+kindWidth b = formWidth (formOf b)
+
+-- the root of section i, whose record starts at byte 3 + 2 * i; 0 past the end
+unfoldable pub sectionAt : List ℕ → ℕ → ℕ
+sectionAt s i = getD s (4 + 2 * i) 0
