@@ -6,3 +6,4 @@ pub mod Tests
 pub mod Reading
 pub mod Encoding
 pub mod Laws
+pub mod Reader
