@@ -7,3 +7,5 @@ pub mod Reading
 pub mod Encoding
 pub mod Laws
 pub mod Reader
+pub mod Parts
+pub mod Answers

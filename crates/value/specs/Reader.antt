@@ -74,7 +74,7 @@ begins s room hs hr e os =
     let n : room ≡ suc (room - 1) = omega arith in
     ap₂ (λ (l : List ℕ) (m : ℕ). read l m os) (d ∙ ap (λ (k : ℕ). k ∷ drop 1 s) e) n
 
-unknown-kind : (b : ℕ) → 6 ≤ b → kindOf b ≡ unknown
+pub unknown-kind : (b : ℕ) → 6 ≤ b → kindOf b ≡ unknown
 unfolding kindOf
 unknown-kind b h = List·getD-eq-default (kFalse ∷ kTrue ∷ kEmpty ∷ kFront ∷ kNumber ∷ kPair ∷ []) unknown h
 

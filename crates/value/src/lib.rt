@@ -1,7 +1,9 @@
 //! Values and their bytes (document 01, "Values").
 ghost use mathlib.Core.Path.{_≡_};
+ghost use Prim.Native.Nat.{_+_, _*_, _/_, _%_};
 ghost use Rattle.value.specs.Reader.{Reads, NumberBegins, outcome};
 ghost use Rattle.value.specs.Reading.{readValue, value, rest};
+ghost use Rattle.value.specs.Parts.{shapeOf, firstPart, secondPart, kindAt, restKind, passesBytes, sameBytes};
 
 // What the bytes begin with: a whole value and its length, or why none.
 pub enum Read {
@@ -95,7 +97,134 @@ fn body(s: &[u8], room: usize) -> Read
     Read::Whole(3)
 }
 
-/// A number of kind 04: high byte first.
-pub fn number(high: u8, low: u8) -> u16 {
-    (high as u16) * 256 + (low as u16)
+// A value taken apart. A list with members and a pair hold the position where their second part starts.
+pub enum Shape {
+    False,
+    True,
+    Empty,
+    Front(usize),
+    Number(u16),
+    Pair(usize),
+    Malformed,
+}
+
+// The shape of the value that the bytes begin with; of a second part nothing is read.
+pub fn shape_of(v: &[u8]) -> Shape
+    ensures { λ r. ⌜ r ≡ shapeOf (now (v .entry)) ⌝ }
+{
+    if v.len() == 0 {
+        return Shape::Malformed;
+    }
+    let kind = v[0];
+    match kind {
+        0 => Shape::False,
+        1 => Shape::True,
+        2 => Shape::Empty,
+        3 => {
+            let Read::Whole(f) = read_value(&v[1..]) else {
+                return Shape::Malformed;
+            };
+            Shape::Front(1 + f)
+        }
+        4 => {
+            if v.len() < 3 {
+                return Shape::Malformed;
+            }
+            Shape::Number(number(v[1], v[2]))
+        }
+        5 => {
+            let Read::Whole(a) = read_value(&v[1..]) else {
+                return Shape::Malformed;
+            };
+            Shape::Pair(1 + a)
+        }
+        _ => Shape::Malformed,
+    }
+}
+
+// The first part of a value whose second part starts at `at`.
+pub fn first_part(v: &[u8], at: usize) -> &[u8]
+    ensures { λ r. ⌜ now r ≡ firstPart (now (v .entry)) at ⌝ }
+{
+    if at == 0 {
+        return &v[..0];
+    }
+    if at <= v.len() { &v[1..at] } else { &v[..0] }
+}
+
+// The second part of a value, which starts at `at`.
+pub fn second_part(v: &[u8], at: usize) -> &[u8]
+    ensures { λ r. ⌜ now r ≡ secondPart (now (v .entry)) at ⌝ }
+{
+    if at <= v.len() { &v[at..] } else { &v[..0] }
+}
+
+// The byte at `at`; 255, which is no kind, where none is.
+fn kind_at(v: &[u8], at: usize) -> u8
+    ensures { λ r. ⌜ r ≡ kindAt (now (v .entry)) at ⌝ }
+{
+    if at < v.len() { v[at] } else { 255 }
+}
+
+// The kind byte of a list's rest: the byte behind the first member.
+fn rest_kind(v: &[u8]) -> u8
+    ensures { λ r. ⌜ r ≡ restKind (now (v .entry)) ⌝ }
+{
+    let Shape::Front(at) = shape_of(v) else {
+        return 255;
+    };
+    kind_at(v, at)
+}
+
+// Whether a test says yes to a value: 0 anything, 1 empty list, 2 list with members, 3 False, 4 True, 5 exactly one
+// member, 6 two or more. Nothing is read behind the kind byte of a list's rest.
+pub fn passes(test: u8, v: &[u8]) -> bool
+    ensures { λ r. ⌜ r ≡ passesBytes test (now (v .entry)) ⌝ }
+{
+    match test {
+        0 => true,
+        1 => kind_at(v, 0) == 2,
+        2 => kind_at(v, 0) == 3,
+        3 => kind_at(v, 0) == 0,
+        4 => kind_at(v, 0) == 1,
+        5 => rest_kind(v) == 2,
+        6 => rest_kind(v) == 3,
+        _ => false,
+    }
+}
+
+// Whether two values are the same: equal values are equal bytes.
+pub fn same(a: &[u8], b: &[u8]) -> bool
+    ensures { λ r. ⌜ r ≡ sameBytes (now (a .entry)) (now (b .entry)) ⌝ }
+{
+    if a.len() != b.len() {
+        return false;
+    }
+    let mut i = 0;
+    while i < a.len() {
+        if a[i] != b[i] {
+            return false;
+        }
+        i += 1;
+    }
+    true
+}
+
+// A number of kind 04 from its two bytes, high byte first; and its two bytes.
+pub fn number(high: u8, low: u8) -> u16
+    ensures { λ r. ⌜ r ≡ 256 * high + low ⌝ }
+{
+    256 * (high as u16) + (low as u16)
+}
+
+pub fn high(n: u16) -> u8
+    ensures { λ r. ⌜ r ≡ n / 256 ⌝ }
+{
+    (n / 256) as u8
+}
+
+pub fn low(n: u16) -> u8
+    ensures { λ r. ⌜ r ≡ n % 256 ⌝ }
+{
+    (n % 256) as u8
 }

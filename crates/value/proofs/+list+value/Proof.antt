@@ -3,7 +3,7 @@ use borrow.Author.Needs.{needs}
 use native.Mathlib.Omega.{arith}
 use lib.ListN.{length}
 use denote.Ref.{now}
-use Rattle.value.proofs.Refusals.{refused}
+use Rattle.value.proofs.Tags.{refused}
 use Rattle.value.specs.Reader.{within, is-whole, reads-ended, reads-full, reads-plain, reads-empty, reads-no-list, reads-unknown, reads-list, pair-begins, front-begins, first-refused, second-refused, both-read}
 use borrow.Fn.Kinds.{In}
 use borrow.Fn.PlainCycle.{Measures, is, falls, and}
