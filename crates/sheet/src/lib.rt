@@ -7,7 +7,7 @@ ghost use lib.Dec.{ltb, leb};
 ghost use lib.ListN.{length, getD, drop};
 ghost use Rattle.sheet.specs.Sheet.{nodeInRange, readBody, readHeader, readSheet};
 ghost use Rattle.value.specs.Result.{refusal};
-ghost use Rattle.sheet.specs.Table.{nodeOf, listCase, truthCase, nodeAt, kindWidth, sectionAt, tableOf, NodesTable};
+ghost use Rattle.sheet.specs.Table.{nodeOf, listCase, truthCase, nodeAt, kindWidth, sectionAt, tableOf, NodesTable, RootsJudged, NodesJudged, SheetJudged};
 
 /// A node of a sheet: one variant a kind, 10 to 1B in order. Numbers of nodes, sections and variables are `usize`.
 pub enum Node {
@@ -339,4 +339,62 @@ fn read_records(s: &[u8]) -> Table
         return refused(11);
     }
     read_sections(s)
+}
+
+// Whether the root of each section is a node.
+fn roots_in_range(s: &[u8], sections: usize, nodes: usize) -> bool
+    ensures { λ r. ⌜ RootsJudged (now (s .entry)) sections nodes r ⌝ }
+{
+    let mut i: usize = 0;
+    while i < sections {
+        if nodes <= section_root(s, i) {
+            return false;
+        }
+        i += 1;
+    }
+    true
+}
+
+// Whether the numbers of each node are in their ranges.
+fn nodes_in_range(s: &[u8], t: Table) -> bool
+    requires { ⌜ t .nodes ≤ 200 ⌝ }
+    ensures { λ r. ⌜ NodesJudged (now (s .entry)) t r ⌝ }
+{
+    let nodes = t.nodes;
+    let sections = t.sections;
+    let mut i: usize = 0;
+    while i < nodes {
+        let at = t.starts[i] as usize;
+        if !in_range(node_at(s, at), i, nodes, sections) {
+            return false;
+        }
+        i += 1;
+    }
+    true
+}
+
+// Whether every number of a sheet is in its range: one pass over the records of this table.
+fn all_in_range(s: &[u8], t: Table) -> bool
+    requires { ⌜ t ≡ tableOf (readHeader (now s)) ⌝ }
+    ensures { λ r. ⌜ SheetJudged (now (s .entry)) r ⌝ }
+{
+    (1 <= t.k)
+        & (t.k <= 16)
+        & (t.root < t.nodes)
+        & roots_in_range(s, t.sections, t.nodes)
+        & nodes_in_range(s, t)
+}
+
+/// Read a sheet: its records, one by one, and then their numbers.
+pub fn read_sheet(s: &[u8]) -> Table
+    ensures { λ r. ⌜ r ≡ tableOf (readSheet (now (s .entry))) ⌝ }
+{
+    let t = read_records(s);
+    if t.refusal != 0 {
+        return t;
+    }
+    if all_in_range(s, t) {
+        return t;
+    }
+    refused(13)
 }
