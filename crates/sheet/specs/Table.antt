@@ -1,12 +1,13 @@
 -- What the sheet reader answers: a table of where each node's record starts, a node decoded from its record, a section's root.
+use mathlib.Core.Path.{_≡_}
 use mathlib.Core.Bool.{Bool, true, false}
 use mathlib.Core.Option.{Option, none, some}
 use mathlib.Core.List.{List, [], _∷_, _++_}
-use Prim.Native.Nat.{ℕ, suc, _+_, _*_, _-_}
+use Prim.Native.Nat.{ℕ, suc, _+_, _*_, _-_, _<_}
 use lib.Dec.{ltb, leb}
 use lib.ListN.{length, getD, drop, replicate}
-use Rattle.value.specs.Result.{Result, ok, refusal}
-use Rattle.sheet.specs.Sheet.{Sheet, Form, formOf}
+use Rattle.value.specs.Result.{Result, ok, refusal, andThen, mapResult}
+use Rattle.sheet.specs.Sheet.{Sheet, Form, formOf, readNodes, withNodes, rootsInRange, nodesInRange, inRange, readHeader}
 use Rattle.sheet.specs.declared.Node.{Node}
 use Rattle.sheet.specs.declared.Node.the-variants.{Var, False, True, Empty, Number, Front, Pair, ListCase, TruthCase, Split, Call, Add}
 use Rattle.sheet.specs.declared.Table.{Table}
@@ -88,3 +89,20 @@ kindWidth b = formWidth (formOf b)
 -- the root of section i, whose record starts at byte 3 + 2 * i; 0 past the end
 unfoldable pub sectionAt : List ℕ → ℕ → ℕ
 sectionAt s i = getD s (4 + 2 * i) 0
+
+-- the table of a sheet with so many sections, whatever their roots are, and the nodes that follow them
+abbrev pub NodesTable : List ℕ → ℕ → ℕ → ℕ → Table → Type 0
+NodesTable s k root sections t =
+    (secs : List ℕ) → length secs ≡ sections → t ≡ tableOf (andThen (mapResult (λ ns. (secs, ns)) (readNodes 200 (drop (firstNode sections) s))) (withNodes k root))
+
+-- the numbers of a sheet are judged as the definition judges those of the records that stand there
+abbrev pub RootsJudged : List ℕ → ℕ → ℕ → Bool → Type 0
+RootsJudged s sections nodes r =
+    (rs : List ℕ) → length rs ≡ sections → ((i : ℕ) → i < length rs → sectionAt s i ≡ getD rs i 0) → r ≡ rootsInRange nodes rs
+
+abbrev pub NodesJudged : List ℕ → Table → Bool → Type 0
+NodesJudged s t r =
+    (ns : List Node) → length ns ≡ t .nodes → ((i : ℕ) → i < length ns → nodeAt s (getD (t .starts) i 0) ≡ getD ns i False) → r ≡ nodesInRange (t .nodes) (t .sections) 0 ns
+
+abbrev pub SheetJudged : List ℕ → Bool → Type 0
+SheetJudged s r = (sh : Sheet) → readHeader s ≡ ok sh → r ≡ inRange sh

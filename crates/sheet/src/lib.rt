@@ -5,8 +5,9 @@ ghost use Prim.Native.Nat.{ℕ, _+_, _*_, _<_, _≤_};
 ghost use mathlib.Core.Bool.{_&&_};
 ghost use lib.Dec.{ltb, leb};
 ghost use lib.ListN.{length, getD, drop};
-ghost use Rattle.sheet.specs.Sheet.{nodeInRange};
-ghost use Rattle.sheet.specs.Table.{nodeOf, listCase, truthCase, nodeAt, kindWidth, sectionAt, tableOf};
+ghost use Rattle.sheet.specs.Sheet.{nodeInRange, readBody, readHeader, readSheet};
+ghost use Rattle.value.specs.Result.{refusal};
+ghost use Rattle.sheet.specs.Table.{nodeOf, listCase, truthCase, nodeAt, kindWidth, sectionAt, tableOf, NodesTable, RootsJudged, NodesJudged, SheetJudged};
 
 /// A node of a sheet: one variant a kind, 10 to 1B in order. Numbers of nodes, sections and variables are `usize`.
 pub enum Node {
@@ -233,4 +234,167 @@ pub fn in_range(n: Node, own: usize, nodes: usize, sections: usize) -> bool
         Node::Call { section, .. } => section < sections,
         Node::Add { node, .. } => is_below(own, node, nodes),
     }
+}
+
+/// The root of section `i`; 0 where the sheet ends before it.
+pub fn section_root(s: &[u8], i: usize) -> usize
+    ensures { λ r. ⌜ r ≡ sectionAt (now (s .entry)) i ⌝ }
+{
+    if s.len() / 2 <= i {
+        return 0;
+    }
+    let at = 4 + 2 * i;
+    if s.len() <= at {
+        return 0;
+    }
+    wide(s[at])
+}
+
+// The table of a sheet that is refused.
+fn refused(code: u8) -> Table
+    ensures { λ r. ⌜ r ≡ tableOf (refusal code) ⌝ }
+{
+    Table {
+        refusal: code,
+        k: 0,
+        root: 0,
+        sections: 0,
+        nodes: 0,
+        starts: [0u16; 200],
+    }
+}
+
+// The table of a sheet whose header and sections are read: one pass over the node records.
+fn read_nodes(s: &[u8], k: usize, root: usize, sections: usize) -> Table
+    requires { ⌜ sections ≤ 8 ⌝ }
+    ensures { λ r. ⌜ NodesTable (now (s .entry)) k root sections r ⌝ }
+{
+    let mut starts = [0u16; 200];
+    let mut n: usize = 0;
+    let mut at = 3 + 2 * sections;
+    while at < s.len() {
+        let width = record_width(s[at]);
+        if width == 0 {
+            return refused(10);
+        }
+        if n == 200 {
+            return refused(12);
+        }
+        if s.len() - at < width {
+            return refused(11);
+        }
+        starts[n] = at as u16;
+        n += 1;
+        at += width;
+    }
+    if n == 0 {
+        return refused(14);
+    }
+    Table {
+        refusal: 0,
+        k,
+        root,
+        sections,
+        nodes: n,
+        starts,
+    }
+}
+
+// The table of a sheet whose header is whole: one pass over the section records, and then the nodes.
+fn read_sections(s: &[u8]) -> Table
+    requires { ⌜ 3 ≤ length (now s) ⌝ }
+    ensures { λ r. ⌜ r ≡ tableOf (readBody (drop 1 (now (s .entry)))) ⌝ }
+{
+    let k = wide(s[1]);
+    let root = wide(s[2]);
+    let mut n: usize = 0;
+    let mut at: usize = 3;
+    while at < s.len() {
+        if s[at] != 0x20 {
+            return read_nodes(s, k, root, n);
+        }
+        if n == 8 {
+            return refused(12);
+        }
+        if s.len() - at == 1 {
+            return refused(11);
+        }
+        n += 1;
+        at += 2;
+    }
+    refused(14)
+}
+
+// The table of a sheet's records, whose numbers are not judged yet.
+fn read_records(s: &[u8]) -> Table
+    ensures { λ r. ⌜ r ≡ tableOf (readHeader (now (s .entry))) ⌝ }
+{
+    if s.len() == 0 {
+        return refused(14);
+    }
+    if s[0] != 0x01 {
+        return refused(10);
+    }
+    if s.len() < 3 {
+        return refused(11);
+    }
+    read_sections(s)
+}
+
+// Whether the root of each section is a node.
+fn roots_in_range(s: &[u8], sections: usize, nodes: usize) -> bool
+    ensures { λ r. ⌜ RootsJudged (now (s .entry)) sections nodes r ⌝ }
+{
+    let mut i: usize = 0;
+    while i < sections {
+        if nodes <= section_root(s, i) {
+            return false;
+        }
+        i += 1;
+    }
+    true
+}
+
+// Whether the numbers of each node are in their ranges.
+fn nodes_in_range(s: &[u8], t: Table) -> bool
+    requires { ⌜ t .nodes ≤ 200 ⌝ }
+    ensures { λ r. ⌜ NodesJudged (now (s .entry)) t r ⌝ }
+{
+    let nodes = t.nodes;
+    let sections = t.sections;
+    let mut i: usize = 0;
+    while i < nodes {
+        let at = t.starts[i] as usize;
+        if !in_range(node_at(s, at), i, nodes, sections) {
+            return false;
+        }
+        i += 1;
+    }
+    true
+}
+
+// Whether every number of a sheet is in its range: one pass over the records of this table.
+fn all_in_range(s: &[u8], t: Table) -> bool
+    requires { ⌜ t ≡ tableOf (readHeader (now s)) ⌝ }
+    ensures { λ r. ⌜ SheetJudged (now (s .entry)) r ⌝ }
+{
+    (1 <= t.k)
+        & (t.k <= 16)
+        & (t.root < t.nodes)
+        & roots_in_range(s, t.sections, t.nodes)
+        & nodes_in_range(s, t)
+}
+
+/// Read a sheet: its records, one by one, and then their numbers.
+pub fn read_sheet(s: &[u8]) -> Table
+    ensures { λ r. ⌜ r ≡ tableOf (readSheet (now (s .entry))) ⌝ }
+{
+    let t = read_records(s);
+    if t.refusal != 0 {
+        return t;
+    }
+    if all_in_range(s, t) {
+        return t;
+    }
+    refused(13)
 }
