@@ -9,3 +9,4 @@ pub mod Laws
 pub mod Reader
 pub mod Parts
 pub mod Answers
+pub mod PartsLaws
