@@ -10,3 +10,5 @@ pub mod Reader
 pub mod Parts
 pub mod Answers
 pub mod PartsLaws
+pub mod Spans
+pub mod Progress
