@@ -9,3 +9,6 @@ pub mod Laws
 pub mod Reader
 pub mod Parts
 pub mod Answers
+pub mod PartsLaws
+pub mod Spans
+pub mod Progress

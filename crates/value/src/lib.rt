@@ -3,6 +3,8 @@ ghost use mathlib.Core.Path.{_≡_};
 ghost use Prim.Native.Nat.{_+_, _*_, _/_, _%_};
 ghost use Rattle.value.specs.Reader.{Reads, NumberBegins, outcome};
 ghost use Rattle.value.specs.Reading.{readValue, value, rest};
+ghost use Rattle.value.specs.Result.{refusal};
+ghost use Rattle.value.specs.Spans.{nextOf, spans, spansOf, viewCode};
 ghost use Rattle.value.specs.Parts.{shapeOf, firstPart, secondPart, kindAt, restKind, passesBytes, sameBytes};
 
 // What the bytes begin with: a whole value and its length, or why none.
@@ -95,6 +97,89 @@ fn body(s: &[u8], room: usize) -> Read
         return Read::TooLong;
     }
     Read::Whole(3)
+}
+
+// The next of several values: its length, or 0 malformed, 1 over 256 bytes, 2 the bytes end where it should begin.
+enum Next {
+    Value(usize),
+    Refused(u8),
+}
+
+fn next_value(s: &[u8]) -> Next
+    ensures { λ r. ⌜ r ≡ nextOf (now (s .entry)) ⌝ }
+{
+    if s.len() == 0 {
+        return Next::Refused(2);
+    }
+    match read_value(s) {
+        Read::Whole(n) => Next::Value(n),
+        Read::Malformed => Next::Refused(0),
+        Read::TooLong => Next::Refused(1),
+    }
+}
+
+// Where the values of a plan stand: refusal 0, and the start and the length of each; or a refusal and zeros.
+pub struct Spans {
+    pub refusal: u8,
+    pub starts: [u16; 16],
+    pub lens: [u16; 16],
+}
+
+fn refused(number: u8) -> Spans
+    ensures { λ r. ⌜ r ≡ spans (refusal number) ⌝ }
+{
+    Spans {
+        refusal: number,
+        starts: [0; 16],
+        lens: [0; 16],
+    }
+}
+
+// Reads a plan of k values, front to back.
+pub fn read_plan(k: usize, s: &[u8]) -> Spans
+    ensures { λ r. ⌜ r ≡ spansOf k (now (s .entry)) ⌝ }
+{
+    if 16 < k {
+        return refused(13);
+    }
+    let mut starts = [0u16; 16];
+    let mut lens = [0u16; 16];
+    let mut at = 0;
+    let mut i = 0;
+    while i < k {
+        match next_value(&s[at..]) {
+            Next::Refused(c) => return refused(20 + c),
+            Next::Value(n) => {
+                starts[i] = at as u16;
+                lens[i] = n as u16;
+                at += n;
+            }
+        }
+        i += 1;
+    }
+    if at < s.len() {
+        return refused(22);
+    }
+    Spans {
+        refusal: 0,
+        starts,
+        lens,
+    }
+}
+
+// Reads a view, one value: 0, or a refusal.
+pub fn read_view(s: &[u8]) -> u8
+    ensures { λ r. ⌜ r ≡ viewCode (now (s .entry)) ⌝ }
+{
+    match next_value(s) {
+        Next::Refused(c) => 30 + c,
+        Next::Value(n) => {
+            if n < s.len() {
+                return 32;
+            }
+            0
+        }
+    }
 }
 
 // A value taken apart. A list with members and a pair hold the position where their second part starts.
