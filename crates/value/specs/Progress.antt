@@ -81,7 +81,7 @@ places-more l x h =
 filled : (l : List ℕ) (x : ℕ) {y : List ℕ} {i : ℕ} → y ≡ places l → length l ≡ i → i < 16 → set y i x ≡ places (l ++ (x ∷ []))
 filled l x e a h = ap₂ (λ (y : List ℕ) (i : ℕ). set y i x) e (sym a) ∙ places-more l x (omega arith)
 
-starts-length : (at : ℕ) (vs : List Value) → length (starts at vs) ≡ length vs
+pub starts-length : (at : ℕ) (vs : List Value) → length (starts at vs) ≡ length vs
 unfolding starts
 starts-length at [] = refl
 starts-length at (v ∷ vs) = ap suc (starts-length (at + size v) vs)
