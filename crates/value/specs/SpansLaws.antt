@@ -1,8 +1,7 @@
 -- Laws of a plan's spans and a view's answer: what a success and a refusal say, and that each span is a value's bytes.
 use mathlib.Core.Path.{_≡_, refl, sym, ap, ap₂, _∙_}
-use mathlib.Core.Bool.{Bool, true, false}
 use mathlib.Core.List.{List, [], _∷_, _++_, map, append-assoc}
-use Prim.Native.Nat.{ℕ, zero, suc, _+_, _-_, _*_, _≤_, _<_}
+use Prim.Native.Nat.{ℕ, zero, suc, _+_, _-_, _≤_, _<_}
 use native.Mathlib.Omega.{arith}
 use native.Mathlib.Decide.{decLe}
 use borrow.Author.Tests.{le-leb, lt-leb}
@@ -12,7 +11,7 @@ use Rattle.value.specs.Result.{Result, ok, refusal, mapResult}
 use Rattle.value.specs.Value.{Value, vfalse, encode, size, flat}
 use Rattle.value.specs.Encoding.{size-encode}
 use Rattle.value.specs.Reading.{Found, whole, malformed, tooLong, value, nothing, aValue, readValue, onValue, readValues, readPlan, readView}
-use Rattle.value.specs.Laws.{ReadAs, readValues-sound}
+use Rattle.value.specs.Laws.{readValues-sound}
 use Rattle.value.specs.Progress.{starts-length}
 use Rattle.value.specs.Spans.{places, starts, spans, within16, spansOf, codeOf, viewCode}
 use Rattle.value.specs.declared.Spans.{Spans}
