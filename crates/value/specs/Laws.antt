@@ -129,12 +129,16 @@ sound (b ∷ bs) (suc room) (rest ∷ os) = sound-rest bs room os (λ ps. sound 
 sound (b ∷ bs) (suc room) (byte ∷ os) = sound-byte bs room os (λ ps. sound bs room ps) b (ltb b 256) refl
 
 -- READ IS COMPLETE: where the bytes of a value stand and there is room, it is read, and then what is owed besides
-made-of-two : {os ps qs rs : List Owed} (f : Things ps → Things os) (g : Things qs → Things ps) (h : Things rs → Things qs) (k : Things rs → Things os) →
-    ((t : Things rs) → f (g (h t)) ≡ k t) → (found : Found rs) → onWhole f (onWhole g (onWhole h found)) ≡ onWhole k found
+pub composed : {os ps qs : List Owed} (f : Things ps → Things os) (g : Things qs → Things ps) (k : Things qs → Things os) →
+    ((t : Things qs) → f (g t) ≡ k t) → (found : Found qs) → onWhole f (onWhole g found) ≡ onWhole k found
 unfolding onWhole
-made-of-two f g h k e (whole t more) = ap (λ (t : Things _). whole t more) (e t)
-made-of-two f g h k e malformed = refl
-made-of-two f g h k e tooLong = refl
+composed f g k e (whole t more) = ap (λ (t : Things _). whole t more) (e t)
+composed f g k e malformed = refl
+composed f g k e tooLong = refl
+
+pub made-of-two : {os ps qs rs : List Owed} (f : Things ps → Things os) (g : Things qs → Things ps) (h : Things rs → Things qs) (k : Things rs → Things os) →
+    ((t : Things rs) → f (g (h t)) ≡ k t) → (found : Found rs) → onWhole f (onWhole g (onWhole h found)) ≡ onWhole k found
+made-of-two f g h k e found = ap (onWhole f) (composed g h (λ t. g (h t)) (λ t. refl) found) ∙ composed f (λ t. g (h t)) k e found
 
 mutual
   unfolding read beginValue beginRest beginByte kindOf makeFront makeNumber makePair makeRest encode encodes size sizes
@@ -201,7 +205,7 @@ pub read-sound : (bs : List ℕ) {v : Value} {more : List ℕ} → readValue bs 
 unfolding readValue
 read-sound bs e = front-sound (sound bs 256 (value ∷ [])) e
 
-nothing-owed : (bs : List ℕ) (room : ℕ) → read bs room [] ≡ whole nothing bs
+pub nothing-owed : (bs : List ℕ) (room : ℕ) → read bs room [] ≡ whole nothing bs
 unfolding read
 nothing-owed [] room = refl
 nothing-owed (b ∷ bs) room = refl

@@ -6,3 +6,9 @@ pub mod Tests
 pub mod Reading
 pub mod Encoding
 pub mod Laws
+pub mod Reader
+pub mod Parts
+pub mod Answers
+pub mod PartsLaws
+pub mod Spans
+pub mod Progress

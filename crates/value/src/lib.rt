@@ -1,6 +1,315 @@
 //! Values and their bytes (document 01, "Values").
+ghost use mathlib.Core.Path.{_≡_};
+ghost use Prim.Native.Nat.{_+_, _*_, _/_, _%_};
+ghost use Rattle.value.specs.Reader.{Reads, NumberBegins, outcome};
+ghost use Rattle.value.specs.Reading.{readValue, value, rest};
+ghost use Rattle.value.specs.Result.{refusal};
+ghost use Rattle.value.specs.Spans.{nextOf, spans, spansOf, viewCode};
+ghost use Rattle.value.specs.Parts.{shapeOf, firstPart, secondPart, kindAt, restKind, passesBytes, sameBytes};
 
-/// A number of kind 04: high byte first.
-pub fn number(high: u8, low: u8) -> u16 {
-    (high as u16) * 256 + (low as u16)
+// What the bytes begin with: a whole value and its length, or why none.
+pub enum Read {
+    Whole(usize),
+    Malformed,
+    TooLong,
+}
+
+// The value that the bytes begin with, of at most 256 bytes.
+pub fn read_value(s: &[u8]) -> Read
+    ensures { λ r. ⌜ r ≡ outcome (readValue (now (s .entry))) ⌝ }
+{
+    value(s, 256)
+}
+
+// A value of any kind, of at most `room` bytes.
+fn value(s: &[u8], room: usize) -> Read
+    ensures { λ r. ⌜ Reads value (now (s .entry)) room r ⌝ }
+{
+    if s.len() == 0 {
+        return Read::Malformed;
+    }
+    if room == 0 {
+        return Read::TooLong;
+    }
+    let kind = s[0];
+    match kind {
+        0 | 1 => Read::Whole(1),
+        2 | 3 => list(s, room),
+        4 => body(s, room),
+        5 => {
+            let left = value(&s[1..], room - 1);
+            let Read::Whole(a) = left else {
+                return left;
+            };
+            let right = value(&s[1 + a..], room - 1 - a);
+            let Read::Whole(b) = right else {
+                return right;
+            };
+            Read::Whole(1 + a + b)
+        }
+        _ => Read::Malformed,
+    }
+}
+
+// A list, of at most `room` bytes: empty, or a first member and the rest.
+fn list(s: &[u8], room: usize) -> Read
+    ensures { λ r. ⌜ Reads rest (now (s .entry)) room r ⌝ }
+{
+    if s.len() == 0 {
+        return Read::Malformed;
+    }
+    if room == 0 {
+        return Read::TooLong;
+    }
+    let kind = s[0];
+    match kind {
+        2 => Read::Whole(1),
+        3 => {
+            let first = value(&s[1..], room - 1);
+            let Read::Whole(f) = first else {
+                return first;
+            };
+            let more = list(&s[1 + f..], room - 1 - f);
+            let Read::Whole(r) = more else {
+                return more;
+            };
+            Read::Whole(1 + f + r)
+        }
+        _ => Read::Malformed,
+    }
+}
+
+// A number of kind 04: the kind byte and two bytes, each judged in turn.
+fn body(s: &[u8], room: usize) -> Read
+    requires { ⌜ NumberBegins (now s) room ⌝ }
+    ensures { λ r. ⌜ Reads value (now (s .entry)) room r ⌝ }
+{
+    if s.len() <= 1 {
+        return Read::Malformed;
+    }
+    if room <= 1 {
+        return Read::TooLong;
+    }
+    if s.len() == 2 {
+        return Read::Malformed;
+    }
+    if room == 2 {
+        return Read::TooLong;
+    }
+    Read::Whole(3)
+}
+
+// The next of several values: its length, or 0 malformed, 1 over 256 bytes, 2 the bytes end where it should begin.
+enum Next {
+    Value(usize),
+    Refused(u8),
+}
+
+fn next_value(s: &[u8]) -> Next
+    ensures { λ r. ⌜ r ≡ nextOf (now (s .entry)) ⌝ }
+{
+    if s.len() == 0 {
+        return Next::Refused(2);
+    }
+    match read_value(s) {
+        Read::Whole(n) => Next::Value(n),
+        Read::Malformed => Next::Refused(0),
+        Read::TooLong => Next::Refused(1),
+    }
+}
+
+// Where the values of a plan stand: refusal 0, and the start and the length of each; or a refusal and zeros.
+pub struct Spans {
+    pub refusal: u8,
+    pub starts: [u16; 16],
+    pub lens: [u16; 16],
+}
+
+fn refused(number: u8) -> Spans
+    ensures { λ r. ⌜ r ≡ spans (refusal number) ⌝ }
+{
+    Spans {
+        refusal: number,
+        starts: [0; 16],
+        lens: [0; 16],
+    }
+}
+
+// Reads a plan of k values, front to back.
+pub fn read_plan(k: usize, s: &[u8]) -> Spans
+    ensures { λ r. ⌜ r ≡ spansOf k (now (s .entry)) ⌝ }
+{
+    if 16 < k {
+        return refused(13);
+    }
+    let mut starts = [0u16; 16];
+    let mut lens = [0u16; 16];
+    let mut at = 0;
+    let mut i = 0;
+    while i < k {
+        match next_value(&s[at..]) {
+            Next::Refused(c) => return refused(20 + c),
+            Next::Value(n) => {
+                starts[i] = at as u16;
+                lens[i] = n as u16;
+                at += n;
+            }
+        }
+        i += 1;
+    }
+    if at < s.len() {
+        return refused(22);
+    }
+    Spans {
+        refusal: 0,
+        starts,
+        lens,
+    }
+}
+
+// Reads a view, one value: 0, or a refusal.
+pub fn read_view(s: &[u8]) -> u8
+    ensures { λ r. ⌜ r ≡ viewCode (now (s .entry)) ⌝ }
+{
+    match next_value(s) {
+        Next::Refused(c) => 30 + c,
+        Next::Value(n) => {
+            if n < s.len() {
+                return 32;
+            }
+            0
+        }
+    }
+}
+
+// A value taken apart. A list with members and a pair hold the position where their second part starts.
+pub enum Shape {
+    False,
+    True,
+    Empty,
+    Front(usize),
+    Number(u16),
+    Pair(usize),
+    Malformed,
+}
+
+// The shape of the value that the bytes begin with; of a second part nothing is read.
+pub fn shape_of(v: &[u8]) -> Shape
+    ensures { λ r. ⌜ r ≡ shapeOf (now (v .entry)) ⌝ }
+{
+    if v.len() == 0 {
+        return Shape::Malformed;
+    }
+    let kind = v[0];
+    match kind {
+        0 => Shape::False,
+        1 => Shape::True,
+        2 => Shape::Empty,
+        3 => {
+            let Read::Whole(f) = read_value(&v[1..]) else {
+                return Shape::Malformed;
+            };
+            Shape::Front(1 + f)
+        }
+        4 => {
+            if v.len() < 3 {
+                return Shape::Malformed;
+            }
+            Shape::Number(number(v[1], v[2]))
+        }
+        5 => {
+            let Read::Whole(a) = read_value(&v[1..]) else {
+                return Shape::Malformed;
+            };
+            Shape::Pair(1 + a)
+        }
+        _ => Shape::Malformed,
+    }
+}
+
+// The first part of a value whose second part starts at `at`.
+pub fn first_part(v: &[u8], at: usize) -> &[u8]
+    ensures { λ r. ⌜ now r ≡ firstPart (now (v .entry)) at ⌝ }
+{
+    if at == 0 {
+        return &v[..0];
+    }
+    if at <= v.len() { &v[1..at] } else { &v[..0] }
+}
+
+// The second part of a value, which starts at `at`.
+pub fn second_part(v: &[u8], at: usize) -> &[u8]
+    ensures { λ r. ⌜ now r ≡ secondPart (now (v .entry)) at ⌝ }
+{
+    if at <= v.len() { &v[at..] } else { &v[..0] }
+}
+
+// The byte at `at`; 255, which is no kind, where none is.
+fn kind_at(v: &[u8], at: usize) -> u8
+    ensures { λ r. ⌜ r ≡ kindAt (now (v .entry)) at ⌝ }
+{
+    if at < v.len() { v[at] } else { 255 }
+}
+
+// The kind byte of a list's rest: the byte behind the first member.
+fn rest_kind(v: &[u8]) -> u8
+    ensures { λ r. ⌜ r ≡ restKind (now (v .entry)) ⌝ }
+{
+    let Shape::Front(at) = shape_of(v) else {
+        return 255;
+    };
+    kind_at(v, at)
+}
+
+// Whether a test says yes to a value: 0 anything, 1 empty list, 2 list with members, 3 False, 4 True, 5 exactly one
+// member, 6 two or more. Nothing is read behind the kind byte of a list's rest.
+pub fn passes(test: u8, v: &[u8]) -> bool
+    ensures { λ r. ⌜ r ≡ passesBytes test (now (v .entry)) ⌝ }
+{
+    match test {
+        0 => true,
+        1 => kind_at(v, 0) == 2,
+        2 => kind_at(v, 0) == 3,
+        3 => kind_at(v, 0) == 0,
+        4 => kind_at(v, 0) == 1,
+        5 => rest_kind(v) == 2,
+        6 => rest_kind(v) == 3,
+        _ => false,
+    }
+}
+
+// Whether two values are the same: equal values are equal bytes.
+pub fn same(a: &[u8], b: &[u8]) -> bool
+    ensures { λ r. ⌜ r ≡ sameBytes (now (a .entry)) (now (b .entry)) ⌝ }
+{
+    if a.len() != b.len() {
+        return false;
+    }
+    let mut i = 0;
+    while i < a.len() {
+        if a[i] != b[i] {
+            return false;
+        }
+        i += 1;
+    }
+    true
+}
+
+// A number of kind 04 from its two bytes, high byte first; and its two bytes.
+pub fn number(high: u8, low: u8) -> u16
+    ensures { λ r. ⌜ r ≡ 256 * high + low ⌝ }
+{
+    256 * (high as u16) + (low as u16)
+}
+
+pub fn high(n: u16) -> u8
+    ensures { λ r. ⌜ r ≡ n / 256 ⌝ }
+{
+    (n / 256) as u8
+}
+
+pub fn low(n: u16) -> u8
+    ensures { λ r. ⌜ r ≡ n % 256 ⌝ }
+{
+    (n % 256) as u8
 }

@@ -1,0 +1,124 @@
+-- The starred examples of document 01, as one table, and one claim over it.
+use mathlib.Core.Path.{_≡_, refl}
+use mathlib.Core.Option.{Option, none, some}
+use mathlib.Core.List.{List, [], _∷_, _++_, map}
+use Prim.Native.Nat.{ℕ}
+use native.Mathlib.Decide.{decLe, ℕ-discrete}
+use lib.ListN.{getElem?}
+use Rattle.value.specs.Result.{andThen, mapResult, orRefuse, unless}
+use Rattle.value.specs.Value.{encode, encodes, size, sizes, flat, sameValue}
+use Rattle.value.specs.Views.{asList, asFront, asPair, asNumber, ifSmall, asTruth}
+use Rattle.value.specs.Tests.{class, table, holds, passes}
+use Rattle.value.specs.Reading.{onWhole, kindOf, makeFront, makeNumber, makePair, makeRest, beginValue, beginRest, beginByte, read, readValue, onValue, readValues}
+use Rattle.sheet.specs.Sheet.{forms, formOf, readNodes, oneSection, ifSection, readRecords, withNodes, readBody, nodeInRange, nodesInRange, rootsInRange, inRange, readHeader, readSheet}
+use Rattle.rules.specs.Outcome.{plus, steps, when, _>>=_, mapOut, given, reading, choose}
+use Rattle.rules.specs.Allowance.{cap, within}
+use Rattle.rules.specs.Rules.{bounded, tested, onList, getNode, get, orOld, constant, write, both, under, mkList, mkPair, putNode, put}
+use Rattle.rules.specs.Answer.{Answer, refusal, success, answer, door, getWalk, getBytes, getAnswer, count, newPlan, putWalk, putBytes, putAnswer}
+
+-- a sheet, a plan, a view to be put (or none: a get), an allowance, and the answer
+pub record Row : Type 0 where
+  pub sheet : List ℕ
+  pub plan : List ℕ
+  pub view : Option (List ℕ)
+  pub allowance : ℕ
+  pub expected : Answer
+
+-- the call of a row, with an output of 4,096 bytes and scratch of 65,536
+unfoldable pub call : List ℕ → List ℕ → Option (List ℕ) → ℕ → Answer
+call sheet plan none allowance = getAnswer sheet plan allowance 4096 65536
+call sheet plan (some view) allowance = putAnswer sheet plan view allowance 4096 65536
+
+unfoldable pub run : Row → Answer
+unfolding call
+run r = call (r .sheet) (r .plan) (r .view) (r .allowance)
+
+abbrev pub gets : List ℕ → List ℕ → Answer → Row
+gets sheet plan expected = record { sheet = sheet; plan = plan; view = none; allowance = 1000; expected = expected }
+
+abbrev pub puts : List ℕ → List ℕ → List ℕ → Answer → Row
+puts sheet plan view expected = record { sheet = sheet; plan = plan; view = some view; allowance = 1000; expected = expected }
+
+-- the sheets
+abbrev pub P : List ℕ
+P = 0x01 ∷ 0x01 ∷ 0x00 ∷ 0x10 ∷ 0x00 ∷ []
+
+abbrev pub Q : List ℕ
+Q = 0x01 ∷ 0x01 ∷ 0x00 ∷ 0x15 ∷ 0x01 ∷ 0x02 ∷ 0x10 ∷ 0x00 ∷ 0x13 ∷ []
+
+abbrev pub T : List ℕ
+T = 0x01 ∷ 0x01 ∷ 0x00 ∷ 0x16 ∷ 0x01 ∷ 0x02 ∷ 0x10 ∷ 0x00 ∷ 0x10 ∷ 0x00 ∷ []
+
+abbrev pub H : List ℕ
+H = 0x01 ∷ 0x01 ∷ 0x00 ∷ 0x1B ∷ 0x01 ∷ 0x00 ∷ 0x64 ∷ 0x10 ∷ 0x00 ∷ []
+
+abbrev pub B : List ℕ
+B = 0x01 ∷ 0x01 ∷ 0x00 ∷ 0x18 ∷ 0x01 ∷ 0x02 ∷ 0x04 ∷ 0x03 ∷ 0x04 ∷ 0x10 ∷ 0x00 ∷ 0x12 ∷ 0x12 ∷ []
+
+abbrev pub J : List ℕ
+J = 0x01 ∷ 0x02 ∷ 0x00 ∷ 0x20 ∷ 0x01 ∷ 0x1A ∷ 0x00 ∷ 0x00 ∷ 0x01 ∷ 0x17 ∷ 0x02 ∷ 0x03 ∷ 0x00 ∷ 0x04 ∷ 0x02 ∷ 0x07 ∷ 0x08 ∷ 0x10 ∷ 0x00 ∷ 0x10 ∷ 0x01 ∷ 0x15 ∷ 0x05 ∷ 0x06 ∷ 0x10 ∷ 0x02 ∷ 0x1A ∷ 0x00 ∷ 0x03 ∷ 0x01 ∷ 0x11 ∷ 0x13 ∷ []
+
+unfoldable pub rows : List Row
+rows =
+    (gets P (0x04 ∷ 0x00 ∷ 0xBA ∷ []) (success (0x04 ∷ 0x00 ∷ 0xBA ∷ []) 1))
+    ∷ (puts P (0x04 ∷ 0x00 ∷ 0x07 ∷ []) (0x01 ∷ []) (success (0x01 ∷ []) 1))
+    ∷ (gets Q (0x04 ∷ 0x00 ∷ 0x07 ∷ []) (success (0x03 ∷ 0x04 ∷ 0x00 ∷ 0x07 ∷ 0x02 ∷ []) 3))
+    ∷ (record { sheet = Q; plan = 0x04 ∷ 0x00 ∷ 0x07 ∷ []; view = none; allowance = 2; expected = refusal 41 })
+    ∷ (puts Q (0x04 ∷ 0x00 ∷ 0x07 ∷ []) (0x02 ∷ []) (refusal 51))
+    ∷ (puts T (0x04 ∷ 0x00 ∷ 0x07 ∷ []) (0x05 ∷ 0x04 ∷ 0x00 ∷ 0x07 ∷ 0x04 ∷ 0x00 ∷ 0x08 ∷ []) (refusal 54))
+    ∷ (puts T (0x04 ∷ 0x00 ∷ 0x07 ∷ []) (0x05 ∷ 0x04 ∷ 0x00 ∷ 0x08 ∷ 0x04 ∷ 0x00 ∷ 0x08 ∷ []) (success (0x04 ∷ 0x00 ∷ 0x08 ∷ []) 3))
+    ∷ (gets H (0x04 ∷ 0xFF ∷ 0x9B ∷ []) (success (0x04 ∷ 0xFF ∷ 0xFF ∷ []) 2))
+    ∷ (gets H (0x04 ∷ 0xFF ∷ 0x9C ∷ []) (refusal 45))
+    ∷ (puts H (0x04 ∷ 0x00 ∷ 0x07 ∷ []) (0x04 ∷ 0x00 ∷ 0x64 ∷ []) (success (0x04 ∷ 0x00 ∷ 0x00 ∷ []) 2))
+    ∷ (puts H (0x04 ∷ 0x00 ∷ 0x07 ∷ []) (0x04 ∷ 0x00 ∷ 0x63 ∷ []) (refusal 52))
+    ∷ (puts B (0x00 ∷ []) (0x00 ∷ []) (refusal 53))
+    ∷ (puts J (0x03 ∷ 0x04 ∷ 0x00 ∷ 0x01 ∷ 0x03 ∷ 0x04 ∷ 0x00 ∷ 0x02 ∷ 0x02 ∷ 0x03 ∷ 0x04 ∷ 0x00 ∷ 0x03 ∷ 0x03 ∷ 0x04 ∷ 0x00 ∷ 0x04 ∷ 0x03 ∷ 0x04 ∷ 0x00 ∷ 0x05 ∷ 0x02 ∷ []) (0x03 ∷ 0x04 ∷ 0x00 ∷ 0x06 ∷ 0x02 ∷ []) (success (0x03 ∷ 0x04 ∷ 0x00 ∷ 0x06 ∷ 0x02 ∷ 0x02 ∷ []) 11))
+    ∷ []
+
+-- each row has its answer
+pub starred : map run rows ≡ map (λ (r : Row). r .expected) rows
+unfolding rows run call getAnswer getBytes getWalk putAnswer putBytes putWalk answer door count newPlan within cap
+    plus steps when _>>=_ mapOut given reading choose bounded tested onList getNode get orOld constant write both under mkList mkPair putNode put
+    andThen mapResult orRefuse unless encode encodes size sizes flat sameValue asList asFront asPair asNumber ifSmall asTruth class table holds passes
+    onWhole kindOf makeFront makeNumber makePair makeRest beginValue beginRest beginByte read readValue onValue readValues
+    forms formOf readNodes oneSection ifSection readRecords withNodes readBody nodeInRange nodesInRange rootsInRange inRange readHeader readSheet decLe ℕ-discrete
+starred = refl
+
+-- Rows that tell the rules from document 01's plausible but mistaken builds
+
+-- a truth case whose two tests are both True
+abbrev pub first : List ℕ
+first = 0x01 ∷ 0x01 ∷ 0x00 ∷ 0x18 ∷ 0x01 ∷ 0x02 ∷ 0x04 ∷ 0x03 ∷ 0x04 ∷ 0x10 ∷ 0x00 ∷ 0x10 ∷ 0x00 ∷ 0x10 ∷ 0x00 ∷ []
+
+-- a split whose subject is itself a case on the variable that the inner node writes
+abbrev pub renewed : List ℕ
+renewed = 0x01 ∷ 0x02 ∷ 0x00 ∷ 0x19 ∷ 0x01 ∷ 0x02 ∷ 0x18 ∷ 0x03 ∷ 0x04 ∷ 0x00 ∷ 0x05 ∷ 0x00 ∷ 0x10 ∷ 0x00 ∷ 0x10 ∷ 0x00 ∷ 0x10 ∷ 0x01 ∷ 0x10 ∷ 0x01 ∷ []
+
+-- the same with a truth case around it
+abbrev pub again : List ℕ
+again = 0x01 ∷ 0x02 ∷ 0x00 ∷ 0x18 ∷ 0x01 ∷ 0x02 ∷ 0x00 ∷ 0x03 ∷ 0x00 ∷ 0x18 ∷ 0x04 ∷ 0x05 ∷ 0x00 ∷ 0x06 ∷ 0x00 ∷ 0x10 ∷ 0x00 ∷ 0x10 ∷ 0x00 ∷ 0x10 ∷ 0x00 ∷ 0x10 ∷ 0x01 ∷ 0x10 ∷ 0x01 ∷ []
+
+-- a list case whose non-empty branch writes the first member alone; the defaults are True and [9]
+abbrev pub opens : List ℕ
+opens = 0x01 ∷ 0x01 ∷ 0x00 ∷ 0x17 ∷ 0x01 ∷ 0x02 ∷ 0x01 ∷ 0x03 ∷ 0x00 ∷ 0x04 ∷ 0x05 ∷ 0x10 ∷ 0x00 ∷ 0x13 ∷ 0x10 ∷ 0x01 ∷ 0x12 ∷ 0x15 ∷ 0x06 ∷ 0x07 ∷ 0x14 ∷ 0x00 ∷ 0x09 ∷ 0x13 ∷ []
+
+-- and one that writes the rest alone
+abbrev pub breaks : List ℕ
+breaks = 0x01 ∷ 0x01 ∷ 0x00 ∷ 0x17 ∷ 0x01 ∷ 0x02 ∷ 0x01 ∷ 0x03 ∷ 0x00 ∷ 0x04 ∷ 0x05 ∷ 0x10 ∷ 0x00 ∷ 0x13 ∷ 0x10 ∷ 0x02 ∷ 0x12 ∷ 0x15 ∷ 0x06 ∷ 0x07 ∷ 0x14 ∷ 0x00 ∷ 0x09 ∷ 0x13 ∷ []
+
+unfoldable pub telling : List Row
+telling =
+    (puts first (0x01 ∷ []) (0x01 ∷ []) (success (0x01 ∷ []) 4))
+    ∷ (puts renewed (0x00 ∷ 0x05 ∷ 0x00 ∷ 0x00 ∷ []) (0x01 ∷ []) (refusal 54))
+    ∷ (puts again (0x00 ∷ 0x00 ∷ []) (0x01 ∷ []) (refusal 54))
+    ∷ (puts opens (0x02 ∷ []) (0x01 ∷ []) (success (0x03 ∷ 0x01 ∷ 0x03 ∷ 0x04 ∷ 0x00 ∷ 0x09 ∷ 0x02 ∷ []) 8))
+    ∷ (puts breaks (0x02 ∷ []) (0x01 ∷ []) (refusal 43))
+    ∷ []
+
+pub told-apart : map run telling ≡ map (λ (r : Row). r .expected) telling
+unfolding telling run call getAnswer getBytes getWalk putAnswer putBytes putWalk answer door count newPlan within cap
+    plus steps when _>>=_ mapOut given reading choose bounded tested onList getNode get orOld constant write both under mkList mkPair putNode put
+    andThen mapResult orRefuse unless encode encodes size sizes flat sameValue asList asFront asPair asNumber ifSmall asTruth class table holds passes
+    onWhole kindOf makeFront makeNumber makePair makeRest beginValue beginRest beginByte read readValue onValue readValues
+    forms formOf readNodes oneSection ifSection readRecords withNodes readBody nodeInRange nodesInRange rootsInRange inRange readHeader readSheet decLe ℕ-discrete
+told-apart = refl

@@ -1,0 +1,14 @@
+pub mod Outcome
+pub mod Allowance
+pub mod Rules
+pub mod Answer
+pub mod Examples
+pub mod Related
+pub mod OutcomeLaws
+pub mod AllowanceLaws
+pub mod AnswerLaws
+pub mod Readable
+pub mod Scope
+pub mod Consistency
+pub mod Acceptability
+pub mod Trips

@@ -1,0 +1,114 @@
+-- At most 110 variables are ever in scope: a walk that refused to enter a node with more of them is the same walk.
+use mathlib.Core.Path.{_≡_, refl, ap, _∙_, fun-ext}
+use mathlib.Core.Bool.{not}
+use mathlib.Core.Option.{Option, none, some}
+use mathlib.Core.List.{List, [], _∷_, _++_}
+use Prim.Native.Nat.{ℕ, zero, suc, _+_, _*_, _≤_}
+use native.Mathlib.Omega.{arith}
+use native.Mathlib.Decide.{decLe}
+use lib.ListN.{length, getD, length-append}
+use Rattle.value.specs.Value.{Value, Values, list, nil, cons, truth}
+use Rattle.sheet.specs.declared.Node.{Node}
+use Rattle.sheet.specs.declared.Node.the-variants.{Var, False, True, Empty, Number, Front, Pair, ListCase, TruthCase, Split, Call, Add}
+use Rattle.sheet.specs.Sheet.{Sheet}
+use Rattle.rules.specs.Outcome.{Out, done, refused, plus, when, _>>=_, given, choose}
+use Rattle.rules.specs.Rules.{Env, Cells, Getter, Putter, two, pick, tested, onList, getNode, get, both, under, mkList, mkPair, putNode, put}
+use Rattle.rules.specs.OutcomeLaws.{given-yes}
+
+-- as `get` and `put`, and no node is entered with over 110 variables in scope (0 is no refusal of document 01's)
+unfoldable pub getNarrow : ℕ → Sheet → Getter
+getNarrow zero sh n μ = refused 40 0
+getNarrow (suc l) sh n μ = given 0 (when (decLe (length μ) 110)) λ _. plus 1 (getNode (getNarrow l sh) sh (getD (sh .nodes) n False) μ)
+
+unfoldable pub putNarrow : ℕ → Sheet → Putter
+putNarrow zero sh n μ σ v W = refused 40 0
+putNarrow (suc l) sh n μ σ v W =
+    given 0 (when (decLe (length μ) 110)) λ _. plus 1 (putNode (getNarrow l sh) (putNarrow l sh) sh (getD (sh .nodes) n False) μ σ v W)
+
+-- OUTCOMES OF EQUAL PARTS ARE EQUAL
+
+module _ {A B : Type 0} where
+  bind-ext : {m m′ : Out A} {f f′ : A → Out B} → m ≡ m′ → ((a : A) → f a ≡ f′ a) → (m >>= f) ≡ (m′ >>= f′)
+  bind-ext {m} {m′} {f} {f′} e h = rw e (ap (λ (k : A → Out B). m′ >>= k) (fun-ext h))
+
+  given-ext : (c : ℕ) (o : Option A) {f f′ : A → Out B} → ((a : A) → f a ≡ f′ a) → given c o f ≡ given c o f′
+  given-ext c o h = ap (given c o) (fun-ext h)
+
+list-ext : {B : Type 0} (l : Values) {x x′ : B} {f f′ : Value → Values → B} → x ≡ x′ → ((v : Value) (r : Values) → f v r ≡ f′ v r) → onList l x f ≡ onList l x′ f′
+unfolding onList
+list-ext nil e h = e
+list-ext (cons v r) e h = h v r
+
+choose-ext : {A P Q : Type 0} (p : Dec P) (q : Dec Q) {x x′ y y′ : Out A} → x ≡ x′ → y ≡ y′ → choose p q x y ≡ choose p q x′ y′
+choose-ext p q e k = rw (e, k)
+
+-- the scope of a node that is entered from another has at most two variables more
+longer : {A : Type 0} (μ : List A) (a b : A) {k : ℕ} → length μ + 2 ≤ k → length (μ ++ two a b) ≤ k
+longer μ a b h = rw length-append (omega arith)
+
+-- GET
+
+abbrev SameGets : ℕ → Getter → Getter → Type 0
+SameGets k g h = (n : ℕ) (μ : Env) → length μ ≤ k → g n μ ≡ h n μ
+
+module _ {k : ℕ} {g h : Getter} (same : SameGets k g h) (sh : Sheet) where
+  get-ext : (nd : Node) (μ : Env) → length μ + 2 ≤ k → getNode g sh nd μ ≡ getNode h sh nd μ
+  unfolding getNode
+  get-ext (Var x) μ z = refl
+  get-ext False μ z = refl
+  get-ext True μ z = refl
+  get-ext Empty μ z = refl
+  get-ext (Number n) μ z = refl
+  get-ext (Front a b) μ z = bind-ext (same a μ (omega arith)) λ f. bind-ext (same b μ (omega arith)) λ r. refl
+  get-ext (Pair a b) μ z = bind-ext (same a μ (omega arith)) λ f. bind-ext (same b μ (omega arith)) λ r. refl
+  get-ext (ListCase s e te n tn df dr) μ z = bind-ext (same s μ (omega arith)) λ v. given-ext _ _ λ l.
+      list-ext (l .0) (ap (tested te) (same e μ (omega arith))) λ f r. ap (tested tn) (same n _ (longer μ f (list r) z))
+  get-ext (TruthCase s f tf t t₁) μ z = bind-ext (same s μ (omega arith)) λ v. given-ext _ _ λ b. ap (tested _) (same _ μ (omega arith))
+  get-ext (Split s i) μ z = bind-ext (same s μ (omega arith)) λ v. given-ext _ _ λ p. same i _ (longer μ (p .0) (p .1) z)
+  get-ext (Call sec x y) μ z = given-ext _ _ λ a. given-ext _ _ λ b. same _ (two a b) (omega arith)
+  get-ext (Add n c) μ z = bind-ext (same n μ (omega arith)) λ v. refl
+
+pub get-narrow : (l : ℕ) (sh : Sheet) (n : ℕ) (μ : Env) → length μ + 2 * l ≤ 112 → getNarrow l sh n μ ≡ get l sh n μ
+unfolding getNarrow get
+get-narrow zero sh n μ z = refl
+get-narrow (suc l) sh n μ z = given-yes 0 (decLe (length μ) 110) (omega arith)
+    ∙ (ap (plus 1) (get-ext {k = length μ + 2} (λ m ν y. get-narrow l sh m ν (omega arith)) sh _ μ (omega arith)))
+
+-- PUT
+
+abbrev SamePuts : ℕ → Putter → Putter → Type 0
+SamePuts k p q = (n : ℕ) (μ : Env) (σ : List ℕ) (v : Value) (W : Cells) → length μ ≤ k → p n μ σ v W ≡ q n μ σ v W
+
+module _ {k : ℕ} {g h : Getter} {p q : Putter} (gets : SameGets k g h) (same : SamePuts k p q) (sh : Sheet)
+    (μ : Env) (σ : List ℕ) (v : Value) (W : Cells) (z : length μ + 2 ≤ k) where
+  both-ext : (a b : ℕ) (x y : Value) → both p μ σ W a x b y ≡ both q μ σ W a x b y
+  unfolding both
+  both-ext a b x y = bind-ext (same a μ σ x W (omega arith)) λ X. same b μ σ y X (omega arith)
+
+  under-ext : (b s : ℕ) (mk : Value → Value → Option Value) (f r : Value) → under p μ σ W b v s mk f r ≡ under q μ σ W b v s mk f r
+  unfolding under
+  under-ext b s mk f r = bind-ext (same b _ _ v _ (longer μ f r z)) λ X. given-ext _ _ λ x. given-ext _ _ λ y. given-ext _ _ λ u. given-ext _ _ λ _. same s μ σ u _ (omega arith)
+
+  put-ext : (nd : Node) → putNode g p sh nd μ σ v W ≡ putNode h q sh nd μ σ v W
+  unfolding putNode
+  put-ext (Var x) = refl
+  put-ext False = refl
+  put-ext True = refl
+  put-ext Empty = refl
+  put-ext (Number n) = refl
+  put-ext (Front a b) = given-ext _ _ λ c. both-ext a b _ _
+  put-ext (Pair a b) = given-ext _ _ λ c. both-ext a b _ _
+  put-ext (ListCase s e te n tn df dr) = bind-ext (gets s μ (omega arith)) λ o. given-ext _ _ λ l. list-ext (l .0)
+      (choose-ext _ _ (both-ext e s v (list nil)) (bind-ext (gets df [] (omega arith)) λ f. bind-ext (gets dr [] (omega arith)) λ r. given-ext _ _ λ _. under-ext n s mkList f r))
+      λ f r. choose-ext _ _ (under-ext n s mkList f (list r)) (both-ext e s v (list nil))
+  put-ext (TruthCase s f tf t t₁) = bind-ext (gets s μ (omega arith)) λ o. given-ext _ _ λ b. choose-ext _ _ (both-ext _ s v _) (both-ext _ s v _)
+  put-ext (Split s i) = bind-ext (gets s μ (omega arith)) λ o. given-ext _ _ λ c. under-ext i s mkPair _ _
+  put-ext (Call sec x y) = given-ext _ _ λ a. given-ext _ _ λ c. given-ext _ _ λ b. given-ext _ _ λ d. same _ (two a b) _ v W (omega arith)
+  put-ext (Add n c) = given-ext _ _ λ m. given-ext _ _ λ _. same n μ σ _ W (omega arith)
+
+pub put-narrow : (l : ℕ) (sh : Sheet) (n : ℕ) (μ : Env) (σ : List ℕ) (v : Value) (W : Cells) → length μ + 2 * l ≤ 112
+    → putNarrow l sh n μ σ v W ≡ put l sh n μ σ v W
+unfolding putNarrow put
+put-narrow zero sh n μ σ v W z = refl
+put-narrow (suc l) sh n μ σ v W z = given-yes 0 (decLe (length μ) 110) (omega arith)
+    ∙ (ap (plus 1) (put-ext {k = length μ + 2} (λ m ν y. get-narrow l sh m ν (omega arith)) (λ m ν τ u X y. put-narrow l sh m ν τ u X (omega arith)) sh μ σ v W (omega arith) _))

@@ -1,0 +1,85 @@
+-- A value's bytes taken apart: its shape with the position where the second part starts, the two parts, and the kind bytes that the tests look at.
+use mathlib.Core.Path.{_≡_, refl, sym, ap, _∙_}
+use mathlib.Core.Bool.{Bool, true, false}
+use mathlib.Core.List.{List, [], _∷_, _++_}
+use Prim.Native.Nat.{ℕ, zero, suc, _+_, _-_, _*_}
+use lib.Dec.{leb, eqb}
+use lib.ListN.{length, getD, take, drop}
+use Rattle.value.specs.Reading.{Kind, kFalse, kTrue, kEmpty, kFront, kNumber, kPair, unknown, kindOf, readValue}
+use Rattle.value.specs.Reader.{outcome}
+use Rattle.value.specs.declared.Read.{Read}
+use Rattle.value.specs.declared.Read.the-variants.{Whole, Malformed as NotRead, TooLong}
+use Rattle.value.specs.declared.Shape.{Shape}
+use Rattle.value.specs.declared.Shape.the-variants.{False, True, Empty, Front, Number, Pair, Malformed}
+
+-- where the second part starts, behind the kind byte and the first part
+unfoldable pub behind : (ℕ → Shape) → Read → Shape
+behind two (Whole n) = two (1 + n)
+behind two NotRead = Malformed
+behind two TooLong = Malformed
+
+unfoldable pub numberIn : List ℕ → Shape
+numberIn [] = Malformed
+numberIn (h ∷ []) = Malformed
+numberIn (h ∷ l ∷ bs) = Number (256 * h + l)
+
+unfoldable pub shapeAs : List ℕ → Kind → Shape
+shapeAs bs kFalse = False
+shapeAs bs kTrue = True
+shapeAs bs kEmpty = Empty
+shapeAs bs kFront = behind Front (outcome (readValue bs))
+shapeAs bs kNumber = numberIn bs
+shapeAs bs kPair = behind Pair (outcome (readValue bs))
+shapeAs bs unknown = Malformed
+
+-- a value taken apart; a second part is not read
+unfoldable pub shapeOf : List ℕ → Shape
+shapeOf [] = Malformed
+shapeOf (b ∷ bs) = shapeAs bs (kindOf b)
+
+unfoldable pub partWhere : Bool → List ℕ → List ℕ
+partWhere true part = part
+partWhere false part = []
+
+-- the first part is the bytes from 1 up to `at`, the second those from `at` on; nothing where `at` is out of range
+unfoldable pub firstPart : List ℕ → ℕ → List ℕ
+firstPart bs at = partWhere (leb at (length bs)) (take (at - 1) (drop 1 bs))
+
+abbrev pub secondPart : List ℕ → ℕ → List ℕ
+secondPart bs at = drop at bs
+
+-- the byte at a position; 255, which is no kind, where none is
+abbrev pub kindAt : List ℕ → ℕ → ℕ
+kindAt bs at = getD bs at 255
+
+unfoldable pub kindBehind : List ℕ → Shape → ℕ
+kindBehind bs False = 255
+kindBehind bs True = 255
+kindBehind bs Empty = 255
+kindBehind bs (Front at) = kindAt bs at
+kindBehind bs (Number n) = 255
+kindBehind bs (Pair at) = 255
+kindBehind bs Malformed = 255
+
+-- the kind byte of a list's rest
+unfoldable pub restKind : List ℕ → ℕ
+restKind bs = kindBehind bs (shapeOf bs)
+
+-- what test t says of the value that the bytes begin with, by its kind byte and that of its rest; a number that is no test says no
+unfoldable pub passesBytes : ℕ → List ℕ → Bool
+passesBytes t bs =
+    getD
+    (true ∷ eqb (kindAt bs 0) 2 ∷ eqb (kindAt bs 0) 3 ∷ eqb (kindAt bs 0) 0 ∷ eqb (kindAt bs 0) 1 ∷ eqb (restKind bs) 2 ∷ eqb (restKind bs) 3 ∷ [])
+    t
+    false
+
+unfoldable pub both : Bool → Bool → Bool
+both true b = b
+both false b = false
+
+-- whether the same bytes stand in both
+unfoldable pub sameBytes : List ℕ → List ℕ → Bool
+sameBytes [] [] = true
+sameBytes [] (b ∷ n) = false
+sameBytes (a ∷ m) [] = false
+sameBytes (a ∷ m) (b ∷ n) = both (eqb a b) (sameBytes m n)
