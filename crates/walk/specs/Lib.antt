@@ -1,0 +1,6 @@
+pub mod Parts
+pub mod Scope
+pub mod Arena
+pub mod Answers
+pub mod Gets
+pub mod GetTwo
