@@ -35,6 +35,13 @@ module _ {A : Type 0} {S : A → ℕ → Type 0} {D : ℕ → Type 0} {spent : �
     unfolding steps
     refuse c d = let o : Out A = refused c 0 in record { told = rw (within-yes left o (omega arith)) (denies d) }
 
+    -- the last call's answer is the answer
+    pub as-done : {o : Out A} {v : A} {m n : ℕ} → within left o ≡ done v m → n ≡ spent + m → S v n → Answers S D spent left o
+    as-done {n = n} e q p = record { told = rw e (serves n q p) }
+
+    pub as-refused : {o : Out A} {c s : ℕ} → within left o ≡ refused c s → D c → Answers S D spent left o
+    as-refused e d = record { told = rw e (denies d) }
+
     module _ {B : Type 0} where
       -- one call was done, and then the rest
       pub then-done : (m : Out B) (f : B → Out A) {v : B} {n : ℕ} → within left m ≡ done v n → Answers S D (spent + n) (left - n) (f v)

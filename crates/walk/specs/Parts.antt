@@ -2,7 +2,7 @@
 use mathlib.Core.Path.{_≡_, refl, sym, ap, _∙_}
 use mathlib.Core.List.{List, [], _∷_, _++_, append-assoc}
 use Prim.Native.Nat.{ℕ, zero, suc, _+_, _-_, _≤_, _<_}
-use native.Mathlib.Nat.{zero-add, suc-add}
+use native.Mathlib.Nat.{zero-add, suc-add, le-refl}
 use native.Mathlib.Numerals.{add-one}
 use native.Mathlib.Omega.{arith}
 use lib.ListN.{length, take, drop, getD, set, length-set, length-append, length-take, length-drop, List·getD-append}
@@ -58,6 +58,17 @@ part-split a x y i n m e l = (
   sym (take-take n (n + m) (drop i a) (omega arith)) ∙ ap (take n) e ∙ take-at x y n l,
   ap (take m) (sym (drop-drop n i a)) ∙ take-drop n m (drop i a) ∙ ap (drop n) e ∙ drop-at x y n l,
 )
+
+-- the byte k was written at `top`
+pub record Marked (k top : ℕ) (b m : List ℕ) : Type 0 where
+  pub is : m ≡ set b top k
+  pub inside : top < length b
+
+pub marked-kept : {k top : ℕ} {b m : List ℕ} → Marked k top b m → Kept top b m
+marked-kept {k} {top} {b} w = rw (w .is) (kept-set top b top k (le-refl top))
+
+pub marked-part : {k top : ℕ} {b m : List ℕ} → Marked k top b m → part m top 1 ≡ k ∷ []
+marked-part {k} {top} {b} {m} w = rw (w .is) (part-one (set b top k) top (simp length-set (w .inside)) ∙ rw (getD-set-same b top k 0 (w .inside)))
 
 -- A FORWARD COPY of n bytes within the arena: down, or to bytes that are disjoint, it reads each before it is overwritten
 
