@@ -56,14 +56,14 @@ pub record Stands (b : List ℕ) (sc : Scope) (x top : ℕ) : Type 0 where
   pub to-inside : top + getD (sc .lens) x 0 ≤ length b
   pub apart : Apart (getD (sc .starts) x 0) top (getD (sc .lens) x 0)
 
-pub stands : {b : List ℕ} {sc : Scope} {top x : ℕ} → Room b sc top → sc .count ≤ 110 → x < sc .count → Stands b sc x top
-stands {b} {sc} {top} {x} w few h =
+pub stands : {b : List ℕ} {sc : Scope} {top x : ℕ} → Room b sc top → x < sc .count → Stands b sc x top
+stands {b} {sc} {top} {x} w h =
     let e = w .scoped in
     let v = e .each x (omega (arith, e .count)) in
     let p = below-ends (v .place) (w .base) in
     let q = held-short v in
     record {
-      slot = omega arith;
+      slot = omega (arith, w .slots);
       starts-long = e .starts-long;
       lens-long = e .lens-long;
       from-inside = omega (arith, w .long, w .room);

@@ -21,7 +21,7 @@ use Rattle.walk.specs.Gets.{Task, enter, body, branch, run, Lent, Known,
 module _ {s starts b : List ℕ} {sc : Scope} {top levels left : ℕ} {t : Task} (w : Ready s starts b sc top levels left t) where
   -- the arena with room for a value
   pub ready-room : 1 ≤ levels → Room b sc top
-  ready-room h = record { long = w .long; base = w .base; room = omega (arith, w .room); env = w .env; scoped = w .scoped }
+  ready-room h = record { long = w .long; base = w .base; room = omega (arith, w .room); slots = omega (arith, w .slots); env = w .env; scoped = w .scoped }
 
   module _ {a : List ℕ} (kept : Kept top b a) (top′ levels′ left′ : ℕ) (p : top ≤ top′) (few : left′ ≤ 1000000) (room : top′ + 257 * levels′ ≤ 65536) where
     -- a call in another scope

@@ -7,7 +7,7 @@ use native.Mathlib.Nat.{le-refl}
 use native.Mathlib.Omega.{arith}
 use lib.ListN.{length, getD}
 use Rattle.value.specs.Result.{ok}
-use Rattle.value.specs.Value.{Value, Values as Rest, vfalse, vtrue, list, number, pair, nil, cons, encode, encodes, size, sizes, Fits, Encodable, ePair}
+use Rattle.value.specs.Value.{Value, Values as Rest, vfalse, vtrue, list, number, pair, nil, cons, encode, encodes, size, sizes as rest-sizes, Fits, Encodable, ePair}
 use Rattle.value.specs.Views.{asList}
 use Rattle.value.specs.Laws.{Readable, encodable-front}
 use Rattle.sheet.specs.declared.Node.{Node}
@@ -24,12 +24,25 @@ use Rattle.walk.specs.Arena.{Held, onStack, Env, env-later, held-later}
 use Rattle.walk.specs.Seen.{no-list, a-list}
 use Rattle.walk.specs.Answers.{Answers, finish, then-done, then-refused, give, give-none, give-yes, give-no}
 use Rattle.walk.specs.Gets.{Task, enter, body, run, Lent, Ready, Served, Denied, Gives, GotDone, got, not-got}
+use Rattle.walk.specs.GetReady.{ready-later, Sizes, sizes}
 
 -- two values that stand one after the other behind a kind byte
 together : (a : List ℕ) (k top f r : ℕ) (u v : List ℕ) → part a top 1 ≡ k ∷ [] → part a (top + 1) f ≡ u → part a (top + 1 + f) r ≡ v → part a top (1 + f + r) ≡ k ∷ (u ++ v)
 together a k top f r u v e p q =
     let z : top + (1 + f) ≡ top + 1 + f = omega arith in
     part-join a top (1 + f) r ∙ rw (part-join a top 1 f, z, e, p, q)
+
+-- what the two calls ask
+module _ {k : ℕ} {b m s starts : List ℕ} {sc : Scope} {top l left x : ℕ} {t : Task} (w : Ready s starts b sc top (suc l) (suc left) t) (mk : Marked k top b m)
+    (hx : x < length (w .lent .sh .nodes)) where
+  pub two-ready₁ : Ready s starts m sc (top + 1) l left (enter x)
+  two-ready₁ = ready-later w (marked-kept mk) (top + 1) l left (omega arith) (omega (arith, w .few)) (omega (arith, w .room)) (omega arith) hx
+
+  pub two-ready₂ : {a₁ : List ℕ} {r₁ : Walked} {f n y : ℕ} → Gives m a₁ s sc (top + 1) (top + 1) left 0 r₁ l (enter x) → r₁ ≡ Done f n → y < length (w .lent .sh .nodes)
+      → Ready s starts a₁ sc (top + 1 + f) l (left - n) (enter y)
+  two-ready₂ {f = f} {n = n} g e hy =
+      let z = sizes two-ready₁ g e in
+      ready-later w (kept-then (marked-kept mk) (g .kept) (omega arith)) (top + 1 + f) l (left - n) (omega arith) (omega (arith, w .few)) (omega (arith, w .room, z .short)) (omega arith) hy
 
 -- a and b are got behind the kind byte, one after the other
 module _ {k : ℕ} {b m a₁ s : List ℕ} {sc : Scope} {top left : ℕ} {r₁ : Walked} {l x : ℕ}
@@ -126,7 +139,7 @@ module _ {k : ℕ} {b m a₁ s : List ℕ} {sc : Scope} {top left : ℕ} {r₁ :
 
       module _ (above : 2 ≤ getD a₂ (top + 1 + f) 0) (below : getD a₂ (top + 1 + f) 0 ≤ 3) where
         pub front-44 : 256 < 1 + f + r → Gives b a₂ s sc top top left 1 (Refused 44) l (body (Front x y))
-        unfolding run getNode bounded size sizes
+        unfolding run getNode bounded size rest-sizes
         front-44 lt = record {
           kept = kept₂;
           told = λ sh es μ w.
@@ -138,7 +151,7 @@ module _ {k : ℕ} {b m a₁ s : List ℕ} {sc : Scope} {top left : ℕ} {r₁ :
         }
 
         pub front-done : k ≡ 3 → 1 + f + r ≤ 256 → Gives b a₂ s sc top top left 1 (Done (1 + f + r) (1 + n + t)) l (body (Front x y))
-        unfolding run getNode bounded size sizes encode encodes
+        unfolding run getNode bounded size rest-sizes encode encodes
         front-done three le = record {
           kept = kept₂;
           told = λ sh es μ w.

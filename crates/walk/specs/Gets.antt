@@ -50,6 +50,7 @@ pub record Room (a : List ℕ) (sc : Scope) (top : ℕ) : Type 0 where
   pub long : length a ≡ 65536
   pub base : 32256 ≤ top
   pub room : top + 257 ≤ 65536
+  pub slots : sc .count ≤ 110
   pub env : Values
   pub scoped : Env a sc top env
 

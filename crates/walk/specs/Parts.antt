@@ -64,6 +64,9 @@ pub record Marked (k top : ℕ) (b m : List ℕ) : Type 0 where
   pub is : m ≡ set b top k
   pub inside : top < length b
 
+pub marked : (k top : ℕ) (b : List ℕ) → top < length b → Marked k top b (set b top k)
+marked k top b h = record { is = refl; inside = h }
+
 pub marked-kept : {k top : ℕ} {b m : List ℕ} → Marked k top b m → Kept top b m
 marked-kept {k} {top} {b} w = rw (w .is) (kept-set top b top k (le-refl top))
 
