@@ -1,4 +1,17 @@
 use borrow.Author.Needs.{needs}
+use mathlib.Core.Path.{refl}
+use native.Mathlib.Omega.{arith}
+use lib.ListN.{length-set}
+use Rattle.walk.specs.Parts.{marked, down}
+use Rattle.walk.specs.GetReady.{ready-room, sizes}
+use Rattle.walk.specs.GetEnter.{enter-40, enter-41, enter-ready, enter-body, lent-few, lent-start}
+use Rattle.walk.specs.GetLeaf.{false-done, true-done, empty-done, number-done}
+use Rattle.walk.specs.GetTwo.{two-ready₁, two-ready₂, pair-refused₁, pair-refused₂, pair-44, pair-done, front-refused₁, front-refused₂, front-43, front-44, front-done}
+use Rattle.walk.specs.GetBranch.{branch-ready, branch-refused, branch-46, branch-done}
+use Rattle.walk.specs.GetCase.{subject-ready, case-ready, front-ready, pair-ready, front-mid, pair-mid, list-refused, list-43, list-empty, list-front, truth-refused, truth-43, truth-no, truth-yes, split-refused, split-43, split-done}
+use Rattle.walk.specs.GetCall.{call-42₁, call-42₂, call-ready, call-refused, call-done}
+use Rattle.walk.specs.GetAdd.{add-refused, add-43, add-45, add-long, add-done}
+use Rattle.walk.proofs.Tags.{no-list, no-truth, no-pair, no-number}
 use Prim.Native.Nat.{ℕ, _+_, _*_, _<_}
 use borrow.Fn.Kinds.{In}
 use borrow.Fn.PlainCycle.{Measures, is, falls, and}
@@ -163,7 +176,7 @@ get-add-get-node-requires : (t : ℕ) → get-add-lts.Need-get-node-requires (
   low-reads.Asked,
   low-reads.Learnt,
 ) (get-add-at t) get-add.Post
-get-add-get-node-requires t c κs = ?
+get-add-get-node-requires t c κs = (omega (arith, c .before .before .before .pre .0), (subject-ready (c .before .before .before .pre .1) ((c .before .before .before .pre .1) .known .1 .inside)))
 
 -- src/get.rt:527:25
 get-add-enum-known-c : (t : ℕ) → get-add-lts.Need-enum-known-c (
@@ -202,7 +215,7 @@ get-add-add-end : (t : ℕ) → get-add-lts.Need-add-end (
   low-reads.Asked,
   low-reads.Learnt,
 ) (get-add-at t) get-add.Post
-get-add-add-end t c = ?
+get-add-add-end t c = record { fits = omega (arith, (c .before .before .before .before .before .before .before .before .before .pre .1) .room, (sizes ((subject-ready (c .before .before .before .before .before .before .before .before .before .pre .1) ((c .before .before .before .before .before .before .before .before .before .pre .1) .known .1 .inside))) (c .before .before .before .before .before .get-node .ensures) (c .before .len .given .1)) .short) }
 
 -- src/get.rt:530:35
 get-add-sub-shape-of : (t : ℕ) → get-add-lts.Need-sub-shape-of (
@@ -241,7 +254,7 @@ get-add-part-shape-of-end : (t : ℕ) → get-add-lts.Need-part-shape-of-end (
   low-reads.Asked,
   low-reads.Learnt,
 ) (get-add-at t) get-add.Post
-get-add-part-shape-of-end t c = ?
+get-add-part-shape-of-end t c = omega (arith, (c .before .before .before .before .before .before .before .before .before .before .pre .1) .room, (c .before .before .before .before .before .before .before .before .before .before .pre .1) .long, (sizes ((subject-ready (c .before .before .before .before .before .before .before .before .before .before .pre .1) ((c .before .before .before .before .before .before .before .before .before .before .pre .1) .known .1 .inside))) (c .before .before .before .before .before .before .get-node .ensures) (c .before .before .len .given .1)) .short, c .before .before .before .before .before .before .get-node .ensures .kept .long)
 
 -- src/get.rt:530:19
 get-add-shape-of-requires : (t : ℕ) → get-add-lts.Need-shape-of-requires (
@@ -283,19 +296,6 @@ get-add-sub-if1 : (t : ℕ) → get-add-lts.Need-sub-if1 (
 get-add-sub-if1 t c = search needs
 
 -- src/get.rt:533:25
-get-add-same-length : (t : ℕ) → get-add-lts.Need-same-length (
-  get-node-below t,
-  get-node.Post,
-  shape-of-reads.Asked,
-  shape-of-reads.Learnt,
-  high-reads.Asked,
-  high-reads.Learnt,
-  low-reads.Asked,
-  low-reads.Learnt,
-) (get-add-at t) get-add.Post
-get-add-same-length t c = search needs
-
--- src/get.rt:533:25
 get-add-returns : (t : ℕ) → get-add-lts.Need-returns (
   get-node-below t,
   get-node.Post,
@@ -306,7 +306,20 @@ get-add-returns : (t : ℕ) → get-add-lts.Need-returns (
   low-reads.Asked,
   low-reads.Learnt,
 ) (get-add-at t) get-add.Post
-get-add-returns t c = ?
+get-add-returns t c = add-45 (c .before .before .before .before .before .before .before .before .before .before .before .before .get-node .ensures) (c .before .before .before .before .before .before .before .before .len .given .1) (c .before .before .before .before .shape-of .ensures) (c .before .before .m .given .1) (omega (arith, c .if1 .taken, (add-long (c .before .before .before .before .before .before .before .before .before .before .before .before .get-node .ensures) (c .before .before .before .before .before .before .before .before .len .given .1) (c .before .before .before .before .shape-of .ensures) (c .before .before .m .given .1) ((subject-ready (c .before .before .before .before .before .before .before .before .before .before .before .before .before .before .before .before .pre .1) ((c .before .before .before .before .before .before .before .before .before .before .before .before .before .before .before .before .pre .1) .known .1 .inside))))))
+
+-- src/get.rt:533:25
+get-add-same-length : (t : ℕ) → get-add-lts.Need-same-length (
+  get-node-below t,
+  get-node.Post,
+  shape-of-reads.Asked,
+  shape-of-reads.Learnt,
+  high-reads.Asked,
+  high-reads.Learnt,
+  low-reads.Asked,
+  low-reads.Learnt,
+) (get-add-at t) get-add.Post
+get-add-same-length t c = get-add-returns t c .kept .long
 
 -- src/get.rt:535:31
 get-add-add-sum : (t : ℕ) → get-add-lts.Need-add-sum (
@@ -397,7 +410,7 @@ get-add-slice-write-arena-2 : (t : ℕ) → get-add-lts.Need-slice-write-arena-2
   low-reads.Asked,
   low-reads.Learnt,
 ) (get-add-at t) get-add.Post
-get-add-slice-write-arena-2 t c = ?
+get-add-slice-write-arena-2 t c = simp length-set (omega (arith, (c .before .before .before .before .before .before .before .before .before .before .before .before .before .before .before .before .before .before .pre .1) .room, (c .before .before .before .before .before .before .before .before .before .before .before .before .before .before .before .before .before .before .pre .1) .long, c .before .before .before .before .before .before .before .before .before .before .before .before .before .before .get-node .ensures .kept .long))
 
 -- src/get.rt:540:32
 get-add-add-t28 : (t : ℕ) → get-add-lts.Need-add-t28 (
@@ -410,20 +423,7 @@ get-add-add-t28 : (t : ℕ) → get-add-lts.Need-add-t28 (
   low-reads.Asked,
   low-reads.Learnt,
 ) (get-add-at t) get-add.Post
-get-add-add-t28 t c = ?
-
--- src/get.rt:513:1
-get-add-same-length-2 : (t : ℕ) → get-add-lts.Need-same-length-2 (
-  get-node-below t,
-  get-node.Post,
-  shape-of-reads.Asked,
-  shape-of-reads.Learnt,
-  high-reads.Asked,
-  high-reads.Learnt,
-  low-reads.Asked,
-  low-reads.Learnt,
-) (get-add-at t) get-add.Post
-get-add-same-length-2 t c = search needs
+get-add-add-t28 t c = record { fits = omega (arith, (c .before .before .before .before .before .before .before .before .before .before .before .before .before .before .before .before .before .before .pre .1) .few, (sizes ((subject-ready (c .before .before .before .before .before .before .before .before .before .before .before .before .before .before .before .before .before .before .pre .1) ((c .before .before .before .before .before .before .before .before .before .before .before .before .before .before .before .before .before .before .pre .1) .known .1 .inside))) (c .before .before .before .before .before .before .before .before .before .before .before .before .before .before .get-node .ensures) (c .before .before .before .before .before .before .before .before .before .before .len .given .1)) .steps) }
 
 -- src/get.rt:513:1
 get-add-returns-2 : (t : ℕ) → get-add-lts.Need-returns-2 (
@@ -436,10 +436,10 @@ get-add-returns-2 : (t : ℕ) → get-add-lts.Need-returns-2 (
   low-reads.Asked,
   low-reads.Learnt,
 ) (get-add-at t) get-add.Post
-get-add-returns-2 t c = ?
+get-add-returns-2 t c = add-refused (c .before .before .before .before .before .get-node .ensures) (c .before .c .given .1)
 
 -- src/get.rt:513:1
-get-add-same-length-3 : (t : ℕ) → get-add-lts.Need-same-length-3 (
+get-add-same-length-2 : (t : ℕ) → get-add-lts.Need-same-length-2 (
   get-node-below t,
   get-node.Post,
   shape-of-reads.Asked,
@@ -449,7 +449,7 @@ get-add-same-length-3 : (t : ℕ) → get-add-lts.Need-same-length-3 (
   low-reads.Asked,
   low-reads.Learnt,
 ) (get-add-at t) get-add.Post
-get-add-same-length-3 t c = search needs
+get-add-same-length-2 t c = get-add-returns-2 t c .kept .long
 
 -- src/get.rt:513:1
 get-add-returns-3 : (t : ℕ) → get-add-lts.Need-returns-3 (
@@ -462,10 +462,10 @@ get-add-returns-3 : (t : ℕ) → get-add-lts.Need-returns-3 (
   low-reads.Asked,
   low-reads.Learnt,
 ) (get-add-at t) get-add.Post
-get-add-returns-3 t c = ?
+get-add-returns-3 t c = add-done (c .before .before .before .before .before .before .before .before .before .before .before .before .before .before .get-node .ensures) (c .before .before .before .before .before .before .before .before .before .before .len .given .1) (c .before .before .before .before .before .before .shape-of .ensures) (c .before .before .before .before .m .given .1) ((c .before .before .before .before .before .before .before .before .before .before .before .before .before .before .before .before .before .before .pre .1) .base) (omega (arith, (c .before .before .before .before .before .before .before .before .before .before .before .before .before .before .before .before .before .before .pre .1) .room, (c .before .before .before .before .before .before .before .before .before .before .before .before .before .before .before .before .before .before .pre .1) .long, c .before .before .before .before .before .before .before .before .before .before .before .before .before .before .get-node .ensures .kept .long)) (omega (arith, c .before .before .if1 .left, (add-long (c .before .before .before .before .before .before .before .before .before .before .before .before .before .before .get-node .ensures) (c .before .before .before .before .before .before .before .before .before .before .len .given .1) (c .before .before .before .before .before .before .shape-of .ensures) (c .before .before .before .before .m .given .1) ((subject-ready (c .before .before .before .before .before .before .before .before .before .before .before .before .before .before .before .before .before .before .pre .1) ((c .before .before .before .before .before .before .before .before .before .before .before .before .before .before .before .before .before .before .pre .1) .known .1 .inside)))))) (rw (c .before .high .ensures, c .low .ensures))
 
 -- src/get.rt:513:1
-get-add-same-length-4 : (t : ℕ) → get-add-lts.Need-same-length-4 (
+get-add-same-length-3 : (t : ℕ) → get-add-lts.Need-same-length-3 (
   get-node-below t,
   get-node.Post,
   shape-of-reads.Asked,
@@ -475,7 +475,7 @@ get-add-same-length-4 : (t : ℕ) → get-add-lts.Need-same-length-4 (
   low-reads.Asked,
   low-reads.Learnt,
 ) (get-add-at t) get-add.Post
-get-add-same-length-4 t c = search needs
+get-add-same-length-3 t c = get-add-returns-3 t c .kept .long
 
 -- src/get.rt:513:1
 get-add-returns-4 : (t : ℕ) → get-add-lts.Need-returns-4 (
@@ -488,7 +488,20 @@ get-add-returns-4 : (t : ℕ) → get-add-lts.Need-returns-4 (
   low-reads.Asked,
   low-reads.Learnt,
 ) (get-add-at t) get-add.Post
-get-add-returns-4 t c = ?
+get-add-returns-4 t c = add-43 (c .before .before .before .before .before .before .before .before .before .get-node .ensures) (c .before .before .before .before .before .len .given .1) (c .before .shape-of .ensures) (λ v e. no-number v e (c .match2 .keys2))
+
+-- src/get.rt:513:1
+get-add-same-length-4 : (t : ℕ) → get-add-lts.Need-same-length-4 (
+  get-node-below t,
+  get-node.Post,
+  shape-of-reads.Asked,
+  shape-of-reads.Learnt,
+  high-reads.Asked,
+  high-reads.Learnt,
+  low-reads.Asked,
+  low-reads.Learnt,
+) (get-add-at t) get-add.Post
+get-add-same-length-4 t c = get-add-returns-4 t c .kept .long
 
 -- src/get.rt:288:11
 get-branch-get-node-requires : (t : ℕ) → get-branch-lts.Need-get-node-requires (
@@ -499,7 +512,7 @@ get-branch-get-node-requires : (t : ℕ) → get-branch-lts.Need-get-node-requir
   copy-reads.Asked,
   copy-reads.Learnt,
 ) (get-branch-at t) get-branch.Post
-get-branch-get-node-requires t c κs = ?
+get-branch-get-node-requires t c κs = (omega (arith, c .before .before .before .pre .0), (branch-ready ((c .before .before .before .pre .1 .0)) (omega arith)))
 
 -- src/get.rt:289:25
 get-branch-enum-known-c : (t : ℕ) → get-branch-lts.Need-enum-known-c (
@@ -532,7 +545,7 @@ get-branch-add-end : (t : ℕ) → get-branch-lts.Need-add-end (
   copy-reads.Asked,
   copy-reads.Learnt,
 ) (get-branch-at t) get-branch.Post
-get-branch-add-end t c = ?
+get-branch-add-end t c = record { fits = omega (arith, (c .before .before .before .before .before .before .before .before .before .pre .1 .0) .room, (sizes ((branch-ready ((c .before .before .before .before .before .before .before .before .before .pre .1 .0)) (omega arith))) (c .before .before .before .before .before .get-node .ensures) (c .before .len .given .1)) .short) }
 
 -- src/get.rt:292:36
 get-branch-sub-passes : (t : ℕ) → get-branch-lts.Need-sub-passes (
@@ -565,7 +578,7 @@ get-branch-part-passes-end : (t : ℕ) → get-branch-lts.Need-part-passes-end (
   copy-reads.Asked,
   copy-reads.Learnt,
 ) (get-branch-at t) get-branch.Post
-get-branch-part-passes-end t c = ?
+get-branch-part-passes-end t c = omega (arith, (c .before .before .before .before .before .before .before .before .before .before .pre .1 .0) .room, (c .before .before .before .before .before .before .before .before .before .before .pre .1 .0) .long, (sizes ((branch-ready ((c .before .before .before .before .before .before .before .before .before .before .pre .1 .0)) (omega arith))) (c .before .before .before .before .before .before .get-node .ensures) (c .before .before .len .given .1)) .short, (sizes ((branch-ready ((c .before .before .before .before .before .before .before .before .before .before .pre .1 .0)) (omega arith))) (c .before .before .before .before .before .before .get-node .ensures) (c .before .before .len .given .1)) .deep, c .before .before .before .before .before .before .get-node .ensures .kept .long)
 
 -- src/get.rt:292:16
 get-branch-passes-requires : (t : ℕ) → get-branch-lts.Need-passes-requires (
@@ -587,7 +600,7 @@ get-branch-copy-requires : (t : ℕ) → get-branch-lts.Need-copy-requires (
   copy-reads.Asked,
   copy-reads.Learnt,
 ) (get-branch-at t) get-branch.Post
-get-branch-copy-requires t c κs = ?
+get-branch-copy-requires t c κs = ((omega (arith, (c .before .before .before .before .before .before .before .before .before .before .before .before .before .before .pre .1 .0) .room, (c .before .before .before .before .before .before .before .before .before .before .before .before .before .before .pre .1 .0) .long, (sizes ((branch-ready ((c .before .before .before .before .before .before .before .before .before .before .before .before .before .before .pre .1 .0)) (omega arith))) (c .before .before .before .before .before .before .before .before .before .before .get-node .ensures) (c .before .before .before .before .before .before .len .given .1)) .short, (sizes ((branch-ready ((c .before .before .before .before .before .before .before .before .before .before .before .before .before .before .pre .1 .0)) (omega arith))) (c .before .before .before .before .before .before .before .before .before .before .get-node .ensures) (c .before .before .before .before .before .before .len .given .1)) .deep, c .before .before .before .before .before .before .before .before .before .before .get-node .ensures .kept .long), omega (arith, (c .before .before .before .before .before .before .before .before .before .before .before .before .before .before .pre .1 .0) .room, (c .before .before .before .before .before .before .before .before .before .before .before .before .before .before .pre .1 .0) .long, (sizes ((branch-ready ((c .before .before .before .before .before .before .before .before .before .before .before .before .before .before .pre .1 .0)) (omega arith))) (c .before .before .before .before .before .before .before .before .before .before .get-node .ensures) (c .before .before .before .before .before .before .len .given .1)) .short, (sizes ((branch-ready ((c .before .before .before .before .before .before .before .before .before .before .before .before .before .before .pre .1 .0)) (omega arith))) (c .before .before .before .before .before .before .before .before .before .before .get-node .ensures) (c .before .before .before .before .before .before .len .given .1)) .deep, (c .before .before .before .before .before .before .before .before .before .before .before .before .before .before .pre .1 .1), c .before .before .before .before .before .before .before .before .before .before .get-node .ensures .kept .long)), down ((c .before .before .before .before .before .before .before .before .before .before .before .before .before .before .pre .1 .1) .1))
 
 -- src/get.rt:296:28
 get-branch-add-t27 : (t : ℕ) → get-branch-lts.Need-add-t27 (
@@ -598,18 +611,7 @@ get-branch-add-t27 : (t : ℕ) → get-branch-lts.Need-add-t27 (
   copy-reads.Asked,
   copy-reads.Learnt,
 ) (get-branch-at t) get-branch.Post
-get-branch-add-t27 t c = ?
-
--- src/get.rt:294:17
-get-branch-same-length : (t : ℕ) → get-branch-lts.Need-same-length (
-  get-node-below t,
-  get-node.Post,
-  passes-reads.Asked,
-  passes-reads.Learnt,
-  copy-reads.Asked,
-  copy-reads.Learnt,
-) (get-branch-at t) get-branch.Post
-get-branch-same-length t c = search needs
+get-branch-add-t27 t c = record { fits = omega (arith, (c .before .before .before .before .before .before .before .before .before .before .before .before .before .before .before .before .before .pre .1 .0) .few, (sizes ((branch-ready ((c .before .before .before .before .before .before .before .before .before .before .before .before .before .before .before .before .before .pre .1 .0)) (omega arith))) (c .before .before .before .before .before .before .before .before .before .before .before .before .before .get-node .ensures) (c .before .before .before .before .before .before .before .before .before .len .given .1)) .steps) }
 
 -- src/get.rt:294:17
 get-branch-returns : (t : ℕ) → get-branch-lts.Need-returns (
@@ -620,10 +622,10 @@ get-branch-returns : (t : ℕ) → get-branch-lts.Need-returns (
   copy-reads.Asked,
   copy-reads.Learnt,
 ) (get-branch-at t) get-branch.Post
-get-branch-returns t c = ?
+get-branch-returns t c = branch-done ((c .before .before .before .before .before .before .before .before .before .before .before .before .before .before .before .before .before .pre .1 .1) .0) ((c .before .before .before .before .before .before .before .before .before .before .before .before .before .before .before .before .before .pre .1 .1) .1) (c .before .before .before .before .before .before .before .before .before .before .before .before .before .get-node .ensures) (c .before .before .before .before .before .before .before .before .before .len .given .1) (c .before .before .before .before .before .passes .ensures) (c .before .before .before .before .if1 .taken) (c .before .before .copy .ensures)
 
--- src/get.rt:272:1
-get-branch-same-length-2 : (t : ℕ) → get-branch-lts.Need-same-length-2 (
+-- src/get.rt:294:17
+get-branch-same-length : (t : ℕ) → get-branch-lts.Need-same-length (
   get-node-below t,
   get-node.Post,
   passes-reads.Asked,
@@ -631,7 +633,7 @@ get-branch-same-length-2 : (t : ℕ) → get-branch-lts.Need-same-length-2 (
   copy-reads.Asked,
   copy-reads.Learnt,
 ) (get-branch-at t) get-branch.Post
-get-branch-same-length-2 t c = search needs
+get-branch-same-length t c = get-branch-returns t c .kept .long
 
 -- src/get.rt:272:1
 get-branch-returns-2 : (t : ℕ) → get-branch-lts.Need-returns-2 (
@@ -642,10 +644,10 @@ get-branch-returns-2 : (t : ℕ) → get-branch-lts.Need-returns-2 (
   copy-reads.Asked,
   copy-reads.Learnt,
 ) (get-branch-at t) get-branch.Post
-get-branch-returns-2 t c = ?
+get-branch-returns-2 t c = branch-refused ((c .before .before .before .before .before .before .before .before .before .pre .1 .1) .0) ((c .before .before .before .before .before .before .before .before .before .pre .1 .1) .1) (c .before .before .before .before .before .get-node .ensures) (c .before .c .given .1)
 
 -- src/get.rt:272:1
-get-branch-same-length-3 : (t : ℕ) → get-branch-lts.Need-same-length-3 (
+get-branch-same-length-2 : (t : ℕ) → get-branch-lts.Need-same-length-2 (
   get-node-below t,
   get-node.Post,
   passes-reads.Asked,
@@ -653,7 +655,7 @@ get-branch-same-length-3 : (t : ℕ) → get-branch-lts.Need-same-length-3 (
   copy-reads.Asked,
   copy-reads.Learnt,
 ) (get-branch-at t) get-branch.Post
-get-branch-same-length-3 t c = search needs
+get-branch-same-length-2 t c = get-branch-returns-2 t c .kept .long
 
 -- src/get.rt:272:1
 get-branch-returns-3 : (t : ℕ) → get-branch-lts.Need-returns-3 (
@@ -664,7 +666,18 @@ get-branch-returns-3 : (t : ℕ) → get-branch-lts.Need-returns-3 (
   copy-reads.Asked,
   copy-reads.Learnt,
 ) (get-branch-at t) get-branch.Post
-get-branch-returns-3 t c = ?
+get-branch-returns-3 t c = branch-46 ((c .before .before .before .before .before .before .before .before .before .before .before .before .before .pre .1 .1) .0) ((c .before .before .before .before .before .before .before .before .before .before .before .before .before .pre .1 .1) .1) (c .before .before .before .before .before .before .before .before .before .get-node .ensures) (c .before .before .before .before .before .len .given .1) (c .before .passes .ensures) (c .if1 .left)
+
+-- src/get.rt:272:1
+get-branch-same-length-3 : (t : ℕ) → get-branch-lts.Need-same-length-3 (
+  get-node-below t,
+  get-node.Post,
+  passes-reads.Asked,
+  passes-reads.Learnt,
+  copy-reads.Asked,
+  copy-reads.Learnt,
+) (get-branch-at t) get-branch.Post
+get-branch-same-length-3 t c = get-branch-returns-3 t c .kept .long
 
 -- src/get.rt:498:9
 get-call-returns : (t : ℕ) → get-call-lts.Need-returns (
@@ -675,7 +688,7 @@ get-call-returns : (t : ℕ) → get-call-lts.Need-returns (
   get-node-below t,
   get-node.Post,
 ) (get-call-at t) get-call.Post
-get-call-returns t c = ?
+get-call-returns t c = call-42₁ (c .if1 .taken)
 
 -- src/get.rt:501:9
 get-call-returns-2 : (t : ℕ) → get-call-lts.Need-returns-2 (
@@ -686,7 +699,7 @@ get-call-returns-2 : (t : ℕ) → get-call-lts.Need-returns-2 (
   get-node-below t,
   get-node.Post,
 ) (get-call-at t) get-call.Post
-get-call-returns-2 t c = ?
+get-call-returns-2 t c = call-42₂ (omega (arith, c .before .before .if1 .left)) (c .if2 .taken)
 
 -- src/get.rt:503:9
 get-call-section-root-requires : (t : ℕ) → get-call-lts.Need-section-root-requires (
@@ -719,7 +732,7 @@ get-call-get-node-requires : (t : ℕ) → get-call-lts.Need-get-node-requires (
   get-node-below t,
   get-node.Post,
 ) (get-call-at t) get-call.Post
-get-call-get-node-requires t c κs = ?
+get-call-get-node-requires t c κs = (omega (arith, c .before .before .before .before .before .before .before .before .before .pre .0), call-ready (c .before .before .before .before .before .before .before .before .before .pre .1) (omega (arith, c .before .before .before .before .before .if1 .left)) (omega (arith, c .before .before .before .if2 .left)) (c .before .before .section-root .ensures) (c .pick-two .ensures))
 
 -- src/get.rt:505:25
 get-call-enum-known-c : (t : ℕ) → get-call-lts.Need-enum-known-c (
@@ -752,18 +765,7 @@ get-call-add-t19 : (t : ℕ) → get-call-lts.Need-add-t19 (
   get-node-below t,
   get-node.Post,
 ) (get-call-at t) get-call.Post
-get-call-add-t19 t c = ?
-
--- src/get.rt:484:1
-get-call-same-length : (t : ℕ) → get-call-lts.Need-same-length (
-  section-root-reads.Asked,
-  section-root-reads.Learnt,
-  pick-two-reads.Asked,
-  pick-two-reads.Learnt,
-  get-node-below t,
-  get-node.Post,
-) (get-call-at t) get-call.Post
-get-call-same-length t c = search needs
+get-call-add-t19 t c = record { fits = omega (arith, (c .before .before .before .before .before .before .before .before .before .before .before .before .before .before .before .pre .1) .few, sizes (call-ready (c .before .before .before .before .before .before .before .before .before .before .before .before .before .before .before .pre .1) (omega (arith, c .before .before .before .before .before .before .before .before .before .before .before .if1 .left)) (omega (arith, c .before .before .before .before .before .before .before .before .before .if2 .left)) (c .before .before .before .before .before .before .before .before .section-root .ensures) (c .before .before .before .before .before .before .pick-two .ensures)) (c .before .before .before .before .before .get-node .ensures) (c .before .len .given .1) .steps) }
 
 -- src/get.rt:484:1
 get-call-returns-3 : (t : ℕ) → get-call-lts.Need-returns-3 (
@@ -774,10 +776,10 @@ get-call-returns-3 : (t : ℕ) → get-call-lts.Need-returns-3 (
   get-node-below t,
   get-node.Post,
 ) (get-call-at t) get-call.Post
-get-call-returns-3 t c = ?
+get-call-returns-3 t c = call-refused (c .before .before .before .before .before .before .before .before .before .before .before .before .before .before .before .pre .1) (omega (arith, c .before .before .before .before .before .before .before .before .before .before .before .if1 .left)) (omega (arith, c .before .before .before .before .before .before .before .before .before .if2 .left)) (c .before .before .before .before .before .before .before .before .section-root .ensures) (c .before .before .before .before .before .before .pick-two .ensures) (c .before .before .before .before .before .get-node .ensures) (c .before .c .given .1)
 
 -- src/get.rt:484:1
-get-call-same-length-2 : (t : ℕ) → get-call-lts.Need-same-length-2 (
+get-call-same-length : (t : ℕ) → get-call-lts.Need-same-length (
   section-root-reads.Asked,
   section-root-reads.Learnt,
   pick-two-reads.Asked,
@@ -785,7 +787,7 @@ get-call-same-length-2 : (t : ℕ) → get-call-lts.Need-same-length-2 (
   get-node-below t,
   get-node.Post,
 ) (get-call-at t) get-call.Post
-get-call-same-length-2 t c = search needs
+get-call-same-length t c = get-call-returns-3 t c .kept .long
 
 -- src/get.rt:484:1
 get-call-returns-4 : (t : ℕ) → get-call-lts.Need-returns-4 (
@@ -796,7 +798,18 @@ get-call-returns-4 : (t : ℕ) → get-call-lts.Need-returns-4 (
   get-node-below t,
   get-node.Post,
 ) (get-call-at t) get-call.Post
-get-call-returns-4 t c = ?
+get-call-returns-4 t c = call-done (c .before .before .before .before .before .before .before .before .before .before .before .before .before .before .before .pre .1) (omega (arith, c .before .before .before .before .before .before .before .before .before .before .before .if1 .left)) (omega (arith, c .before .before .before .before .before .before .before .before .before .if2 .left)) (c .before .before .before .before .before .before .before .before .section-root .ensures) (c .before .before .before .before .before .before .pick-two .ensures) (c .before .before .before .before .before .get-node .ensures) (c .before .len .given .1)
+
+-- src/get.rt:484:1
+get-call-same-length-2 : (t : ℕ) → get-call-lts.Need-same-length-2 (
+  section-root-reads.Asked,
+  section-root-reads.Learnt,
+  pick-two-reads.Asked,
+  pick-two-reads.Learnt,
+  get-node-below t,
+  get-node.Post,
+) (get-call-at t) get-call.Post
+get-call-same-length-2 t c = get-call-returns-4 t c .kept .long
 
 -- src/get.rt:164:5
 get-front-slice-write-arena : (t : ℕ) → get-front-lts.Need-slice-write-arena (
@@ -816,7 +829,7 @@ get-front-get-node-requires : (t : ℕ) → get-front-lts.Need-get-node-requires
   get-node-below t,
   get-node.Post,
 ) (get-front-at t) get-front.Post
-get-front-get-node-requires t c κs = ?
+get-front-get-node-requires t c κs = (omega (arith, c .before .before .before .pre .0), (two-ready₁ (c .before .before .before .pre .1) (marked 3 (c .before .before .before .args .at .top) (c .before .before .before .args .arena .now) (omega (arith, (c .before .before .before .pre .1) .long, (c .before .before .before .pre .1) .room))) ((c .before .before .before .pre .1) .known .1 .0 .inside)))
 
 -- src/get.rt:177:25
 get-front-enum-known-c : (t : ℕ) → get-front-lts.Need-enum-known-c (
@@ -842,20 +855,20 @@ get-front-add-mid t c = search needs
 get-front-add-mid-2 :
     (t : ℕ) →
     get-front-lts.Need-add-mid-2 (get-node-below t, get-node.Post) (get-front-at t) get-front.Post
-get-front-add-mid-2 t c = ?
+get-front-add-mid-2 t c = record { fits = omega (arith, (c .before .before .before .before .before .before .before .before .before .pre .1) .room, (sizes ((two-ready₁ (c .before .before .before .before .before .before .before .before .before .pre .1) (marked 3 (c .before .before .before .before .before .before .before .before .before .args .at .top) (c .before .before .before .before .before .before .before .before .before .args .arena .now) (omega (arith, (c .before .before .before .before .before .before .before .before .before .pre .1) .long, (c .before .before .before .before .before .before .before .before .before .pre .1) .room))) ((c .before .before .before .before .before .before .before .before .before .pre .1) .known .1 .0 .inside))) (c .before .before .before .before .before .get-node .ensures) (c .before .f .given .1)) .short) }
 
 -- src/get.rt:188:27
 get-front-sub-t25 :
     (t : ℕ) →
     get-front-lts.Need-sub-t25 (get-node-below t, get-node.Post) (get-front-at t) get-front.Post
-get-front-sub-t25 t c = ?
+get-front-sub-t25 t c = omega (arith, (sizes ((two-ready₁ (c .before .before .before .before .before .before .before .before .before .before .pre .1) (marked 3 (c .before .before .before .before .before .before .before .before .before .before .args .at .top) (c .before .before .before .before .before .before .before .before .before .before .args .arena .now) (omega (arith, (c .before .before .before .before .before .before .before .before .before .before .pre .1) .long, (c .before .before .before .before .before .before .before .before .before .before .pre .1) .room))) ((c .before .before .before .before .before .before .before .before .before .before .pre .1) .known .1 .0 .inside))) (c .before .before .before .before .before .before .get-node .ensures) (c .before .before .f .given .1)) .steps)
 
 -- src/get.rt:180:19
 get-front-get-node-requires-2 : (t : ℕ) → get-front-lts.Need-get-node-requires-2 (
   get-node-below t,
   get-node.Post,
 ) (get-front-at t) get-front.Post
-get-front-get-node-requires-2 t c κs = ?
+get-front-get-node-requires-2 t c κs = (omega (arith, c .before .before .before .before .before .before .before .before .before .before .pre .0), (two-ready₂ (c .before .before .before .before .before .before .before .before .before .before .pre .1) (marked 3 (c .before .before .before .before .before .before .before .before .before .before .args .at .top) (c .before .before .before .before .before .before .before .before .before .before .args .arena .now) (omega (arith, (c .before .before .before .before .before .before .before .before .before .before .pre .1) .long, (c .before .before .before .before .before .before .before .before .before .before .pre .1) .room))) ((c .before .before .before .before .before .before .before .before .before .before .pre .1) .known .1 .0 .inside) (c .before .before .before .before .before .before .get-node .ensures) (c .before .before .f .given .1) ((c .before .before .before .before .before .before .before .before .before .before .pre .1) .known .1 .1 .inside)))
 
 -- src/get.rt:192:33
 get-front-enum-known-c-2 : (t : ℕ) → get-front-lts.Need-enum-known-c-2 (
@@ -876,7 +889,13 @@ get-front-slice-read-kind : (t : ℕ) → get-front-lts.Need-slice-read-kind (
   get-node-below t,
   get-node.Post,
 ) (get-front-at t) get-front.Post
-get-front-slice-read-kind t c = ?
+get-front-slice-read-kind t c = omega (arith, (c .before .before .before .before .before .before .before .before .before .before .before .before .before .before .before .before .before .pre .1) .room, (sizes ((two-ready₁ (c .before .before .before .before .before .before .before .before .before .before .before .before .before .before .before .before .before .pre .1) (marked 3 (c .before .before .before .before .before .before .before .before .before .before .before .before .before .before .before .before .before .args .at .top) (c .before .before .before .before .before .before .before .before .before .before .before .before .before .before .before .before .before .args .arena .now) (omega (arith, (c .before .before .before .before .before .before .before .before .before .before .before .before .before .before .before .before .before .pre .1) .long, (c .before .before .before .before .before .before .before .before .before .before .before .before .before .before .before .before .before .pre .1) .room))) ((c .before .before .before .before .before .before .before .before .before .before .before .before .before .before .before .before .before .pre .1) .known .1 .0 .inside))) (c .before .before .before .before .before .before .before .before .before .before .before .before .before .get-node .ensures) (c .before .before .before .before .before .before .before .before .before .f .given .1)) .short, (sizes ((two-ready₁ (c .before .before .before .before .before .before .before .before .before .before .before .before .before .before .before .before .before .pre .1) (marked 3 (c .before .before .before .before .before .before .before .before .before .before .before .before .before .before .before .before .before .args .at .top) (c .before .before .before .before .before .before .before .before .before .before .before .before .before .before .before .before .before .args .arena .now) (omega (arith, (c .before .before .before .before .before .before .before .before .before .before .before .before .before .before .before .before .before .pre .1) .long, (c .before .before .before .before .before .before .before .before .before .before .before .before .before .before .before .before .before .pre .1) .room))) ((c .before .before .before .before .before .before .before .before .before .before .before .before .before .before .before .before .before .pre .1) .known .1 .0 .inside))) (c .before .before .before .before .before .before .before .before .before .before .before .before .before .get-node .ensures) (c .before .before .before .before .before .before .before .before .before .f .given .1)) .deep, (two-ready₂ (c .before .before .before .before .before .before .before .before .before .before .before .before .before .before .before .before .before .pre .1) (marked 3 (c .before .before .before .before .before .before .before .before .before .before .before .before .before .before .before .before .before .args .at .top) (c .before .before .before .before .before .before .before .before .before .before .before .before .before .before .before .before .before .args .arena .now) (omega (arith, (c .before .before .before .before .before .before .before .before .before .before .before .before .before .before .before .before .before .pre .1) .long, (c .before .before .before .before .before .before .before .before .before .before .before .before .before .before .before .before .before .pre .1) .room))) ((c .before .before .before .before .before .before .before .before .before .before .before .before .before .before .before .before .before .pre .1) .known .1 .0 .inside) (c .before .before .before .before .before .before .before .before .before .before .before .before .before .get-node .ensures) (c .before .before .before .before .before .before .before .before .before .f .given .1) ((c .before .before .before .before .before .before .before .before .before .before .before .before .before .before .before .before .before .pre .1) .known .1 .1 .inside)) .long, c .before .before .before .before .before .before .get-node2 .ensures .kept .long)
+
+-- src/get.rt:196:25
+get-front-returns :
+    (t : ℕ) →
+    get-front-lts.Need-returns (get-node-below t, get-node.Post) (get-front-at t) get-front.Post
+get-front-returns t c = front-43 ((c .before .before .before .before .before .before .before .before .before .before .before .before .before .before .before .before .before .before .pre .1) .base) (marked 3 (c .before .before .before .before .before .before .before .before .before .before .before .before .before .before .before .before .before .before .args .at .top) (c .before .before .before .before .before .before .before .before .before .before .before .before .before .before .before .before .before .before .args .arena .now) (omega (arith, (c .before .before .before .before .before .before .before .before .before .before .before .before .before .before .before .before .before .before .pre .1) .long, (c .before .before .before .before .before .before .before .before .before .before .before .before .before .before .before .before .before .before .pre .1) .room))) (c .before .before .before .before .before .before .before .before .before .before .before .before .before .before .get-node .ensures) (c .before .before .before .before .before .before .before .before .before .before .f .given .1) (c .before .before .before .before .before .before .before .get-node2 .ensures) (c .before .before .before .r .given .1) (λ p q. omega (arith, c .if1 .taken))
 
 -- src/get.rt:196:25
 get-front-same-length :
@@ -885,51 +904,45 @@ get-front-same-length :
     (get-node-below t, get-node.Post)
     (get-front-at t)
     get-front.Post
-get-front-same-length t c = ?
+get-front-same-length t c = get-front-returns t c .kept .long
 
--- src/get.rt:196:25
-get-front-returns :
+-- src/get.rt:199:25
+get-front-returns-2 :
     (t : ℕ) →
-    get-front-lts.Need-returns (get-node-below t, get-node.Post) (get-front-at t) get-front.Post
-get-front-returns t c = ?
+    get-front-lts.Need-returns-2 (get-node-below t, get-node.Post) (get-front-at t) get-front.Post
+get-front-returns-2 t c = front-43 ((c .before .before .before .before .before .before .before .before .before .before .before .before .before .before .before .before .before .before .before .pre .1) .base) (marked 3 (c .before .before .before .before .before .before .before .before .before .before .before .before .before .before .before .before .before .before .before .args .at .top) (c .before .before .before .before .before .before .before .before .before .before .before .before .before .before .before .before .before .before .before .args .arena .now) (omega (arith, (c .before .before .before .before .before .before .before .before .before .before .before .before .before .before .before .before .before .before .before .pre .1) .long, (c .before .before .before .before .before .before .before .before .before .before .before .before .before .before .before .before .before .before .before .pre .1) .room))) (c .before .before .before .before .before .before .before .before .before .before .before .before .before .before .before .get-node .ensures) (c .before .before .before .before .before .before .before .before .before .before .before .f .given .1) (c .before .before .before .before .before .before .before .before .get-node2 .ensures) (c .before .before .before .before .r .given .1) (λ p q. omega (arith, c .if2 .taken))
 
 -- src/get.rt:199:25
 get-front-same-length-2 : (t : ℕ) → get-front-lts.Need-same-length-2 (
   get-node-below t,
   get-node.Post,
 ) (get-front-at t) get-front.Post
-get-front-same-length-2 t c = ?
-
--- src/get.rt:199:25
-get-front-returns-2 :
-    (t : ℕ) →
-    get-front-lts.Need-returns-2 (get-node-below t, get-node.Post) (get-front-at t) get-front.Post
-get-front-returns-2 t c = ?
+get-front-same-length-2 t c = get-front-returns-2 t c .kept .long
 
 -- src/get.rt:201:30
 get-front-add-if3 :
     (t : ℕ) →
     get-front-lts.Need-add-if3 (get-node-below t, get-node.Post) (get-front-at t) get-front.Post
-get-front-add-if3 t c = ?
+get-front-add-if3 t c = record { fits = omega (arith, (sizes ((two-ready₁ (c .before .before .before .before .before .before .before .before .before .before .before .before .before .before .before .before .before .before .before .pre .1) (marked 3 (c .before .before .before .before .before .before .before .before .before .before .before .before .before .before .before .before .before .before .before .args .at .top) (c .before .before .before .before .before .before .before .before .before .before .before .before .before .before .before .before .before .before .before .args .arena .now) (omega (arith, (c .before .before .before .before .before .before .before .before .before .before .before .before .before .before .before .before .before .before .before .pre .1) .long, (c .before .before .before .before .before .before .before .before .before .before .before .before .before .before .before .before .before .before .before .pre .1) .room))) ((c .before .before .before .before .before .before .before .before .before .before .before .before .before .before .before .before .before .before .before .pre .1) .known .1 .0 .inside))) (c .before .before .before .before .before .before .before .before .before .before .before .before .before .before .before .get-node .ensures) (c .before .before .before .before .before .before .before .before .before .before .before .f .given .1)) .short) }
 
 -- src/get.rt:201:30
 get-front-add-if3-2 :
     (t : ℕ) →
     get-front-lts.Need-add-if3-2 (get-node-below t, get-node.Post) (get-front-at t) get-front.Post
-get-front-add-if3-2 t c = ?
+get-front-add-if3-2 t c = record { fits = omega (arith, (sizes ((two-ready₁ (c .before .before .before .before .before .before .before .before .before .before .before .before .before .before .before .before .before .before .before .pre .1) (marked 3 (c .before .before .before .before .before .before .before .before .before .before .before .before .before .before .before .before .before .before .before .args .at .top) (c .before .before .before .before .before .before .before .before .before .before .before .before .before .before .before .before .before .before .before .args .arena .now) (omega (arith, (c .before .before .before .before .before .before .before .before .before .before .before .before .before .before .before .before .before .before .before .pre .1) .long, (c .before .before .before .before .before .before .before .before .before .before .before .before .before .before .before .before .before .before .before .pre .1) .room))) ((c .before .before .before .before .before .before .before .before .before .before .before .before .before .before .before .before .before .before .before .pre .1) .known .1 .0 .inside))) (c .before .before .before .before .before .before .before .before .before .before .before .before .before .before .before .get-node .ensures) (c .before .before .before .before .before .before .before .before .before .before .before .f .given .1)) .short, (sizes ((two-ready₂ (c .before .before .before .before .before .before .before .before .before .before .before .before .before .before .before .before .before .before .before .pre .1) (marked 3 (c .before .before .before .before .before .before .before .before .before .before .before .before .before .before .before .before .before .before .before .args .at .top) (c .before .before .before .before .before .before .before .before .before .before .before .before .before .before .before .before .before .before .before .args .arena .now) (omega (arith, (c .before .before .before .before .before .before .before .before .before .before .before .before .before .before .before .before .before .before .before .pre .1) .long, (c .before .before .before .before .before .before .before .before .before .before .before .before .before .before .before .before .before .before .before .pre .1) .room))) ((c .before .before .before .before .before .before .before .before .before .before .before .before .before .before .before .before .before .before .before .pre .1) .known .1 .0 .inside) (c .before .before .before .before .before .before .before .before .before .before .before .before .before .before .before .get-node .ensures) (c .before .before .before .before .before .before .before .before .before .before .before .f .given .1) ((c .before .before .before .before .before .before .before .before .before .before .before .before .before .before .before .before .before .before .before .pre .1) .known .1 .1 .inside))) (c .before .before .before .before .before .before .before .before .get-node2 .ensures) (c .before .before .before .before .r .given .1)) .short) }
+
+-- src/get.rt:202:25
+get-front-returns-3 :
+    (t : ℕ) →
+    get-front-lts.Need-returns-3 (get-node-below t, get-node.Post) (get-front-at t) get-front.Post
+get-front-returns-3 t c = front-44 ((c .before .before .before .before .before .before .before .before .before .before .before .before .before .before .before .before .before .before .before .before .pre .1) .base) (marked 3 (c .before .before .before .before .before .before .before .before .before .before .before .before .before .before .before .before .before .before .before .before .args .at .top) (c .before .before .before .before .before .before .before .before .before .before .before .before .before .before .before .before .before .before .before .before .args .arena .now) (omega (arith, (c .before .before .before .before .before .before .before .before .before .before .before .before .before .before .before .before .before .before .before .before .pre .1) .long, (c .before .before .before .before .before .before .before .before .before .before .before .before .before .before .before .before .before .before .before .before .pre .1) .room))) (c .before .before .before .before .before .before .before .before .before .before .before .before .before .before .before .before .get-node .ensures) (c .before .before .before .before .before .before .before .before .before .before .before .before .f .given .1) (c .before .before .before .before .before .before .before .before .before .get-node2 .ensures) (c .before .before .before .before .before .r .given .1) (omega (arith, c .before .before .if1 .left)) (omega (arith, c .before .if2 .left)) (c .if3 .taken)
 
 -- src/get.rt:202:25
 get-front-same-length-3 : (t : ℕ) → get-front-lts.Need-same-length-3 (
   get-node-below t,
   get-node.Post,
 ) (get-front-at t) get-front.Post
-get-front-same-length-3 t c = ?
-
--- src/get.rt:202:25
-get-front-returns-3 :
-    (t : ℕ) →
-    get-front-lts.Need-returns-3 (get-node-below t, get-node.Post) (get-front-at t) get-front.Post
-get-front-returns-3 t c = ?
+get-front-same-length-3 t c = get-front-returns-3 t c .kept .long
 
 -- src/get.rt:205:30
 get-front-add-t34 :
@@ -947,52 +960,52 @@ get-front-add-t35 t c = search needs
 get-front-add-t36 :
     (t : ℕ) →
     get-front-lts.Need-add-t36 (get-node-below t, get-node.Post) (get-front-at t) get-front.Post
-get-front-add-t36 t c = ?
+get-front-add-t36 t c = record { fits = omega (arith, (c .before .before .before .before .before .before .before .before .before .before .before .before .before .before .before .before .before .before .before .before .pre .1) .few, (sizes ((two-ready₁ (c .before .before .before .before .before .before .before .before .before .before .before .before .before .before .before .before .before .before .before .before .pre .1) (marked 3 (c .before .before .before .before .before .before .before .before .before .before .before .before .before .before .before .before .before .before .before .before .args .at .top) (c .before .before .before .before .before .before .before .before .before .before .before .before .before .before .before .before .before .before .before .before .args .arena .now) (omega (arith, (c .before .before .before .before .before .before .before .before .before .before .before .before .before .before .before .before .before .before .before .before .pre .1) .long, (c .before .before .before .before .before .before .before .before .before .before .before .before .before .before .before .before .before .before .before .before .pre .1) .room))) ((c .before .before .before .before .before .before .before .before .before .before .before .before .before .before .before .before .before .before .before .before .pre .1) .known .1 .0 .inside))) (c .before .before .before .before .before .before .before .before .before .before .before .before .before .before .before .before .get-node .ensures) (c .before .before .before .before .before .before .before .before .before .before .before .before .f .given .1)) .steps) }
 
 -- src/get.rt:206:32
 get-front-add-t37 :
     (t : ℕ) →
     get-front-lts.Need-add-t37 (get-node-below t, get-node.Post) (get-front-at t) get-front.Post
-get-front-add-t37 t c = ?
+get-front-add-t37 t c = record { fits = omega (arith, (c .before .before .before .before .before .before .before .before .before .before .before .before .before .before .before .before .before .before .before .before .pre .1) .few, (sizes ((two-ready₁ (c .before .before .before .before .before .before .before .before .before .before .before .before .before .before .before .before .before .before .before .before .pre .1) (marked 3 (c .before .before .before .before .before .before .before .before .before .before .before .before .before .before .before .before .before .before .before .before .args .at .top) (c .before .before .before .before .before .before .before .before .before .before .before .before .before .before .before .before .before .before .before .before .args .arena .now) (omega (arith, (c .before .before .before .before .before .before .before .before .before .before .before .before .before .before .before .before .before .before .before .before .pre .1) .long, (c .before .before .before .before .before .before .before .before .before .before .before .before .before .before .before .before .before .before .before .before .pre .1) .room))) ((c .before .before .before .before .before .before .before .before .before .before .before .before .before .before .before .before .before .before .before .before .pre .1) .known .1 .0 .inside))) (c .before .before .before .before .before .before .before .before .before .before .before .before .before .before .before .before .get-node .ensures) (c .before .before .before .before .before .before .before .before .before .before .before .before .f .given .1)) .steps, (sizes ((two-ready₂ (c .before .before .before .before .before .before .before .before .before .before .before .before .before .before .before .before .before .before .before .before .pre .1) (marked 3 (c .before .before .before .before .before .before .before .before .before .before .before .before .before .before .before .before .before .before .before .before .args .at .top) (c .before .before .before .before .before .before .before .before .before .before .before .before .before .before .before .before .before .before .before .before .args .arena .now) (omega (arith, (c .before .before .before .before .before .before .before .before .before .before .before .before .before .before .before .before .before .before .before .before .pre .1) .long, (c .before .before .before .before .before .before .before .before .before .before .before .before .before .before .before .before .before .before .before .before .pre .1) .room))) ((c .before .before .before .before .before .before .before .before .before .before .before .before .before .before .before .before .before .before .before .before .pre .1) .known .1 .0 .inside) (c .before .before .before .before .before .before .before .before .before .before .before .before .before .before .before .before .get-node .ensures) (c .before .before .before .before .before .before .before .before .before .before .before .before .f .given .1) ((c .before .before .before .before .before .before .before .before .before .before .before .before .before .before .before .before .before .before .before .before .pre .1) .known .1 .1 .inside))) (c .before .before .before .before .before .before .before .before .before .get-node2 .ensures) (c .before .before .before .before .before .r .given .1)) .steps) }
+
+-- src/get.rt:150:1
+get-front-returns-4 :
+    (t : ℕ) →
+    get-front-lts.Need-returns-4 (get-node-below t, get-node.Post) (get-front-at t) get-front.Post
+get-front-returns-4 t c = front-refused₁ ((c .before .before .before .before .before .before .before .before .before .pre .1) .base) (marked 3 (c .before .before .before .before .before .before .before .before .before .args .at .top) (c .before .before .before .before .before .before .before .before .before .args .arena .now) (omega (arith, (c .before .before .before .before .before .before .before .before .before .pre .1) .long, (c .before .before .before .before .before .before .before .before .before .pre .1) .room))) (c .before .before .before .before .before .get-node .ensures) (c .before .c .given .1)
 
 -- src/get.rt:150:1
 get-front-same-length-4 : (t : ℕ) → get-front-lts.Need-same-length-4 (
   get-node-below t,
   get-node.Post,
 ) (get-front-at t) get-front.Post
-get-front-same-length-4 t c = ?
+get-front-same-length-4 t c = get-front-returns-4 t c .kept .long
 
 -- src/get.rt:150:1
-get-front-returns-4 :
+get-front-returns-5 :
     (t : ℕ) →
-    get-front-lts.Need-returns-4 (get-node-below t, get-node.Post) (get-front-at t) get-front.Post
-get-front-returns-4 t c = ?
+    get-front-lts.Need-returns-5 (get-node-below t, get-node.Post) (get-front-at t) get-front.Post
+get-front-returns-5 t c = front-refused₂ ((c .before .before .before .before .before .before .before .before .before .before .before .before .before .before .before .before .pre .1) .base) (marked 3 (c .before .before .before .before .before .before .before .before .before .before .before .before .before .before .before .before .args .at .top) (c .before .before .before .before .before .before .before .before .before .before .before .before .before .before .before .before .args .arena .now) (omega (arith, (c .before .before .before .before .before .before .before .before .before .before .before .before .before .before .before .before .pre .1) .long, (c .before .before .before .before .before .before .before .before .before .before .before .before .before .before .before .before .pre .1) .room))) (c .before .before .before .before .before .before .before .before .before .before .before .before .get-node .ensures) (c .before .before .before .before .before .before .before .before .f .given .1) (c .before .before .before .before .before .get-node2 .ensures) (c .before .c2 .given .1)
 
 -- src/get.rt:150:1
 get-front-same-length-5 : (t : ℕ) → get-front-lts.Need-same-length-5 (
   get-node-below t,
   get-node.Post,
 ) (get-front-at t) get-front.Post
-get-front-same-length-5 t c = ?
+get-front-same-length-5 t c = get-front-returns-5 t c .kept .long
 
 -- src/get.rt:150:1
-get-front-returns-5 :
+get-front-returns-6 :
     (t : ℕ) →
-    get-front-lts.Need-returns-5 (get-node-below t, get-node.Post) (get-front-at t) get-front.Post
-get-front-returns-5 t c = ?
+    get-front-lts.Need-returns-6 (get-node-below t, get-node.Post) (get-front-at t) get-front.Post
+get-front-returns-6 t c = front-done ((c .before .before .before .before .before .before .before .before .before .before .before .before .before .before .before .before .before .before .before .before .pre .1) .base) (marked 3 (c .before .before .before .before .before .before .before .before .before .before .before .before .before .before .before .before .before .before .before .before .args .at .top) (c .before .before .before .before .before .before .before .before .before .before .before .before .before .before .before .before .before .before .before .before .args .arena .now) (omega (arith, (c .before .before .before .before .before .before .before .before .before .before .before .before .before .before .before .before .before .before .before .before .pre .1) .long, (c .before .before .before .before .before .before .before .before .before .before .before .before .before .before .before .before .before .before .before .before .pre .1) .room))) (c .before .before .before .before .before .before .before .before .before .before .before .before .before .before .before .before .get-node .ensures) (c .before .before .before .before .before .before .before .before .before .before .before .before .f .given .1) (c .before .before .before .before .before .before .before .before .before .get-node2 .ensures) (c .before .before .before .before .before .r .given .1) (omega (arith, c .before .before .if1 .left)) (omega (arith, c .before .if2 .left)) refl (omega (arith, c .if3 .left))
 
 -- src/get.rt:150:1
 get-front-same-length-6 : (t : ℕ) → get-front-lts.Need-same-length-6 (
   get-node-below t,
   get-node.Post,
 ) (get-front-at t) get-front.Post
-get-front-same-length-6 t c = ?
-
--- src/get.rt:150:1
-get-front-returns-6 :
-    (t : ℕ) →
-    get-front-lts.Need-returns-6 (get-node-below t, get-node.Post) (get-front-at t) get-front.Post
-get-front-returns-6 t c = ?
+get-front-same-length-6 t c = get-front-returns-6 t c .kept .long
 
 -- src/get.rt:322:11
 get-list-case-get-node-requires : (t : ℕ) → get-list-case-lts.Need-get-node-requires (
@@ -1005,7 +1018,7 @@ get-list-case-get-node-requires : (t : ℕ) → get-list-case-lts.Need-get-node-
   push-two-reads.Asked,
   push-two-reads.Learnt,
 ) (get-list-case-at t) get-list-case.Post
-get-list-case-get-node-requires t c κs = ?
+get-list-case-get-node-requires t c κs = (omega (arith, c .before .before .before .pre .0), (subject-ready (c .before .before .before .pre .1) ((c .before .before .before .pre .1) .known .1 .subject .inside)))
 
 -- src/get.rt:334:25
 get-list-case-enum-known-c : (t : ℕ) → get-list-case-lts.Need-enum-known-c (
@@ -1044,7 +1057,7 @@ get-list-case-add-end : (t : ℕ) → get-list-case-lts.Need-add-end (
   push-two-reads.Asked,
   push-two-reads.Learnt,
 ) (get-list-case-at t) get-list-case.Post
-get-list-case-add-end t c = ?
+get-list-case-add-end t c = record { fits = omega (arith, (c .before .before .before .before .before .before .before .before .before .pre .1) .room, (sizes ((subject-ready (c .before .before .before .before .before .before .before .before .before .pre .1) ((c .before .before .before .before .before .before .before .before .before .pre .1) .known .1 .subject .inside))) (c .before .before .before .before .before .get-node .ensures) (c .before .len .given .1)) .short) }
 
 -- src/get.rt:339:23
 get-list-case-sub-shape-of : (t : ℕ) → get-list-case-lts.Need-sub-shape-of (
@@ -1057,7 +1070,7 @@ get-list-case-sub-shape-of : (t : ℕ) → get-list-case-lts.Need-sub-shape-of (
   push-two-reads.Asked,
   push-two-reads.Learnt,
 ) (get-list-case-at t) get-list-case.Post
-get-list-case-sub-shape-of t c = ?
+get-list-case-sub-shape-of t c = omega (arith, (sizes ((subject-ready (c .before .before .before .before .before .before .before .before .before .before .pre .1) ((c .before .before .before .before .before .before .before .before .before .before .pre .1) .known .1 .subject .inside))) (c .before .before .before .before .before .before .get-node .ensures) (c .before .before .len .given .1)) .steps)
 
 -- src/get.rt:342:35
 get-list-case-sub-shape-of-2 : (t : ℕ) → get-list-case-lts.Need-sub-shape-of-2 (
@@ -1096,7 +1109,7 @@ get-list-case-part-shape-of-end : (t : ℕ) → get-list-case-lts.Need-part-shap
   push-two-reads.Asked,
   push-two-reads.Learnt,
 ) (get-list-case-at t) get-list-case.Post
-get-list-case-part-shape-of-end t c = ?
+get-list-case-part-shape-of-end t c = omega (arith, (c .before .before .before .before .before .before .before .before .before .before .before .pre .1) .room, (c .before .before .before .before .before .before .before .before .before .before .before .pre .1) .long, (sizes ((subject-ready (c .before .before .before .before .before .before .before .before .before .before .before .pre .1) ((c .before .before .before .before .before .before .before .before .before .before .before .pre .1) .known .1 .subject .inside))) (c .before .before .before .before .before .before .before .get-node .ensures) (c .before .before .before .len .given .1)) .short, c .before .before .before .before .before .before .before .get-node .ensures .kept .long)
 
 -- src/get.rt:342:19
 get-list-case-shape-of-requires : (t : ℕ) → get-list-case-lts.Need-shape-of-requires (
@@ -1135,7 +1148,7 @@ get-list-case-add-get-branch : (t : ℕ) → get-list-case-lts.Need-add-get-bran
   push-two-reads.Asked,
   push-two-reads.Learnt,
 ) (get-list-case-at t) get-list-case.Post
-get-list-case-add-get-branch t c = ?
+get-list-case-add-get-branch t c = record { fits = omega (arith, (c .before .before .before .before .before .before .before .before .before .before .before .before .before .before .before .before .pre .1) .few, (sizes ((subject-ready (c .before .before .before .before .before .before .before .before .before .before .before .before .before .before .before .before .pre .1) ((c .before .before .before .before .before .before .before .before .before .before .before .before .before .before .before .before .pre .1) .known .1 .subject .inside))) (c .before .before .before .before .before .before .before .before .before .before .before .before .get-node .ensures) (c .before .before .before .before .before .before .before .before .len .given .1)) .steps) }
 
 -- src/get.rt:343:33
 get-list-case-get-branch-requires : (t : ℕ) → get-list-case-lts.Need-get-branch-requires (
@@ -1148,7 +1161,7 @@ get-list-case-get-branch-requires : (t : ℕ) → get-list-case-lts.Need-get-bra
   push-two-reads.Asked,
   push-two-reads.Learnt,
 ) (get-list-case-at t) get-list-case.Post
-get-list-case-get-branch-requires t c κs = ?
+get-list-case-get-branch-requires t c κs = (omega (arith, c .before .before .before .before .before .before .before .before .before .before .before .before .before .before .before .before .pre .0), (case-ready (c .before .before .before .before .before .before .before .before .before .before .before .before .get-node .ensures) (c .before .before .before .before .before .before .before .before .len .given .1) (c .before .before .before .shape-of .ensures) (c .before .before .before .before .before .before .before .before .before .before .before .before .before .before .before .before .pre .1) ((c .before .before .before .before .before .before .before .before .before .before .before .before .before .before .before .before .pre .1) .known .1 .subject .inside) ((c .before .before .before .before .before .before .before .before .before .before .before .before .before .before .before .before .pre .1) .known .1 .empty .inside), ((c .before .before .before .before .before .before .before .before .before .before .before .before .before .before .before .before .pre .1) .base, omega arith)))
 
 -- src/get.rt:354:30
 get-list-case-enum-known-mid : (t : ℕ) → get-list-case-lts.Need-enum-known-mid (
@@ -1187,7 +1200,7 @@ get-list-case-sub-push-two : (t : ℕ) → get-list-case-lts.Need-sub-push-two (
   push-two-reads.Asked,
   push-two-reads.Learnt,
 ) (get-list-case-at t) get-list-case.Post
-get-list-case-sub-push-two t c = ?
+get-list-case-sub-push-two t c = omega (arith, (front-mid (c .before .before .before .before .before .before .before .before .before .before .before .before .get-node .ensures) (c .before .before .before .before .before .before .before .before .len .given .1) (c .before .before .before .shape-of .ensures) (c .before .mid .given .1) ((subject-ready (c .before .before .before .before .before .before .before .before .before .before .before .before .before .before .before .before .pre .1) ((c .before .before .before .before .before .before .before .before .before .before .before .before .before .before .before .before .pre .1) .known .1 .subject .inside)))))
 
 -- src/get.rt:355:66
 get-list-case-sub-push-two-2 : (t : ℕ) → get-list-case-lts.Need-sub-push-two-2 (
@@ -1200,7 +1213,7 @@ get-list-case-sub-push-two-2 : (t : ℕ) → get-list-case-lts.Need-sub-push-two
   push-two-reads.Asked,
   push-two-reads.Learnt,
 ) (get-list-case-at t) get-list-case.Post
-get-list-case-sub-push-two-2 t c = ?
+get-list-case-sub-push-two-2 t c = omega (arith, (front-mid (c .before .before .before .before .before .before .before .before .before .before .before .before .get-node .ensures) (c .before .before .before .before .before .before .before .before .len .given .1) (c .before .before .before .shape-of .ensures) (c .before .mid .given .1) ((subject-ready (c .before .before .before .before .before .before .before .before .before .before .before .before .before .before .before .before .pre .1) ((c .before .before .before .before .before .before .before .before .before .before .before .before .before .before .before .before .pre .1) .known .1 .subject .inside)))))
 
 -- src/get.rt:355:25
 get-list-case-push-two-requires : (t : ℕ) → get-list-case-lts.Need-push-two-requires (
@@ -1213,7 +1226,7 @@ get-list-case-push-two-requires : (t : ℕ) → get-list-case-lts.Need-push-two-
   push-two-reads.Asked,
   push-two-reads.Learnt,
 ) (get-list-case-at t) get-list-case.Post
-get-list-case-push-two-requires t c κs = ?
+get-list-case-push-two-requires t c κs = omega (arith, (c .before .before .before .before .before .before .before .before .before .before .before .before .before .before .before .before .pre .1) .room, (c .before .before .before .before .before .before .before .before .before .before .before .before .before .before .before .before .pre .1) .slots, (sizes ((subject-ready (c .before .before .before .before .before .before .before .before .before .before .before .before .before .before .before .before .pre .1) ((c .before .before .before .before .before .before .before .before .before .before .before .before .before .before .before .before .pre .1) .known .1 .subject .inside))) (c .before .before .before .before .before .before .before .before .before .before .before .before .get-node .ensures) (c .before .before .before .before .before .before .before .before .len .given .1)) .short, (sizes ((subject-ready (c .before .before .before .before .before .before .before .before .before .before .before .before .before .before .before .before .pre .1) ((c .before .before .before .before .before .before .before .before .before .before .before .before .before .before .before .before .pre .1) .known .1 .subject .inside))) (c .before .before .before .before .before .before .before .before .before .before .before .before .get-node .ensures) (c .before .before .before .before .before .before .before .before .len .given .1)) .deep, (front-mid (c .before .before .before .before .before .before .before .before .before .before .before .before .get-node .ensures) (c .before .before .before .before .before .before .before .before .len .given .1) (c .before .before .before .shape-of .ensures) (c .before .mid .given .1) ((subject-ready (c .before .before .before .before .before .before .before .before .before .before .before .before .before .before .before .before .pre .1) ((c .before .before .before .before .before .before .before .before .before .before .before .before .before .before .before .before .pre .1) .known .1 .subject .inside)))))
 
 -- src/get.rt:363:25
 get-list-case-add-get-branch-2 : (t : ℕ) → get-list-case-lts.Need-add-get-branch-2 (
@@ -1226,7 +1239,7 @@ get-list-case-add-get-branch-2 : (t : ℕ) → get-list-case-lts.Need-add-get-br
   push-two-reads.Asked,
   push-two-reads.Learnt,
 ) (get-list-case-at t) get-list-case.Post
-get-list-case-add-get-branch-2 t c = ?
+get-list-case-add-get-branch-2 t c = record { fits = omega (arith, (c .before .before .before .before .before .before .before .before .before .before .before .before .before .before .before .before .before .before .pre .1) .few, (sizes ((subject-ready (c .before .before .before .before .before .before .before .before .before .before .before .before .before .before .before .before .before .before .pre .1) ((c .before .before .before .before .before .before .before .before .before .before .before .before .before .before .before .before .before .before .pre .1) .known .1 .subject .inside))) (c .before .before .before .before .before .before .before .before .before .before .before .before .before .before .get-node .ensures) (c .before .before .before .before .before .before .before .before .before .before .len .given .1)) .steps) }
 
 -- src/get.rt:356:21
 get-list-case-get-branch-requires-2 : (t : ℕ) → get-list-case-lts.Need-get-branch-requires-2 (
@@ -1239,20 +1252,7 @@ get-list-case-get-branch-requires-2 : (t : ℕ) → get-list-case-lts.Need-get-b
   push-two-reads.Asked,
   push-two-reads.Learnt,
 ) (get-list-case-at t) get-list-case.Post
-get-list-case-get-branch-requires-2 t c κs = ?
-
--- src/get.rt:304:1
-get-list-case-same-length : (t : ℕ) → get-list-case-lts.Need-same-length (
-  get-node-below t,
-  get-node.Post,
-  shape-of-reads.Asked,
-  shape-of-reads.Learnt,
-  get-branch-below t,
-  get-branch.Post,
-  push-two-reads.Asked,
-  push-two-reads.Learnt,
-) (get-list-case-at t) get-list-case.Post
-get-list-case-same-length t c = search needs
+get-list-case-get-branch-requires-2 t c κs = (omega (arith, c .before .before .before .before .before .before .before .before .before .before .before .before .before .before .before .before .before .before .pre .0), (front-ready (c .before .before .before .before .before .before .before .before .before .before .before .before .before .before .get-node .ensures) (c .before .before .before .before .before .before .before .before .before .before .len .given .1) (c .before .before .before .before .before .shape-of .ensures) (c .before .before .before .mid .given .1) (c .before .push-two .ensures) (c .before .before .before .before .before .before .before .before .before .before .before .before .before .before .before .before .before .before .pre .1) ((c .before .before .before .before .before .before .before .before .before .before .before .before .before .before .before .before .before .before .pre .1) .known .1 .subject .inside) ((c .before .before .before .before .before .before .before .before .before .before .before .before .before .before .before .before .before .before .pre .1) .known .1 .front .inside), ((c .before .before .before .before .before .before .before .before .before .before .before .before .before .before .before .before .before .before .pre .1) .base, omega arith)))
 
 -- src/get.rt:304:1
 get-list-case-returns : (t : ℕ) → get-list-case-lts.Need-returns (
@@ -1265,10 +1265,10 @@ get-list-case-returns : (t : ℕ) → get-list-case-lts.Need-returns (
   push-two-reads.Asked,
   push-two-reads.Learnt,
 ) (get-list-case-at t) get-list-case.Post
-get-list-case-returns t c = ?
+get-list-case-returns t c = list-refused (c .before .before .before .before .before .get-node .ensures) (c .before .c .given .1)
 
 -- src/get.rt:304:1
-get-list-case-same-length-2 : (t : ℕ) → get-list-case-lts.Need-same-length-2 (
+get-list-case-same-length : (t : ℕ) → get-list-case-lts.Need-same-length (
   get-node-below t,
   get-node.Post,
   shape-of-reads.Asked,
@@ -1278,7 +1278,7 @@ get-list-case-same-length-2 : (t : ℕ) → get-list-case-lts.Need-same-length-2
   push-two-reads.Asked,
   push-two-reads.Learnt,
 ) (get-list-case-at t) get-list-case.Post
-get-list-case-same-length-2 t c = search needs
+get-list-case-same-length t c = get-list-case-returns t c .kept .long
 
 -- src/get.rt:304:1
 get-list-case-returns-2 : (t : ℕ) → get-list-case-lts.Need-returns-2 (
@@ -1291,10 +1291,10 @@ get-list-case-returns-2 : (t : ℕ) → get-list-case-lts.Need-returns-2 (
   push-two-reads.Asked,
   push-two-reads.Learnt,
 ) (get-list-case-at t) get-list-case.Post
-get-list-case-returns-2 t c = ?
+get-list-case-returns-2 t c = list-empty (c .before .before .before .before .before .before .before .before .before .before .before .before .before .before .before .get-node .ensures) (c .before .before .before .before .before .before .before .before .before .before .before .len .given .1) (c .before .before .before .before .before .before .shape-of .ensures) ((c .before .before .before .before .before .before .before .before .before .before .before .before .before .before .before .before .before .before .before .pre .1) .base) (c .before .before .before .before .enum-told .given .1) (c .before .before .get-branch .ensures)
 
 -- src/get.rt:304:1
-get-list-case-same-length-3 : (t : ℕ) → get-list-case-lts.Need-same-length-3 (
+get-list-case-same-length-2 : (t : ℕ) → get-list-case-lts.Need-same-length-2 (
   get-node-below t,
   get-node.Post,
   shape-of-reads.Asked,
@@ -1304,7 +1304,7 @@ get-list-case-same-length-3 : (t : ℕ) → get-list-case-lts.Need-same-length-3
   push-two-reads.Asked,
   push-two-reads.Learnt,
 ) (get-list-case-at t) get-list-case.Post
-get-list-case-same-length-3 t c = search needs
+get-list-case-same-length-2 t c = get-list-case-returns-2 t c .kept .long
 
 -- src/get.rt:304:1
 get-list-case-returns-3 : (t : ℕ) → get-list-case-lts.Need-returns-3 (
@@ -1317,10 +1317,10 @@ get-list-case-returns-3 : (t : ℕ) → get-list-case-lts.Need-returns-3 (
   push-two-reads.Asked,
   push-two-reads.Learnt,
 ) (get-list-case-at t) get-list-case.Post
-get-list-case-returns-3 t c = ?
+get-list-case-returns-3 t c = list-front (c .before .before .before .before .before .before .before .before .before .before .before .before .before .before .before .before .before .get-node .ensures) (c .before .before .before .before .before .before .before .before .before .before .before .before .before .len .given .1) (c .before .before .before .before .before .before .before .before .shape-of .ensures) (c .before .before .before .before .before .before .mid .given .1) (c .before .before .before .before .push-two .ensures) ((c .before .before .before .before .before .before .before .before .before .before .before .before .before .before .before .before .before .before .before .before .before .pre .1) .base) (omega (arith, (c .before .before .before .before .before .before .before .before .before .before .before .before .before .before .before .before .before .before .before .before .before .pre .1) .slots, (sizes ((subject-ready (c .before .before .before .before .before .before .before .before .before .before .before .before .before .before .before .before .before .before .before .before .before .pre .1) ((c .before .before .before .before .before .before .before .before .before .before .before .before .before .before .before .before .before .before .before .before .before .pre .1) .known .1 .subject .inside))) (c .before .before .before .before .before .before .before .before .before .before .before .before .before .before .before .before .before .get-node .ensures) (c .before .before .before .before .before .before .before .before .before .before .before .before .before .len .given .1)) .deep)) (c .before .before .get-branch2 .ensures)
 
 -- src/get.rt:304:1
-get-list-case-same-length-4 : (t : ℕ) → get-list-case-lts.Need-same-length-4 (
+get-list-case-same-length-3 : (t : ℕ) → get-list-case-lts.Need-same-length-3 (
   get-node-below t,
   get-node.Post,
   shape-of-reads.Asked,
@@ -1330,7 +1330,7 @@ get-list-case-same-length-4 : (t : ℕ) → get-list-case-lts.Need-same-length-4
   push-two-reads.Asked,
   push-two-reads.Learnt,
 ) (get-list-case-at t) get-list-case.Post
-get-list-case-same-length-4 t c = search needs
+get-list-case-same-length-3 t c = get-list-case-returns-3 t c .kept .long
 
 -- src/get.rt:304:1
 get-list-case-returns-4 : (t : ℕ) → get-list-case-lts.Need-returns-4 (
@@ -1343,7 +1343,20 @@ get-list-case-returns-4 : (t : ℕ) → get-list-case-lts.Need-returns-4 (
   push-two-reads.Asked,
   push-two-reads.Learnt,
 ) (get-list-case-at t) get-list-case.Post
-get-list-case-returns-4 t c = ?
+get-list-case-returns-4 t c = list-43 (c .before .before .before .before .before .before .before .before .before .before .get-node .ensures) (c .before .before .before .before .before .before .len .given .1) (c .before .shape-of .ensures) (λ v e. no-list v e (c .match2 .keys3))
+
+-- src/get.rt:304:1
+get-list-case-same-length-4 : (t : ℕ) → get-list-case-lts.Need-same-length-4 (
+  get-node-below t,
+  get-node.Post,
+  shape-of-reads.Asked,
+  shape-of-reads.Learnt,
+  get-branch-below t,
+  get-branch.Post,
+  push-two-reads.Asked,
+  push-two-reads.Learnt,
+) (get-list-case-at t) get-list-case.Post
+get-list-case-same-length-4 t c = get-list-case-returns-4 t c .kept .long
 
 -- src/get.rt:73:9
 get-node-returns : (t : ℕ) → get-node-lts.Need-returns (
@@ -1370,7 +1383,7 @@ get-node-returns : (t : ℕ) → get-node-lts.Need-returns (
   get-add-below t,
   get-add.Post,
 ) (get-node-at t) get-node.Post
-get-node-returns t c = ?
+get-node-returns t c = enter-40 (c .if1 .taken)
 
 -- src/get.rt:76:9
 get-node-returns-2 : (t : ℕ) → get-node-lts.Need-returns-2 (
@@ -1397,7 +1410,7 @@ get-node-returns-2 : (t : ℕ) → get-node-lts.Need-returns-2 (
   get-add-below t,
   get-add.Post,
 ) (get-node-at t) get-node.Post
-get-node-returns-2 t c = ?
+get-node-returns-2 t c = enter-41 (c .before .before .if1 .left) (c .if2 .taken)
 
 -- src/get.rt:78:17
 get-node-mul-start : (t : ℕ) → get-node-lts.Need-mul-start (
@@ -1424,7 +1437,7 @@ get-node-mul-start : (t : ℕ) → get-node-lts.Need-mul-start (
   get-add-below t,
   get-add.Post,
 ) (get-node-at t) get-node.Post
-get-node-mul-start t c = ?
+get-node-mul-start t c = record { fits = omega (arith, lent-few ((c .before .before .before .before .before .before .pre .1) .lent) ((c .before .before .before .before .before .before .pre .1) .known)) }
 
 -- src/get.rt:78:17
 get-node-element-copy-out-start : (t : ℕ) → get-node-lts.Need-element-copy-out-start (
@@ -1451,7 +1464,7 @@ get-node-element-copy-out-start : (t : ℕ) → get-node-lts.Need-element-copy-o
   get-add-below t,
   get-add.Post,
 ) (get-node-at t) get-node.Post
-get-node-element-copy-out-start t c = ?
+get-node-element-copy-out-start t c = lent-few ((c .before .before .before .before .before .before .pre .1) .lent) ((c .before .before .before .before .before .before .pre .1) .known)
 
 -- src/get.rt:78:17
 get-node-cast-start : (t : ℕ) → get-node-lts.Need-cast-start (
@@ -1478,7 +1491,7 @@ get-node-cast-start : (t : ℕ) → get-node-lts.Need-cast-start (
   get-add-below t,
   get-add.Post,
 ) (get-node-at t) get-node.Post
-get-node-cast-start t c = ?
+get-node-cast-start t c = record { fits = omega (arith, lent-start ((c .before .before .before .before .before .before .before .pre .1) .lent) ((c .before .before .before .before .before .before .before .pre .1) .known)) }
 
 -- src/get.rt:80:17
 get-node-sub-t36 : (t : ℕ) → get-node-lts.Need-sub-t36 (
@@ -1613,7 +1626,7 @@ get-node-get-var-requires : (t : ℕ) → get-node-lts.Need-get-var-requires (
   get-add-below t,
   get-add.Post,
 ) (get-node-at t) get-node.Post
-get-node-get-var-requires t c κs = ?
+get-node-get-var-requires t c κs = ready-room (c .before .before .before .before .before .before .before .before .before .before .before .before .before .before .pre .1) (omega (arith, c .before .before .before .before .before .before .before .before .before .before .if1 .left))
 
 -- src/get.rt:86:37
 get-node-enum-told : (t : ℕ) → get-node-lts.Need-enum-told (
@@ -1883,7 +1896,7 @@ get-node-get-front-requires : (t : ℕ) → get-node-lts.Need-get-front-requires
   get-add-below t,
   get-add.Post,
 ) (get-node-at t) get-node.Post
-get-node-get-front-requires t c κs = ?
+get-node-get-front-requires t c κs = (omega (arith, c .before .before .before .before .before .before .before .before .before .before .before .before .before .before .pre .0, c .before .before .before .before .before .before .before .before .before .before .if1 .left), enter-ready (c .before .before .before .before .before .before .before .before .before .before .before .before .before .before .pre .1) (c .before .before .before .before .before .before .before .before .before .before .if1 .left) (c .before .before .before .before .before .before .before .before .if2 .left) (c .before .before .before .before .node-at .ensures) (c .before .before .first .given .1))
 
 -- src/get.rt:91:22
 get-node-enum-known-left : (t : ℕ) → get-node-lts.Need-enum-known-left (
@@ -1937,7 +1950,7 @@ get-node-get-pair-requires : (t : ℕ) → get-node-lts.Need-get-pair-requires (
   get-add-below t,
   get-add.Post,
 ) (get-node-at t) get-node.Post
-get-node-get-pair-requires t c κs = ?
+get-node-get-pair-requires t c κs = (omega (arith, c .before .before .before .before .before .before .before .before .before .before .before .before .before .before .pre .0, c .before .before .before .before .before .before .before .before .before .before .if1 .left), enter-ready (c .before .before .before .before .before .before .before .before .before .before .before .before .before .before .pre .1) (c .before .before .before .before .before .before .before .before .before .before .if1 .left) (c .before .before .before .before .before .before .before .before .if2 .left) (c .before .before .before .before .node-at .ensures) (c .before .before .left .given .1))
 
 -- src/get.rt:93:13
 get-node-enum-known-subject : (t : ℕ) → get-node-lts.Need-enum-known-subject (
@@ -1991,7 +2004,7 @@ get-node-get-list-case-requires : (t : ℕ) → get-node-lts.Need-get-list-case-
   get-add-below t,
   get-add.Post,
 ) (get-node-at t) get-node.Post
-get-node-get-list-case-requires t c κs = ?
+get-node-get-list-case-requires t c κs = (omega (arith, c .before .before .before .before .before .before .before .before .before .before .before .before .before .before .pre .0, c .before .before .before .before .before .before .before .before .before .before .if1 .left), enter-ready (c .before .before .before .before .before .before .before .before .before .before .before .before .before .before .pre .1) (c .before .before .before .before .before .before .before .before .before .before .if1 .left) (c .before .before .before .before .before .before .before .before .if2 .left) (c .before .before .before .before .node-at .ensures) (c .before .before .subject .given .1))
 
 -- src/get.rt:115:13
 get-node-enum-known-subject-2 : (t : ℕ) → get-node-lts.Need-enum-known-subject-2 (
@@ -2045,7 +2058,7 @@ get-node-get-truth-case-requires : (t : ℕ) → get-node-lts.Need-get-truth-cas
   get-add-below t,
   get-add.Post,
 ) (get-node-at t) get-node.Post
-get-node-get-truth-case-requires t c κs = ?
+get-node-get-truth-case-requires t c κs = (omega (arith, c .before .before .before .before .before .before .before .before .before .before .before .before .before .before .pre .0, c .before .before .before .before .before .before .before .before .before .before .if1 .left), enter-ready (c .before .before .before .before .before .before .before .before .before .before .before .before .before .before .pre .1) (c .before .before .before .before .before .before .before .before .before .before .if1 .left) (c .before .before .before .before .before .before .before .before .if2 .left) (c .before .before .before .before .node-at .ensures) (c .before .before .subject2 .given .1))
 
 -- src/get.rt:132:23
 get-node-enum-known-subject-3 : (t : ℕ) → get-node-lts.Need-enum-known-subject-3 (
@@ -2099,7 +2112,7 @@ get-node-get-split-requires : (t : ℕ) → get-node-lts.Need-get-split-requires
   get-add-below t,
   get-add.Post,
 ) (get-node-at t) get-node.Post
-get-node-get-split-requires t c κs = ?
+get-node-get-split-requires t c κs = (omega (arith, c .before .before .before .before .before .before .before .before .before .before .before .before .before .before .pre .0, c .before .before .before .before .before .before .before .before .before .before .if1 .left), enter-ready (c .before .before .before .before .before .before .before .before .before .before .before .before .before .before .pre .1) (c .before .before .before .before .before .before .before .before .before .before .if1 .left) (c .before .before .before .before .before .before .before .before .if2 .left) (c .before .before .before .before .node-at .ensures) (c .before .before .subject3 .given .1))
 
 -- src/get.rt:142:13
 get-node-enum-known-section : (t : ℕ) → get-node-lts.Need-enum-known-section (
@@ -2153,7 +2166,7 @@ get-node-get-call-requires : (t : ℕ) → get-node-lts.Need-get-call-requires (
   get-add-below t,
   get-add.Post,
 ) (get-node-at t) get-node.Post
-get-node-get-call-requires t c κs = ?
+get-node-get-call-requires t c κs = (omega (arith, c .before .before .before .before .before .before .before .before .before .before .before .before .before .before .pre .0, c .before .before .before .before .before .before .before .before .before .before .if1 .left), enter-ready (c .before .before .before .before .before .before .before .before .before .before .before .before .before .before .pre .1) (c .before .before .before .before .before .before .before .before .before .before .if1 .left) (c .before .before .before .before .before .before .before .before .if2 .left) (c .before .before .before .before .node-at .ensures) (c .before .before .section .given .1))
 
 -- src/get.rt:146:21
 get-node-enum-known-node : (t : ℕ) → get-node-lts.Need-enum-known-node (
@@ -2207,34 +2220,7 @@ get-node-get-add-requires : (t : ℕ) → get-node-lts.Need-get-add-requires (
   get-add-below t,
   get-add.Post,
 ) (get-node-at t) get-node.Post
-get-node-get-add-requires t c κs = ?
-
--- src/get.rt:60:1
-get-node-same-length : (t : ℕ) → get-node-lts.Need-same-length (
-  node-at-reads.Asked,
-  node-at-reads.Learnt,
-  get-var-reads.Asked,
-  get-var-reads.Learnt,
-  get-constant-reads.Asked,
-  get-constant-reads.Learnt,
-  get-number-reads.Asked,
-  get-number-reads.Learnt,
-  get-front-below t,
-  get-front.Post,
-  get-pair-below t,
-  get-pair.Post,
-  get-list-case-below t,
-  get-list-case.Post,
-  get-truth-case-below t,
-  get-truth-case.Post,
-  get-split-below t,
-  get-split.Post,
-  get-call-below t,
-  get-call.Post,
-  get-add-below t,
-  get-add.Post,
-) (get-node-at t) get-node.Post
-get-node-same-length t c = search needs
+get-node-get-add-requires t c κs = (omega (arith, c .before .before .before .before .before .before .before .before .before .before .before .before .before .before .pre .0, c .before .before .before .before .before .before .before .before .before .before .if1 .left), enter-ready (c .before .before .before .before .before .before .before .before .before .before .before .before .before .before .pre .1) (c .before .before .before .before .before .before .before .before .before .before .if1 .left) (c .before .before .before .before .before .before .before .before .if2 .left) (c .before .before .before .before .node-at .ensures) (c .before .before .node .given .1))
 
 -- src/get.rt:60:1
 get-node-returns-3 : (t : ℕ) → get-node-lts.Need-returns-3 (
@@ -2261,10 +2247,10 @@ get-node-returns-3 : (t : ℕ) → get-node-lts.Need-returns-3 (
   get-add-below t,
   get-add.Post,
 ) (get-node-at t) get-node.Post
-get-node-returns-3 t c = ?
+get-node-returns-3 t c = enter-body (c .before .before .before .before .before .before .before .before .before .before .before .before .before .before .before .before .before .pre .1) (c .before .before .before .before .before .before .before .before .before .before .before .before .before .if1 .left) (c .before .before .before .before .before .before .before .before .before .before .before .if2 .left) (c .before .before .before .before .before .before .before .node-at .ensures) (c .before .before .before .before .before .x .given .1) (c .before .before .get-var .ensures _ _ _)
 
 -- src/get.rt:60:1
-get-node-same-length-2 : (t : ℕ) → get-node-lts.Need-same-length-2 (
+get-node-same-length : (t : ℕ) → get-node-lts.Need-same-length (
   node-at-reads.Asked,
   node-at-reads.Learnt,
   get-var-reads.Asked,
@@ -2288,7 +2274,7 @@ get-node-same-length-2 : (t : ℕ) → get-node-lts.Need-same-length-2 (
   get-add-below t,
   get-add.Post,
 ) (get-node-at t) get-node.Post
-get-node-same-length-2 t c = search needs
+get-node-same-length t c = get-node-returns-3 t c .kept .long
 
 -- src/get.rt:60:1
 get-node-returns-4 : (t : ℕ) → get-node-lts.Need-returns-4 (
@@ -2315,10 +2301,10 @@ get-node-returns-4 : (t : ℕ) → get-node-lts.Need-returns-4 (
   get-add-below t,
   get-add.Post,
 ) (get-node-at t) get-node.Post
-get-node-returns-4 t c = ?
+get-node-returns-4 t c = enter-body (c .before .before .before .before .before .before .before .before .before .before .before .before .before .before .before .before .pre .1) (c .before .before .before .before .before .before .before .before .before .before .before .before .if1 .left) (c .before .before .before .before .before .before .before .before .before .before .if2 .left) (c .before .before .before .before .before .before .node-at .ensures) (c .before .before .before .before .enum-told .given .1) (false-done ((c .before .before .before .before .before .before .before .before .before .before .before .before .before .before .before .before .pre .1) .base) (rw (c .before .before .get-constant .ensures .0) (marked 0 (c .before .before .before .before .before .before .before .before .before .before .before .before .before .before .before .before .args .at .top) (c .before .before .before .before .before .before .before .before .before .before .before .before .before .before .before .before .args .arena .now) (omega (arith, (c .before .before .before .before .before .before .before .before .before .before .before .before .before .before .before .before .pre .1) .long, (c .before .before .before .before .before .before .before .before .before .before .before .before .before .before .before .before .pre .1) .room, c .before .before .before .before .before .before .before .before .before .before .before .before .if1 .left)))) (c .before .before .get-constant .ensures .1) refl)
 
 -- src/get.rt:60:1
-get-node-same-length-3 : (t : ℕ) → get-node-lts.Need-same-length-3 (
+get-node-same-length-2 : (t : ℕ) → get-node-lts.Need-same-length-2 (
   node-at-reads.Asked,
   node-at-reads.Learnt,
   get-var-reads.Asked,
@@ -2342,7 +2328,7 @@ get-node-same-length-3 : (t : ℕ) → get-node-lts.Need-same-length-3 (
   get-add-below t,
   get-add.Post,
 ) (get-node-at t) get-node.Post
-get-node-same-length-3 t c = search needs
+get-node-same-length-2 t c = get-node-returns-4 t c .kept .long
 
 -- src/get.rt:60:1
 get-node-returns-5 : (t : ℕ) → get-node-lts.Need-returns-5 (
@@ -2369,10 +2355,10 @@ get-node-returns-5 : (t : ℕ) → get-node-lts.Need-returns-5 (
   get-add-below t,
   get-add.Post,
 ) (get-node-at t) get-node.Post
-get-node-returns-5 t c = ?
+get-node-returns-5 t c = enter-body (c .before .before .before .before .before .before .before .before .before .before .before .before .before .before .before .before .pre .1) (c .before .before .before .before .before .before .before .before .before .before .before .before .if1 .left) (c .before .before .before .before .before .before .before .before .before .before .if2 .left) (c .before .before .before .before .before .before .node-at .ensures) (c .before .before .before .before .enum-told2 .given .1) (true-done ((c .before .before .before .before .before .before .before .before .before .before .before .before .before .before .before .before .pre .1) .base) (rw (c .before .before .get-constant2 .ensures .0) (marked 1 (c .before .before .before .before .before .before .before .before .before .before .before .before .before .before .before .before .args .at .top) (c .before .before .before .before .before .before .before .before .before .before .before .before .before .before .before .before .args .arena .now) (omega (arith, (c .before .before .before .before .before .before .before .before .before .before .before .before .before .before .before .before .pre .1) .long, (c .before .before .before .before .before .before .before .before .before .before .before .before .before .before .before .before .pre .1) .room, c .before .before .before .before .before .before .before .before .before .before .before .before .if1 .left)))) (c .before .before .get-constant2 .ensures .1) refl)
 
 -- src/get.rt:60:1
-get-node-same-length-4 : (t : ℕ) → get-node-lts.Need-same-length-4 (
+get-node-same-length-3 : (t : ℕ) → get-node-lts.Need-same-length-3 (
   node-at-reads.Asked,
   node-at-reads.Learnt,
   get-var-reads.Asked,
@@ -2396,7 +2382,7 @@ get-node-same-length-4 : (t : ℕ) → get-node-lts.Need-same-length-4 (
   get-add-below t,
   get-add.Post,
 ) (get-node-at t) get-node.Post
-get-node-same-length-4 t c = search needs
+get-node-same-length-3 t c = get-node-returns-5 t c .kept .long
 
 -- src/get.rt:60:1
 get-node-returns-6 : (t : ℕ) → get-node-lts.Need-returns-6 (
@@ -2423,10 +2409,10 @@ get-node-returns-6 : (t : ℕ) → get-node-lts.Need-returns-6 (
   get-add-below t,
   get-add.Post,
 ) (get-node-at t) get-node.Post
-get-node-returns-6 t c = ?
+get-node-returns-6 t c = enter-body (c .before .before .before .before .before .before .before .before .before .before .before .before .before .before .before .before .pre .1) (c .before .before .before .before .before .before .before .before .before .before .before .before .if1 .left) (c .before .before .before .before .before .before .before .before .before .before .if2 .left) (c .before .before .before .before .before .before .node-at .ensures) (c .before .before .before .before .enum-told3 .given .1) (empty-done ((c .before .before .before .before .before .before .before .before .before .before .before .before .before .before .before .before .pre .1) .base) (rw (c .before .before .get-constant3 .ensures .0) (marked 2 (c .before .before .before .before .before .before .before .before .before .before .before .before .before .before .before .before .args .at .top) (c .before .before .before .before .before .before .before .before .before .before .before .before .before .before .before .before .args .arena .now) (omega (arith, (c .before .before .before .before .before .before .before .before .before .before .before .before .before .before .before .before .pre .1) .long, (c .before .before .before .before .before .before .before .before .before .before .before .before .before .before .before .before .pre .1) .room, c .before .before .before .before .before .before .before .before .before .before .before .before .if1 .left)))) (c .before .before .get-constant3 .ensures .1) refl)
 
 -- src/get.rt:60:1
-get-node-same-length-5 : (t : ℕ) → get-node-lts.Need-same-length-5 (
+get-node-same-length-4 : (t : ℕ) → get-node-lts.Need-same-length-4 (
   node-at-reads.Asked,
   node-at-reads.Learnt,
   get-var-reads.Asked,
@@ -2450,7 +2436,7 @@ get-node-same-length-5 : (t : ℕ) → get-node-lts.Need-same-length-5 (
   get-add-below t,
   get-add.Post,
 ) (get-node-at t) get-node.Post
-get-node-same-length-5 t c = search needs
+get-node-same-length-4 t c = get-node-returns-6 t c .kept .long
 
 -- src/get.rt:60:1
 get-node-returns-7 : (t : ℕ) → get-node-lts.Need-returns-7 (
@@ -2477,10 +2463,10 @@ get-node-returns-7 : (t : ℕ) → get-node-lts.Need-returns-7 (
   get-add-below t,
   get-add.Post,
 ) (get-node-at t) get-node.Post
-get-node-returns-7 t c = ?
+get-node-returns-7 t c = enter-body (c .before .before .before .before .before .before .before .before .before .before .before .before .before .before .before .before .before .pre .1) (c .before .before .before .before .before .before .before .before .before .before .before .before .before .if1 .left) (c .before .before .before .before .before .before .before .before .before .before .before .if2 .left) (c .before .before .before .before .before .before .before .node-at .ensures) (c .before .before .before .before .before .n .given .1) (number-done ((c .before .before .before .before .before .before .before .before .before .before .before .before .before .before .before .before .before .pre .1) .base) (omega (arith, (c .before .before .before .before .before .before .before .before .before .before .before .before .before .before .before .before .before .pre .1) .long, (c .before .before .before .before .before .before .before .before .before .before .before .before .before .before .before .before .before .pre .1) .room, c .before .before .before .before .before .before .before .before .before .before .before .before .before .if1 .left)) (enter-ready (c .before .before .before .before .before .before .before .before .before .before .before .before .before .before .before .before .before .pre .1) (c .before .before .before .before .before .before .before .before .before .before .before .before .before .if1 .left) (c .before .before .before .before .before .before .before .before .before .before .before .if2 .left) (c .before .before .before .before .before .before .before .node-at .ensures) (c .before .before .before .before .before .n .given .1) .known .1) (c .before .before .get-number .ensures))
 
 -- src/get.rt:60:1
-get-node-same-length-6 : (t : ℕ) → get-node-lts.Need-same-length-6 (
+get-node-same-length-5 : (t : ℕ) → get-node-lts.Need-same-length-5 (
   node-at-reads.Asked,
   node-at-reads.Learnt,
   get-var-reads.Asked,
@@ -2504,7 +2490,7 @@ get-node-same-length-6 : (t : ℕ) → get-node-lts.Need-same-length-6 (
   get-add-below t,
   get-add.Post,
 ) (get-node-at t) get-node.Post
-get-node-same-length-6 t c = search needs
+get-node-same-length-5 t c = get-node-returns-7 t c .kept .long
 
 -- src/get.rt:60:1
 get-node-returns-8 : (t : ℕ) → get-node-lts.Need-returns-8 (
@@ -2531,10 +2517,10 @@ get-node-returns-8 : (t : ℕ) → get-node-lts.Need-returns-8 (
   get-add-below t,
   get-add.Post,
 ) (get-node-at t) get-node.Post
-get-node-returns-8 t c = ?
+get-node-returns-8 t c = enter-body (c .before .before .before .before .before .before .before .before .before .before .before .before .before .before .before .before .before .pre .1) (c .before .before .before .before .before .before .before .before .before .before .before .before .before .if1 .left) (c .before .before .before .before .before .before .before .before .before .before .before .if2 .left) (c .before .before .before .before .before .before .before .node-at .ensures) (c .before .before .before .before .before .first .given .1) (c .before .before .get-front .ensures)
 
 -- src/get.rt:60:1
-get-node-same-length-7 : (t : ℕ) → get-node-lts.Need-same-length-7 (
+get-node-same-length-6 : (t : ℕ) → get-node-lts.Need-same-length-6 (
   node-at-reads.Asked,
   node-at-reads.Learnt,
   get-var-reads.Asked,
@@ -2558,7 +2544,7 @@ get-node-same-length-7 : (t : ℕ) → get-node-lts.Need-same-length-7 (
   get-add-below t,
   get-add.Post,
 ) (get-node-at t) get-node.Post
-get-node-same-length-7 t c = search needs
+get-node-same-length-6 t c = get-node-returns-8 t c .kept .long
 
 -- src/get.rt:60:1
 get-node-returns-9 : (t : ℕ) → get-node-lts.Need-returns-9 (
@@ -2585,10 +2571,10 @@ get-node-returns-9 : (t : ℕ) → get-node-lts.Need-returns-9 (
   get-add-below t,
   get-add.Post,
 ) (get-node-at t) get-node.Post
-get-node-returns-9 t c = ?
+get-node-returns-9 t c = enter-body (c .before .before .before .before .before .before .before .before .before .before .before .before .before .before .before .before .before .pre .1) (c .before .before .before .before .before .before .before .before .before .before .before .before .before .if1 .left) (c .before .before .before .before .before .before .before .before .before .before .before .if2 .left) (c .before .before .before .before .before .before .before .node-at .ensures) (c .before .before .before .before .before .left .given .1) (c .before .before .get-pair .ensures)
 
 -- src/get.rt:60:1
-get-node-same-length-8 : (t : ℕ) → get-node-lts.Need-same-length-8 (
+get-node-same-length-7 : (t : ℕ) → get-node-lts.Need-same-length-7 (
   node-at-reads.Asked,
   node-at-reads.Learnt,
   get-var-reads.Asked,
@@ -2612,7 +2598,7 @@ get-node-same-length-8 : (t : ℕ) → get-node-lts.Need-same-length-8 (
   get-add-below t,
   get-add.Post,
 ) (get-node-at t) get-node.Post
-get-node-same-length-8 t c = search needs
+get-node-same-length-7 t c = get-node-returns-9 t c .kept .long
 
 -- src/get.rt:60:1
 get-node-returns-10 : (t : ℕ) → get-node-lts.Need-returns-10 (
@@ -2639,10 +2625,10 @@ get-node-returns-10 : (t : ℕ) → get-node-lts.Need-returns-10 (
   get-add-below t,
   get-add.Post,
 ) (get-node-at t) get-node.Post
-get-node-returns-10 t c = ?
+get-node-returns-10 t c = enter-body (c .before .before .before .before .before .before .before .before .before .before .before .before .before .before .before .before .before .pre .1) (c .before .before .before .before .before .before .before .before .before .before .before .before .before .if1 .left) (c .before .before .before .before .before .before .before .before .before .before .before .if2 .left) (c .before .before .before .before .before .before .before .node-at .ensures) (c .before .before .before .before .before .subject .given .1) (c .before .before .get-list-case .ensures)
 
 -- src/get.rt:60:1
-get-node-same-length-9 : (t : ℕ) → get-node-lts.Need-same-length-9 (
+get-node-same-length-8 : (t : ℕ) → get-node-lts.Need-same-length-8 (
   node-at-reads.Asked,
   node-at-reads.Learnt,
   get-var-reads.Asked,
@@ -2666,7 +2652,7 @@ get-node-same-length-9 : (t : ℕ) → get-node-lts.Need-same-length-9 (
   get-add-below t,
   get-add.Post,
 ) (get-node-at t) get-node.Post
-get-node-same-length-9 t c = search needs
+get-node-same-length-8 t c = get-node-returns-10 t c .kept .long
 
 -- src/get.rt:60:1
 get-node-returns-11 : (t : ℕ) → get-node-lts.Need-returns-11 (
@@ -2693,10 +2679,10 @@ get-node-returns-11 : (t : ℕ) → get-node-lts.Need-returns-11 (
   get-add-below t,
   get-add.Post,
 ) (get-node-at t) get-node.Post
-get-node-returns-11 t c = ?
+get-node-returns-11 t c = enter-body (c .before .before .before .before .before .before .before .before .before .before .before .before .before .before .before .before .before .pre .1) (c .before .before .before .before .before .before .before .before .before .before .before .before .before .if1 .left) (c .before .before .before .before .before .before .before .before .before .before .before .if2 .left) (c .before .before .before .before .before .before .before .node-at .ensures) (c .before .before .before .before .before .subject2 .given .1) (c .before .before .get-truth-case .ensures)
 
 -- src/get.rt:60:1
-get-node-same-length-10 : (t : ℕ) → get-node-lts.Need-same-length-10 (
+get-node-same-length-9 : (t : ℕ) → get-node-lts.Need-same-length-9 (
   node-at-reads.Asked,
   node-at-reads.Learnt,
   get-var-reads.Asked,
@@ -2720,7 +2706,7 @@ get-node-same-length-10 : (t : ℕ) → get-node-lts.Need-same-length-10 (
   get-add-below t,
   get-add.Post,
 ) (get-node-at t) get-node.Post
-get-node-same-length-10 t c = search needs
+get-node-same-length-9 t c = get-node-returns-11 t c .kept .long
 
 -- src/get.rt:60:1
 get-node-returns-12 : (t : ℕ) → get-node-lts.Need-returns-12 (
@@ -2747,10 +2733,10 @@ get-node-returns-12 : (t : ℕ) → get-node-lts.Need-returns-12 (
   get-add-below t,
   get-add.Post,
 ) (get-node-at t) get-node.Post
-get-node-returns-12 t c = ?
+get-node-returns-12 t c = enter-body (c .before .before .before .before .before .before .before .before .before .before .before .before .before .before .before .before .before .pre .1) (c .before .before .before .before .before .before .before .before .before .before .before .before .before .if1 .left) (c .before .before .before .before .before .before .before .before .before .before .before .if2 .left) (c .before .before .before .before .before .before .before .node-at .ensures) (c .before .before .before .before .before .subject3 .given .1) (c .before .before .get-split .ensures)
 
 -- src/get.rt:60:1
-get-node-same-length-11 : (t : ℕ) → get-node-lts.Need-same-length-11 (
+get-node-same-length-10 : (t : ℕ) → get-node-lts.Need-same-length-10 (
   node-at-reads.Asked,
   node-at-reads.Learnt,
   get-var-reads.Asked,
@@ -2774,7 +2760,7 @@ get-node-same-length-11 : (t : ℕ) → get-node-lts.Need-same-length-11 (
   get-add-below t,
   get-add.Post,
 ) (get-node-at t) get-node.Post
-get-node-same-length-11 t c = search needs
+get-node-same-length-10 t c = get-node-returns-12 t c .kept .long
 
 -- src/get.rt:60:1
 get-node-returns-13 : (t : ℕ) → get-node-lts.Need-returns-13 (
@@ -2801,10 +2787,10 @@ get-node-returns-13 : (t : ℕ) → get-node-lts.Need-returns-13 (
   get-add-below t,
   get-add.Post,
 ) (get-node-at t) get-node.Post
-get-node-returns-13 t c = ?
+get-node-returns-13 t c = enter-body (c .before .before .before .before .before .before .before .before .before .before .before .before .before .before .before .before .before .pre .1) (c .before .before .before .before .before .before .before .before .before .before .before .before .before .if1 .left) (c .before .before .before .before .before .before .before .before .before .before .before .if2 .left) (c .before .before .before .before .before .before .before .node-at .ensures) (c .before .before .before .before .before .section .given .1) (c .before .before .get-call .ensures)
 
 -- src/get.rt:60:1
-get-node-same-length-12 : (t : ℕ) → get-node-lts.Need-same-length-12 (
+get-node-same-length-11 : (t : ℕ) → get-node-lts.Need-same-length-11 (
   node-at-reads.Asked,
   node-at-reads.Learnt,
   get-var-reads.Asked,
@@ -2828,7 +2814,7 @@ get-node-same-length-12 : (t : ℕ) → get-node-lts.Need-same-length-12 (
   get-add-below t,
   get-add.Post,
 ) (get-node-at t) get-node.Post
-get-node-same-length-12 t c = search needs
+get-node-same-length-11 t c = get-node-returns-13 t c .kept .long
 
 -- src/get.rt:60:1
 get-node-returns-14 : (t : ℕ) → get-node-lts.Need-returns-14 (
@@ -2855,7 +2841,34 @@ get-node-returns-14 : (t : ℕ) → get-node-lts.Need-returns-14 (
   get-add-below t,
   get-add.Post,
 ) (get-node-at t) get-node.Post
-get-node-returns-14 t c = ?
+get-node-returns-14 t c = enter-body (c .before .before .before .before .before .before .before .before .before .before .before .before .before .before .before .before .before .pre .1) (c .before .before .before .before .before .before .before .before .before .before .before .before .before .if1 .left) (c .before .before .before .before .before .before .before .before .before .before .before .if2 .left) (c .before .before .before .before .before .before .before .node-at .ensures) (c .before .before .before .before .before .node .given .1) (c .before .before .get-add .ensures)
+
+-- src/get.rt:60:1
+get-node-same-length-12 : (t : ℕ) → get-node-lts.Need-same-length-12 (
+  node-at-reads.Asked,
+  node-at-reads.Learnt,
+  get-var-reads.Asked,
+  get-var-reads.Learnt,
+  get-constant-reads.Asked,
+  get-constant-reads.Learnt,
+  get-number-reads.Asked,
+  get-number-reads.Learnt,
+  get-front-below t,
+  get-front.Post,
+  get-pair-below t,
+  get-pair.Post,
+  get-list-case-below t,
+  get-list-case.Post,
+  get-truth-case-below t,
+  get-truth-case.Post,
+  get-split-below t,
+  get-split.Post,
+  get-call-below t,
+  get-call.Post,
+  get-add-below t,
+  get-add.Post,
+) (get-node-at t) get-node.Post
+get-node-same-length-12 t c = get-node-returns-14 t c .kept .long
 
 -- src/get.rt:228:5
 get-pair-slice-write-arena : (t : ℕ) → get-pair-lts.Need-slice-write-arena (
@@ -2875,7 +2888,7 @@ get-pair-get-node-requires : (t : ℕ) → get-pair-lts.Need-get-node-requires (
   get-node-below t,
   get-node.Post,
 ) (get-pair-at t) get-pair.Post
-get-pair-get-node-requires t c κs = ?
+get-pair-get-node-requires t c κs = (omega (arith, c .before .before .before .pre .0), (two-ready₁ (c .before .before .before .pre .1) (marked 5 (c .before .before .before .args .at .top) (c .before .before .before .args .arena .now) (omega (arith, (c .before .before .before .pre .1) .long, (c .before .before .before .pre .1) .room))) ((c .before .before .before .pre .1) .known .1 .0 .inside)))
 
 -- src/get.rt:241:25
 get-pair-enum-known-c :
@@ -2899,20 +2912,20 @@ get-pair-add-mid t c = search needs
 get-pair-add-mid-2 :
     (t : ℕ) →
     get-pair-lts.Need-add-mid-2 (get-node-below t, get-node.Post) (get-pair-at t) get-pair.Post
-get-pair-add-mid-2 t c = ?
+get-pair-add-mid-2 t c = record { fits = omega (arith, (c .before .before .before .before .before .before .before .before .before .pre .1) .room, (sizes ((two-ready₁ (c .before .before .before .before .before .before .before .before .before .pre .1) (marked 5 (c .before .before .before .before .before .before .before .before .before .args .at .top) (c .before .before .before .before .before .before .before .before .before .args .arena .now) (omega (arith, (c .before .before .before .before .before .before .before .before .before .pre .1) .long, (c .before .before .before .before .before .before .before .before .before .pre .1) .room))) ((c .before .before .before .before .before .before .before .before .before .pre .1) .known .1 .0 .inside))) (c .before .before .before .before .before .get-node .ensures) (c .before .f .given .1)) .short) }
 
 -- src/get.rt:252:27
 get-pair-sub-t24 :
     (t : ℕ) →
     get-pair-lts.Need-sub-t24 (get-node-below t, get-node.Post) (get-pair-at t) get-pair.Post
-get-pair-sub-t24 t c = ?
+get-pair-sub-t24 t c = omega (arith, (sizes ((two-ready₁ (c .before .before .before .before .before .before .before .before .before .before .pre .1) (marked 5 (c .before .before .before .before .before .before .before .before .before .before .args .at .top) (c .before .before .before .before .before .before .before .before .before .before .args .arena .now) (omega (arith, (c .before .before .before .before .before .before .before .before .before .before .pre .1) .long, (c .before .before .before .before .before .before .before .before .before .before .pre .1) .room))) ((c .before .before .before .before .before .before .before .before .before .before .pre .1) .known .1 .0 .inside))) (c .before .before .before .before .before .before .get-node .ensures) (c .before .before .f .given .1)) .steps)
 
 -- src/get.rt:244:19
 get-pair-get-node-requires-2 : (t : ℕ) → get-pair-lts.Need-get-node-requires-2 (
   get-node-below t,
   get-node.Post,
 ) (get-pair-at t) get-pair.Post
-get-pair-get-node-requires-2 t c κs = ?
+get-pair-get-node-requires-2 t c κs = (omega (arith, c .before .before .before .before .before .before .before .before .before .before .pre .0), (two-ready₂ (c .before .before .before .before .before .before .before .before .before .before .pre .1) (marked 5 (c .before .before .before .before .before .before .before .before .before .before .args .at .top) (c .before .before .before .before .before .before .before .before .before .before .args .arena .now) (omega (arith, (c .before .before .before .before .before .before .before .before .before .before .pre .1) .long, (c .before .before .before .before .before .before .before .before .before .before .pre .1) .room))) ((c .before .before .before .before .before .before .before .before .before .before .pre .1) .known .1 .0 .inside) (c .before .before .before .before .before .before .get-node .ensures) (c .before .before .f .given .1) ((c .before .before .before .before .before .before .before .before .before .before .pre .1) .known .1 .1 .inside)))
 
 -- src/get.rt:256:33
 get-pair-enum-known-c-2 : (t : ℕ) → get-pair-lts.Need-enum-known-c-2 (
@@ -2931,25 +2944,25 @@ get-pair-enum-known-r t c = search needs
 get-pair-add-if1 :
     (t : ℕ) →
     get-pair-lts.Need-add-if1 (get-node-below t, get-node.Post) (get-pair-at t) get-pair.Post
-get-pair-add-if1 t c = ?
+get-pair-add-if1 t c = record { fits = omega (arith, (sizes ((two-ready₁ (c .before .before .before .before .before .before .before .before .before .before .before .before .before .before .before .before .pre .1) (marked 5 (c .before .before .before .before .before .before .before .before .before .before .before .before .before .before .before .before .args .at .top) (c .before .before .before .before .before .before .before .before .before .before .before .before .before .before .before .before .args .arena .now) (omega (arith, (c .before .before .before .before .before .before .before .before .before .before .before .before .before .before .before .before .pre .1) .long, (c .before .before .before .before .before .before .before .before .before .before .before .before .before .before .before .before .pre .1) .room))) ((c .before .before .before .before .before .before .before .before .before .before .before .before .before .before .before .before .pre .1) .known .1 .0 .inside))) (c .before .before .before .before .before .before .before .before .before .before .before .before .get-node .ensures) (c .before .before .before .before .before .before .before .before .f .given .1)) .short) }
 
 -- src/get.rt:258:30
 get-pair-add-if1-2 :
     (t : ℕ) →
     get-pair-lts.Need-add-if1-2 (get-node-below t, get-node.Post) (get-pair-at t) get-pair.Post
-get-pair-add-if1-2 t c = ?
-
--- src/get.rt:259:25
-get-pair-same-length :
-    (t : ℕ) →
-    get-pair-lts.Need-same-length (get-node-below t, get-node.Post) (get-pair-at t) get-pair.Post
-get-pair-same-length t c = ?
+get-pair-add-if1-2 t c = record { fits = omega (arith, (sizes ((two-ready₁ (c .before .before .before .before .before .before .before .before .before .before .before .before .before .before .before .before .pre .1) (marked 5 (c .before .before .before .before .before .before .before .before .before .before .before .before .before .before .before .before .args .at .top) (c .before .before .before .before .before .before .before .before .before .before .before .before .before .before .before .before .args .arena .now) (omega (arith, (c .before .before .before .before .before .before .before .before .before .before .before .before .before .before .before .before .pre .1) .long, (c .before .before .before .before .before .before .before .before .before .before .before .before .before .before .before .before .pre .1) .room))) ((c .before .before .before .before .before .before .before .before .before .before .before .before .before .before .before .before .pre .1) .known .1 .0 .inside))) (c .before .before .before .before .before .before .before .before .before .before .before .before .get-node .ensures) (c .before .before .before .before .before .before .before .before .f .given .1)) .short, (sizes ((two-ready₂ (c .before .before .before .before .before .before .before .before .before .before .before .before .before .before .before .before .pre .1) (marked 5 (c .before .before .before .before .before .before .before .before .before .before .before .before .before .before .before .before .args .at .top) (c .before .before .before .before .before .before .before .before .before .before .before .before .before .before .before .before .args .arena .now) (omega (arith, (c .before .before .before .before .before .before .before .before .before .before .before .before .before .before .before .before .pre .1) .long, (c .before .before .before .before .before .before .before .before .before .before .before .before .before .before .before .before .pre .1) .room))) ((c .before .before .before .before .before .before .before .before .before .before .before .before .before .before .before .before .pre .1) .known .1 .0 .inside) (c .before .before .before .before .before .before .before .before .before .before .before .before .get-node .ensures) (c .before .before .before .before .before .before .before .before .f .given .1) ((c .before .before .before .before .before .before .before .before .before .before .before .before .before .before .before .before .pre .1) .known .1 .1 .inside))) (c .before .before .before .before .before .get-node2 .ensures) (c .before .r .given .1)) .short) }
 
 -- src/get.rt:259:25
 get-pair-returns :
     (t : ℕ) →
     get-pair-lts.Need-returns (get-node-below t, get-node.Post) (get-pair-at t) get-pair.Post
-get-pair-returns t c = ?
+get-pair-returns t c = pair-44 ((c .before .before .before .before .before .before .before .before .before .before .before .before .before .before .before .before .before .pre .1) .base) (marked 5 (c .before .before .before .before .before .before .before .before .before .before .before .before .before .before .before .before .before .args .at .top) (c .before .before .before .before .before .before .before .before .before .before .before .before .before .before .before .before .before .args .arena .now) (omega (arith, (c .before .before .before .before .before .before .before .before .before .before .before .before .before .before .before .before .before .pre .1) .long, (c .before .before .before .before .before .before .before .before .before .before .before .before .before .before .before .before .before .pre .1) .room))) (c .before .before .before .before .before .before .before .before .before .before .before .before .before .get-node .ensures) (c .before .before .before .before .before .before .before .before .before .f .given .1) (c .before .before .before .before .before .before .get-node2 .ensures) (c .before .before .r .given .1) (c .if1 .taken)
+
+-- src/get.rt:259:25
+get-pair-same-length :
+    (t : ℕ) →
+    get-pair-lts.Need-same-length (get-node-below t, get-node.Post) (get-pair-at t) get-pair.Post
+get-pair-same-length t c = get-pair-returns t c .kept .long
 
 -- src/get.rt:262:30
 get-pair-add-t30 :
@@ -2967,52 +2980,52 @@ get-pair-add-t31 t c = search needs
 get-pair-add-t33 :
     (t : ℕ) →
     get-pair-lts.Need-add-t33 (get-node-below t, get-node.Post) (get-pair-at t) get-pair.Post
-get-pair-add-t33 t c = ?
+get-pair-add-t33 t c = record { fits = omega (arith, (c .before .before .before .before .before .before .before .before .before .before .before .before .before .before .before .before .before .pre .1) .few, (sizes ((two-ready₁ (c .before .before .before .before .before .before .before .before .before .before .before .before .before .before .before .before .before .pre .1) (marked 5 (c .before .before .before .before .before .before .before .before .before .before .before .before .before .before .before .before .before .args .at .top) (c .before .before .before .before .before .before .before .before .before .before .before .before .before .before .before .before .before .args .arena .now) (omega (arith, (c .before .before .before .before .before .before .before .before .before .before .before .before .before .before .before .before .before .pre .1) .long, (c .before .before .before .before .before .before .before .before .before .before .before .before .before .before .before .before .before .pre .1) .room))) ((c .before .before .before .before .before .before .before .before .before .before .before .before .before .before .before .before .before .pre .1) .known .1 .0 .inside))) (c .before .before .before .before .before .before .before .before .before .before .before .before .before .get-node .ensures) (c .before .before .before .before .before .before .before .before .before .f .given .1)) .steps) }
 
 -- src/get.rt:263:32
 get-pair-add-t34 :
     (t : ℕ) →
     get-pair-lts.Need-add-t34 (get-node-below t, get-node.Post) (get-pair-at t) get-pair.Post
-get-pair-add-t34 t c = ?
+get-pair-add-t34 t c = record { fits = omega (arith, (c .before .before .before .before .before .before .before .before .before .before .before .before .before .before .before .before .before .pre .1) .few, (sizes ((two-ready₁ (c .before .before .before .before .before .before .before .before .before .before .before .before .before .before .before .before .before .pre .1) (marked 5 (c .before .before .before .before .before .before .before .before .before .before .before .before .before .before .before .before .before .args .at .top) (c .before .before .before .before .before .before .before .before .before .before .before .before .before .before .before .before .before .args .arena .now) (omega (arith, (c .before .before .before .before .before .before .before .before .before .before .before .before .before .before .before .before .before .pre .1) .long, (c .before .before .before .before .before .before .before .before .before .before .before .before .before .before .before .before .before .pre .1) .room))) ((c .before .before .before .before .before .before .before .before .before .before .before .before .before .before .before .before .before .pre .1) .known .1 .0 .inside))) (c .before .before .before .before .before .before .before .before .before .before .before .before .before .get-node .ensures) (c .before .before .before .before .before .before .before .before .before .f .given .1)) .steps, (sizes ((two-ready₂ (c .before .before .before .before .before .before .before .before .before .before .before .before .before .before .before .before .before .pre .1) (marked 5 (c .before .before .before .before .before .before .before .before .before .before .before .before .before .before .before .before .before .args .at .top) (c .before .before .before .before .before .before .before .before .before .before .before .before .before .before .before .before .before .args .arena .now) (omega (arith, (c .before .before .before .before .before .before .before .before .before .before .before .before .before .before .before .before .before .pre .1) .long, (c .before .before .before .before .before .before .before .before .before .before .before .before .before .before .before .before .before .pre .1) .room))) ((c .before .before .before .before .before .before .before .before .before .before .before .before .before .before .before .before .before .pre .1) .known .1 .0 .inside) (c .before .before .before .before .before .before .before .before .before .before .before .before .before .get-node .ensures) (c .before .before .before .before .before .before .before .before .before .f .given .1) ((c .before .before .before .before .before .before .before .before .before .before .before .before .before .before .before .before .before .pre .1) .known .1 .1 .inside))) (c .before .before .before .before .before .before .get-node2 .ensures) (c .before .before .r .given .1)) .steps) }
+
+-- src/get.rt:214:1
+get-pair-returns-2 :
+    (t : ℕ) →
+    get-pair-lts.Need-returns-2 (get-node-below t, get-node.Post) (get-pair-at t) get-pair.Post
+get-pair-returns-2 t c = pair-refused₁ ((c .before .before .before .before .before .before .before .before .before .pre .1) .base) (marked 5 (c .before .before .before .before .before .before .before .before .before .args .at .top) (c .before .before .before .before .before .before .before .before .before .args .arena .now) (omega (arith, (c .before .before .before .before .before .before .before .before .before .pre .1) .long, (c .before .before .before .before .before .before .before .before .before .pre .1) .room))) (c .before .before .before .before .before .get-node .ensures) (c .before .c .given .1)
 
 -- src/get.rt:214:1
 get-pair-same-length-2 : (t : ℕ) → get-pair-lts.Need-same-length-2 (
   get-node-below t,
   get-node.Post,
 ) (get-pair-at t) get-pair.Post
-get-pair-same-length-2 t c = ?
+get-pair-same-length-2 t c = get-pair-returns-2 t c .kept .long
 
 -- src/get.rt:214:1
-get-pair-returns-2 :
+get-pair-returns-3 :
     (t : ℕ) →
-    get-pair-lts.Need-returns-2 (get-node-below t, get-node.Post) (get-pair-at t) get-pair.Post
-get-pair-returns-2 t c = ?
+    get-pair-lts.Need-returns-3 (get-node-below t, get-node.Post) (get-pair-at t) get-pair.Post
+get-pair-returns-3 t c = pair-refused₂ ((c .before .before .before .before .before .before .before .before .before .before .before .before .before .before .before .before .pre .1) .base) (marked 5 (c .before .before .before .before .before .before .before .before .before .before .before .before .before .before .before .before .args .at .top) (c .before .before .before .before .before .before .before .before .before .before .before .before .before .before .before .before .args .arena .now) (omega (arith, (c .before .before .before .before .before .before .before .before .before .before .before .before .before .before .before .before .pre .1) .long, (c .before .before .before .before .before .before .before .before .before .before .before .before .before .before .before .before .pre .1) .room))) (c .before .before .before .before .before .before .before .before .before .before .before .before .get-node .ensures) (c .before .before .before .before .before .before .before .before .f .given .1) (c .before .before .before .before .before .get-node2 .ensures) (c .before .c2 .given .1)
 
 -- src/get.rt:214:1
 get-pair-same-length-3 : (t : ℕ) → get-pair-lts.Need-same-length-3 (
   get-node-below t,
   get-node.Post,
 ) (get-pair-at t) get-pair.Post
-get-pair-same-length-3 t c = ?
+get-pair-same-length-3 t c = get-pair-returns-3 t c .kept .long
 
 -- src/get.rt:214:1
-get-pair-returns-3 :
+get-pair-returns-4 :
     (t : ℕ) →
-    get-pair-lts.Need-returns-3 (get-node-below t, get-node.Post) (get-pair-at t) get-pair.Post
-get-pair-returns-3 t c = ?
+    get-pair-lts.Need-returns-4 (get-node-below t, get-node.Post) (get-pair-at t) get-pair.Post
+get-pair-returns-4 t c = pair-done ((c .before .before .before .before .before .before .before .before .before .before .before .before .before .before .before .before .before .pre .1) .base) (marked 5 (c .before .before .before .before .before .before .before .before .before .before .before .before .before .before .before .before .before .args .at .top) (c .before .before .before .before .before .before .before .before .before .before .before .before .before .before .before .before .before .args .arena .now) (omega (arith, (c .before .before .before .before .before .before .before .before .before .before .before .before .before .before .before .before .before .pre .1) .long, (c .before .before .before .before .before .before .before .before .before .before .before .before .before .before .before .before .before .pre .1) .room))) (c .before .before .before .before .before .before .before .before .before .before .before .before .before .get-node .ensures) (c .before .before .before .before .before .before .before .before .before .f .given .1) (c .before .before .before .before .before .before .get-node2 .ensures) (c .before .before .r .given .1) refl (omega (arith, c .if1 .left))
 
 -- src/get.rt:214:1
 get-pair-same-length-4 : (t : ℕ) → get-pair-lts.Need-same-length-4 (
   get-node-below t,
   get-node.Post,
 ) (get-pair-at t) get-pair.Post
-get-pair-same-length-4 t c = ?
-
--- src/get.rt:214:1
-get-pair-returns-4 :
-    (t : ℕ) →
-    get-pair-lts.Need-returns-4 (get-node-below t, get-node.Post) (get-pair-at t) get-pair.Post
-get-pair-returns-4 t c = ?
+get-pair-same-length-4 t c = get-pair-returns-4 t c .kept .long
 
 -- src/get.rt:453:11
 get-split-get-node-requires : (t : ℕ) → get-split-lts.Need-get-node-requires (
@@ -3025,7 +3038,7 @@ get-split-get-node-requires : (t : ℕ) → get-split-lts.Need-get-node-requires
   get-branch-below t,
   get-branch.Post,
 ) (get-split-at t) get-split.Post
-get-split-get-node-requires t c κs = ?
+get-split-get-node-requires t c κs = (omega (arith, c .before .before .before .pre .0), (subject-ready (c .before .before .before .pre .1) ((c .before .before .before .pre .1) .known .1 .0 .inside)))
 
 -- src/get.rt:465:25
 get-split-enum-known-c : (t : ℕ) → get-split-lts.Need-enum-known-c (
@@ -3064,7 +3077,7 @@ get-split-add-end : (t : ℕ) → get-split-lts.Need-add-end (
   get-branch-below t,
   get-branch.Post,
 ) (get-split-at t) get-split.Post
-get-split-add-end t c = ?
+get-split-add-end t c = record { fits = omega (arith, (c .before .before .before .before .before .before .before .before .before .pre .1) .room, (sizes ((subject-ready (c .before .before .before .before .before .before .before .before .before .pre .1) ((c .before .before .before .before .before .before .before .before .before .pre .1) .known .1 .0 .inside))) (c .before .before .before .before .before .get-node .ensures) (c .before .len .given .1)) .short) }
 
 -- src/get.rt:470:23
 get-split-sub-shape-of : (t : ℕ) → get-split-lts.Need-sub-shape-of (
@@ -3077,7 +3090,7 @@ get-split-sub-shape-of : (t : ℕ) → get-split-lts.Need-sub-shape-of (
   get-branch-below t,
   get-branch.Post,
 ) (get-split-at t) get-split.Post
-get-split-sub-shape-of t c = ?
+get-split-sub-shape-of t c = omega (arith, (sizes ((subject-ready (c .before .before .before .before .before .before .before .before .before .before .pre .1) ((c .before .before .before .before .before .before .before .before .before .before .pre .1) .known .1 .0 .inside))) (c .before .before .before .before .before .before .get-node .ensures) (c .before .before .len .given .1)) .steps)
 
 -- src/get.rt:473:35
 get-split-sub-shape-of-2 : (t : ℕ) → get-split-lts.Need-sub-shape-of-2 (
@@ -3116,7 +3129,7 @@ get-split-part-shape-of-end : (t : ℕ) → get-split-lts.Need-part-shape-of-end
   get-branch-below t,
   get-branch.Post,
 ) (get-split-at t) get-split.Post
-get-split-part-shape-of-end t c = ?
+get-split-part-shape-of-end t c = omega (arith, (c .before .before .before .before .before .before .before .before .before .before .before .pre .1) .room, (c .before .before .before .before .before .before .before .before .before .before .before .pre .1) .long, (sizes ((subject-ready (c .before .before .before .before .before .before .before .before .before .before .before .pre .1) ((c .before .before .before .before .before .before .before .before .before .before .before .pre .1) .known .1 .0 .inside))) (c .before .before .before .before .before .before .before .get-node .ensures) (c .before .before .before .len .given .1)) .short, c .before .before .before .before .before .before .before .get-node .ensures .kept .long)
 
 -- src/get.rt:473:19
 get-split-shape-of-requires : (t : ℕ) → get-split-lts.Need-shape-of-requires (
@@ -3168,7 +3181,7 @@ get-split-sub-push-two : (t : ℕ) → get-split-lts.Need-sub-push-two (
   get-branch-below t,
   get-branch.Post,
 ) (get-split-at t) get-split.Post
-get-split-sub-push-two t c = ?
+get-split-sub-push-two t c = omega (arith, (pair-mid (c .before .before .before .before .before .before .before .before .before .before .before .before .get-node .ensures) (c .before .before .before .before .before .before .before .before .len .given .1) (c .before .before .before .shape-of .ensures) (c .before .mid .given .1) ((subject-ready (c .before .before .before .before .before .before .before .before .before .before .before .before .before .before .before .before .pre .1) ((c .before .before .before .before .before .before .before .before .before .before .before .before .before .before .before .before .pre .1) .known .1 .0 .inside)))))
 
 -- src/get.rt:475:66
 get-split-sub-push-two-2 : (t : ℕ) → get-split-lts.Need-sub-push-two-2 (
@@ -3181,7 +3194,7 @@ get-split-sub-push-two-2 : (t : ℕ) → get-split-lts.Need-sub-push-two-2 (
   get-branch-below t,
   get-branch.Post,
 ) (get-split-at t) get-split.Post
-get-split-sub-push-two-2 t c = ?
+get-split-sub-push-two-2 t c = omega (arith, (pair-mid (c .before .before .before .before .before .before .before .before .before .before .before .before .get-node .ensures) (c .before .before .before .before .before .before .before .before .len .given .1) (c .before .before .before .shape-of .ensures) (c .before .mid .given .1) ((subject-ready (c .before .before .before .before .before .before .before .before .before .before .before .before .before .before .before .before .pre .1) ((c .before .before .before .before .before .before .before .before .before .before .before .before .before .before .before .before .pre .1) .known .1 .0 .inside)))))
 
 -- src/get.rt:475:25
 get-split-push-two-requires : (t : ℕ) → get-split-lts.Need-push-two-requires (
@@ -3194,7 +3207,7 @@ get-split-push-two-requires : (t : ℕ) → get-split-lts.Need-push-two-requires
   get-branch-below t,
   get-branch.Post,
 ) (get-split-at t) get-split.Post
-get-split-push-two-requires t c κs = ?
+get-split-push-two-requires t c κs = omega (arith, (c .before .before .before .before .before .before .before .before .before .before .before .before .before .before .before .before .pre .1) .room, (c .before .before .before .before .before .before .before .before .before .before .before .before .before .before .before .before .pre .1) .slots, (sizes ((subject-ready (c .before .before .before .before .before .before .before .before .before .before .before .before .before .before .before .before .pre .1) ((c .before .before .before .before .before .before .before .before .before .before .before .before .before .before .before .before .pre .1) .known .1 .0 .inside))) (c .before .before .before .before .before .before .before .before .before .before .before .before .get-node .ensures) (c .before .before .before .before .before .before .before .before .len .given .1)) .short, (sizes ((subject-ready (c .before .before .before .before .before .before .before .before .before .before .before .before .before .before .before .before .pre .1) ((c .before .before .before .before .before .before .before .before .before .before .before .before .before .before .before .before .pre .1) .known .1 .0 .inside))) (c .before .before .before .before .before .before .before .before .before .before .before .before .get-node .ensures) (c .before .before .before .before .before .before .before .before .len .given .1)) .deep, (pair-mid (c .before .before .before .before .before .before .before .before .before .before .before .before .get-node .ensures) (c .before .before .before .before .before .before .before .before .len .given .1) (c .before .before .before .shape-of .ensures) (c .before .mid .given .1) ((subject-ready (c .before .before .before .before .before .before .before .before .before .before .before .before .before .before .before .before .pre .1) ((c .before .before .before .before .before .before .before .before .before .before .before .before .before .before .before .before .pre .1) .known .1 .0 .inside)))))
 
 -- src/get.rt:476:69
 get-split-add-get-branch : (t : ℕ) → get-split-lts.Need-add-get-branch (
@@ -3207,7 +3220,7 @@ get-split-add-get-branch : (t : ℕ) → get-split-lts.Need-add-get-branch (
   get-branch-below t,
   get-branch.Post,
 ) (get-split-at t) get-split.Post
-get-split-add-get-branch t c = ?
+get-split-add-get-branch t c = record { fits = omega (arith, (c .before .before .before .before .before .before .before .before .before .before .before .before .before .before .before .before .before .before .pre .1) .few, (sizes ((subject-ready (c .before .before .before .before .before .before .before .before .before .before .before .before .before .before .before .before .before .before .pre .1) ((c .before .before .before .before .before .before .before .before .before .before .before .before .before .before .before .before .before .before .pre .1) .known .1 .0 .inside))) (c .before .before .before .before .before .before .before .before .before .before .before .before .before .before .get-node .ensures) (c .before .before .before .before .before .before .before .before .before .before .len .given .1)) .steps) }
 
 -- src/get.rt:476:21
 get-split-get-branch-requires : (t : ℕ) → get-split-lts.Need-get-branch-requires (
@@ -3220,20 +3233,7 @@ get-split-get-branch-requires : (t : ℕ) → get-split-lts.Need-get-branch-requ
   get-branch-below t,
   get-branch.Post,
 ) (get-split-at t) get-split.Post
-get-split-get-branch-requires t c κs = ?
-
--- src/get.rt:440:1
-get-split-same-length : (t : ℕ) → get-split-lts.Need-same-length (
-  get-node-below t,
-  get-node.Post,
-  shape-of-reads.Asked,
-  shape-of-reads.Learnt,
-  push-two-reads.Asked,
-  push-two-reads.Learnt,
-  get-branch-below t,
-  get-branch.Post,
-) (get-split-at t) get-split.Post
-get-split-same-length t c = search needs
+get-split-get-branch-requires t c κs = (omega (arith, c .before .before .before .before .before .before .before .before .before .before .before .before .before .before .before .before .before .before .pre .0), (pair-ready (c .before .before .before .before .before .before .before .before .before .before .before .before .before .before .get-node .ensures) (c .before .before .before .before .before .before .before .before .before .before .len .given .1) (c .before .before .before .before .before .shape-of .ensures) (c .before .before .before .mid .given .1) (c .before .push-two .ensures) (c .before .before .before .before .before .before .before .before .before .before .before .before .before .before .before .before .before .before .pre .1) ((c .before .before .before .before .before .before .before .before .before .before .before .before .before .before .before .before .before .before .pre .1) .known .1 .0 .inside) ((c .before .before .before .before .before .before .before .before .before .before .before .before .before .before .before .before .before .before .pre .1) .known .1 .1 .inside), ((c .before .before .before .before .before .before .before .before .before .before .before .before .before .before .before .before .before .before .pre .1) .base, omega arith)))
 
 -- src/get.rt:440:1
 get-split-returns : (t : ℕ) → get-split-lts.Need-returns (
@@ -3246,10 +3246,10 @@ get-split-returns : (t : ℕ) → get-split-lts.Need-returns (
   get-branch-below t,
   get-branch.Post,
 ) (get-split-at t) get-split.Post
-get-split-returns t c = ?
+get-split-returns t c = split-refused (c .before .before .before .before .before .get-node .ensures) (c .before .c .given .1)
 
 -- src/get.rt:440:1
-get-split-same-length-2 : (t : ℕ) → get-split-lts.Need-same-length-2 (
+get-split-same-length : (t : ℕ) → get-split-lts.Need-same-length (
   get-node-below t,
   get-node.Post,
   shape-of-reads.Asked,
@@ -3259,7 +3259,7 @@ get-split-same-length-2 : (t : ℕ) → get-split-lts.Need-same-length-2 (
   get-branch-below t,
   get-branch.Post,
 ) (get-split-at t) get-split.Post
-get-split-same-length-2 t c = search needs
+get-split-same-length t c = get-split-returns t c .kept .long
 
 -- src/get.rt:440:1
 get-split-returns-2 : (t : ℕ) → get-split-lts.Need-returns-2 (
@@ -3272,10 +3272,10 @@ get-split-returns-2 : (t : ℕ) → get-split-lts.Need-returns-2 (
   get-branch-below t,
   get-branch.Post,
 ) (get-split-at t) get-split.Post
-get-split-returns-2 t c = ?
+get-split-returns-2 t c = split-done (c .before .before .before .before .before .before .before .before .before .before .before .before .before .before .before .before .before .get-node .ensures) (c .before .before .before .before .before .before .before .before .before .before .before .before .before .len .given .1) (c .before .before .before .before .before .before .before .before .shape-of .ensures) (c .before .before .before .before .before .before .mid .given .1) (c .before .before .before .before .push-two .ensures) ((c .before .before .before .before .before .before .before .before .before .before .before .before .before .before .before .before .before .before .before .before .before .pre .1) .base) (omega (arith, (c .before .before .before .before .before .before .before .before .before .before .before .before .before .before .before .before .before .before .before .before .before .pre .1) .slots, (sizes ((subject-ready (c .before .before .before .before .before .before .before .before .before .before .before .before .before .before .before .before .before .before .before .before .before .pre .1) ((c .before .before .before .before .before .before .before .before .before .before .before .before .before .before .before .before .before .before .before .before .before .pre .1) .known .1 .0 .inside))) (c .before .before .before .before .before .before .before .before .before .before .before .before .before .before .before .before .before .get-node .ensures) (c .before .before .before .before .before .before .before .before .before .before .before .before .before .len .given .1)) .deep)) (c .before .before .get-branch .ensures)
 
 -- src/get.rt:440:1
-get-split-same-length-3 : (t : ℕ) → get-split-lts.Need-same-length-3 (
+get-split-same-length-2 : (t : ℕ) → get-split-lts.Need-same-length-2 (
   get-node-below t,
   get-node.Post,
   shape-of-reads.Asked,
@@ -3285,7 +3285,7 @@ get-split-same-length-3 : (t : ℕ) → get-split-lts.Need-same-length-3 (
   get-branch-below t,
   get-branch.Post,
 ) (get-split-at t) get-split.Post
-get-split-same-length-3 t c = search needs
+get-split-same-length-2 t c = get-split-returns-2 t c .kept .long
 
 -- src/get.rt:440:1
 get-split-returns-3 : (t : ℕ) → get-split-lts.Need-returns-3 (
@@ -3298,7 +3298,20 @@ get-split-returns-3 : (t : ℕ) → get-split-lts.Need-returns-3 (
   get-branch-below t,
   get-branch.Post,
 ) (get-split-at t) get-split.Post
-get-split-returns-3 t c = ?
+get-split-returns-3 t c = split-43 (c .before .before .before .before .before .before .before .before .before .before .get-node .ensures) (c .before .before .before .before .before .before .len .given .1) (c .before .shape-of .ensures) (λ v e. no-pair v e (c .match2 .keys2))
+
+-- src/get.rt:440:1
+get-split-same-length-3 : (t : ℕ) → get-split-lts.Need-same-length-3 (
+  get-node-below t,
+  get-node.Post,
+  shape-of-reads.Asked,
+  shape-of-reads.Learnt,
+  push-two-reads.Asked,
+  push-two-reads.Learnt,
+  get-branch-below t,
+  get-branch.Post,
+) (get-split-at t) get-split.Post
+get-split-same-length-3 t c = get-split-returns-3 t c .kept .long
 
 -- src/get.rt:390:11
 get-truth-case-get-node-requires : (t : ℕ) → get-truth-case-lts.Need-get-node-requires (
@@ -3309,7 +3322,7 @@ get-truth-case-get-node-requires : (t : ℕ) → get-truth-case-lts.Need-get-nod
   get-branch-below t,
   get-branch.Post,
 ) (get-truth-case-at t) get-truth-case.Post
-get-truth-case-get-node-requires t c κs = ?
+get-truth-case-get-node-requires t c κs = (omega (arith, c .before .before .before .pre .0), (subject-ready (c .before .before .before .pre .1) ((c .before .before .before .pre .1) .known .1 .subject .inside)))
 
 -- src/get.rt:402:25
 get-truth-case-enum-known-c : (t : ℕ) → get-truth-case-lts.Need-enum-known-c (
@@ -3342,7 +3355,7 @@ get-truth-case-add-end : (t : ℕ) → get-truth-case-lts.Need-add-end (
   get-branch-below t,
   get-branch.Post,
 ) (get-truth-case-at t) get-truth-case.Post
-get-truth-case-add-end t c = ?
+get-truth-case-add-end t c = record { fits = omega (arith, (c .before .before .before .before .before .before .before .before .before .pre .1) .room, (sizes ((subject-ready (c .before .before .before .before .before .before .before .before .before .pre .1) ((c .before .before .before .before .before .before .before .before .before .pre .1) .known .1 .subject .inside))) (c .before .before .before .before .before .get-node .ensures) (c .before .len .given .1)) .short) }
 
 -- src/get.rt:407:23
 get-truth-case-sub-shape-of : (t : ℕ) → get-truth-case-lts.Need-sub-shape-of (
@@ -3353,7 +3366,7 @@ get-truth-case-sub-shape-of : (t : ℕ) → get-truth-case-lts.Need-sub-shape-of
   get-branch-below t,
   get-branch.Post,
 ) (get-truth-case-at t) get-truth-case.Post
-get-truth-case-sub-shape-of t c = ?
+get-truth-case-sub-shape-of t c = omega (arith, (sizes ((subject-ready (c .before .before .before .before .before .before .before .before .before .before .pre .1) ((c .before .before .before .before .before .before .before .before .before .before .pre .1) .known .1 .subject .inside))) (c .before .before .before .before .before .before .get-node .ensures) (c .before .before .len .given .1)) .steps)
 
 -- src/get.rt:410:35
 get-truth-case-sub-shape-of-2 : (t : ℕ) → get-truth-case-lts.Need-sub-shape-of-2 (
@@ -3386,7 +3399,7 @@ get-truth-case-part-shape-of-end : (t : ℕ) → get-truth-case-lts.Need-part-sh
   get-branch-below t,
   get-branch.Post,
 ) (get-truth-case-at t) get-truth-case.Post
-get-truth-case-part-shape-of-end t c = ?
+get-truth-case-part-shape-of-end t c = omega (arith, (c .before .before .before .before .before .before .before .before .before .before .before .pre .1) .room, (c .before .before .before .before .before .before .before .before .before .before .before .pre .1) .long, (sizes ((subject-ready (c .before .before .before .before .before .before .before .before .before .before .before .pre .1) ((c .before .before .before .before .before .before .before .before .before .before .before .pre .1) .known .1 .subject .inside))) (c .before .before .before .before .before .before .before .get-node .ensures) (c .before .before .before .len .given .1)) .short, c .before .before .before .before .before .before .before .get-node .ensures .kept .long)
 
 -- src/get.rt:410:19
 get-truth-case-shape-of-requires : (t : ℕ) → get-truth-case-lts.Need-shape-of-requires (
@@ -3419,7 +3432,7 @@ get-truth-case-add-get-branch : (t : ℕ) → get-truth-case-lts.Need-add-get-br
   get-branch-below t,
   get-branch.Post,
 ) (get-truth-case-at t) get-truth-case.Post
-get-truth-case-add-get-branch t c = ?
+get-truth-case-add-get-branch t c = record { fits = omega (arith, (c .before .before .before .before .before .before .before .before .before .before .before .before .before .before .before .before .pre .1) .few, (sizes ((subject-ready (c .before .before .before .before .before .before .before .before .before .before .before .before .before .before .before .before .pre .1) ((c .before .before .before .before .before .before .before .before .before .before .before .before .before .before .before .before .pre .1) .known .1 .subject .inside))) (c .before .before .before .before .before .before .before .before .before .before .before .before .get-node .ensures) (c .before .before .before .before .before .before .before .before .len .given .1)) .steps) }
 
 -- src/get.rt:411:33
 get-truth-case-get-branch-requires : (t : ℕ) → get-truth-case-lts.Need-get-branch-requires (
@@ -3430,7 +3443,7 @@ get-truth-case-get-branch-requires : (t : ℕ) → get-truth-case-lts.Need-get-b
   get-branch-below t,
   get-branch.Post,
 ) (get-truth-case-at t) get-truth-case.Post
-get-truth-case-get-branch-requires t c κs = ?
+get-truth-case-get-branch-requires t c κs = (omega (arith, c .before .before .before .before .before .before .before .before .before .before .before .before .before .before .before .before .pre .0), (case-ready (c .before .before .before .before .before .before .before .before .before .before .before .before .get-node .ensures) (c .before .before .before .before .before .before .before .before .len .given .1) (c .before .before .before .shape-of .ensures) (c .before .before .before .before .before .before .before .before .before .before .before .before .before .before .before .before .pre .1) ((c .before .before .before .before .before .before .before .before .before .before .before .before .before .before .before .before .pre .1) .known .1 .subject .inside) ((c .before .before .before .before .before .before .before .before .before .before .before .before .before .before .before .before .pre .1) .known .1 .no .inside), ((c .before .before .before .before .before .before .before .before .before .before .before .before .before .before .before .before .pre .1) .base, omega arith)))
 
 -- src/get.rt:425:21
 get-truth-case-enum-told-2 : (t : ℕ) → get-truth-case-lts.Need-enum-told-2 (
@@ -3452,7 +3465,7 @@ get-truth-case-add-get-branch-2 : (t : ℕ) → get-truth-case-lts.Need-add-get-
   get-branch-below t,
   get-branch.Post,
 ) (get-truth-case-at t) get-truth-case.Post
-get-truth-case-add-get-branch-2 t c = ?
+get-truth-case-add-get-branch-2 t c = record { fits = omega (arith, (c .before .before .before .before .before .before .before .before .before .before .before .before .before .before .before .before .pre .1) .few, (sizes ((subject-ready (c .before .before .before .before .before .before .before .before .before .before .before .before .before .before .before .before .pre .1) ((c .before .before .before .before .before .before .before .before .before .before .before .before .before .before .before .before .pre .1) .known .1 .subject .inside))) (c .before .before .before .before .before .before .before .before .before .before .before .before .get-node .ensures) (c .before .before .before .before .before .before .before .before .len .given .1)) .steps) }
 
 -- src/get.rt:422:32
 get-truth-case-get-branch-requires-2 : (t : ℕ) → get-truth-case-lts.Need-get-branch-requires-2 (
@@ -3463,18 +3476,7 @@ get-truth-case-get-branch-requires-2 : (t : ℕ) → get-truth-case-lts.Need-get
   get-branch-below t,
   get-branch.Post,
 ) (get-truth-case-at t) get-truth-case.Post
-get-truth-case-get-branch-requires-2 t c κs = ?
-
--- src/get.rt:374:1
-get-truth-case-same-length : (t : ℕ) → get-truth-case-lts.Need-same-length (
-  get-node-below t,
-  get-node.Post,
-  shape-of-reads.Asked,
-  shape-of-reads.Learnt,
-  get-branch-below t,
-  get-branch.Post,
-) (get-truth-case-at t) get-truth-case.Post
-get-truth-case-same-length t c = search needs
+get-truth-case-get-branch-requires-2 t c κs = (omega (arith, c .before .before .before .before .before .before .before .before .before .before .before .before .before .before .before .before .pre .0), (case-ready (c .before .before .before .before .before .before .before .before .before .before .before .before .get-node .ensures) (c .before .before .before .before .before .before .before .before .len .given .1) (c .before .before .before .shape-of .ensures) (c .before .before .before .before .before .before .before .before .before .before .before .before .before .before .before .before .pre .1) ((c .before .before .before .before .before .before .before .before .before .before .before .before .before .before .before .before .pre .1) .known .1 .subject .inside) ((c .before .before .before .before .before .before .before .before .before .before .before .before .before .before .before .before .pre .1) .known .1 .yes .inside), ((c .before .before .before .before .before .before .before .before .before .before .before .before .before .before .before .before .pre .1) .base, omega arith)))
 
 -- src/get.rt:374:1
 get-truth-case-returns : (t : ℕ) → get-truth-case-lts.Need-returns (
@@ -3485,10 +3487,10 @@ get-truth-case-returns : (t : ℕ) → get-truth-case-lts.Need-returns (
   get-branch-below t,
   get-branch.Post,
 ) (get-truth-case-at t) get-truth-case.Post
-get-truth-case-returns t c = ?
+get-truth-case-returns t c = truth-refused (c .before .before .before .before .before .get-node .ensures) (c .before .c .given .1)
 
 -- src/get.rt:374:1
-get-truth-case-same-length-2 : (t : ℕ) → get-truth-case-lts.Need-same-length-2 (
+get-truth-case-same-length : (t : ℕ) → get-truth-case-lts.Need-same-length (
   get-node-below t,
   get-node.Post,
   shape-of-reads.Asked,
@@ -3496,7 +3498,7 @@ get-truth-case-same-length-2 : (t : ℕ) → get-truth-case-lts.Need-same-length
   get-branch-below t,
   get-branch.Post,
 ) (get-truth-case-at t) get-truth-case.Post
-get-truth-case-same-length-2 t c = search needs
+get-truth-case-same-length t c = get-truth-case-returns t c .kept .long
 
 -- src/get.rt:374:1
 get-truth-case-returns-2 : (t : ℕ) → get-truth-case-lts.Need-returns-2 (
@@ -3507,10 +3509,10 @@ get-truth-case-returns-2 : (t : ℕ) → get-truth-case-lts.Need-returns-2 (
   get-branch-below t,
   get-branch.Post,
 ) (get-truth-case-at t) get-truth-case.Post
-get-truth-case-returns-2 t c = ?
+get-truth-case-returns-2 t c = truth-no (c .before .before .before .before .before .before .before .before .before .before .before .before .before .before .before .get-node .ensures) (c .before .before .before .before .before .before .before .before .before .before .before .len .given .1) (c .before .before .before .before .before .before .shape-of .ensures) ((c .before .before .before .before .before .before .before .before .before .before .before .before .before .before .before .before .before .before .before .pre .1) .base) (c .before .before .before .before .enum-told .given .1) (c .before .before .get-branch .ensures)
 
 -- src/get.rt:374:1
-get-truth-case-same-length-3 : (t : ℕ) → get-truth-case-lts.Need-same-length-3 (
+get-truth-case-same-length-2 : (t : ℕ) → get-truth-case-lts.Need-same-length-2 (
   get-node-below t,
   get-node.Post,
   shape-of-reads.Asked,
@@ -3518,7 +3520,7 @@ get-truth-case-same-length-3 : (t : ℕ) → get-truth-case-lts.Need-same-length
   get-branch-below t,
   get-branch.Post,
 ) (get-truth-case-at t) get-truth-case.Post
-get-truth-case-same-length-3 t c = search needs
+get-truth-case-same-length-2 t c = get-truth-case-returns-2 t c .kept .long
 
 -- src/get.rt:374:1
 get-truth-case-returns-3 : (t : ℕ) → get-truth-case-lts.Need-returns-3 (
@@ -3529,10 +3531,10 @@ get-truth-case-returns-3 : (t : ℕ) → get-truth-case-lts.Need-returns-3 (
   get-branch-below t,
   get-branch.Post,
 ) (get-truth-case-at t) get-truth-case.Post
-get-truth-case-returns-3 t c = ?
+get-truth-case-returns-3 t c = truth-yes (c .before .before .before .before .before .before .before .before .before .before .before .before .before .before .before .get-node .ensures) (c .before .before .before .before .before .before .before .before .before .before .before .len .given .1) (c .before .before .before .before .before .before .shape-of .ensures) ((c .before .before .before .before .before .before .before .before .before .before .before .before .before .before .before .before .before .before .before .pre .1) .base) (c .before .before .before .before .enum-told2 .given .1) (c .before .before .get-branch2 .ensures)
 
 -- src/get.rt:374:1
-get-truth-case-same-length-4 : (t : ℕ) → get-truth-case-lts.Need-same-length-4 (
+get-truth-case-same-length-3 : (t : ℕ) → get-truth-case-lts.Need-same-length-3 (
   get-node-below t,
   get-node.Post,
   shape-of-reads.Asked,
@@ -3540,7 +3542,7 @@ get-truth-case-same-length-4 : (t : ℕ) → get-truth-case-lts.Need-same-length
   get-branch-below t,
   get-branch.Post,
 ) (get-truth-case-at t) get-truth-case.Post
-get-truth-case-same-length-4 t c = search needs
+get-truth-case-same-length-3 t c = get-truth-case-returns-3 t c .kept .long
 
 -- src/get.rt:374:1
 get-truth-case-returns-4 : (t : ℕ) → get-truth-case-lts.Need-returns-4 (
@@ -3551,7 +3553,18 @@ get-truth-case-returns-4 : (t : ℕ) → get-truth-case-lts.Need-returns-4 (
   get-branch-below t,
   get-branch.Post,
 ) (get-truth-case-at t) get-truth-case.Post
-get-truth-case-returns-4 t c = ?
+get-truth-case-returns-4 t c = truth-43 (c .before .before .before .before .before .before .before .before .before .before .get-node .ensures) (c .before .before .before .before .before .before .len .given .1) (c .before .shape-of .ensures) (λ v e. no-truth v e (c .match2 .keys3))
+
+-- src/get.rt:374:1
+get-truth-case-same-length-4 : (t : ℕ) → get-truth-case-lts.Need-same-length-4 (
+  get-node-below t,
+  get-node.Post,
+  shape-of-reads.Asked,
+  shape-of-reads.Learnt,
+  get-branch-below t,
+  get-branch.Post,
+) (get-truth-case-at t) get-truth-case.Post
+get-truth-case-same-length-4 t c = get-truth-case-returns-4 t c .kept .long
 
 pub +get-add+get-branch+get-call+get-front+get-list-case+get-node+get-pair+get-split+get-truth-case-spec :
     {M : Type 1} → statement M
