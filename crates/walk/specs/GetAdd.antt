@@ -18,8 +18,8 @@ use Rattle.sheet.specs.declared.Node.the-variants.{Add}
 use Rattle.rules.specs.Rules.{getNode, get}
 use Rattle.rules.specs.Readable.{number-readable}
 use Rattle.walk.specs.declared.scope.Scope.{Scope}
-use Rattle.walk.specs.declared.get.Walked.{Walked}
-use Rattle.walk.specs.declared.get.Walked.the-variants.{Done, Refused}
+use Rattle.walk.specs.declared.Walked.{Walked}
+use Rattle.walk.specs.declared.Walked.the-variants.{Done, Refused}
 use Rattle.walk.specs.Parts.{part, Kept, kept-then, kept-set}
 use Rattle.walk.specs.Arena.{Held, onStack}
 use Rattle.walk.specs.Seen.{held-head, held-shape}

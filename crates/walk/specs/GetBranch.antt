@@ -10,8 +10,8 @@ use Rattle.value.specs.Tests.{passes, holds}
 use Rattle.value.specs.Parts.{passesBytes}
 use Rattle.rules.specs.Rules.{get, tested}
 use Rattle.walk.specs.declared.scope.Scope.{Scope}
-use Rattle.walk.specs.declared.get.Walked.{Walked}
-use Rattle.walk.specs.declared.get.Walked.the-variants.{Done, Refused}
+use Rattle.walk.specs.declared.Walked.{Walked}
+use Rattle.walk.specs.declared.Walked.the-variants.{Done, Refused}
 use Rattle.walk.specs.Parts.{part, Kept, kept-below, kept-then, Apart, down, Copied}
 use Rattle.walk.specs.Arena.{Held, onStack}
 use Rattle.walk.specs.Seen.{held-passes}

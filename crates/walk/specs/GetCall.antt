@@ -14,8 +14,8 @@ use Rattle.sheet.specs.Table.{sectionAt}
 use Rattle.sheet.specs.Laws.{sheet-ranges, section-read}
 use Rattle.rules.specs.Rules.{Env as Values, two, getNode, get}
 use Rattle.walk.specs.declared.scope.Scope.{Scope}
-use Rattle.walk.specs.declared.get.Walked.{Walked}
-use Rattle.walk.specs.declared.get.Walked.the-variants.{Done, Refused}
+use Rattle.walk.specs.declared.Walked.{Walked}
+use Rattle.walk.specs.declared.Walked.the-variants.{Done, Refused}
 use Rattle.walk.specs.Parts.{kept-refl}
 use Rattle.walk.specs.Scope.{picked}
 use Rattle.walk.specs.Arena.{Env, env-pick}

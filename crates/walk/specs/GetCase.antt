@@ -22,8 +22,8 @@ use Rattle.rules.specs.Outcome.{Out, done, refused, plus, when, _>>=_, given}
 use Rattle.rules.specs.Allowance.{within}
 use Rattle.rules.specs.Rules.{Env as Values, two, pick, getNode, get, tested, onList}
 use Rattle.walk.specs.declared.scope.Scope.{Scope}
-use Rattle.walk.specs.declared.get.Walked.{Walked}
-use Rattle.walk.specs.declared.get.Walked.the-variants.{Done, Refused}
+use Rattle.walk.specs.declared.Walked.{Walked}
+use Rattle.walk.specs.declared.Walked.the-variants.{Done, Refused}
 use Rattle.walk.specs.Parts.{part, Kept, kept-then}
 use Rattle.walk.specs.Scope.{pushed}
 use Rattle.walk.specs.Arena.{Held, Env, env-later, env-push}

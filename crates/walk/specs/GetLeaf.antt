@@ -14,8 +14,8 @@ use Rattle.sheet.specs.declared.Node.the-variants.{Var, False, True, Empty, Num
 use Rattle.rules.specs.Rules.{getNode}
 use Rattle.rules.specs.Readable.{nil-readable, truth-readable, number-readable}
 use Rattle.walk.specs.declared.scope.Scope.{Scope}
-use Rattle.walk.specs.declared.get.Walked.{Walked}
-use Rattle.walk.specs.declared.get.Walked.the-variants.{Done, Refused}
+use Rattle.walk.specs.declared.Walked.{Walked}
+use Rattle.walk.specs.declared.Walked.the-variants.{Done, Refused}
 use Rattle.walk.specs.Parts.{part, Kept, kept-refl, kept-then, kept-set, part-one, part-cons, Marked, marked-kept, marked-part, Apart, up, Copied}
 use Rattle.walk.specs.Arena.{Held, onStack, Env, below-ends}
 use Rattle.walk.specs.Seen.{elem-at, elem-none, held-short}

@@ -11,8 +11,8 @@ use Rattle.rules.specs.Outcome.{Out, done, refused}
 use Rattle.rules.specs.AllowanceLaws.{within-done}
 use Rattle.rules.specs.Rules.{Env as Values, get}
 use Rattle.walk.specs.declared.scope.Scope.{Scope}
-use Rattle.walk.specs.declared.get.Walked.{Walked}
-use Rattle.walk.specs.declared.get.Walked.the-variants.{Done, Refused}
+use Rattle.walk.specs.declared.Walked.{Walked}
+use Rattle.walk.specs.declared.Walked.the-variants.{Done, Refused}
 use Rattle.walk.specs.Parts.{Kept}
 use Rattle.walk.specs.Arena.{Held, Env, env-later}
 use Rattle.walk.specs.Seen.{held-some, held-short}

@@ -17,8 +17,8 @@ use Rattle.rules.specs.Outcome.{Out, done, refused}
 use Rattle.rules.specs.Allowance.{within}
 use Rattle.rules.specs.Rules.{Env as Values, getNode, get, bounded}
 use Rattle.walk.specs.declared.scope.Scope.{Scope}
-use Rattle.walk.specs.declared.get.Walked.{Walked}
-use Rattle.walk.specs.declared.get.Walked.the-variants.{Done, Refused}
+use Rattle.walk.specs.declared.Walked.{Walked}
+use Rattle.walk.specs.declared.Walked.the-variants.{Done, Refused}
 use Rattle.walk.specs.Parts.{part, Kept, part-kept, kept-then, part-join, Marked, marked-kept, marked-part}
 use Rattle.walk.specs.Arena.{Held, onStack, Env, env-later, held-later}
 use Rattle.walk.specs.Seen.{no-list, a-list}

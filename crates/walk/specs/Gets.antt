@@ -16,8 +16,8 @@ use Rattle.rules.specs.Outcome.{Out, done, refused, plus}
 use Rattle.rules.specs.Allowance.{within}
 use Rattle.rules.specs.Rules.{Env as Values, getNode, get, tested}
 use Rattle.walk.specs.declared.scope.Scope.{Scope}
-use Rattle.walk.specs.declared.get.Walked.{Walked}
-use Rattle.walk.specs.declared.get.Walked.the-variants.{Done, Refused}
+use Rattle.walk.specs.declared.Walked.{Walked}
+use Rattle.walk.specs.declared.Walked.the-variants.{Done, Refused}
 use Rattle.walk.specs.Parts.{Kept, kept-refl}
 use Rattle.walk.specs.Arena.{Held, Env, env-later}
 use Rattle.walk.specs.Answers.{Told, serves, denies, Answers, answer-by, refuse, step, no-step}

@@ -12,3 +12,4 @@ pub mod GetBranch
 pub mod GetCase
 pub mod GetCall
 pub mod GetAdd
+pub mod Entry

@@ -15,33 +15,33 @@ use Rattle.walk.proofs.Tags.{no-list, no-truth, no-pair, no-number}
 use Prim.Native.Nat.{ℕ, _+_, _*_, _<_}
 use borrow.Fn.Kinds.{In}
 use borrow.Fn.PlainCycle.{Measures, is, falls, and}
-use Rattle.walk.proofs.get.get_add.Reads as get-add
-use Rattle.walk.proofs.get.get_add.Kinds as get-add-kinds
-use Rattle.walk.proofs.get.+get_add+get_branch+get_call+get_front+get_list_case+get_node+get_pair+get_split+get_truth_case.Lts-get_add as get-add-lts
-use Rattle.walk.proofs.get.get_branch.Reads as get-branch
-use Rattle.walk.proofs.get.get_branch.Kinds as get-branch-kinds
-use Rattle.walk.proofs.get.+get_add+get_branch+get_call+get_front+get_list_case+get_node+get_pair+get_split+get_truth_case.Lts-get_branch as get-branch-lts
-use Rattle.walk.proofs.get.get_call.Reads as get-call
-use Rattle.walk.proofs.get.get_call.Kinds as get-call-kinds
-use Rattle.walk.proofs.get.+get_add+get_branch+get_call+get_front+get_list_case+get_node+get_pair+get_split+get_truth_case.Lts-get_call as get-call-lts
-use Rattle.walk.proofs.get.get_front.Reads as get-front
-use Rattle.walk.proofs.get.get_front.Kinds as get-front-kinds
-use Rattle.walk.proofs.get.+get_add+get_branch+get_call+get_front+get_list_case+get_node+get_pair+get_split+get_truth_case.Lts-get_front as get-front-lts
-use Rattle.walk.proofs.get.get_list_case.Reads as get-list-case
-use Rattle.walk.proofs.get.get_list_case.Kinds as get-list-case-kinds
-use Rattle.walk.proofs.get.+get_add+get_branch+get_call+get_front+get_list_case+get_node+get_pair+get_split+get_truth_case.Lts-get_list_case as get-list-case-lts
-use Rattle.walk.proofs.get.get_node.Reads as get-node
-use Rattle.walk.proofs.get.get_node.Kinds as get-node-kinds
-use Rattle.walk.proofs.get.+get_add+get_branch+get_call+get_front+get_list_case+get_node+get_pair+get_split+get_truth_case.Lts-get_node as get-node-lts
-use Rattle.walk.proofs.get.get_pair.Reads as get-pair
-use Rattle.walk.proofs.get.get_pair.Kinds as get-pair-kinds
-use Rattle.walk.proofs.get.+get_add+get_branch+get_call+get_front+get_list_case+get_node+get_pair+get_split+get_truth_case.Lts-get_pair as get-pair-lts
-use Rattle.walk.proofs.get.get_split.Reads as get-split
-use Rattle.walk.proofs.get.get_split.Kinds as get-split-kinds
-use Rattle.walk.proofs.get.+get_add+get_branch+get_call+get_front+get_list_case+get_node+get_pair+get_split+get_truth_case.Lts-get_split as get-split-lts
-use Rattle.walk.proofs.get.get_truth_case.Reads as get-truth-case
-use Rattle.walk.proofs.get.get_truth_case.Kinds as get-truth-case-kinds
-use Rattle.walk.proofs.get.+get_add+get_branch+get_call+get_front+get_list_case+get_node+get_pair+get_split+get_truth_case.Lts-get_truth_case as get-truth-case-lts
+use Rattle.walk.proofs.getter.get_add.Reads as get-add
+use Rattle.walk.proofs.getter.get_add.Kinds as get-add-kinds
+use Rattle.walk.proofs.getter.+get_add+get_branch+get_call+get_front+get_list_case+get_node+get_pair+get_split+get_truth_case.Lts-get_add as get-add-lts
+use Rattle.walk.proofs.getter.get_branch.Reads as get-branch
+use Rattle.walk.proofs.getter.get_branch.Kinds as get-branch-kinds
+use Rattle.walk.proofs.getter.+get_add+get_branch+get_call+get_front+get_list_case+get_node+get_pair+get_split+get_truth_case.Lts-get_branch as get-branch-lts
+use Rattle.walk.proofs.getter.get_call.Reads as get-call
+use Rattle.walk.proofs.getter.get_call.Kinds as get-call-kinds
+use Rattle.walk.proofs.getter.+get_add+get_branch+get_call+get_front+get_list_case+get_node+get_pair+get_split+get_truth_case.Lts-get_call as get-call-lts
+use Rattle.walk.proofs.getter.get_front.Reads as get-front
+use Rattle.walk.proofs.getter.get_front.Kinds as get-front-kinds
+use Rattle.walk.proofs.getter.+get_add+get_branch+get_call+get_front+get_list_case+get_node+get_pair+get_split+get_truth_case.Lts-get_front as get-front-lts
+use Rattle.walk.proofs.getter.get_list_case.Reads as get-list-case
+use Rattle.walk.proofs.getter.get_list_case.Kinds as get-list-case-kinds
+use Rattle.walk.proofs.getter.+get_add+get_branch+get_call+get_front+get_list_case+get_node+get_pair+get_split+get_truth_case.Lts-get_list_case as get-list-case-lts
+use Rattle.walk.proofs.getter.get_node.Reads as get-node
+use Rattle.walk.proofs.getter.get_node.Kinds as get-node-kinds
+use Rattle.walk.proofs.getter.+get_add+get_branch+get_call+get_front+get_list_case+get_node+get_pair+get_split+get_truth_case.Lts-get_node as get-node-lts
+use Rattle.walk.proofs.getter.get_pair.Reads as get-pair
+use Rattle.walk.proofs.getter.get_pair.Kinds as get-pair-kinds
+use Rattle.walk.proofs.getter.+get_add+get_branch+get_call+get_front+get_list_case+get_node+get_pair+get_split+get_truth_case.Lts-get_pair as get-pair-lts
+use Rattle.walk.proofs.getter.get_split.Reads as get-split
+use Rattle.walk.proofs.getter.get_split.Kinds as get-split-kinds
+use Rattle.walk.proofs.getter.+get_add+get_branch+get_call+get_front+get_list_case+get_node+get_pair+get_split+get_truth_case.Lts-get_split as get-split-lts
+use Rattle.walk.proofs.getter.get_truth_case.Reads as get-truth-case
+use Rattle.walk.proofs.getter.get_truth_case.Kinds as get-truth-case-kinds
+use Rattle.walk.proofs.getter.+get_add+get_branch+get_call+get_front+get_list_case+get_node+get_pair+get_split+get_truth_case.Lts-get_truth_case as get-truth-case-lts
 use Rattle.sheet.proofs.node_at.Reads as node-at-reads
 use Rattle.sheet.proofs.section_root.Reads as section-root-reads
 use Rattle.value.proofs.high.Reads as high-reads
@@ -49,15 +49,15 @@ use Rattle.value.proofs.low.Reads as low-reads
 use Rattle.value.proofs.passes.Reads as passes-reads
 use Rattle.value.proofs.shape_of.Reads as shape-of-reads
 use Rattle.walk.proofs.bytes.copy.Reads as copy-reads
-use Rattle.walk.proofs.get.get_constant.Reads as get-constant-reads
-use Rattle.walk.proofs.get.get_number.Reads as get-number-reads
-use Rattle.walk.proofs.get.get_var.Reads as get-var-reads
+use Rattle.walk.proofs.getter.get_constant.Reads as get-constant-reads
+use Rattle.walk.proofs.getter.get_number.Reads as get-number-reads
+use Rattle.walk.proofs.getter.get_var.Reads as get-var-reads
 use Rattle.walk.proofs.scope.pick_two.Reads as pick-two-reads
 use Rattle.walk.proofs.scope.push_two.Reads as push-two-reads
-use Rattle.walk.proofs.get.+get_add+get_branch+get_call+get_front+get_list_case+get_node+get_pair+get_split+get_truth_case.{
+use Rattle.walk.proofs.getter.+get_add+get_branch+get_call+get_front+get_list_case+get_node+get_pair+get_split+get_truth_case.{
   statement,
 }
-use Rattle.walk.proofs.get.+get_add+get_branch+get_call+get_front+get_list_case+get_node+get_pair+get_split+get_truth_case.Tie.{
+use Rattle.walk.proofs.getter.+get_add+get_branch+get_call+get_front+get_list_case+get_node+get_pair+get_split+get_truth_case.Tie.{
   close,
 }
 

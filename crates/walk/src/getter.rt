@@ -4,6 +4,7 @@ ghost use mathlib.Core.List.{List};
 ghost use Prim.Native.Nat.{ℕ, suc, _+_, _/_, _%_, _≤_, _<_};
 ghost use lib.ListN.{length, set};
 ghost use Rattle.walk.specs.Gets.{Room, Ready, Gives, enter, body, branch};
+use crate::Walked;
 use crate::bytes::copy;
 use crate::scope::Scope;
 use crate::scope::pick_two;
@@ -16,12 +17,6 @@ pub struct At {
     pub levels: usize,
     pub left: usize,
     pub top: usize,
-}
-
-/// What a get gives: a value of `len` bytes at the top and the steps taken, or a refusal.
-pub enum Walked {
-    Done { len: usize, steps: usize },
-    Refused(u8),
 }
 
 fn get_var(arena: &mut [u8], scope: Scope, x: usize, top: usize) -> Walked

@@ -2,10 +2,10 @@ use borrow.Author.Needs.{needs}
 use mathlib.Core.Path.{refl}
 use native.Mathlib.Omega.{arith}
 use lib.ListN.{length-set}
-use Rattle.walk.proofs.get.get_number.Statement.{statement}
-use Rattle.walk.proofs.get.get_number.Tie as tie
-use Rattle.walk.proofs.get.get_number.Reads as reads
-use Rattle.walk.proofs.get.get_number.Lts as lts
+use Rattle.walk.proofs.getter.get_number.Statement.{statement}
+use Rattle.walk.proofs.getter.get_number.Tie as tie
+use Rattle.walk.proofs.getter.get_number.Reads as reads
+use Rattle.walk.proofs.getter.get_number.Lts as lts
 use Rattle.value.proofs.high.Reads as high-reads
 use Rattle.value.proofs.low.Reads as low-reads
 

@@ -1,10 +1,10 @@
 use borrow.Author.Needs.{needs}
 use native.Mathlib.Omega.{arith}
 use Rattle.walk.specs.GetLeaf.{var-42, var-done, stands}
-use Rattle.walk.proofs.get.get_var.Statement.{statement}
-use Rattle.walk.proofs.get.get_var.Tie as tie
-use Rattle.walk.proofs.get.get_var.Reads as reads
-use Rattle.walk.proofs.get.get_var.Lts as lts
+use Rattle.walk.proofs.getter.get_var.Statement.{statement}
+use Rattle.walk.proofs.getter.get_var.Tie as tie
+use Rattle.walk.proofs.getter.get_var.Reads as reads
+use Rattle.walk.proofs.getter.get_var.Lts as lts
 use Rattle.walk.proofs.bytes.copy.Reads as copy-reads
 
 -- src/get.rt:32:9
