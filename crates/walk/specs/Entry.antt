@@ -4,16 +4,14 @@ use mathlib.Core.List.{List, [], _∷_, _++_, map}
 use Prim.Native.Nat.{ℕ, zero, suc, _+_, _-_, _*_, _≤_, _<_}
 use native.Mathlib.Nat.{le-refl}
 use native.Mathlib.Omega.{arith}
-use borrow.Author.Tests.{le-leb}
-use lib.Dec.{leb}
-use lib.ListN.{length, drop, getD, replicate, length-append, List·getD-append}
+use lib.ListN.{length, take, drop, getD, length-append, length-drop}
+use lib.Seq.{length-take-le, drop-at, drop-append-le, take-append-le}
 use Rattle.value.specs.Result.{Result, ok, refusal}
-use Rattle.value.specs.All.{All, none, each}
 use Rattle.value.specs.Value.{Value, vfalse, encode, size, flat}
 use Rattle.value.specs.Encoding.{size-encode}
-use Rattle.value.specs.Laws.{Readable, ReadAs, readValues-sound}
+use Rattle.value.specs.Laws.{ReadAs, readValues-sound}
 use Rattle.value.specs.Reading.{readPlan}
-use Rattle.value.specs.Spans.{places, starts, spans, within16, spansOf}
+use Rattle.value.specs.Spans.{places, starts, spansOf}
 use Rattle.value.specs.declared.Spans.{Spans}
 use Rattle.sheet.specs.Sheet.{Sheet, readSheet}
 use Rattle.sheet.specs.Table.{tableOf}
@@ -26,7 +24,8 @@ use Rattle.rules.specs.Answer.{getWalk, getBytes}
 use Rattle.walk.specs.declared.scope.Scope.{Scope}
 use Rattle.walk.specs.declared.Walked.{Walked}
 use Rattle.walk.specs.declared.Walked.the-variants.{Done, Refused}
-use Rattle.walk.specs.Parts.{part, part-split, Kept, CopiedIn}
+use Rattle.walk.specs.Parts.{part, Kept, CopiedIn}
+use Rattle.walk.specs.Plan.{Standing, standing, flat-short, starts-length, sizes-at, sizes-length, placed, spans-refused, Spread, spread}
 use Rattle.walk.specs.Scope.{Spanned}
 use Rattle.walk.specs.Arena.{Held, inPlan, Env}
 use Rattle.walk.specs.Seen.{held-short}
@@ -60,55 +59,6 @@ pub record Planned (sheet plan : List ℕ) (table : Table) (sc : Scope) (allowan
 pub record PlanGot (sheet plan : List ℕ) (allowance : ℕ) (b a : List ℕ) (r : Walked) : Type 0 where
   pub long : length a ≡ length b
   pub says : Says a r (getBytes sheet plan allowance)
-
--- WHERE THE VALUES OF A PLAN STAND
-
-record Standing (a : List ℕ) (start most : ℕ) (v : Value) : Type 0 where
-  bytes : part a start (size v) ≡ encode v
-  inside : start + size v ≤ most
-  readable : Readable v
-
-flat-length : (v : Value) (μ : List Value) → length (encode v ++ flat μ) ≡ size v + length (flat μ)
-flat-length v μ = length-append (encode v) (flat μ) ∙ rw size-encode
-
-first-stands : (a : List ℕ) (p : ℕ) (v : Value) (μ : List Value) → part a p (length (encode v ++ flat μ)) ≡ encode v ++ flat μ
-    → (part a p (size v) ≡ encode v) × (part a (p + size v) (length (flat μ)) ≡ flat μ)
-first-stands a p v μ e = part-split a (encode v) (flat μ) p (size v) (length (flat μ)) (rw (flat-length v μ) at e) (size-encode v)
-
-standing : (a : List ℕ) (p : ℕ) {μ : List Value} → All Readable μ → part a p (length (flat μ)) ≡ flat μ → (i : ℕ) → i < length μ
-    → Standing a (getD (starts p μ) i 0) (p + length (flat μ)) (getD μ i vfalse)
-unfolding starts flat
-standing a p none e i h = absurd (omega arith)
-standing a p (each {a = v} {l = μ} g gs) e zero h =
-    let q = first-stands a p v μ e in
-    record { bytes = q .0; inside = omega (arith, flat-length v μ); readable = g }
-standing a p (each {a = v} {l = μ} g gs) e (suc i) h =
-    let q = first-stands a p v μ e in
-    let s = standing a (p + size v) gs (q .1) i (omega arith) in
-    record { bytes = s .bytes; inside = omega (arith, s .inside, flat-length v μ); readable = s .readable }
-
-flat-short : {μ : List Value} → All Readable μ → length (flat μ) ≤ 256 * length μ
-unfolding flat
-flat-short none = omega arith
-flat-short (each {a = v} {l = μ} g gs) = omega (arith, length-append (encode v) (flat μ), size-encode v, g .fits, flat-short gs)
-
-starts-length : (p : ℕ) (μ : List Value) → length (starts p μ) ≡ length μ
-unfolding starts
-starts-length p [] = refl
-starts-length p (v ∷ μ) = ap suc (starts-length (p + size v) μ)
-
-sizes-at : (μ : List Value) (i : ℕ) → i < length μ → getD (map size μ) i 0 ≡ size (getD μ i vfalse)
-sizes-at [] i h = absurd (omega arith)
-sizes-at (v ∷ μ) zero h = refl
-sizes-at (v ∷ μ) (suc i) h = sizes-at μ i (omega arith)
-
-sizes-length : (μ : List Value) → length (map size μ) ≡ length μ
-sizes-length [] = refl
-sizes-length (v ∷ μ) = ap suc (sizes-length μ)
-
-placed : (l : List ℕ) (i : ℕ) → i < length l → getD (places l) i 0 ≡ getD l i 0
-unfolding places
-placed l i h = List·getD-append l (replicate (16 - length l) 0) 0 i h
 
 -- THE WALK FROM THE ROOT
 
@@ -177,3 +127,76 @@ module _ {sheet plan : List ℕ} {table : Table} {sc : Scope} {allowance : ℕ} 
             let q : n ≡ s = omega arith in
             says-done (p .len) (p .is ∙ ap (Done (p .len)) q) (p .held .long ∙ sym (size-encode v)) (held-short (p .held)) (p .held .bytes)
         go (denies d) = says-refused (d .is)
+
+-- THE RETURNS OF THE ENTRY
+
+-- the table says that a sheet was read
+pub record TableRead (sheet : List ℕ) (table : Table) : Type 0 where
+  pub sh : Sheet
+  pub read : readSheet sheet ≡ ok sh
+  pub is : table ≡ tableOf (ok sh)
+  pub k-is : table .k ≡ sh .k
+  pub few : table .k ≤ 16
+
+pub table-read : (sheet : List ℕ) {table : Table} → table ≡ tableOf (readSheet sheet) → table .refusal ≡ 0 → TableRead sheet table
+unfolding tableOf
+table-read sheet {table} is fine =
+    let p = table-ok sheet (sym (ap (λ (t : Table). t .refusal) is) ∙ fine) in
+    let e : table ≡ tableOf (ok (p .0)) = is ∙ ap tableOf (p .1) in
+    let k : table .k ≡ p .0 .k = ap (λ (t : Table). t .k) e in
+    record { sh = p .0; read = p .1; is = e; k-is = k; few = omega (arith, k, sheet-ranges sheet (p .1) .few-variables) }
+
+spanned-as : {k k′ : ℕ} {ss ss′ ls ls′ : List ℕ} {sc : Scope} → k ≡ k′ → ss ≡ ss′ → ls ≡ ls′ → Spanned k ss ls sc → Spanned k′ ss′ ls′ sc
+spanned-as e f g s = rw (e, f, g) at s
+
+pub get-planned : {sheet plan : List ℕ} {allowance : ℕ} {table : Table} {sc : Scope} {sp : Spans} (b : List ℕ) → 65536 ≤ length b → allowance ≤ 1000000 → TableRead sheet table
+    → sp ≡ spansOf (table .k) plan → sp .refusal ≡ 0 → Spanned (table .k) (sp .starts) (sp .lens) sc → Planned sheet plan table sc allowance (take 65536 b)
+get-planned {plan = plan} {table = table} b room few t read z s =
+    let w = spread (table .k) plan (t .few) read z in
+    record {
+      sh = t .sh;
+      μ = w .μ;
+      read = t .read;
+      is = t .is;
+      values = ap (λ (k : ℕ). readPlan k plan) (sym (t .k-is)) ∙ w .values;
+      spanned = spanned-as (t .k-is) (w .starts-are) (w .lens-are) s;
+      few = few;
+      long = length-take-le 65536 b room;
+    }
+
+-- what stands in the front stands in the whole
+says-whole : (x : List ℕ) {a : List ℕ} {r : Walked} {o : Out (List ℕ)} → length a ≡ 65536 → Says a r o → Says (a ++ x) r o
+says-whole x {a} l (says-done {bs = bs} len e q h p) =
+    let z : part (a ++ x) 32256 len ≡ part a 32256 len = rw (drop-append-le 32256 a x (omega arith)) (take-append-le len (drop 32256 a) x (rw length-drop (omega arith))) in
+    says-done len e q h (z ∙ p)
+says-whole x l (says-refused e) = says-refused e
+
+module _ {sheet plan : List ℕ} {allowance : ℕ} {b : List ℕ} where
+  pub get-2 : length b < 65536 → GetCall sheet plan allowance b b (Refused 2)
+  get-2 h = record { long = refl; behind = refl; short = λ _. (refl, refl); too-many = λ k _. absurd (omega arith); says = λ k _. absurd (omega arith) }
+
+  module _ (room : 65536 ≤ length b) where
+    pub get-3 : 1000000 < allowance → GetCall sheet plan allowance b b (Refused 3)
+    get-3 h = record { long = refl; behind = refl; short = λ k. absurd (omega arith); too-many = λ _ _. (refl, refl); says = λ _ k. absurd (omega arith) }
+
+    module _ (few : allowance ≤ 1000000) where
+      answered : {a : List ℕ} {r : Walked} → length a ≡ length b → drop 65536 a ≡ drop 65536 b → Says a r (getBytes sheet plan allowance) → GetCall sheet plan allowance b a r
+      answered l d s = record { long = l; behind = d; short = λ k. absurd (omega arith); too-many = λ _ k. absurd (omega arith); says = λ _ _. s }
+
+      pub get-sheet-refused : {table : Table} → table ≡ tableOf (readSheet sheet) → (table .refusal ≡ 0 → ⊥) → GetCall sheet plan allowance b b (Refused (table .refusal))
+      unfolding getBytes reading
+      get-sheet-refused {table} is n =
+          let z : table .refusal ≡ tableOf (readSheet sheet) .refusal = ap (λ (t : Table). t .refusal) is in
+          let e : readSheet sheet ≡ refusal (table .refusal) = table-refused sheet (λ y. n (z ∙ y)) ∙ ap refusal (sym z) in
+          answered refl refl (rw e (says-refused refl))
+
+      pub get-plan-refused : {table : Table} {sp : Spans} → TableRead sheet table → sp ≡ spansOf (table .k) plan → (sp .refusal ≡ 0 → ⊥) → GetCall sheet plan allowance b b (Refused (sp .refusal))
+      unfolding getBytes reading
+      get-plan-refused {table} {sp} t read n =
+          let e : readPlan (t .sh .k) plan ≡ refusal (sp .refusal) = rw (t .k-is) at (spans-refused (table .k) plan (t .few) read n) in
+          answered refl refl (rw (t .read, e) (says-refused refl))
+
+      pub get-done : {a : List ℕ} {r : Walked} → PlanGot sheet plan allowance (take 65536 b) a r → GetCall sheet plan allowance b (a ++ drop 65536 b) r
+      get-done {a} {r} g =
+          let l : length a ≡ 65536 = g .long ∙ length-take-le 65536 b room in
+          answered (rw (length-append, length-drop) (omega arith)) (drop-at a (drop 65536 b) 65536 l) (says-whole (drop 65536 b) l (g .says))

@@ -12,4 +12,5 @@ pub mod GetBranch
 pub mod GetCase
 pub mod GetCall
 pub mod GetAdd
+pub mod Plan
 pub mod Entry

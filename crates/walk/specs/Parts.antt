@@ -149,6 +149,9 @@ pub record CopyingIn (i : ℕ) (s b a : List ℕ) : Type 0 where
   pub long : length a ≡ length b
   pub same : (j : ℕ) → j < i → getD a j 0 ≡ getD s j 0
 
+pub copying-in-none : (s b : List ℕ) → CopyingIn 0 s b b
+copying-in-none s b = record { long = refl; same = λ j h. absurd (omega arith) }
+
 module _ {i : ℕ} {s b a : List ℕ} (m : CopyingIn i s b a) where
   pub copying-in-more : i < length b → CopyingIn (i + 1) s b (set a i (getD s i 0))
   copying-in-more h = record { long = length-set a i (getD s i 0) ∙ m .long; same = λ j lt. go j lt (decLt j i) }
