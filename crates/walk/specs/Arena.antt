@@ -1,0 +1,98 @@
+-- Values that stand in the arena, the scope's variables among them, and what a change leaves alone of them.
+use mathlib.Core.Path.{_≡_, refl, sym, ap, _∙_}
+use mathlib.Core.List.{List, [], _∷_, _++_}
+use Prim.Native.Nat.{ℕ, zero, suc, _+_, _-_, _≤_, _<_}
+use native.Mathlib.Nat.{le-trans, le-refl}
+use native.Mathlib.Omega.{arith}
+use native.Mathlib.Decide.{decLt}
+use lib.ListN.{length, getD, set, length-append, length-set, List·getD-append}
+use lib.Seq.{getD-set-same, getD-set-other, getD-append-seam}
+use Rattle.value.specs.Value.{Value, vfalse, encode, size}
+use Rattle.value.specs.Laws.{Readable}
+use Rattle.walk.specs.declared.scope.Scope.{Scope}
+use Rattle.walk.specs.Scope.{pushed, picked}
+use Rattle.walk.specs.Parts.{part, Kept, part-kept}
+
+-- bytes that a walk at `top` leaves alone: in the plan, or on the stack below `top`
+pub data Below (top start len : ℕ) : Type 0 where
+  inPlan : start + len ≤ 4096 → Below top start len
+  onStack : 32256 ≤ start → start + len ≤ top → Below top start len
+
+-- the value v stands in the arena from `start`, in `len` bytes
+pub record Held (a : List ℕ) (top start len : ℕ) (v : Value) : Type 0 where
+  pub place : Below top start len
+  pub long : len ≡ size v
+  pub bytes : part a start len ≡ encode v
+  pub readable : Readable v
+
+-- the scope's variables stand for the values μ
+pub record Env (a : List ℕ) (s : Scope) (top : ℕ) (μ : List Value) : Type 0 where
+  pub count : s .count ≡ length μ
+  pub starts-long : length (s .starts) ≡ 110
+  pub lens-long : length (s .lens) ≡ 110
+  pub each : (i : ℕ) → i < length μ → Held a top (getD (s .starts) i 0) (getD (s .lens) i 0) (getD μ i vfalse)
+
+pub below-ends : {top start len : ℕ} → Below top start len → 32256 ≤ top → start + len ≤ top
+below-ends (inPlan h) b = omega arith
+below-ends (onStack h k) b = k
+
+pub below-later : {top start len : ℕ} (top′ : ℕ) → top ≤ top′ → Below top start len → Below top′ start len
+below-later top′ p (inPlan h) = inPlan h
+below-later top′ p (onStack h k) = onStack h (le-trans k p)
+
+-- a change that leaves the bytes below `top` alone leaves what stands below `top`
+module _ {b a : List ℕ} {top : ℕ} (kept : Kept top b a) (base : 32256 ≤ top) (top′ : ℕ) (p : top ≤ top′) where
+  pub held-later : {start len : ℕ} {v : Value} → Held b top start len v → Held a top′ start len v
+  held-later {start} {len} h = record {
+    place = below-later top′ p (h .place);
+    long = h .long;
+    bytes = part-kept kept start len (below-ends (h .place) base) ∙ h .bytes;
+    readable = h .readable;
+  }
+
+  pub env-later : {s : Scope} {μ : List Value} → Env b s top μ → Env a s top′ μ
+  env-later w = record { count = w .count; starts-long = w .starts-long; lens-long = w .lens-long; each = λ i h. held-later (w .each i h) }
+
+-- one variable more
+pub env-push : {a : List ℕ} {s : Scope} {top start len : ℕ} {μ : List Value} {v : Value} → Env a s top μ → Held a top start len v → s .count < 110
+    → Env a (pushed s start len) top (μ ++ (v ∷ []))
+env-push {a} {s} {top} {start} {len} {μ} {v} w h lt = record {
+  count = rw length-append (omega (arith, w .count));
+  starts-long = length-set (s .starts) (s .count) start ∙ w .starts-long;
+  lens-long = length-set (s .lens) (s .count) len ∙ w .lens-long;
+  each = λ i k. go i (rw length-append at k) (decLt i (length μ));
+}
+  where
+    go : (i : ℕ) → i < length μ + length (v ∷ []) → Dec (i < length μ)
+        → Held a top (getD (set (s .starts) (s .count) start) i 0) (getD (set (s .lens) (s .count) len) i 0) (getD (μ ++ (v ∷ [])) i vfalse)
+    go i k (yes y) =
+        let ne : i ≡ s .count → ⊥ = λ e. omega (arith, w .count) in
+        rw (getD-set-other (s .starts) (s .count) i start 0 ne, getD-set-other (s .lens) (s .count) i len 0 ne, List·getD-append μ (v ∷ []) vfalse i y) (w .each i y)
+    go i k (no n) =
+        let e : i ≡ length μ = omega arith in
+        let e′ : i ≡ s .count = e ∙ sym (w .count) in
+        let p : getD (set (s .starts) (s .count) start) i 0 ≡ start = ap (λ (j : ℕ). getD (set (s .starts) (s .count) start) j 0) e′ ∙ getD-set-same (s .starts) (s .count) start 0 (omega (arith, w .starts-long)) in
+        let q : getD (set (s .lens) (s .count) len) i 0 ≡ len = ap (λ (j : ℕ). getD (set (s .lens) (s .count) len) j 0) e′ ∙ getD-set-same (s .lens) (s .count) len 0 (omega (arith, w .lens-long)) in
+        let u : getD (μ ++ (v ∷ [])) i vfalse ≡ v = ap (λ (j : ℕ). getD (μ ++ (v ∷ [])) j vfalse) e ∙ getD-append-seam μ v [] vfalse in
+        rw (p, q, u) h
+
+-- two variables alone
+pub env-pick : {a : List ℕ} {s : Scope} {top x y : ℕ} {μ : List Value} → Env a s top μ → x < length μ → y < length μ
+    → Env a (picked s x y) top (getD μ x vfalse ∷ getD μ y vfalse ∷ [])
+env-pick {a} {s} {top} {x} {y} {μ} w hx hy = record {
+  count = refl;
+  starts-long = simp length-set (w .starts-long);
+  lens-long = simp length-set (w .lens-long);
+  each = go;
+}
+  where
+    first : (l : List ℕ) (u v : ℕ) → length l ≡ 110 → getD (set (set l 0 u) 1 v) 0 0 ≡ u
+    first l u v e = getD-set-other (set l 0 u) 1 0 v 0 (λ q. omega arith) ∙ getD-set-same l 0 u 0 (omega arith)
+
+    second : (l : List ℕ) (u v : ℕ) → length l ≡ 110 → getD (set (set l 0 u) 1 v) 1 0 ≡ v
+    second l u v e = getD-set-same (set l 0 u) 1 v 0 (simp length-set (omega arith))
+
+    go : (i : ℕ) → i < 2 → Held a top (getD (picked s x y .starts) i 0) (getD (picked s x y .lens) i 0) (getD (getD μ x vfalse ∷ getD μ y vfalse ∷ []) i vfalse)
+    go zero h = rw (first (s .starts) _ _ (w .starts-long), first (s .lens) _ _ (w .lens-long)) (w .each x hx)
+    go (suc zero) h = rw (second (s .starts) _ _ (w .starts-long), second (s .lens) _ _ (w .lens-long)) (w .each y hy)
+    go (suc (suc i)) h = absurd (omega arith)
