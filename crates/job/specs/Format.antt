@@ -3,10 +3,10 @@
 use mathlib.Core.Bool.{Bool, true, false, _&&_}
 use mathlib.Core.List.{List}
 use mathlib.Core.Path.{_≡_, refl, sym, _∙_}
-use Prim.Native.Nat.{ℕ, _+_, _*_, _≤_, _<_}
+use Prim.Native.Nat.{ℕ, _+_, _*_, _≤_, _<_, zero-le}
 use lib.Dec.{leb, eqb}
 use lib.ListN.{length, getD}
-use borrow.Author.Tests.{le-leb, lt-leb, eq-eqb, ne-eqb}
+use borrow.Author.Tests.{le-leb, lt-leb, eq-eqb, ne-eqb, leb-true}
 use Rattle.job.specs.declared.Job.{Job}
 use Rattle.job.specs.declared.Job.the-variants.{Get, Put, Other}
 
@@ -67,3 +67,33 @@ module _ (bs : List ℕ) where
       pub job-other : (getD bs 0 0 ≡ 0x47 → ⊥) → (getD bs 0 0 ≡ 0x50 → ⊥) → Other ≡ jobOf bs
       unfolding pick
       job-other e p = sym (whole ∙ rw (ne-eqb (getD bs 0 0) 0x47 e, ne-eqb (getD bs 0 0) 0x50 p))
+
+-- a job's parts lie within its input
+unfoldable pub taken : Job → ℕ
+taken (Get a n m) = 8 + n + m
+taken (Put a n m) = 8 + n + m
+taken Other = 0
+
+pub job-inside : (bs : List ℕ) → taken (jobOf bs) ≤ length bs
+unfolding jobOf pick taken
+job-inside bs =
+    let n = two bs 4 in
+    let m = two bs (6 + n) in
+    go (leb (8 + n) (length bs)) (leb (8 + n + m) (length bs)) refl (eqb (getD bs 0 0) 0x47) (eqb (length bs) (8 + n + m)) (eqb (getD bs 0 0) 0x50)
+  where
+    go : (p q : Bool) → leb (8 + two bs 4 + two bs (6 + two bs 4)) (length bs) ≡ q → (r s t : Bool)
+        → taken (pick p (pick q (pick r (pick s (Get (allowance bs) (two bs 4) (two bs (6 + two bs 4))) Other) (pick t (Put (allowance bs) (two bs 4) (two bs (6 + two bs 4))) Other)) Other) Other) ≤ length bs
+    go false q e r s t = zero-le
+    go true false e r s t = zero-le
+    go true true e true true t = leb-true _ _ e
+    go true true e true false t = zero-le
+    go true true e false s true = leb-true _ _ e
+    go true true e false s false = zero-le
+
+pub get-inside : (bs : List ℕ) {j : Job} {a n m : ℕ} → j ≡ jobOf bs → j ≡ Get a n m → 8 + n + m ≤ length bs
+unfolding taken
+get-inside bs {a = a} {n = n} {m = m} e q = rw (sym e ∙ q) at (job-inside bs)
+
+pub put-inside : (bs : List ℕ) {j : Job} {a n m : ℕ} → j ≡ jobOf bs → j ≡ Put a n m → 8 + n + m ≤ length bs
+unfolding taken
+put-inside bs {a = a} {n = n} {m = m} e q = rw (sym e ∙ q) at (job-inside bs)

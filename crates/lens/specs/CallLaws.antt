@@ -68,3 +68,12 @@ module _ (need : ℕ) (o s : List ℕ) (allowance : ℕ) (w : Out (List ℕ)) wh
 -- bytes of scratch at the front of the output
 pub at-front : (o t bs : List ℕ) (from len : ℕ) → take len (drop from t) ≡ bs → paste o 0 (drop from t) len ≡ bs ++ drop len o
 at-front o t bs from len e = rw (e, zero-add)
+
+-- a success lies within the output
+pub done-inside : {a : Answer} {r : Reply} {o o′ s s′ : List ℕ} → Answered a r o o′ s s′ → {len n : ℕ} → r ≡ Done len n → len ≤ length o′
+unfolding reply written
+done-inside {a} {r} {o} {o′} w {len} {n} e = go a (w .answer) (w .output)
+  where
+    go : (a : Answer) → r ≡ reply a → o′ ≡ written a o → len ≤ length o′
+    go (refusal c) p q = let z : _≡_ {A = ℕ} 0 1 = cc in absurd (omega arith)
+    go (success bs m) p q = let l : length bs ≡ len = cc in rw (q, length-append) (omega arith)

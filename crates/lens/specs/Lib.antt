@@ -2,3 +2,4 @@ pub mod Buffers
 pub mod Calls
 pub mod CallLaws
 pub mod Trips
+pub mod GetCalls
