@@ -292,7 +292,7 @@ get-add-same-length-3 t c = get-add-returns-3 t c .kept .long
 
 -- src/getter.rt:513:1
 get-add-returns-4 : (t : ℕ) → get-add-lts.Need-returns-4 (get-add-claims t) (get-add-at t) get-add.Post
-get-add-returns-4 t c = add-43 (c .before .before .before .before .before .before .before .before .before .get-node .ensures) (c .before .before .before .before .before .len .given .1) (c .before .shape-of .ensures) (λ v e. no-number v e (c .match2 .keys2))
+get-add-returns-4 t c = add-43 (c .before .before .before .before .before .before .before .before .before .get-node .ensures) (c .before .before .before .before .before .len .given .1) (c .before .shape-of .ensures) (λ v s. no-number s (c .match2 .keys2))
 
 -- src/getter.rt:513:1
 get-add-same-length-4 : (t : ℕ) → get-add-lts.Need-same-length-4 (get-add-claims t) (get-add-at t) get-add.Post
@@ -632,7 +632,7 @@ get-list-case-same-length-3 t c = get-list-case-returns-3 t c .kept .long
 
 -- src/getter.rt:304:1
 get-list-case-returns-4 : (t : ℕ) → get-list-case-lts.Need-returns-4 (get-list-case-claims t) (get-list-case-at t) get-list-case.Post
-get-list-case-returns-4 t c = list-43 (c .before .before .before .before .before .before .before .before .before .before .get-node .ensures) (c .before .before .before .before .before .before .len .given .1) (c .before .shape-of .ensures) (λ v e. no-list v e (c .match2 .keys3))
+get-list-case-returns-4 t c = list-43 (c .before .before .before .before .before .before .before .before .before .before .get-node .ensures) (c .before .before .before .before .before .before .len .given .1) (c .before .shape-of .ensures) (λ v s. no-list s (c .match2 .keys3))
 
 -- src/getter.rt:304:1
 get-list-case-same-length-4 : (t : ℕ) → get-list-case-lts.Need-same-length-4 (get-list-case-claims t) (get-list-case-at t) get-list-case.Post
@@ -1044,7 +1044,7 @@ get-split-same-length-2 t c = get-split-returns-2 t c .kept .long
 
 -- src/getter.rt:440:1
 get-split-returns-3 : (t : ℕ) → get-split-lts.Need-returns-3 (get-split-claims t) (get-split-at t) get-split.Post
-get-split-returns-3 t c = split-43 (c .before .before .before .before .before .before .before .before .before .before .get-node .ensures) (c .before .before .before .before .before .before .len .given .1) (c .before .shape-of .ensures) (λ v e. no-pair v e (c .match2 .keys2))
+get-split-returns-3 t c = split-43 (c .before .before .before .before .before .before .before .before .before .before .get-node .ensures) (c .before .before .before .before .before .before .len .given .1) (c .before .shape-of .ensures) (λ v s. no-pair s (c .match2 .keys2))
 
 -- src/getter.rt:440:1
 get-split-same-length-3 : (t : ℕ) → get-split-lts.Need-same-length-3 (get-split-claims t) (get-split-at t) get-split.Post
@@ -1136,7 +1136,7 @@ get-truth-case-same-length-3 t c = get-truth-case-returns-3 t c .kept .long
 
 -- src/getter.rt:374:1
 get-truth-case-returns-4 : (t : ℕ) → get-truth-case-lts.Need-returns-4 (get-truth-case-claims t) (get-truth-case-at t) get-truth-case.Post
-get-truth-case-returns-4 t c = truth-43 (c .before .before .before .before .before .before .before .before .before .before .get-node .ensures) (c .before .before .before .before .before .before .len .given .1) (c .before .shape-of .ensures) (λ v e. no-truth v e (c .match2 .keys3))
+get-truth-case-returns-4 t c = truth-43 (c .before .before .before .before .before .before .before .before .before .before .get-node .ensures) (c .before .before .before .before .before .before .len .given .1) (c .before .shape-of .ensures) (λ v s. no-truth s (c .match2 .keys3))
 
 -- src/getter.rt:374:1
 get-truth-case-same-length-4 : (t : ℕ) → get-truth-case-lts.Need-same-length-4 (get-truth-case-claims t) (get-truth-case-at t) get-truth-case.Post
