@@ -1,7 +1,7 @@
 -- What a result says of an outcome under an allowance: rules that follow the definitions of get and put step by step.
-use mathlib.Core.Path.{_≡_, refl, sym, ap, _∙_}
+use mathlib.Core.Path.{_≡_}
 use mathlib.Core.Option.{Option, none, some}
-use Prim.Native.Nat.{ℕ, _+_, _-_, _≤_, _<_}
+use Prim.Native.Nat.{ℕ, _+_, _-_, _<_}
 use native.Mathlib.Omega.{arith}
 use Rattle.rules.specs.Outcome.{Out, done, refused, plus, steps, when, _>>=_, given}
 use Rattle.rules.specs.Allowance.{within}

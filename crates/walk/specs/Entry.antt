@@ -1,12 +1,11 @@
 -- Get on bytes: what the entry shows of its answer, and that it is the rules' answer.
 use mathlib.Core.Path.{_≡_, refl, sym, ap, _∙_}
-use mathlib.Core.List.{List, [], _∷_, _++_, map}
-use Prim.Native.Nat.{ℕ, zero, suc, _+_, _-_, _*_, _≤_, _<_}
-use native.Mathlib.Nat.{le-refl}
+use mathlib.Core.List.{List, _++_, map}
+use Prim.Native.Nat.{ℕ, _+_, _-_, _≤_, _<_}
 use native.Mathlib.Omega.{arith}
 use lib.ListN.{length, take, drop, getD, length-append, length-drop}
 use lib.Seq.{length-take-le, drop-at, drop-append-le, take-append-le}
-use Rattle.value.specs.Result.{Result, ok, refusal}
+use Rattle.value.specs.Result.{ok, refusal}
 use Rattle.value.specs.Value.{Value, vfalse, encode, size, flat}
 use Rattle.value.specs.Encoding.{size-encode}
 use Rattle.value.specs.Laws.{ReadAs, readValues-sound}
@@ -18,19 +17,18 @@ use Rattle.sheet.specs.Table.{tableOf}
 use Rattle.sheet.specs.declared.Table.{Table}
 use Rattle.sheet.specs.Laws.{sheet-ranges, table-ok, table-refused}
 use Rattle.rules.specs.Outcome.{Out, done, refused, mapOut, reading}
-use Rattle.rules.specs.Allowance.{within}
 use Rattle.rules.specs.Rules.{get}
 use Rattle.rules.specs.Answer.{getWalk, getBytes}
 use Rattle.walk.specs.declared.scope.Scope.{Scope}
 use Rattle.walk.specs.declared.Walked.{Walked}
 use Rattle.walk.specs.declared.Walked.the-variants.{Done, Refused}
-use Rattle.walk.specs.Parts.{part, Kept, CopiedIn}
-use Rattle.walk.specs.Plan.{Standing, standing, flat-short, starts-length, sizes-at, sizes-length, placed, spans-refused, Spread, spread}
+use Rattle.walk.specs.Parts.{part, CopiedIn}
+use Rattle.walk.specs.Plan.{standing, flat-short, starts-length, sizes-at, sizes-length, placed, spans-refused, spread}
 use Rattle.walk.specs.Scope.{Spanned}
 use Rattle.walk.specs.Arena.{Held, inPlan, Env}
 use Rattle.walk.specs.Seen.{held-short}
 use Rattle.walk.specs.Answers.{Told, serves, denies}
-use Rattle.walk.specs.Gets.{enter, run, Lent, Ready, Served, Denied, Gives}
+use Rattle.walk.specs.Gets.{enter, run, Ready, Served, Denied, Gives}
 
 -- the result r and the arena a say the outcome: a value's bytes stand at 32,256
 pub data Says (a : List ℕ) (r : Walked) : Out (List ℕ) → Type 0 where

@@ -1,40 +1,32 @@
 -- Additions: what get shows at each return.
-use mathlib.Core.Path.{_≡_, refl, sym, ap, _∙_}
-use mathlib.Core.Option.{Option, none, some}
-use mathlib.Core.List.{List, [], _∷_}
-use Prim.Native.Nat.{ℕ, zero, suc, _+_, _-_, _*_, _/_, _%_, _≤_, _<_}
+use mathlib.Core.Path.{_≡_, refl, ap}
+use mathlib.Core.Option.{none, some}
+use mathlib.Core.List.{List}
+use Prim.Native.Nat.{ℕ, _+_, _-_, _/_, _%_, _≤_, _<_}
 use native.Mathlib.Nat.{le-refl}
 use native.Mathlib.Decide.{decLe}
 use native.Mathlib.Omega.{arith}
-use lib.ListN.{length, getD, set, length-set}
-use Rattle.value.specs.Value.{Value, Values as Rest, vfalse, vtrue, list, number, pair, nil, cons, encode, size, Encodable, eNumber}
+use lib.ListN.{length, set}
+use Rattle.value.specs.Value.{Value, number, encode, size, Encodable, eNumber}
 use Rattle.value.specs.Views.{asNumber, ifSmall}
 use Rattle.value.specs.Parts.{shapeOf}
-use Rattle.value.specs.PartsLaws.{shape}
 use Rattle.value.specs.declared.Shape.{Shape}
 use Rattle.value.specs.declared.Shape.the-variants as shapes
-use Rattle.sheet.specs.declared.Node.{Node}
 use Rattle.sheet.specs.declared.Node.the-variants.{Add}
 use Rattle.rules.specs.Rules.{getNode, get}
 use Rattle.rules.specs.Readable.{number-readable}
 use Rattle.walk.specs.declared.scope.Scope.{Scope}
 use Rattle.walk.specs.declared.Walked.{Walked}
 use Rattle.walk.specs.declared.Walked.the-variants.{Done, Refused}
-use Rattle.walk.specs.Parts.{part, Kept, kept-then, kept-set}
+use Rattle.walk.specs.Parts.{part, kept-then, kept-set}
 use Rattle.walk.specs.Arena.{Held, onStack}
-use Rattle.walk.specs.Seen.{held-head, held-shape}
+use Rattle.walk.specs.Seen.{Shaped, isNumber, shaped-as, held-head, held-shape}
 use Rattle.walk.specs.Answers.{finish, then-done, then-refused, give, give-none, give-yes, give-no}
-use Rattle.walk.specs.Gets.{Task, enter, body, run, Ready, Gives, GotDone, got, not-got}
+use Rattle.walk.specs.Gets.{enter, body, run, Ready, Gives, GotDone, got, not-got}
 use Rattle.walk.specs.GetLeaf.{number-bytes}
 
-number-seen : (v : Value) {m : ℕ} → shapes.Number m ≡ shape v → v ≡ number m
-unfolding shape
-number-seen (number n) {m} e = let z : n ≡ m = cc in ap number z
-number-seen vfalse e = absurd (let z : _≡_ {A = ℕ} 0 1 = cc in omega arith)
-number-seen vtrue e = absurd (let z : _≡_ {A = ℕ} 0 1 = cc in omega arith)
-number-seen (list nil) e = absurd (let z : _≡_ {A = ℕ} 0 1 = cc in omega arith)
-number-seen (list (cons f r)) e = absurd (let z : _≡_ {A = ℕ} 0 1 = cc in omega arith)
-number-seen (pair x y) e = absurd (let z : _≡_ {A = ℕ} 0 1 = cc in omega arith)
+number-seen : {v : Value} {m : ℕ} → Shaped v (shapes.Number m) → v ≡ number m
+number-seen isNumber = refl
 
 -- the view of a number that two bytes hold
 record Small (m : ℕ) : Type 0 where
@@ -59,7 +51,7 @@ module _ {b a s : List ℕ} {sc : Scope} {top left : ℕ} {r : Walked} {l x : �
   add-refused q = record { kept = g .kept; told = λ sh es μ w. then-refused _ _ (not-got g sh es μ w q .1) (record { is = refl }) }
 
   module _ {len n : ℕ} (e : r ≡ Done len n) {q : Shape} (qs : q ≡ shapeOf (part a top (top + len - top))) where
-    pub add-43 : {k : ℕ} → ((v : Value) → q ≡ shape v → asNumber v ≡ none) → Gives b a s sc top top left 1 (Refused 43) l (body (Add x k))
+    pub add-43 : {k : ℕ} → ((v : Value) → Shaped v q → asNumber v ≡ none) → Gives b a s sc top top left 1 (Refused 43) l (body (Add x k))
     unfolding run getNode
     add-43 other = record {
       kept = g .kept;
@@ -68,7 +60,7 @@ module _ {b a s : List ℕ} {sc : Scope} {top left : ℕ} {r : Walked} {l x : �
 
     module _ {m : ℕ} (p : q ≡ shapes.Number m) where
       held-number : {o : _} (d : GotDone a top len n o) → (d .value ≡ number m) × Held a (top + len) top len (number m)
-      held-number d = let z = number-seen (d .value) (sym p ∙ held-shape (d .held) qs) in (z, rw z at (d .held))
+      held-number d = let z = number-seen (shaped-as (held-shape (d .held) qs) p) in (z, rw z at (d .held))
 
       -- a number's bytes are three
       pub add-long : {starts : List ℕ} → Ready s starts b sc top l left (enter x) → (len ≡ 3) × (m ≤ 65535)

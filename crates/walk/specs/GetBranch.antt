@@ -1,23 +1,21 @@
 -- A branch: got, judged by its test and moved down.
-use mathlib.Core.Path.{_≡_, refl, sym, ap, _∙_}
+use mathlib.Core.Path.{_≡_, refl, sym, _∙_}
 use mathlib.Core.Bool.{Bool, true, false}
 use mathlib.Core.List.{List}
-use Prim.Native.Nat.{ℕ, zero, suc, _+_, _-_, _*_, _≤_, _<_}
+use Prim.Native.Nat.{ℕ, _+_, _-_, _≤_}
 use native.Mathlib.Nat.{le-refl}
 use native.Mathlib.Omega.{arith}
-use lib.ListN.{length}
 use Rattle.value.specs.Tests.{passes, holds}
 use Rattle.value.specs.Parts.{passesBytes}
-use Rattle.rules.specs.Rules.{get, tested}
+use Rattle.rules.specs.Rules.{tested}
 use Rattle.walk.specs.declared.scope.Scope.{Scope}
 use Rattle.walk.specs.declared.Walked.{Walked}
 use Rattle.walk.specs.declared.Walked.the-variants.{Done, Refused}
-use Rattle.walk.specs.Parts.{part, Kept, kept-below, kept-then, Apart, down, Copied}
-use Rattle.walk.specs.Arena.{Held, onStack}
+use Rattle.walk.specs.Parts.{part, kept-below, kept-then, down, Copied}
+use Rattle.walk.specs.Arena.{onStack}
 use Rattle.walk.specs.Seen.{held-passes}
 use Rattle.walk.specs.Answers.{finish, then-done, then-refused, give-yes, give-no}
-use Rattle.walk.specs.Gets.{Task, enter, branch, run, Ready, Gives, got, not-got}
-use Rattle.walk.specs.GetReady.{Sizes, sizes}
+use Rattle.walk.specs.Gets.{enter, branch, run, Ready, Gives, got, not-got}
 
 -- what is asked of the branch is asked of its node
 pub branch-ready : {s starts b : List ℕ} {sc : Scope} {top levels left most test x : ℕ} → Ready s starts b sc top levels most (branch test x) → left ≤ most → Ready s starts b sc top levels left (enter x)

@@ -1,13 +1,12 @@
 -- Calls of a section: what get shows at each return, and what its call asks.
-use mathlib.Core.Path.{_≡_, refl, sym, ap, _∙_}
-use mathlib.Core.List.{List, [], _∷_}
-use Prim.Native.Nat.{ℕ, zero, suc, _+_, _-_, _*_, _≤_, _<_}
+use mathlib.Core.Path.{_≡_, refl, ap, _∙_}
+use mathlib.Core.List.{List}
+use Prim.Native.Nat.{ℕ, suc, _+_, _-_, _≤_, _<_}
 use native.Mathlib.Nat.{le-refl}
 use native.Mathlib.Omega.{arith}
-use lib.ListN.{length, getD}
+use lib.ListN.{getD}
 use Rattle.value.specs.Result.{ok}
-use Rattle.value.specs.Value.{Value, vfalse}
-use Rattle.sheet.specs.declared.Node.{Node}
+use Rattle.value.specs.Value.{vfalse}
 use Rattle.sheet.specs.declared.Node.the-variants.{Call}
 use Rattle.sheet.specs.Sheet.{Sheet, readSheet}
 use Rattle.sheet.specs.Table.{sectionAt}
@@ -20,8 +19,8 @@ use Rattle.walk.specs.Parts.{kept-refl}
 use Rattle.walk.specs.Scope.{picked}
 use Rattle.walk.specs.Arena.{Env, env-pick}
 use Rattle.walk.specs.Seen.{elem-at, elem-none}
-use Rattle.walk.specs.Answers.{Answers, give, give-none, as-done, as-refused}
-use Rattle.walk.specs.Gets.{Task, enter, body, run, Lent, Ready, Gives, GotDone, got, not-got}
+use Rattle.walk.specs.Answers.{give, give-none, as-done, as-refused}
+use Rattle.walk.specs.Gets.{enter, body, run, Ready, Gives, got, not-got}
 use Rattle.walk.specs.GetReady.{ready-in}
 use Rattle.walk.specs.GetEnter.{same-sheet}
 

@@ -1,36 +1,31 @@
 -- List cases, truth cases and splits: what get shows at each return, and what its calls ask.
 use mathlib.Core.Path.{_≡_, refl, sym, ap, _∙_}
-use mathlib.Core.Bool.{Bool, true, false}
-use mathlib.Core.Option.{Option, none, some}
+use mathlib.Core.Bool.{true}
+use mathlib.Core.Option.{none, some}
 use mathlib.Core.List.{List, [], _∷_, _++_, append-assoc}
-use Prim.Native.Nat.{ℕ, zero, suc, _+_, _-_, _*_, _≤_, _<_}
+use Prim.Native.Nat.{ℕ, suc, _+_, _-_, _≤_, _<_}
 use native.Mathlib.Nat.{le-refl, add-zero}
 use native.Mathlib.Omega.{arith}
 use lib.ListN.{length}
-use Rattle.value.specs.Result.{ok}
 use Rattle.value.specs.Value.{Value, Values as Rest, vfalse, vtrue, list, number, pair, nil, cons, size}
 use Rattle.value.specs.Views.{asList, asPair, asTruth}
 use Rattle.value.specs.Tests.{passes, holds, table, class}
 use Rattle.value.specs.Parts.{shapeOf}
-use Rattle.value.specs.PartsLaws.{shape}
 use Rattle.value.specs.declared.Shape.{Shape}
 use Rattle.value.specs.declared.Shape.the-variants as shapes
-use Rattle.sheet.specs.declared.Node.{Node}
 use Rattle.sheet.specs.declared.Node.the-variants.{ListCase, TruthCase, Split}
-use Rattle.sheet.specs.Sheet.{Sheet, readSheet}
 use Rattle.rules.specs.Outcome.{Out, done, refused, plus, when, _>>=_, given}
-use Rattle.rules.specs.Allowance.{within}
-use Rattle.rules.specs.Rules.{Env as Values, two, pick, getNode, get, tested, onList}
+use Rattle.rules.specs.Rules.{Env as Values, two, getNode, get, tested, onList}
 use Rattle.walk.specs.declared.scope.Scope.{Scope}
 use Rattle.walk.specs.declared.Walked.{Walked}
 use Rattle.walk.specs.declared.Walked.the-variants.{Done, Refused}
-use Rattle.walk.specs.Parts.{part, Kept, kept-then}
+use Rattle.walk.specs.Parts.{part, kept-then}
 use Rattle.walk.specs.Scope.{pushed}
-use Rattle.walk.specs.Arena.{Held, Env, env-later, env-push}
-use Rattle.walk.specs.Seen.{held-shape, TwoHeld, held-front, held-pair}
-use Rattle.walk.specs.Answers.{Answers, answer-by, then-done, then-refused, give, give-none}
-use Rattle.walk.specs.Gets.{Task, enter, body, branch, run, Ready, Known, Gives, GotDone, got, not-got}
-use Rattle.walk.specs.GetReady.{ready-in, ready-later, Sizes, sizes}
+use Rattle.walk.specs.Arena.{Env, env-later, env-push}
+use Rattle.walk.specs.Seen.{Shaped, isFalse, isTrue, isEmpty, isFront, isPair, shaped-as, held-shape, TwoHeld, held-front, held-pair}
+use Rattle.walk.specs.Answers.{answer-by, then-done, then-refused, give, give-none}
+use Rattle.walk.specs.Gets.{Task, enter, body, branch, run, Ready, Gives, GotDone, got, not-got}
+use Rattle.walk.specs.GetReady.{ready-in, ready-later, sizes}
 
 -- a test that says yes to anything changes nothing
 any-holds : (v : Value) → holds 0 v ≡ true
@@ -52,63 +47,21 @@ untested (done v s) = ap (plus s) (go (passes 0 v)) ∙ ap (done v) (add-zero s)
     go (no n) = absurd (n (any-holds v))
 untested (refused c s) = refl
 
--- a list by its shape
-empty-seen : (v : Value) → shapes.Empty ≡ shape v → v ≡ list nil
-unfolding shape
-empty-seen (list nil) e = refl
-empty-seen vfalse e = absurd (let z : _≡_ {A = ℕ} 0 1 = cc in omega arith)
-empty-seen vtrue e = absurd (let z : _≡_ {A = ℕ} 0 1 = cc in omega arith)
-empty-seen (list (cons f r)) e = absurd (let z : _≡_ {A = ℕ} 0 1 = cc in omega arith)
-empty-seen (number n) e = absurd (let z : _≡_ {A = ℕ} 0 1 = cc in omega arith)
-empty-seen (pair x y) e = absurd (let z : _≡_ {A = ℕ} 0 1 = cc in omega arith)
+-- a value by its shape
+empty-seen : {v : Value} → Shaped v shapes.Empty → v ≡ list nil
+empty-seen isEmpty = refl
 
-record FrontSeen (v : Value) (mid : ℕ) : Type 0 where
-  first : Value
-  rest : Rest
-  is : v ≡ list (cons first rest)
-  long : mid ≡ 1 + size first
+false-seen : {v : Value} → Shaped v shapes.False → v ≡ vfalse
+false-seen isFalse = refl
 
-front-seen : (v : Value) {mid : ℕ} → shapes.Front mid ≡ shape v → FrontSeen v mid
-unfolding shape
-front-seen (list (cons f r)) e = record { first = f; rest = r; is = refl; long = cc }
-front-seen (list nil) e = absurd (let z : _≡_ {A = ℕ} 0 1 = cc in omega arith)
-front-seen vfalse e = absurd (let z : _≡_ {A = ℕ} 0 1 = cc in omega arith)
-front-seen vtrue e = absurd (let z : _≡_ {A = ℕ} 0 1 = cc in omega arith)
-front-seen (number n) e = absurd (let z : _≡_ {A = ℕ} 0 1 = cc in omega arith)
-front-seen (pair x y) e = absurd (let z : _≡_ {A = ℕ} 0 1 = cc in omega arith)
+true-seen : {v : Value} → Shaped v shapes.True → v ≡ vtrue
+true-seen isTrue = refl
 
-record PairSeen (v : Value) (mid : ℕ) : Type 0 where
-  first : Value
-  second : Value
-  is : v ≡ pair first second
-  long : mid ≡ 1 + size first
+front-seen : {v : Value} {mid : ℕ} → Shaped v (shapes.Front mid) → (f : Value) × (r : Rest) × (v ≡ list (cons f r)) × (mid ≡ 1 + size f)
+front-seen (isFront {f} {r} e) = (f, r, refl, e)
 
-pair-seen : (v : Value) {mid : ℕ} → shapes.Pair mid ≡ shape v → PairSeen v mid
-unfolding shape
-pair-seen (pair x y) e = record { first = x; second = y; is = refl; long = cc }
-pair-seen (list nil) e = absurd (let z : _≡_ {A = ℕ} 0 1 = cc in omega arith)
-pair-seen (list (cons f r)) e = absurd (let z : _≡_ {A = ℕ} 0 1 = cc in omega arith)
-pair-seen vfalse e = absurd (let z : _≡_ {A = ℕ} 0 1 = cc in omega arith)
-pair-seen vtrue e = absurd (let z : _≡_ {A = ℕ} 0 1 = cc in omega arith)
-pair-seen (number n) e = absurd (let z : _≡_ {A = ℕ} 0 1 = cc in omega arith)
-
-false-seen : (v : Value) → shapes.False ≡ shape v → v ≡ vfalse
-unfolding shape
-false-seen vfalse e = refl
-false-seen vtrue e = absurd (let z : _≡_ {A = ℕ} 0 1 = cc in omega arith)
-false-seen (list nil) e = absurd (let z : _≡_ {A = ℕ} 0 1 = cc in omega arith)
-false-seen (list (cons f r)) e = absurd (let z : _≡_ {A = ℕ} 0 1 = cc in omega arith)
-false-seen (number n) e = absurd (let z : _≡_ {A = ℕ} 0 1 = cc in omega arith)
-false-seen (pair x y) e = absurd (let z : _≡_ {A = ℕ} 0 1 = cc in omega arith)
-
-true-seen : (v : Value) → shapes.True ≡ shape v → v ≡ vtrue
-unfolding shape
-true-seen vtrue e = refl
-true-seen vfalse e = absurd (let z : _≡_ {A = ℕ} 0 1 = cc in omega arith)
-true-seen (list nil) e = absurd (let z : _≡_ {A = ℕ} 0 1 = cc in omega arith)
-true-seen (list (cons f r)) e = absurd (let z : _≡_ {A = ℕ} 0 1 = cc in omega arith)
-true-seen (number n) e = absurd (let z : _≡_ {A = ℕ} 0 1 = cc in omega arith)
-true-seen (pair x y) e = absurd (let z : _≡_ {A = ℕ} 0 1 = cc in omega arith)
+pair-seen : {v : Value} {mid : ℕ} → Shaped v (shapes.Pair mid) → (x : Value) × (y : Value) × (v ≡ pair x y) × (mid ≡ 1 + size x)
+pair-seen (isPair {x} {y} e) = (x, y, refl, e)
 
 -- the subject of a case is asked for as the case is, a level below
 pub subject-ready : {s starts b : List ℕ} {sc : Scope} {top l left : ℕ} {t : Task} {x : ℕ} (w : Ready s starts b sc top (suc l) (suc left) t) → x < length (w .lent .sh .nodes)
@@ -141,21 +94,21 @@ module _ {b a₁ s : List ℕ} {sc : Scope} {top left : ℕ} {r₁ : Walked} {l 
 
   module _ {len n : ℕ} (e₁ : r₁ ≡ Done len n) {q : Shape} (qs : q ≡ shapeOf (part a₁ top (top + len - top))) where
     -- it is of another shape
-    pub list-43 : {e te m tm df dr : ℕ} → ((v : Value) → q ≡ shape v → asList v ≡ none) → Gives b a₁ s sc top top left 1 (Refused 43) l (body (ListCase x e te m tm df dr))
+    pub list-43 : {e te m tm df dr : ℕ} → ((v : Value) → Shaped v q → asList v ≡ none) → Gives b a₁ s sc top top left 1 (Refused 43) l (body (ListCase x e te m tm df dr))
     unfolding run getNode
     list-43 other = record {
       kept = g₁ .kept;
       told = λ sh es μ w. let d = got g₁ sh es μ w e₁ in then-done _ _ (d .is) (give-none _ _ (other (d .value) (held-shape (d .held) qs)) (record { is = refl }));
     }
 
-    pub truth-43 : {f tf t tt′ : ℕ} → ((v : Value) → q ≡ shape v → asTruth v ≡ none) → Gives b a₁ s sc top top left 1 (Refused 43) l (body (TruthCase x f tf t tt′))
+    pub truth-43 : {f tf t tt′ : ℕ} → ((v : Value) → Shaped v q → asTruth v ≡ none) → Gives b a₁ s sc top top left 1 (Refused 43) l (body (TruthCase x f tf t tt′))
     unfolding run getNode
     truth-43 other = record {
       kept = g₁ .kept;
       told = λ sh es μ w. let d = got g₁ sh es μ w e₁ in then-done _ _ (d .is) (give-none _ _ (other (d .value) (held-shape (d .held) qs)) (record { is = refl }));
     }
 
-    pub split-43 : {i : ℕ} → ((v : Value) → q ≡ shape v → asPair v ≡ none) → Gives b a₁ s sc top top left 1 (Refused 43) l (body (Split x i))
+    pub split-43 : {i : ℕ} → ((v : Value) → Shaped v q → asPair v ≡ none) → Gives b a₁ s sc top top left 1 (Refused 43) l (body (Split x i))
     unfolding run getNode
     split-43 other = record {
       kept = g₁ .kept;
@@ -174,7 +127,7 @@ module _ {b a₁ s : List ℕ} {sc : Scope} {top left : ℕ} {r₁ : Walked} {l 
         kept = kept-then (g₁ .kept) (g₂ .kept) (le-refl top);
         told = λ sh es μ w.
             let d = got g₁ sh es μ w e₁ in
-            let z : d .value ≡ list nil = empty-seen (d .value) (sym p ∙ held-shape (d .held) qs) in
+            let z : d .value ≡ list nil = empty-seen (shaped-as (held-shape (d .held) qs) p) in
             then-done _ _ (d .is) (rw z (give _ _ refl (g₂ .told sh es μ (env₂ w))));
       }
 
@@ -185,7 +138,7 @@ module _ {b a₁ s : List ℕ} {sc : Scope} {top left : ℕ} {r₁ : Walked} {l 
         kept = kept-then (g₁ .kept) (g₂ .kept) (le-refl top);
         told = λ sh es μ w.
             let d = got g₁ sh es μ w e₁ in
-            let z : d .value ≡ vfalse = false-seen (d .value) (sym p ∙ held-shape (d .held) qs) in
+            let z : d .value ≡ vfalse = false-seen (shaped-as (held-shape (d .held) qs) p) in
             then-done _ _ (d .is) (rw z (give _ _ refl (g₂ .told sh es μ (env₂ w))));
       }
 
@@ -196,7 +149,7 @@ module _ {b a₁ s : List ℕ} {sc : Scope} {top left : ℕ} {r₁ : Walked} {l 
         kept = kept-then (g₁ .kept) (g₂ .kept) (le-refl top);
         told = λ sh es μ w.
             let d = got g₁ sh es μ w e₁ in
-            let z : d .value ≡ vtrue = true-seen (d .value) (sym p ∙ held-shape (d .held) qs) in
+            let z : d .value ≡ vtrue = true-seen (shaped-as (held-shape (d .held) qs) p) in
             then-done _ _ (d .is) (rw z (give _ _ refl (g₂ .told sh es μ (env₂ w))));
       }
 
@@ -224,8 +177,8 @@ module _ {b a₁ s : List ℕ} {sc : Scope} {top left : ℕ} {r₁ : Walked} {l 
     module _ {mid : ℕ} (p : q ≡ shapes.Front mid) where
       front-parts : 32256 ≤ top → {o : Out Value} (d : GotDone a₁ top len n o) → (f : Value) × (r : Rest) × (d .value ≡ list (cons f r)) × TwoHeld a₁ top len mid f (list r)
       front-parts base d =
-          let c = front-seen (d .value) (sym p ∙ held-shape (d .held) qs) in
-          (c .first, c .rest, c .is, held-front base (c .long) (rw (c .is) at (d .held)))
+          let (f, r, z, e) = front-seen (shaped-as (held-shape (d .held) qs) p) in
+          (f, r, z, held-front base e (rw z at (d .held)))
 
       -- where the second part starts
       pub front-mid : {starts : List ℕ} → Ready s starts b sc top l left (enter x) → (1 ≤ mid) × (mid ≤ len)
@@ -252,8 +205,8 @@ module _ {b a₁ s : List ℕ} {sc : Scope} {top left : ℕ} {r₁ : Walked} {l 
     module _ {mid : ℕ} (p : q ≡ shapes.Pair mid) where
       pair-parts : 32256 ≤ top → {o : Out Value} (d : GotDone a₁ top len n o) → (u : Value) × (v : Value) × (d .value ≡ pair u v) × TwoHeld a₁ top len mid u v
       pair-parts base d =
-          let c = pair-seen (d .value) (sym p ∙ held-shape (d .held) qs) in
-          (c .first, c .second, c .is, held-pair base (c .long) (rw (c .is) at (d .held)))
+          let (u, v, z, e) = pair-seen (shaped-as (held-shape (d .held) qs) p) in
+          (u, v, z, held-pair base e (rw z at (d .held)))
 
       pub pair-mid : {starts : List ℕ} → Ready s starts b sc top l left (enter x) → (1 ≤ mid) × (mid ≤ len)
       pair-mid w =

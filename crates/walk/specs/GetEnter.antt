@@ -11,13 +11,13 @@ use Rattle.sheet.specs.declared.Node.the-variants.{Var, False, True, Empty, Num
 use Rattle.sheet.specs.Sheet.{Sheet, readSheet}
 use Rattle.sheet.specs.Table.{width, offsets, tableOf, nodeAt}
 use Rattle.sheet.specs.Laws.{Ranged, sheet-ranges, node-read, table-start}
-use Rattle.rules.specs.Rules.{Env as Values, getNode, get}
+use Rattle.rules.specs.Rules.{get}
 use Rattle.walk.specs.declared.scope.Scope.{Scope}
 use Rattle.walk.specs.declared.Walked.{Walked}
-use Rattle.walk.specs.declared.Walked.the-variants.{Done, Refused}
+use Rattle.walk.specs.declared.Walked.the-variants.{Refused}
 use Rattle.walk.specs.Parts.{kept-refl}
 use Rattle.walk.specs.Answers.{refuse, step, no-step}
-use Rattle.walk.specs.Gets.{Task, enter, body, run, Lent, Ready, Gives}
+use Rattle.walk.specs.Gets.{enter, body, run, Lent, Ready, Gives}
 use Rattle.walk.specs.GetReady.{ready-later}
 
 module _ {b s : List ℕ} {sc : Scope} {top left x : ℕ} where

@@ -1,26 +1,25 @@
 -- Variables, constants and numbers: what get shows at each return, and what it asks.
-use mathlib.Core.Path.{_≡_, refl, sym, ap, _∙_}
-use mathlib.Core.Bool.{Bool, true, false}
-use mathlib.Core.List.{List, [], _∷_, _++_}
-use Prim.Native.Nat.{ℕ, zero, suc, _+_, _-_, _*_, _/_, _%_, _≤_, _<_}
+use mathlib.Core.Path.{_≡_, refl, ap, _∙_}
+use mathlib.Core.Bool.{true, false}
+use mathlib.Core.List.{List, [], _∷_}
+use Prim.Native.Nat.{ℕ, _+_, _-_, _/_, _%_, _≤_, _<_}
 use native.Mathlib.Nat.{le-refl}
 use native.Mathlib.Omega.{arith}
 use lib.ListN.{length, getD, set, length-set}
 use lib.Seq.{getD-set-same, getD-set-other}
-use Rattle.value.specs.Value.{Value, vfalse, vtrue, list, number, nil, encode, encodes, size, sizes}
+use Rattle.value.specs.Value.{Value, vfalse, number, encode, encodes, size, sizes}
 use Rattle.value.specs.Laws.{Readable}
-use Rattle.sheet.specs.declared.Node.{Node}
 use Rattle.sheet.specs.declared.Node.the-variants.{Var, False, True, Empty, Number}
 use Rattle.rules.specs.Rules.{getNode}
 use Rattle.rules.specs.Readable.{nil-readable, truth-readable, number-readable}
 use Rattle.walk.specs.declared.scope.Scope.{Scope}
 use Rattle.walk.specs.declared.Walked.{Walked}
 use Rattle.walk.specs.declared.Walked.the-variants.{Done, Refused}
-use Rattle.walk.specs.Parts.{part, Kept, kept-refl, kept-then, kept-set, part-one, part-cons, Marked, marked-kept, marked-part, Apart, up, Copied}
-use Rattle.walk.specs.Arena.{Held, onStack, Env, below-ends}
+use Rattle.walk.specs.Parts.{part, kept-refl, kept-then, kept-set, part-one, part-cons, Marked, marked-kept, marked-part, Apart, up, Copied}
+use Rattle.walk.specs.Arena.{onStack, below-ends}
 use Rattle.walk.specs.Seen.{elem-at, elem-none, held-short}
 use Rattle.walk.specs.Answers.{finish, give, give-none}
-use Rattle.walk.specs.Gets.{Task, body, run, Room, Served, Gives}
+use Rattle.walk.specs.Gets.{body, run, Room, Served, Gives}
 
 -- VARIABLES
 

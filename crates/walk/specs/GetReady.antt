@@ -1,22 +1,20 @@
 -- What a call of get asks, handed on from call to call, and what a call that was done tells of its sizes.
-use mathlib.Core.Path.{_≡_, refl, sym, ap, _∙_}
+use mathlib.Core.Path.{_≡_, _∙_}
 use mathlib.Core.List.{List}
-use Prim.Native.Nat.{ℕ, zero, suc, _+_, _-_, _*_, _≤_, _<_}
+use Prim.Native.Nat.{ℕ, zero, suc, _+_, _-_, _*_, _≤_}
 use native.Mathlib.Omega.{arith}
-use lib.ListN.{length}
-use Rattle.value.specs.Result.{ok}
 use Rattle.value.specs.Value.{Value}
-use Rattle.sheet.specs.Sheet.{Sheet, readSheet}
-use Rattle.rules.specs.Outcome.{Out, done, refused}
+use Rattle.sheet.specs.Sheet.{Sheet}
+use Rattle.rules.specs.Outcome.{done, refused}
 use Rattle.rules.specs.AllowanceLaws.{within-done}
 use Rattle.rules.specs.Rules.{Env as Values, get}
 use Rattle.walk.specs.declared.scope.Scope.{Scope}
 use Rattle.walk.specs.declared.Walked.{Walked}
-use Rattle.walk.specs.declared.Walked.the-variants.{Done, Refused}
+use Rattle.walk.specs.declared.Walked.the-variants.{Done}
 use Rattle.walk.specs.Parts.{Kept}
-use Rattle.walk.specs.Arena.{Held, Env, env-later}
+use Rattle.walk.specs.Arena.{Env, env-later}
 use Rattle.walk.specs.Seen.{held-some, held-short}
-use Rattle.walk.specs.Gets.{Task, enter, body, branch, run, Lent, Known, Room, Ready, Served, Denied, Gives, GotDone, got, not-got}
+use Rattle.walk.specs.Gets.{Task, enter, run, Known, Room, Ready, Gives, got}
 
 module _ {s starts b : List ℕ} {sc : Scope} {top levels left : ℕ} {t : Task} (w : Ready s starts b sc top levels left t) where
   -- the arena with room for a value

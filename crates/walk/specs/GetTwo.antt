@@ -1,30 +1,26 @@
 -- Front and pair: what get shows at each return, and what its calls ask.
-use mathlib.Core.Path.{_≡_, refl, sym, ap, _∙_}
-use mathlib.Core.Option.{Option, none, some}
-use mathlib.Core.List.{List, [], _∷_, _++_, append-assoc}
-use Prim.Native.Nat.{ℕ, zero, suc, _+_, _-_, _*_, _≤_, _<_}
+use mathlib.Core.Path.{_≡_, refl, ap, _∙_}
+use mathlib.Core.List.{List, [], _∷_, _++_}
+use Prim.Native.Nat.{ℕ, suc, _+_, _-_, _≤_, _<_}
 use native.Mathlib.Nat.{le-refl}
 use native.Mathlib.Omega.{arith}
 use lib.ListN.{length, getD}
 use Rattle.value.specs.Result.{ok}
-use Rattle.value.specs.Value.{Value, Values as Rest, vfalse, vtrue, list, number, pair, nil, cons, encode, encodes, size, sizes as rest-sizes, Fits, Encodable, ePair}
-use Rattle.value.specs.Views.{asList}
-use Rattle.value.specs.Laws.{Readable, encodable-front}
-use Rattle.sheet.specs.declared.Node.{Node}
+use Rattle.value.specs.Value.{Value, list, pair, encode, encodes, size, sizes as rest-sizes, ePair}
+use Rattle.value.specs.Laws.{encodable-front}
 use Rattle.sheet.specs.declared.Node.the-variants.{Front, Pair}
 use Rattle.sheet.specs.Sheet.{Sheet, readSheet}
-use Rattle.rules.specs.Outcome.{Out, done, refused}
 use Rattle.rules.specs.Allowance.{within}
 use Rattle.rules.specs.Rules.{Env as Values, getNode, get, bounded}
 use Rattle.walk.specs.declared.scope.Scope.{Scope}
 use Rattle.walk.specs.declared.Walked.{Walked}
 use Rattle.walk.specs.declared.Walked.the-variants.{Done, Refused}
 use Rattle.walk.specs.Parts.{part, Kept, part-kept, kept-then, part-join, Marked, marked-kept, marked-part}
-use Rattle.walk.specs.Arena.{Held, onStack, Env, env-later, held-later}
+use Rattle.walk.specs.Arena.{onStack, Env, env-later}
 use Rattle.walk.specs.Seen.{no-list, a-list}
-use Rattle.walk.specs.Answers.{Answers, finish, then-done, then-refused, give, give-none, give-yes, give-no}
-use Rattle.walk.specs.Gets.{Task, enter, body, run, Lent, Ready, Served, Denied, Gives, GotDone, got, not-got}
-use Rattle.walk.specs.GetReady.{ready-later, Sizes, sizes}
+use Rattle.walk.specs.Answers.{finish, then-done, then-refused, give, give-none, give-yes, give-no}
+use Rattle.walk.specs.Gets.{Task, enter, body, run, Ready, Gives, GotDone, got, not-got}
+use Rattle.walk.specs.GetReady.{ready-later, sizes}
 
 -- two values that stand one after the other behind a kind byte
 together : (a : List ℕ) (k top f r : ℕ) (u v : List ℕ) → part a top 1 ≡ k ∷ [] → part a (top + 1) f ≡ u → part a (top + 1 + f) r ≡ v → part a top (1 + f + r) ≡ k ∷ (u ++ v)

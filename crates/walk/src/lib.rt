@@ -3,9 +3,11 @@
 //! The arena is 65,536 bytes: the plan from 0, the 256 bytes of each cell from 4,096, and from 32,256 a stack of the values
 //! that are being built. A walk at `top` leaves the stack below `top` and the plan alone.
 ghost use Rattle.walk.specs.Entry.{Planned, PlanGot, GetCall};
+
 mod bytes;
 mod getter;
 mod scope;
+
 use crate::bytes::copy_in;
 use crate::getter::At;
 use crate::getter::get_node;

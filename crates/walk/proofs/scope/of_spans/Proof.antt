@@ -62,7 +62,7 @@ loop-less c = search needs
 
 -- src/scope.rt:72:5
 loop-again : tie.Need-loop-again Inv-loop μ-loop
-loop-again c = 
+loop-again c =
     let s = c .before .before .before in
     let h = c .before .before .loop-test .taken in
     let p = s .before .pre in
@@ -70,7 +70,7 @@ loop-again c =
 
 -- src/scope.rt:65:1
 returns : tie.Need-returns Inv-loop μ-loop
-returns c = 
+returns c =
     let n = c .loop-test .left in
     let v = c .before .loop .inv in
     record {
