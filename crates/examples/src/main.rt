@@ -1,6 +1,8 @@
-//! Runs the readers on the lines of data/readers.txt and prints what each says.
+//! Runs the readers and the program's jobs on the lines of data/ and prints what each says.
 //!
-//! A line is a letter, a space and bytes in hexadecimal: `v` a value, `p` a plan behind the byte k, `w` a view, `s` a sheet.
+//! A line is a letter, a space and bytes in hexadecimal: `v` a value, `p` a plan behind the byte k, `w` a view, `s` a sheet,
+//! `j` a job.
+mod buffers;
 mod lines;
 
 use value::Read;
@@ -85,6 +87,7 @@ fn run_line(letter: u8, bytes: &[u8]) {
         b'v' => print_value(bytes),
         b'w' => print_view(bytes),
         b's' => print_sheet(bytes),
+        b'j' => job::run(bytes),
         b'p' => {
             if 0 < bytes.len() {
                 print_plan(bytes[0] as usize, &bytes[1..]);
@@ -115,12 +118,19 @@ fn run_file(fd: i32) {
     }
 }
 
-fn main() {
-    let fd = os::open_read(b"readers.txt");
+fn run_named(name: &[u8]) {
+    let fd = os::open_read(name);
     if fd < 0 {
-        os::fail(b"readers.txt");
+        os::fail(name);
         return;
     }
     run_file(fd);
     libc::close(fd);
+}
+
+fn main() {
+    buffers::run();
+    run_named(b"readers.txt");
+    run_named(b"examples.txt");
+    run_named(b"jobs.txt");
 }

@@ -4,6 +4,7 @@ ghost use Prim.Native.Nat.{_+_, _*_, _<_};
 ghost use Rattle.job.specs.Format.{jobOf};
 
 mod running;
+
 pub use running::run;
 
 /// A get or a put, with its allowance and the lengths of its sheet and of its plan; or no job.

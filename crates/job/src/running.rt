@@ -18,7 +18,8 @@ pub fn run(input: &[u8]) {
         allowance,
         sheet,
         plan,
-    } = parse(input) else {
+    } = parse(input)
+    else {
         report::refusal(60);
         return;
     };

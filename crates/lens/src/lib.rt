@@ -2,7 +2,9 @@
 ghost use lib.ListN.{length};
 ghost use Rattle.rules.specs.Answer.{getAnswer};
 ghost use Rattle.lens.specs.Calls.{Answered};
+
 mod buffers;
+
 use crate::buffers::clear;
 use crate::buffers::copy_out;
 use walk::Walked;

@@ -13,6 +13,9 @@ print-view-requires c κs = search needs
 print-sheet-requires : tie.Need-print-sheet-requires
 print-sheet-requires c κs = search needs
 
+run-requires : tie.Need-run-requires
+run-requires c κs = search needs
+
 shared-slice-read-print-plan : tie.Need-shared-slice-read-print-plan
 shared-slice-read-print-plan c = search needs
 
@@ -55,6 +58,9 @@ returns-5 c = search needs
 returns-6 : tie.Need-returns-6
 returns-6 c = search needs
 
+returns-7 : tie.Need-returns-7
+returns-7 c = search needs
+
 pub run-line-spec : {M : Type 1} → statement M
 run-line-spec =
     tie.close
@@ -62,6 +68,7 @@ run-line-spec =
     print-value-requires
     print-view-requires
     print-sheet-requires
+    run-requires
     shared-slice-read-print-plan
     cast-print-plan
     sub-print-plan
@@ -75,4 +82,5 @@ run-line-spec =
     returns-3
     returns-4
     returns-5
-    returns-6)
+    returns-6
+    returns-7)
