@@ -5,7 +5,7 @@ use lens::Reply;
 
 fn run_get(sheet: &[u8], plan: &[u8], allowance: u32) {
     let mut out = [0u8; 256];
-    let mut scratch = [0u8; 65536];
+    let mut scratch = io::large_buffer();
     match lens::get(sheet, plan, allowance, &mut out, &mut scratch) {
         Reply::Refused(c) => report::refusal(c),
         Reply::Done { len, steps } => report::success(steps, &out[..len]),

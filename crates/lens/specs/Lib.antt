@@ -3,3 +3,4 @@ pub mod Calls
 pub mod CallLaws
 pub mod Trips
 pub mod GetCalls
+pub mod RoundTrips

@@ -15,6 +15,14 @@ pub enum Reply {
     Refused(u8),
 }
 
+/// What two calls one after the other answer: the steps of both, or a refusal of one of them. The third case is there to be
+/// ruled out: a list that was taken back and does not stand, or an unedited list that moved something.
+pub enum Trip {
+    Kept { first: usize, second: usize },
+    Stopped(u8),
+    Broken,
+}
+
 /// Get: the list that a sheet reads out of a plan, at the front of `out`, which takes 256 bytes. Scratch takes 65,536.
 pub fn get(sheet: &[u8], plan: &[u8], allowance: u32, out: &mut [u8], scratch: &mut [u8]) -> Reply
     ensures { λ r. ⌜ Answered (getAnswer (now (sheet .entry)) (now (plan .entry)) allowance (length (now (out .entry))) (length (now (scratch .entry)))) r (now (out .entry)) (now (out .exit)) (now (scratch .entry)) (now (scratch .exit)) ⌝ }

@@ -12,6 +12,7 @@ use Rattle.value.specs.Result.{ok}
 use Rattle.value.specs.All.{All, none, each}
 use Rattle.value.specs.Value.{Value, vfalse, encode, flat, Fits}
 use Rattle.value.specs.Reading.{readPlan, readView}
+use Rattle.value.specs.Encoding.{size-encode}
 use Rattle.value.specs.Laws.{Readable, readValues-sound, readValues-back}
 use Rattle.sheet.specs.declared.Node.the-variants.{False}
 use Rattle.sheet.specs.Sheet.{Sheet, readSheet}
@@ -202,3 +203,28 @@ new-plan sheet plan view allowance output scratch new p e =
     let (l, d) = put-shows e in let w = written d in
     let r = readValues-sound 20 (d .sh .k) plan (d .plan-read) in
     (d .sh, newPlan (d .X) (d .μ), d .sheet-read, d .bytes, new-length (d .X) (d .μ) (w .cells) ∙ r .count, w .new-readable, w .new-read)
+
+-- HOW LONG AN OUTPUT IS: at most 256 bytes for a get, and 4,096 for a put
+
+encode-short : {v : Value} → Readable v → length (encode v) ≤ 256
+encode-short {v} r = omega (arith, size-encode v, r .fits)
+
+flat-short : {vs : List Value} → All Readable vs → length (flat vs) ≤ 256 * length vs
+unfolding flat
+flat-short none = omega arith
+flat-short (each {a = v} {l = vs} r h) = rw length-append (omega (arith, encode-short r, flat-short h))
+
+pub get-short : (sheet plan : List ℕ) (allowance output scratch : ℕ) (view : List ℕ) (n : ℕ)
+    → getAnswer sheet plan allowance output scratch ≡ success view n → length view ≤ 256
+get-short sheet plan allowance output scratch view n e =
+    let (l, g) = get-shows e in
+    let r = readValues-sound 20 (g .sh .k) plan (g .plan-read) in
+    let got = g .walk in
+    let v = after-at (rw got at (get-readable 48 (g .sh) (numbers-fit sheet (g .sh) (g .sheet-read)) (g .sh .root) (g .μ) (r .readable))) in
+    rw (g .bytes) (encode-short v)
+
+pub put-short : (sheet plan view : List ℕ) (allowance output scratch : ℕ) (new : List ℕ) (p : ℕ)
+    → putAnswer sheet plan view allowance output scratch ≡ success new p → length new ≤ 4096
+put-short sheet plan view allowance output scratch new p e =
+    let (sh, μ, es, en, k, good, back) = new-plan sheet plan view allowance output scratch new p e in
+    rw en (omega (arith, flat-short good, k, sheet-ranges sheet es .few-variables))

@@ -149,7 +149,7 @@ same-bytes (x ∷ a) (y ∷ b) e = ap₂ _∷_ (eqb-true x y (first (eqb x y) e)
     second true h = h
     second false h = absurd (let z : _≡_ {A = ℕ} 0 1 = cc in omega arith)
 
-same-refl : (a : List ℕ) → sameBytes a a ≡ true
+pub same-refl : (a : List ℕ) → sameBytes a a ≡ true
 unfolding sameBytes both
 same-refl [] = refl
 same-refl (x ∷ a) = rw (eq-eqb x x refl) (same-refl a)

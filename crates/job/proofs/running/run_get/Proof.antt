@@ -5,6 +5,9 @@ use borrow.Author.Needs.{needs}
 use Rattle.job.proofs.running.run_get.Statement.{statement}
 use Rattle.job.proofs.running.run_get.Tie as tie
 
+large-buffer-requires : tie.Need-large-buffer-requires
+large-buffer-requires c κs = search needs
+
 slice-aggregate-get : tie.Need-slice-aggregate-get
 slice-aggregate-get c = search needs
 
@@ -42,6 +45,7 @@ pub run-get-spec : {M : Type 1} → statement M
 run-get-spec =
     tie.close
     (tie.spec
+    large-buffer-requires
     slice-aggregate-get
     slice-aggregate-get-2
     get-requires
