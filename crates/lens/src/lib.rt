@@ -1,6 +1,9 @@
 //! What callers call: get and put on lent buffers.
+ghost use mathlib.Core.Path.{_≡_};
+ghost use Prim.Native.Nat.{_≤_};
 ghost use lib.ListN.{length};
 ghost use Rattle.rules.specs.Answer.{getAnswer};
+ghost use Rattle.lens.specs.Buffers.{zeroed};
 ghost use Rattle.lens.specs.Calls.{Answered};
 
 mod buffers;
@@ -23,6 +26,15 @@ pub enum Trip {
     Broken,
 }
 
+// A refusal behind the door: scratch is cleared.
+fn refused(code: u8, scratch: &mut [u8]) -> Reply
+    requires { ⌜ 65536 ≤ length (now scratch) ⌝ }
+    ensures { λ r. ⌜ (r ≡ Reply.Refused code) × (now (scratch .exit) ≡ zeroed (now (scratch .entry))) ⌝ }
+{
+    clear(scratch);
+    Reply::Refused(code)
+}
+
 /// Get: the list that a sheet reads out of a plan, at the front of `out`, which takes 256 bytes. Scratch takes 65,536.
 pub fn get(sheet: &[u8], plan: &[u8], allowance: u32, out: &mut [u8], scratch: &mut [u8]) -> Reply
     ensures { λ r. ⌜ Answered (getAnswer (now (sheet .entry)) (now (plan .entry)) allowance (length (now (out .entry))) (length (now (scratch .entry)))) r (now (out .entry)) (now (out .exit)) (now (scratch .entry)) (now (scratch .exit)) ⌝ }
@@ -41,10 +53,7 @@ pub fn get(sheet: &[u8], plan: &[u8], allowance: u32, out: &mut [u8], scratch: &
         return Reply::Refused(3);
     }
     match walk::get(sheet, plan, steps_allowed, scratch) {
-        Walked::Refused(c) => {
-            clear(scratch);
-            Reply::Refused(c)
-        }
+        Walked::Refused(c) => refused(c, scratch),
         Walked::Done { len, steps } => {
             copy_out(scratch, 32256, len, out, 0);
             clear(scratch);

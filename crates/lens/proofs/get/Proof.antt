@@ -23,8 +23,8 @@ get-requires c κs = search needs
 enum-known-c : tie.Need-enum-known-c
 enum-known-c c = search needs
 
-clear-requires : tie.Need-clear-requires
-clear-requires c κs = search needs
+refused-requires : tie.Need-refused-requires
+refused-requires c κs = search needs
 
 enum-known-len : tie.Need-enum-known-len
 enum-known-len c = search needs
@@ -32,17 +32,17 @@ enum-known-len c = search needs
 copy-out-requires : tie.Need-copy-out-requires
 copy-out-requires c κs = get-fits (c .before .before .before .before .before .before .before .before .before .before .before .before .before .before .before .before .before .args .sheet .now) (c .before .before .before .before .before .before .before .before .before .before .before .before .before .before .before .before .before .args .plan .now) (c .before .before .before .before .before .before .before .before .before .before .before .before .before .before .before .before .before .args .allowance) (c .before .before .before .before .before .before .before .before .before .before .before .before .before .before .before .before .before .args .out .now) (c .before .before .before .before .before .before .before .before .before .before .before .before .before .before .before .before .before .args .scratch .now) (record { output-long = omega arith; scratch-long = omega arith; some-steps = omega arith; few-steps = omega arith }) (c .before .before .before .before .before .before .before .get .ensures) (c .before .before .before .len .given .1)
 
-clear-requires-2 : tie.Need-clear-requires-2
-clear-requires-2 c κs = search needs
+clear-requires : tie.Need-clear-requires
+clear-requires c κs = search needs
 
 returns-5 : tie.Need-returns-5
-returns-5 c = get-refused _ _ _ _ _ (record { output-long = omega arith; scratch-long = omega arith; some-steps = omega arith; few-steps = omega arith }) (c .before .before .before .before .before .before .before .before .before .get .ensures) (c .before .before .before .before .before .c .given .1) (c .before .before .clear .ensures)
+returns-5 c = rw (c .before .before .refused .ensures .0) (get-refused _ _ _ _ _ (record { output-long = omega arith; scratch-long = omega arith; some-steps = omega arith; few-steps = omega arith }) (c .before .before .before .before .before .before .before .before .before .get .ensures) (c .before .before .before .before .before .c .given .1) (c .before .before .refused .ensures .1))
 
 same-length : tie.Need-same-length
 same-length c = search needs
 
 returns-6 : tie.Need-returns-6
-returns-6 c = get-done _ _ _ _ _ (record { output-long = omega arith; scratch-long = omega arith; some-steps = omega arith; few-steps = omega arith }) (c .before .before .before .before .before .before .before .before .before .before .before .before .before .before .get .ensures) (c .before .before .before .before .before .before .before .before .before .before .len .given .1) (c .before .before .before .before .before .before .copy-out .ensures) (c .before .before .clear2 .ensures)
+returns-6 c = get-done _ _ _ _ _ (record { output-long = omega arith; scratch-long = omega arith; some-steps = omega arith; few-steps = omega arith }) (c .before .before .before .before .before .before .before .before .before .before .before .before .before .before .get .ensures) (c .before .before .before .before .before .before .before .before .before .before .len .given .1) (c .before .before .before .before .before .before .copy-out .ensures) (c .before .before .clear .ensures)
 
 same-length-3 : tie.Need-same-length-3
 same-length-3 c = search needs
@@ -60,10 +60,10 @@ get-spec =
     returns-4
     get-requires
     enum-known-c
-    clear-requires
+    refused-requires
     enum-known-len
     copy-out-requires
-    clear-requires-2
+    clear-requires
     same-length
     returns-5
     same-length-2
