@@ -4,3 +4,5 @@ pub mod Arena
 pub mod Answers
 pub mod Gets
 pub mod GetTwo
+pub mod Cells
+pub mod Puts

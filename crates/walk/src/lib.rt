@@ -4,4 +4,5 @@
 //! that are being built. A walk at `top` leaves the stack below `top` and the plan alone.
 mod bytes;
 mod get;
+mod put;
 mod scope;

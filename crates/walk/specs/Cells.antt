@@ -1,0 +1,43 @@
+-- What was written, as the arena has it: a slot of 256 bytes for each cell, and the cells of the scope's variables.
+use mathlib.Core.Path.{_≡_, refl, sym, ap, _∙_}
+use mathlib.Core.Option.{Option, none, some}
+use mathlib.Core.List.{List, [], _∷_, _++_}
+use Prim.Native.Nat.{ℕ, zero, suc, _+_, _-_, _*_, _≤_, _<_}
+use native.Mathlib.Nat.{le-trans, le-refl}
+use native.Mathlib.Omega.{arith}
+use lib.ListN.{length, take, drop, getD}
+use Rattle.value.specs.Value.{Value, encode, size}
+use Rattle.value.specs.Laws.{Readable}
+use Rattle.rules.specs.Rules.{Cells}
+use Rattle.walk.specs.Parts.{part, Kept, part-kept, take-drop}
+use Rattle.walk.specs.Arena.{Below, inPlan, onStack, Held, Env, below-later}
+use Rattle.walk.specs.declared.scope.Scope.{Scope}
+
+-- the bytes of the plan and of the stack below `top` are left alone
+pub record Frame (top : ℕ) (b a : List ℕ) : Type 0 where
+  pub plan : take 4096 a ≡ take 4096 b
+  pub stack : part a 32256 (top - 32256) ≡ part b 32256 (top - 32256)
+  pub long : length a ≡ length b
+
+-- the slot of a cell holds what was written: a length of 0 where nothing was
+pub data Slot (a : List ℕ) (start len : ℕ) : Option Value → Type 0 where
+  blank : len ≡ 0 → Slot a start len none
+  full : {v : Value} → len ≡ size v → part a start len ≡ encode v → Readable v → Slot a start len (some v)
+
+-- the n cells hold W
+pub record Written (a lens : List ℕ) (n : ℕ) (W : Cells) : Type 0 where
+  pub count : length W ≡ n
+  pub few : n ≤ 110
+  pub long : length lens ≡ 110
+  pub each : (i : ℕ) → i < n → Slot a (4096 + 256 * i) (getD lens i 0) (getD W i none)
+
+-- the cell of each variable, of n cells
+pub record Named (cells : List ℕ) (n : ℕ) (σ : List ℕ) : Type 0 where
+  pub long : length cells ≡ 110
+  pub each : (i : ℕ) → i < length σ → getD cells i 0 ≡ getD σ i 0
+  pub inside : (i : ℕ) → i < length σ → getD σ i 0 < n
+
+-- the bytes of the view are those of v
+pub record Shown (view : List ℕ) (v : Value) : Type 0 where
+  pub bytes : view ≡ encode v
+  pub readable : Readable v
