@@ -1,6 +1,5 @@
 -- Laws of the kinds of nodes: what holds of each row of the table of forms holds of every kind byte.
-use mathlib.Core.Path.{_≡_, refl, sym, ap, _∙_}
-use mathlib.Core.Bool.{Bool, true, false}
+use mathlib.Core.Path.{_≡_, refl, _∙_}
 use mathlib.Core.Logic.{_⊎_, inl, inr}
 use mathlib.Core.Option.{Option, none, some}
 use mathlib.Core.List.{List, [], _∷_, _++_}
@@ -10,10 +9,9 @@ use native.Mathlib.Omega.{arith}
 use native.Mathlib.Decide.{decLt}
 use lib.Dec.{T, leb, leb→le}
 use lib.ListN.{length, getD, replicate, List·getD-eq-default, List·getD-append, getD-replicate}
-use borrow.Author.Tests.{le-leb, lt-leb}
+use borrow.Author.Tests.{le-leb}
 use Rattle.sheet.specs.Sheet.{Form, forms, formOf}
-use Rattle.sheet.specs.Table.{width, nodeOf, nodeAt, ofForm, ifWhole, kindWidth, formWidth}
-use Rattle.sheet.specs.declared.Node.{Node}
+use Rattle.sheet.specs.Table.{width, nodeOf, ofForm, ifWhole, kindWidth}
 use Rattle.sheet.specs.declared.Node.the-variants.{False}
 
 -- P at every entry of a list

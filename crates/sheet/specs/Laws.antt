@@ -1,5 +1,5 @@
 -- Laws of a sheet that was read, for callers: where its records stand, the range of each number, and what the table tells.
-use mathlib.Core.Path.{_≡_, refl, sym, ap, _∙_}
+use mathlib.Core.Path.{_≡_, refl, ap, _∙_}
 use mathlib.Core.Bool.{Bool, true, false, _&&_}
 use mathlib.Core.List.{List, [], _∷_}
 use Prim.Native.Nat.{ℕ, zero, suc, _+_, _*_, _-_, _≤_, _<_}
@@ -13,6 +13,7 @@ use Rattle.sheet.specs.Sheet.{Sheet, nodeInRange, nodesInRange, rootsInR
 use Rattle.sheet.specs.Table.{width, offsets, firstNode, nodeAt, sectionAt, tableOf}
 use Rattle.sheet.specs.Reading.{Fine, fine, refused, fine-ok, placed-at, rooted-at, HeaderRead, SheetRead, sheet-fine}
 use Rattle.sheet.specs.declared.Node.{Node}
+use Rattle.sheet.specs.declared.Table.{Table}
 use Rattle.sheet.specs.declared.Node.the-variants.{Var, False, True, Empty, Number, Front, Pair, ListCase, TruthCase, Split, Call, Add}
 
 -- WHERE RECORDS STAND
@@ -206,3 +207,34 @@ table-ok s = fine-table (sheet-fine s)
 
 pub table-refused : (s : List ℕ) → (tableOf (readSheet s) .refusal ≡ 0 → ⊥) → readSheet s ≡ refusal (tableOf (readSheet s) .refusal)
 table-refused s = fine-refused (sheet-fine s)
+
+-- a table that is no refusal, and the sheet that it is of
+pub record Reads (s : List ℕ) (t : Table) (sh : Sheet) : Type 0 where
+  pub sheet : readSheet s ≡ ok sh
+  pub k : t .k ≡ sh .k
+  pub root : t .root ≡ sh .root
+  pub sections : t .sections ≡ length (sh .sections)
+  pub nodes : t .nodes ≡ length (sh .nodes)
+  pub section : (i : ℕ) → i < length (sh .sections) → sectionAt s i ≡ getD (sh .sections) i 0
+  pub node : (i : ℕ) → i < length (sh .nodes) → nodeAt s (getD (t .starts) i 0) ≡ getD (sh .nodes) i False
+  pub ranges : Ranges sh
+
+reads-ok : (s : List ℕ) {sh : Sheet} → readSheet s ≡ ok sh → Reads s (tableOf (ok sh)) sh
+unfolding tableOf
+reads-ok s {sh} e =
+    record {
+      sheet = e;
+      k = refl;
+      root = refl;
+      sections = refl;
+      nodes = refl;
+      section = section-read s e;
+      node = λ i h. ap (nodeAt s) (table-start sh i h) ∙ node-read s e i h;
+      ranges = sheet-ranges s e;
+    }
+
+pub table-reads : (s : List ℕ) {t : Table} → t ≡ tableOf (readSheet s) → t .refusal ≡ 0 → (sh : Sheet) × Reads s t sh
+table-reads s {t} e z =
+    let r = table-ok s (rw e at z) in
+    let q : t ≡ tableOf (ok (r .0)) = e ∙ ap tableOf (r .1) in
+    (r .0, rw q (reads-ok s (r .1)))

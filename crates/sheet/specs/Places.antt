@@ -1,7 +1,7 @@
 -- Laws of the record that stands at a place of a sheet.
-use mathlib.Core.Path.{_≡_, refl, sym, ap, _∙_}
+use mathlib.Core.Path.{_≡_, refl, ap, _∙_}
 use mathlib.Core.Option.{Option, none, some}
-use mathlib.Core.List.{List, [], _∷_}
+use mathlib.Core.List.{List, _∷_}
 use Prim.Native.Nat.{ℕ, suc, _+_, _-_, _≤_, _<_}
 use native.Mathlib.Nat.{add-zero, le-of-suc-le-suc}
 use native.Mathlib.Numerals.{add-one}
@@ -11,7 +11,6 @@ use lib.Seq.{take-all, drop-cons, getD-drop}
 use borrow.Author.Tests.{lt-leb}
 use Rattle.sheet.specs.Sheet.{Form, formOf}
 use Rattle.sheet.specs.Table.{nodeOf, nodeAt, ofForm, ifWhole, kindWidth, formWidth}
-use Rattle.sheet.specs.declared.Node.{Node}
 use Rattle.sheet.specs.declared.Node.the-variants.{False}
 
 -- the bytes from p on

@@ -10,7 +10,7 @@ use lib.ListN.{length, getD, drop}
 use lib.Seq.{drop-drop, getD-drop}
 use Rattle.value.specs.Result.{Result, ok, refusal, andThen, mapResult, orRefuse, unless}
 use Rattle.sheet.specs.Sheet.{Sheet, Form, formOf, Records, readNodes, oneSection, ifSection, readRecords, withNodes, readBody, inRange, readHeader, readSheet}
-use Rattle.sheet.specs.Table.{width, offsets, firstNode, nodeOf, nodeAt, ofForm, ifWhole, sectionAt}
+use Rattle.sheet.specs.Table.{width, offsets, firstNode, nodeOf, nodeAt, ofForm, ifWhole}
 use Rattle.sheet.specs.Forms.{wide-form}
 use Rattle.sheet.specs.declared.Node.{Node}
 use Rattle.sheet.specs.declared.Node.the-variants.{False}

@@ -4,7 +4,7 @@ use mathlib.Core.Bool.{Bool, true, false}
 use mathlib.Core.Option.{Option, none, some}
 use mathlib.Core.List.{List, [], _∷_, _++_}
 use Prim.Native.Nat.{ℕ, suc, _+_, _*_, _-_, _<_}
-use lib.Dec.{ltb, leb}
+use lib.Dec.{leb}
 use lib.ListN.{length, getD, drop, replicate}
 use Rattle.value.specs.Result.{Result, ok, refusal, andThen, mapResult}
 use Rattle.sheet.specs.Sheet.{Sheet, Form, formOf, readNodes, withNodes, rootsInRange, nodesInRange, inRange, readHeader}

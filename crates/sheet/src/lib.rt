@@ -1,7 +1,7 @@
 //! Sheets: records of bytes read, judged and decoded (document 01, "Sheet records").
 
 ghost use mathlib.Core.Path.{_≡_};
-ghost use Prim.Native.Nat.{ℕ, _+_, _*_, _<_, _≤_};
+ghost use Prim.Native.Nat.{_+_, _*_, _<_, _≤_};
 ghost use mathlib.Core.Bool.{_&&_};
 ghost use lib.Dec.{ltb, leb};
 ghost use lib.ListN.{length, getD, drop};
@@ -65,6 +65,17 @@ pub struct Table {
     pub nodes: usize,
     pub starts: [u16; 200],
 }
+
+// The refusals of a sheet, by their numbers.
+const KIND: u8 = 10;
+
+const CUT: u8 = 11;
+
+const TOO_MANY: u8 = 12;
+
+const OUT_OF_RANGE: u8 = 13;
+
+const NO_NODE: u8 = 14;
 
 // A byte as a number of a node, section or variable.
 fn wide(b: u8) -> usize
@@ -275,20 +286,20 @@ fn read_nodes(s: &[u8], k: usize, root: usize, sections: usize) -> Table
     while at < s.len() {
         let width = record_width(s[at]);
         if width == 0 {
-            return refused(10);
+            return refused(KIND);
         }
         if n == 200 {
-            return refused(12);
+            return refused(TOO_MANY);
         }
         if s.len() - at < width {
-            return refused(11);
+            return refused(CUT);
         }
         starts[n] = at as u16;
         n += 1;
         at += width;
     }
     if n == 0 {
-        return refused(14);
+        return refused(NO_NODE);
     }
     Table {
         refusal: 0,
@@ -314,15 +325,15 @@ fn read_sections(s: &[u8]) -> Table
             return read_nodes(s, k, root, n);
         }
         if n == 8 {
-            return refused(12);
+            return refused(TOO_MANY);
         }
         if s.len() - at == 1 {
-            return refused(11);
+            return refused(CUT);
         }
         n += 1;
         at += 2;
     }
-    refused(14)
+    refused(NO_NODE)
 }
 
 // The table of a sheet's records, whose numbers are not judged yet.
@@ -330,13 +341,13 @@ fn read_records(s: &[u8]) -> Table
     ensures { λ r. ⌜ r ≡ tableOf (readHeader (now (s .entry))) ⌝ }
 {
     if s.len() == 0 {
-        return refused(14);
+        return refused(NO_NODE);
     }
     if s[0] != 0x01 {
-        return refused(10);
+        return refused(KIND);
     }
     if s.len() < 3 {
-        return refused(11);
+        return refused(CUT);
     }
     read_sections(s)
 }
@@ -396,5 +407,5 @@ pub fn read_sheet(s: &[u8]) -> Table
     if all_in_range(s, t) {
         return t;
     }
-    refused(13)
+    refused(OUT_OF_RANGE)
 }

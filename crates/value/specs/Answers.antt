@@ -1,24 +1,24 @@
 -- What the code's tests say of the definitions of `Parts`: a lemma for each way to answer.
-use mathlib.Core.Path.{_≡_, refl, sym, ap, ap₂, _∙_}
+use mathlib.Core.Path.{_≡_, refl, sym, ap, _∙_}
 use mathlib.Core.Bool.{Bool, true, false}
-use mathlib.Core.List.{List, [], _∷_, _++_}
+use mathlib.Core.List.{List, [], _∷_}
 use Prim.Native.Nat.{ℕ, zero, suc, _+_, _-_, _*_, _≤_, _<_}
 use native.Mathlib.Omega.{arith}
 use native.Mathlib.Numerals.{add-one}
 use borrow.Author.Tests.{le-leb, lt-leb, eq-eqb, ne-eqb}
-use lib.Dec.{leb, eqb}
+use lib.Dec.{eqb}
 use lib.ListN.{length, getD, take, drop, length-append, drop-of-length-le, List·getD-eq-default}
-use lib.Seq.{drop-cons, getD-drop}
+use lib.Seq.{drop-cons}
 use Rattle.value.specs.Value.{Value, encode, size}
 use Rattle.value.specs.Encoding.{size-encode}
 use Rattle.value.specs.Reading.{Found, whole, malformed, tooLong, value, nothing, aValue, kindOf, readValue}
 use Rattle.value.specs.Laws.{read-sound}
 use Rattle.value.specs.Reader.{outcome, Refused, isMalformed, isTooLong, from, from-drop}
-use Rattle.value.specs.Parts.{behind, numberIn, shapeAs, shapeOf, partWhere, firstPart, kindAt, kindBehind, restKind, passesBytes, both, sameBytes}
+use Rattle.value.specs.Parts.{behind, numberIn, shapeAs, shapeOf, partWhere, firstPart, kindAt, restKind, passesBytes, both, sameBytes}
 use Rattle.value.specs.declared.Read.{Read}
-use Rattle.value.specs.declared.Read.the-variants.{Whole, Malformed as NotRead, TooLong}
+use Rattle.value.specs.declared.Read.the-variants.{Whole}
 use Rattle.value.specs.declared.Shape.{Shape}
-use Rattle.value.specs.declared.Shape.the-variants.{False, True, Empty, Front, Number, Pair, Malformed}
+use Rattle.value.specs.declared.Shape.the-variants.{Number, Malformed}
 
 -- the reader said that a value of n bytes stands there
 pub record Taken (bs : List ℕ) (n : ℕ) : Type 0 where

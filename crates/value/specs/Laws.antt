@@ -1,14 +1,14 @@
 -- Laws of reading: what is read is what stands there (sound), and what stands there is read (complete).
-use mathlib.Core.Path.{_≡_, refl, sym, ap, ap₂, _∙_}
+use mathlib.Core.Path.{_≡_, refl, sym, ap, _∙_}
 use mathlib.Core.Bool.{Bool, true, false}
 use mathlib.Core.List.{List, [], _∷_, _++_, append-assoc, append-nil}
-use Prim.Native.Nat.{ℕ, zero, suc, _+_, _-_, _*_, _/_, _%_, _≤_, _<_, suc-le-suc, zero-le}
+use Prim.Native.Nat.{ℕ, zero, suc, _+_, _-_, _*_, _/_, _%_, _≤_, _<_, zero-le}
 use native.Mathlib.Omega.{arith}
 use native.Mathlib.Nat.{suc-add, add-assoc}
 use native.Mathlib.Numerals.{one-add}
 use lib.Dec.{ltb}
 use borrow.Author.Tests.{lt-ltb, ltb-true}
-use lib.ListN.{length, getD, length-append}
+use lib.ListN.{length, length-append}
 use Rattle.value.specs.All.{All, none, each}
 use Rattle.value.specs.Result.{Result, ok, refusal, mapResult}
 use Rattle.value.specs.Value.{Value, Values, vfalse, vtrue, list, number, pair, nil, cons, encode, encodes, size, sizes, Fits, flat, Encodable, Encodables, eFalse, eTrue, eList, eNumber, ePair, eNil, eCons}

@@ -12,3 +12,4 @@ pub mod Answers
 pub mod PartsLaws
 pub mod Spans
 pub mod Progress
+pub mod SpansLaws

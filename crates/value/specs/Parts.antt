@@ -1,8 +1,7 @@
 -- A value's bytes taken apart: its shape with the position where the second part starts, the two parts, and the kind bytes that the tests look at.
-use mathlib.Core.Path.{_≡_, refl, sym, ap, _∙_}
 use mathlib.Core.Bool.{Bool, true, false}
-use mathlib.Core.List.{List, [], _∷_, _++_}
-use Prim.Native.Nat.{ℕ, zero, suc, _+_, _-_, _*_}
+use mathlib.Core.List.{List, [], _∷_}
+use Prim.Native.Nat.{ℕ, _+_, _-_, _*_}
 use lib.Dec.{leb, eqb}
 use lib.ListN.{length, getD, take, drop}
 use Rattle.value.specs.Reading.{Kind, kFalse, kTrue, kEmpty, kFront, kNumber, kPair, unknown, kindOf, readValue}

@@ -1,25 +1,23 @@
 -- Laws of values taken apart: what the definitions on bytes say where the bytes are a value's.
 use mathlib.Core.Path.{_≡_, refl, sym, ap, ap₂, _∙_}
 use mathlib.Core.Bool.{Bool, true, false}
-use mathlib.Core.List.{List, [], _∷_, _++_, map, append-assoc, append-nil}
-use Prim.Native.Nat.{ℕ, zero, suc, _+_, _-_, _*_, _/_, _%_, _≤_, _<_}
+use mathlib.Core.List.{List, [], _∷_, _++_, map, append-nil}
+use Prim.Native.Nat.{ℕ, _+_, _-_}
 use native.Mathlib.Omega.{arith}
-use native.Mathlib.Nat.{suc-add}
 use native.Mathlib.Numerals.{one-add}
 use borrow.Author.Tests.{le-leb, eqb-true, eq-eqb}
-use lib.Dec.{leb, eqb}
-use lib.ListN.{length, getD, take, drop, length-append, List·getD-map}
+use lib.Dec.{eqb}
+use lib.ListN.{length, getD, length-append, List·getD-map}
 use lib.Seq.{take-at, drop-at, getD-at}
-use Rattle.value.specs.Value.{Value, Values, vfalse, vtrue, list, number, pair, nil, cons, encode, encodes, size, sizes}
+use Rattle.value.specs.Value.{Value, Values, vfalse, vtrue, list, number, pair, nil, cons, encode, encodes, size}
 use Rattle.value.specs.Encoding.{size-encode, encode-injective, Opened, opened, oFalse, oTrue, oNil, oCons, oNumber, oPair}
 use Rattle.value.specs.Tests.{class, table, holds}
-use Rattle.value.specs.Reading.{nothing, aValue, kindOf, readValue}
+use Rattle.value.specs.Reading.{kindOf, readValue}
 use Rattle.value.specs.Laws.{Readable, readable-front, readable-pair, read-back}
 use Rattle.value.specs.Reader.{outcome}
 use Rattle.value.specs.Parts.{behind, numberIn, shapeAs, shapeOf, partWhere, firstPart, secondPart, kindAt, kindBehind, restKind, passesBytes, both, sameBytes}
-use Rattle.value.specs.declared.Read.the-variants.{Whole}
 use Rattle.value.specs.declared.Shape.{Shape}
-use Rattle.value.specs.declared.Shape.the-variants.{False, True, Empty, Front, Number, Pair, Malformed}
+use Rattle.value.specs.declared.Shape.the-variants.{False, True, Empty, Front, Number, Pair}
 
 -- a value's shape
 unfoldable pub shape : Value → Shape

@@ -1,24 +1,22 @@
 -- How a plan is read, value by value: what holds before each, and the ways to answer.
 use mathlib.Core.Path.{_≡_, refl, sym, ap, ap₂, _∙_}
-use mathlib.Core.Bool.{Bool, true, false}
-use mathlib.Core.List.{List, [], _∷_, _++_, map, append-nil, append-assoc}
-use Prim.Native.Nat.{ℕ, zero, suc, _+_, _-_, _*_, _≤_, _<_}
+use mathlib.Core.List.{List, [], _∷_, _++_, map, append-nil}
+use Prim.Native.Nat.{ℕ, suc, _+_, _-_, _*_, _≤_, _<_}
 use native.Mathlib.Omega.{arith}
 use native.Mathlib.Nat.{add-zero}
 use borrow.Author.Tests.{le-leb, lt-leb}
-use lib.ListN.{length, getD, drop, set, replicate, length-append, length-drop, length-map, drop-of-length-le}
+use lib.ListN.{length, drop, set, replicate, length-append, length-drop, length-map, drop-of-length-le}
 use lib.Seq.{drop-cons, drop-drop, drop-at, set-append-seam, append-snoc}
 use Rattle.value.specs.Result.{Result, ok, refusal, mapResult}
 use Rattle.value.specs.Value.{Value, encode, size, flat}
 use Rattle.value.specs.Encoding.{size-encode, flat-append}
-use Rattle.value.specs.Reading.{Found, whole, malformed, tooLong, value, nothing, aValue, readValue, onValue, readValues, readPlan, readView}
+use Rattle.value.specs.Reading.{Found, whole, malformed, tooLong, value, nothing, aValue, readValue, onValue, readValues, readPlan}
 use Rattle.value.specs.Laws.{Readable, read-sound}
 use Rattle.value.specs.Reader.{outcome, from, from-drop}
 use Rattle.value.specs.Spans.{nextAs, nextOf, places, starts, spans, within16, spansOf, codeOf, viewCode}
 use Rattle.value.specs.declared.Read.{Read}
 use Rattle.value.specs.declared.Next.{Next}
 use Rattle.value.specs.declared.Next.the-variants.{Value as NextValue, Refused}
-use Rattle.value.specs.declared.Spans.{Spans}
 
 -- what the next value says of the reading of several, whose refusals start at `base`
 pub data NextIs (base : ℕ) (bs : List ℕ) : Next → Type 0 where
@@ -81,7 +79,7 @@ places-more l x h =
 filled : (l : List ℕ) (x : ℕ) {y : List ℕ} {i : ℕ} → y ≡ places l → length l ≡ i → i < 16 → set y i x ≡ places (l ++ (x ∷ []))
 filled l x e a h = ap₂ (λ (y : List ℕ) (i : ℕ). set y i x) e (sym a) ∙ places-more l x (omega arith)
 
-starts-length : (at : ℕ) (vs : List Value) → length (starts at vs) ≡ length vs
+pub starts-length : (at : ℕ) (vs : List Value) → length (starts at vs) ≡ length vs
 unfolding starts
 starts-length at [] = refl
 starts-length at (v ∷ vs) = ap suc (starts-length (at + size v) vs)

@@ -1,8 +1,7 @@
 -- Where the values of a plan stand in its bytes: starts and lengths, or the refusal's number.
-use mathlib.Core.Path.{_≡_, refl, sym, ap, ap₂, _∙_}
 use mathlib.Core.Bool.{Bool, true, false}
 use mathlib.Core.List.{List, [], _∷_, _++_, map}
-use Prim.Native.Nat.{ℕ, zero, suc, _+_, _-_, _≤_, _<_}
+use Prim.Native.Nat.{ℕ, _+_, _-_}
 use lib.Dec.{leb}
 use lib.ListN.{length, replicate}
 use Rattle.value.specs.Result.{Result, ok, refusal}

@@ -105,6 +105,7 @@ enum Next {
     Refused(u8),
 }
 
+// What stands where the next value should begin.
 fn next_value(s: &[u8]) -> Next
     ensures { λ r. ⌜ r ≡ nextOf (now (s .entry)) ⌝ }
 {
@@ -125,6 +126,7 @@ pub struct Spans {
     pub lens: [u16; 16],
 }
 
+// A refusal, with no span.
 fn refused(number: u8) -> Spans
     ensures { λ r. ⌜ r ≡ spans (refusal number) ⌝ }
 {
@@ -295,19 +297,21 @@ pub fn same(a: &[u8], b: &[u8]) -> bool
     true
 }
 
-// A number of kind 04 from its two bytes, high byte first; and its two bytes.
+// A number of kind 04 from its two bytes, high byte first.
 pub fn number(high: u8, low: u8) -> u16
     ensures { λ r. ⌜ r ≡ 256 * high + low ⌝ }
 {
     256 * (high as u16) + (low as u16)
 }
 
+// The high byte of a number.
 pub fn high(n: u16) -> u8
     ensures { λ r. ⌜ r ≡ n / 256 ⌝ }
 {
     (n / 256) as u8
 }
 
+// The low byte of a number.
 pub fn low(n: u16) -> u8
     ensures { λ r. ⌜ r ≡ n % 256 ⌝ }
 {

@@ -1,12 +1,9 @@
 -- `sheet::decode` meets its contract: in each arm the kind byte picks a row of the table of forms, whose width says which bytes are there.
-use mathlib.Core.Path.{_≡_, refl, ap, sym, _∙_}
-use mathlib.Core.List.{List}
-use Prim.Native.Nat.{ℕ, _≤_}
+use mathlib.Core.Path.{refl, sym, _∙_}
 use native.Mathlib.Omega.{arith}
 use borrow.Author.Needs.{needs}
-use lib.ListN.{length, getD}
 use Rattle.sheet.specs.Sheet.{formOf, forms}
-use Rattle.sheet.specs.Table.{kindWidth, formWidth, nodeOf}
+use Rattle.sheet.specs.Table.{kindWidth, formWidth}
 use Rattle.sheet.specs.Forms.{no-form, beyond, whole, node-whole, node-unknown}
 use Rattle.sheet.proofs.decode.Statement.{statement}
 use Rattle.sheet.proofs.decode.Tie as tie

@@ -1,6 +1,5 @@
 -- `sheet::record_width` meets its contract: in each arm the width is a row of the table of forms, and no other byte has a form.
 use mathlib.Core.Path.{ap, sym}
-use native.Mathlib.Omega.{arith}
 use Rattle.sheet.specs.Sheet.{formOf, forms}
 use Rattle.sheet.specs.Table.{kindWidth, formWidth}
 use Rattle.sheet.specs.Forms.{no-form, beyond}

@@ -1,3 +1,5 @@
+-- `value::value` and `value::list`, which call each other, meet their contracts: a lemma of `specs/Reader` answers each return.
+-- The measure is twice the length that is left, and one more for a value, which hands a list on whole.
 use Prim.Native.Nat.{ℕ, _<_, _+_, _*_}
 use borrow.Author.Needs.{needs}
 use native.Mathlib.Omega.{arith}
@@ -35,7 +37,6 @@ value-at t = and 1 value-kinds.ps (is 1 value-kinds.ps μ-value t) value.Pre
 abbrev value-below : ℕ → In 1 value-kinds.ps
 value-below t = and 1 value-kinds.ps (falls 1 value-kinds.ps _<_ μ-value t) value.Pre
 
--- src/lib.rt:55:9
 list-returns : (t : ℕ) → list-lts.Need-returns (
   value-below t,
   value.Post,
@@ -44,7 +45,6 @@ list-returns : (t : ℕ) → list-lts.Need-returns (
 ) (list-at t) list.Post
 list-returns t c = reads-ended (c .if1 .taken)
 
--- src/lib.rt:58:9
 list-returns-2 : (t : ℕ) → list-lts.Need-returns-2 (
   value-below t,
   value.Post,
@@ -53,7 +53,6 @@ list-returns-2 : (t : ℕ) → list-lts.Need-returns-2 (
 ) (list-at t) list.Post
 list-returns-2 t c = reads-full (c .before .if1 .left) (c .if2 .taken)
 
--- src/lib.rt:60:16
 list-shared-slice-read-kind : (t : ℕ) → list-lts.Need-shared-slice-read-kind (
   value-below t,
   value.Post,
@@ -62,7 +61,6 @@ list-shared-slice-read-kind : (t : ℕ) → list-lts.Need-shared-slice-read-kind
 ) (list-at t) list.Post
 list-shared-slice-read-kind t c = search needs
 
--- src/lib.rt:64:31
 list-sub-value : (t : ℕ) → list-lts.Need-sub-value (
   value-below t,
   value.Post,
@@ -71,7 +69,6 @@ list-sub-value : (t : ℕ) → list-lts.Need-sub-value (
 ) (list-at t) list.Post
 list-sub-value t c = search needs
 
--- src/lib.rt:64:31
 list-part-value-start : (t : ℕ) → list-lts.Need-part-value-start (
   value-below t,
   value.Post,
@@ -80,7 +77,6 @@ list-part-value-start : (t : ℕ) → list-lts.Need-part-value-start (
 ) (list-at t) list.Post
 list-part-value-start t c = search needs
 
--- src/lib.rt:64:31
 list-part-value-end : (t : ℕ) → list-lts.Need-part-value-end (
   value-below t,
   value.Post,
@@ -89,7 +85,6 @@ list-part-value-end : (t : ℕ) → list-lts.Need-part-value-end (
 ) (list-at t) list.Post
 list-part-value-end t c = search needs
 
--- src/lib.rt:64:40
 list-sub-value-2 : (t : ℕ) → list-lts.Need-sub-value-2 (
   value-below t,
   value.Post,
@@ -98,7 +93,6 @@ list-sub-value-2 : (t : ℕ) → list-lts.Need-sub-value-2 (
 ) (list-at t) list.Post
 list-sub-value-2 t c = search needs
 
--- src/lib.rt:64:17
 list-value-requires : (t : ℕ) → list-lts.Need-value-requires (
   value-below t,
   value.Post,
@@ -107,7 +101,6 @@ list-value-requires : (t : ℕ) → list-lts.Need-value-requires (
 ) (list-at t) list.Post
 list-value-requires t c κs = search needs
 
--- src/lib.rt:65:29
 list-enum-known-first : (t : ℕ) → list-lts.Need-enum-known-first (
   value-below t,
   value.Post,
@@ -116,7 +109,6 @@ list-enum-known-first : (t : ℕ) → list-lts.Need-enum-known-first (
 ) (list-at t) list.Post
 list-enum-known-first t c = search needs
 
--- src/lib.rt:66:17
 list-returns-3 : (t : ℕ) → list-lts.Need-returns-3 (
   value-below t,
   value.Post,
@@ -125,7 +117,6 @@ list-returns-3 : (t : ℕ) → list-lts.Need-returns-3 (
 ) (list-at t) list.Post
 list-returns-3 t c = first-refused (front-begins (c .before .before .before .before .before .before .if1 .left) (c .before .before .before .before .before .if2 .left) (c .before .before .before .match .keys2)) (refused _ (c .match2 .keys2)) (c .before .value .ensures)
 
--- src/lib.rt:68:32
 list-add-list : (t : ℕ) → list-lts.Need-add-list (
   value-below t,
   value.Post,
@@ -134,7 +125,6 @@ list-add-list : (t : ℕ) → list-lts.Need-add-list (
 ) (list-at t) list.Post
 list-add-list t c = omega (arith, within 1 (now (c .before .before .before .before .before .before .before .before .before .before .args .s)) (is-whole (c .before .before .before .value .ensures) (c .before .first .given .1)))
 
--- src/lib.rt:68:29
 list-sub-list : (t : ℕ) → list-lts.Need-sub-list (
   value-below t,
   value.Post,
@@ -143,7 +133,6 @@ list-sub-list : (t : ℕ) → list-lts.Need-sub-list (
 ) (list-at t) list.Post
 list-sub-list t c = omega (arith, within 1 (now (c .before .before .before .before .before .before .before .before .before .before .args .s)) (is-whole (c .before .before .before .value .ensures) (c .before .first .given .1)))
 
--- src/lib.rt:68:29
 list-part-list-start : (t : ℕ) → list-lts.Need-part-list-start (
   value-below t,
   value.Post,
@@ -152,7 +141,6 @@ list-part-list-start : (t : ℕ) → list-lts.Need-part-list-start (
 ) (list-at t) list.Post
 list-part-list-start t c = omega (arith, within 1 (now (c .before .before .before .before .before .before .before .before .before .before .args .s)) (is-whole (c .before .before .before .value .ensures) (c .before .first .given .1)))
 
--- src/lib.rt:68:29
 list-part-list-end : (t : ℕ) → list-lts.Need-part-list-end (
   value-below t,
   value.Post,
@@ -161,7 +149,6 @@ list-part-list-end : (t : ℕ) → list-lts.Need-part-list-end (
 ) (list-at t) list.Post
 list-part-list-end t c = search needs
 
--- src/lib.rt:68:42
 list-sub-list-2 : (t : ℕ) → list-lts.Need-sub-list-2 (
   value-below t,
   value.Post,
@@ -170,7 +157,6 @@ list-sub-list-2 : (t : ℕ) → list-lts.Need-sub-list-2 (
 ) (list-at t) list.Post
 list-sub-list-2 t c = search needs
 
--- src/lib.rt:68:42
 list-sub-list-3 : (t : ℕ) → list-lts.Need-sub-list-3 (
   value-below t,
   value.Post,
@@ -179,7 +165,6 @@ list-sub-list-3 : (t : ℕ) → list-lts.Need-sub-list-3 (
 ) (list-at t) list.Post
 list-sub-list-3 t c = omega (arith, within 1 (now (c .before .before .before .before .before .before .before .before .before .before .before .args .s)) (is-whole (c .before .before .before .before .value .ensures) (c .before .before .first .given .1)))
 
--- src/lib.rt:68:17
 list-list-requires : (t : ℕ) → list-lts.Need-list-requires (
   value-below t,
   value.Post,
@@ -188,7 +173,6 @@ list-list-requires : (t : ℕ) → list-lts.Need-list-requires (
 ) (list-at t) list.Post
 list-list-requires t c κs = search needs
 
--- src/lib.rt:69:29
 list-enum-known-more : (t : ℕ) → list-lts.Need-enum-known-more (
   value-below t,
   value.Post,
@@ -197,7 +181,6 @@ list-enum-known-more : (t : ℕ) → list-lts.Need-enum-known-more (
 ) (list-at t) list.Post
 list-enum-known-more t c = search needs
 
--- src/lib.rt:70:17
 list-returns-4 : (t : ℕ) → list-lts.Need-returns-4 (
   value-below t,
   value.Post,
@@ -206,7 +189,6 @@ list-returns-4 : (t : ℕ) → list-lts.Need-returns-4 (
 ) (list-at t) list.Post
 list-returns-4 t c = second-refused (front-begins (c .before .before .before .before .before .before .before .before .before .before .before .if1 .left) (c .before .before .before .before .before .before .before .before .before .before .if2 .left) (c .before .before .before .before .before .before .before .before .match .keys2)) (is-whole (c .before .before .before .before .before .before .value .ensures) (c .before .before .before .before .first .given .1)) (refused _ (c .match3 .keys2)) (c .before .list .ensures)
 
--- src/lib.rt:72:25
 list-add-t14 : (t : ℕ) → list-lts.Need-add-t14 (
   value-below t,
   value.Post,
@@ -215,7 +197,6 @@ list-add-t14 : (t : ℕ) → list-lts.Need-add-t14 (
 ) (list-at t) list.Post
 list-add-t14 t c = omega (arith, within 1 (now (c .before .before .before .before .before .before .before .before .before .before .before .before .before .before .before .args .s)) (is-whole (c .before .before .before .before .before .before .before .before .value .ensures) (c .before .before .before .before .before .before .first .given .1)))
 
--- src/lib.rt:72:25
 list-add-t22 : (t : ℕ) → list-lts.Need-add-t22 (
   value-below t,
   value.Post,
@@ -224,7 +205,6 @@ list-add-t22 : (t : ℕ) → list-lts.Need-add-t22 (
 ) (list-at t) list.Post
 list-add-t22 t c = omega (arith, within 1 (now (c .before .before .before .before .before .before .before .before .before .before .before .before .before .before .before .args .s)) (is-whole (c .before .before .before .before .before .before .before .before .value .ensures) (c .before .before .before .before .before .before .first .given .1)), within (1 + c .before .before .before .before .before .before .first .given .0 .0) (now (c .before .before .before .before .before .before .before .before .before .before .before .before .before .before .before .args .s)) (is-whole (c .before .before .before .list .ensures) (c .before .more .given .1)))
 
--- src/lib.rt:51:1
 list-returns-5 : (t : ℕ) → list-lts.Need-returns-5 (
   value-below t,
   value.Post,
@@ -233,7 +213,6 @@ list-returns-5 : (t : ℕ) → list-lts.Need-returns-5 (
 ) (list-at t) list.Post
 list-returns-5 t c = reads-empty (c .before .before .before .if1 .left) (c .before .before .if2 .left) (c .match .keys1)
 
--- src/lib.rt:51:1
 list-returns-6 : (t : ℕ) → list-lts.Need-returns-6 (
   value-below t,
   value.Post,
@@ -242,7 +221,6 @@ list-returns-6 : (t : ℕ) → list-lts.Need-returns-6 (
 ) (list-at t) list.Post
 list-returns-6 t c = both-read (front-begins (c .before .before .before .before .before .before .before .before .before .before .before .before .before .if1 .left) (c .before .before .before .before .before .before .before .before .before .before .before .before .if2 .left) (c .before .before .before .before .before .before .before .before .before .before .match .keys2)) (is-whole (c .before .before .before .before .before .before .before .before .value .ensures) (c .before .before .before .before .before .before .first .given .1)) (is-whole (c .before .before .before .list .ensures) (c .before .more .given .1))
 
--- src/lib.rt:51:1
 list-returns-7 : (t : ℕ) → list-lts.Need-returns-7 (
   value-below t,
   value.Post,
@@ -251,7 +229,6 @@ list-returns-7 : (t : ℕ) → list-lts.Need-returns-7 (
 ) (list-at t) list.Post
 list-returns-7 t c = reads-no-list (c .before .before .before .if1 .left) (c .before .before .if2 .left) (c .match .rest .0 .1) (c .match .rest .1)
 
--- src/lib.rt:25:9
 value-returns : (t : ℕ) → value-lts.Need-returns (
   body-reads.Asked,
   body-reads.Learnt,
@@ -262,7 +239,6 @@ value-returns : (t : ℕ) → value-lts.Need-returns (
 ) (value-at t) value.Post
 value-returns t c = reads-ended (c .if1 .taken)
 
--- src/lib.rt:28:9
 value-returns-2 : (t : ℕ) → value-lts.Need-returns-2 (
   body-reads.Asked,
   body-reads.Learnt,
@@ -273,7 +249,6 @@ value-returns-2 : (t : ℕ) → value-lts.Need-returns-2 (
 ) (value-at t) value.Post
 value-returns-2 t c = reads-full (c .before .if1 .left) (c .if2 .taken)
 
--- src/lib.rt:30:16
 value-shared-slice-read-kind : (t : ℕ) → value-lts.Need-shared-slice-read-kind (
   body-reads.Asked,
   body-reads.Learnt,
@@ -284,7 +259,6 @@ value-shared-slice-read-kind : (t : ℕ) → value-lts.Need-shared-slice-read-ki
 ) (value-at t) value.Post
 value-shared-slice-read-kind t c = search needs
 
--- src/lib.rt:34:14
 value-body-requires : (t : ℕ) → value-lts.Need-body-requires (
   body-reads.Asked,
   body-reads.Learnt,
@@ -295,7 +269,6 @@ value-body-requires : (t : ℕ) → value-lts.Need-body-requires (
 ) (value-at t) value.Post
 value-body-requires t c κs = record { kind = c .match .keys1; high = omega (arith, c .before .before .before .before .shared-slice-known .given 1); low = omega (arith, c .before .before .before .before .shared-slice-known .given 2); some = omega arith }
 
--- src/lib.rt:36:30
 value-sub-value : (t : ℕ) → value-lts.Need-sub-value (
   body-reads.Asked,
   body-reads.Learnt,
@@ -306,7 +279,6 @@ value-sub-value : (t : ℕ) → value-lts.Need-sub-value (
 ) (value-at t) value.Post
 value-sub-value t c = search needs
 
--- src/lib.rt:36:30
 value-part-value-start : (t : ℕ) → value-lts.Need-part-value-start (
   body-reads.Asked,
   body-reads.Learnt,
@@ -317,7 +289,6 @@ value-part-value-start : (t : ℕ) → value-lts.Need-part-value-start (
 ) (value-at t) value.Post
 value-part-value-start t c = search needs
 
--- src/lib.rt:36:30
 value-part-value-end : (t : ℕ) → value-lts.Need-part-value-end (
   body-reads.Asked,
   body-reads.Learnt,
@@ -328,7 +299,6 @@ value-part-value-end : (t : ℕ) → value-lts.Need-part-value-end (
 ) (value-at t) value.Post
 value-part-value-end t c = search needs
 
--- src/lib.rt:36:39
 value-sub-value-2 : (t : ℕ) → value-lts.Need-sub-value-2 (
   body-reads.Asked,
   body-reads.Learnt,
@@ -339,7 +309,6 @@ value-sub-value-2 : (t : ℕ) → value-lts.Need-sub-value-2 (
 ) (value-at t) value.Post
 value-sub-value-2 t c = search needs
 
--- src/lib.rt:36:17
 value-value-requires : (t : ℕ) → value-lts.Need-value-requires (
   body-reads.Asked,
   body-reads.Learnt,
@@ -350,7 +319,6 @@ value-value-requires : (t : ℕ) → value-lts.Need-value-requires (
 ) (value-at t) value.Post
 value-value-requires t c κs = search needs
 
--- src/lib.rt:37:29
 value-enum-known-left : (t : ℕ) → value-lts.Need-enum-known-left (
   body-reads.Asked,
   body-reads.Learnt,
@@ -361,7 +329,6 @@ value-enum-known-left : (t : ℕ) → value-lts.Need-enum-known-left (
 ) (value-at t) value.Post
 value-enum-known-left t c = search needs
 
--- src/lib.rt:38:17
 value-returns-3 : (t : ℕ) → value-lts.Need-returns-3 (
   body-reads.Asked,
   body-reads.Learnt,
@@ -372,7 +339,6 @@ value-returns-3 : (t : ℕ) → value-lts.Need-returns-3 (
 ) (value-at t) value.Post
 value-returns-3 t c = first-refused (pair-begins (c .before .before .before .before .before .before .if1 .left) (c .before .before .before .before .before .if2 .left) (c .before .before .before .match .keys2)) (refused _ (c .match2 .keys2)) (c .before .value .ensures)
 
--- src/lib.rt:40:34
 value-add-value : (t : ℕ) → value-lts.Need-add-value (
   body-reads.Asked,
   body-reads.Learnt,
@@ -383,7 +349,6 @@ value-add-value : (t : ℕ) → value-lts.Need-add-value (
 ) (value-at t) value.Post
 value-add-value t c = omega (arith, within 1 (now (c .before .before .before .before .before .before .before .before .before .before .args .s)) (is-whole (c .before .before .before .value .ensures) (c .before .left .given .1)))
 
--- src/lib.rt:40:31
 value-sub-value-3 : (t : ℕ) → value-lts.Need-sub-value-3 (
   body-reads.Asked,
   body-reads.Learnt,
@@ -394,7 +359,6 @@ value-sub-value-3 : (t : ℕ) → value-lts.Need-sub-value-3 (
 ) (value-at t) value.Post
 value-sub-value-3 t c = omega (arith, within 1 (now (c .before .before .before .before .before .before .before .before .before .before .args .s)) (is-whole (c .before .before .before .value .ensures) (c .before .left .given .1)))
 
--- src/lib.rt:40:31
 value-part-value-start-2 : (t : ℕ) → value-lts.Need-part-value-start-2 (
   body-reads.Asked,
   body-reads.Learnt,
@@ -405,7 +369,6 @@ value-part-value-start-2 : (t : ℕ) → value-lts.Need-part-value-start-2 (
 ) (value-at t) value.Post
 value-part-value-start-2 t c = omega (arith, within 1 (now (c .before .before .before .before .before .before .before .before .before .before .args .s)) (is-whole (c .before .before .before .value .ensures) (c .before .left .given .1)))
 
--- src/lib.rt:40:31
 value-part-value-end-2 : (t : ℕ) → value-lts.Need-part-value-end-2 (
   body-reads.Asked,
   body-reads.Learnt,
@@ -416,7 +379,6 @@ value-part-value-end-2 : (t : ℕ) → value-lts.Need-part-value-end-2 (
 ) (value-at t) value.Post
 value-part-value-end-2 t c = search needs
 
--- src/lib.rt:40:44
 value-sub-value-4 : (t : ℕ) → value-lts.Need-sub-value-4 (
   body-reads.Asked,
   body-reads.Learnt,
@@ -427,7 +389,6 @@ value-sub-value-4 : (t : ℕ) → value-lts.Need-sub-value-4 (
 ) (value-at t) value.Post
 value-sub-value-4 t c = search needs
 
--- src/lib.rt:40:44
 value-sub-value-5 : (t : ℕ) → value-lts.Need-sub-value-5 (
   body-reads.Asked,
   body-reads.Learnt,
@@ -438,7 +399,6 @@ value-sub-value-5 : (t : ℕ) → value-lts.Need-sub-value-5 (
 ) (value-at t) value.Post
 value-sub-value-5 t c = omega (arith, within 1 (now (c .before .before .before .before .before .before .before .before .before .before .before .args .s)) (is-whole (c .before .before .before .before .value .ensures) (c .before .before .left .given .1)))
 
--- src/lib.rt:40:17
 value-value-requires-2 : (t : ℕ) → value-lts.Need-value-requires-2 (
   body-reads.Asked,
   body-reads.Learnt,
@@ -449,7 +409,6 @@ value-value-requires-2 : (t : ℕ) → value-lts.Need-value-requires-2 (
 ) (value-at t) value.Post
 value-value-requires-2 t c κs = search needs
 
--- src/lib.rt:41:29
 value-enum-known-right : (t : ℕ) → value-lts.Need-enum-known-right (
   body-reads.Asked,
   body-reads.Learnt,
@@ -460,7 +419,6 @@ value-enum-known-right : (t : ℕ) → value-lts.Need-enum-known-right (
 ) (value-at t) value.Post
 value-enum-known-right t c = search needs
 
--- src/lib.rt:42:17
 value-returns-4 : (t : ℕ) → value-lts.Need-returns-4 (
   body-reads.Asked,
   body-reads.Learnt,
@@ -471,7 +429,6 @@ value-returns-4 : (t : ℕ) → value-lts.Need-returns-4 (
 ) (value-at t) value.Post
 value-returns-4 t c = second-refused (pair-begins (c .before .before .before .before .before .before .before .before .before .before .before .if1 .left) (c .before .before .before .before .before .before .before .before .before .before .if2 .left) (c .before .before .before .before .before .before .before .before .match .keys2)) (is-whole (c .before .before .before .before .before .before .value .ensures) (c .before .before .before .before .left .given .1)) (refused _ (c .match3 .keys2)) (c .before .value2 .ensures)
 
--- src/lib.rt:44:25
 value-add-t14 : (t : ℕ) → value-lts.Need-add-t14 (
   body-reads.Asked,
   body-reads.Learnt,
@@ -482,7 +439,6 @@ value-add-t14 : (t : ℕ) → value-lts.Need-add-t14 (
 ) (value-at t) value.Post
 value-add-t14 t c = omega (arith, within 1 (now (c .before .before .before .before .before .before .before .before .before .before .before .before .before .before .before .args .s)) (is-whole (c .before .before .before .before .before .before .before .before .value .ensures) (c .before .before .before .before .before .before .left .given .1)))
 
--- src/lib.rt:44:25
 value-add-t22 : (t : ℕ) → value-lts.Need-add-t22 (
   body-reads.Asked,
   body-reads.Learnt,
@@ -493,7 +449,6 @@ value-add-t22 : (t : ℕ) → value-lts.Need-add-t22 (
 ) (value-at t) value.Post
 value-add-t22 t c = omega (arith, within 1 (now (c .before .before .before .before .before .before .before .before .before .before .before .before .before .before .before .args .s)) (is-whole (c .before .before .before .before .before .before .before .before .value .ensures) (c .before .before .before .before .before .before .left .given .1)), within (1 + c .before .before .before .before .before .before .left .given .0 .0) (now (c .before .before .before .before .before .before .before .before .before .before .before .before .before .before .before .args .s)) (is-whole (c .before .before .before .value2 .ensures) (c .before .right .given .1)))
 
--- src/lib.rt:33:18
 value-list-requires : (t : ℕ) → value-lts.Need-list-requires (
   body-reads.Asked,
   body-reads.Learnt,
@@ -504,7 +459,6 @@ value-list-requires : (t : ℕ) → value-lts.Need-list-requires (
 ) (value-at t) value.Post
 value-list-requires t c κs = search needs
 
--- src/lib.rt:21:1
 value-returns-5 : (t : ℕ) → value-lts.Need-returns-5 (
   body-reads.Asked,
   body-reads.Learnt,
@@ -515,7 +469,6 @@ value-returns-5 : (t : ℕ) → value-lts.Need-returns-5 (
 ) (value-at t) value.Post
 value-returns-5 t c = c .body .ensures
 
--- src/lib.rt:21:1
 value-returns-6 : (t : ℕ) → value-lts.Need-returns-6 (
   body-reads.Asked,
   body-reads.Learnt,
@@ -526,7 +479,6 @@ value-returns-6 : (t : ℕ) → value-lts.Need-returns-6 (
 ) (value-at t) value.Post
 value-returns-6 t c = both-read (pair-begins (c .before .before .before .before .before .before .before .before .before .before .before .before .before .if1 .left) (c .before .before .before .before .before .before .before .before .before .before .before .before .if2 .left) (c .before .before .before .before .before .before .before .before .before .before .match .keys2)) (is-whole (c .before .before .before .before .before .before .before .before .value .ensures) (c .before .before .before .before .before .before .left .given .1)) (is-whole (c .before .before .before .value2 .ensures) (c .before .right .given .1))
 
--- src/lib.rt:21:1
 value-returns-7 : (t : ℕ) → value-lts.Need-returns-7 (
   body-reads.Asked,
   body-reads.Learnt,
@@ -537,7 +489,6 @@ value-returns-7 : (t : ℕ) → value-lts.Need-returns-7 (
 ) (value-at t) value.Post
 value-returns-7 t c = reads-plain (c .before .before .before .before .if1 .left) (c .before .before .before .if2 .left) (omega arith)
 
--- src/lib.rt:21:1
 value-returns-8 : (t : ℕ) → value-lts.Need-returns-8 (
   body-reads.Asked,
   body-reads.Learnt,
@@ -548,7 +499,6 @@ value-returns-8 : (t : ℕ) → value-lts.Need-returns-8 (
 ) (value-at t) value.Post
 value-returns-8 t c = reads-list (c .before .before .before .before .before .before .if1 .left) (c .before .before .before .before .before .if2 .left) (omega arith) (omega arith) (c .list .ensures)
 
--- src/lib.rt:21:1
 value-returns-9 : (t : ℕ) → value-lts.Need-returns-9 (
   body-reads.Asked,
   body-reads.Learnt,

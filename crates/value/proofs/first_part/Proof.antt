@@ -1,41 +1,31 @@
-use native.Mathlib.Omega.{arith}
+-- `value::first_part` meets its contract.
 use denote.Ref.{now}
 use Rattle.value.specs.Answers.{first-none, first-there, first-out}
 use borrow.Author.Needs.{needs}
 use Rattle.value.proofs.first_part.Statement.{statement}
 use Rattle.value.proofs.first_part.Tie as tie
-use Rattle.value.proofs.first_part.Reads as reads
-use Rattle.value.proofs.first_part.Lts as lts
 
--- src/lib.rt:150:9
 slice-aggregate-result : tie.Need-slice-aggregate-result
 slice-aggregate-result c = search needs
 
--- src/lib.rt:150:9
 returns : tie.Need-returns
 returns c = first-none (now (c .before .before .args .v)) (c .before .before .args .at) (c .before .if1 .taken)
 
--- src/lib.rt:153:9
 sub-result : tie.Need-sub-result
 sub-result c = search needs
 
--- src/lib.rt:153:9
 part-result-start : tie.Need-part-result-start
 part-result-start c = search needs
 
--- src/lib.rt:153:9
 part-result-end : tie.Need-part-result-end
 part-result-end c = search needs
 
--- src/lib.rt:155:9
 slice-aggregate-result-2 : tie.Need-slice-aggregate-result-2
 slice-aggregate-result-2 c = search needs
 
--- src/lib.rt:146:1
 returns-2 : tie.Need-returns-2
 returns-2 c = first-there (now (c .before .before .before .args .v)) (c .before .before .before .args .at) (c .before .if2 .taken)
 
--- src/lib.rt:146:1
 returns-3 : tie.Need-returns-3
 returns-3 c = first-out (now (c .before .before .before .args .v)) (c .before .before .before .args .at) (c .before .if2 .left)
 

@@ -1,16 +1,13 @@
+-- `value::read_plan` meets its contract. The loop's invariant is `Progress`: the values read so far and how the reading goes on.
 use borrow.Author.Needs.{needs}
 use native.Mathlib.Omega.{arith}
 use denote.Ref.{now}
-use mathlib.Core.Path.{sym, ap, _∙_}
+use mathlib.Core.Path.{_∙_}
 use Prim.Native.Nat.{_-_}
 use Rattle.value.specs.Reader.{from}
 use Rattle.value.specs.Progress.{Progress, next-is, next-as, next-short, code-small, at-start, too-many, stops, goes-on, more-bytes, ends-well}
 use Rattle.value.proofs.read_plan.Statement.{statement}
 use Rattle.value.proofs.read_plan.Tie as tie
-use Rattle.value.proofs.read_plan.Reads as reads
-use Rattle.value.proofs.read_plan.Lts as lts
-use Rattle.value.proofs.next_value.Reads as next-value-reads
-use Rattle.value.proofs.refused.Reads as refused-reads
 
 abbrev Inv-loop : tie.InvT-loop
 Inv-loop k s starts₀ lens₀ at₀ i₀ starts lens at i = Progress k s starts lens at i
@@ -18,103 +15,78 @@ Inv-loop k s starts₀ lens₀ at₀ i₀ starts lens at i = Progress k s starts
 abbrev μ-loop : tie.MeasureT-loop
 μ-loop k s starts₀ lens₀ at₀ i₀ starts lens at i = k - i
 
--- src/lib.rt:143:9
 refused-requires : tie.Need-refused-requires Inv-loop μ-loop
 refused-requires c κs = search needs
 
--- src/lib.rt:143:9
 returns : tie.Need-returns Inv-loop μ-loop
 returns c = c .refused .ensures ∙ too-many (c .before .before .before .args .k) (now (c .before .before .before .args .s)) (c .before .if1 .taken)
 
--- src/lib.rt:149:5
 loop-holds : tie.Need-loop-holds Inv-loop μ-loop
 loop-holds c = at-start (c .before .before .args .k) (now (c .before .before .args .s))
 
--- src/lib.rt:150:26
 sub-next-value : tie.Need-sub-next-value Inv-loop μ-loop
 sub-next-value c = omega (arith, c .before .loop .inv .inside)
 
--- src/lib.rt:150:26
 part-next-value-start : tie.Need-part-next-value-start Inv-loop μ-loop
 part-next-value-start c = omega (arith, c .before .loop .inv .inside)
 
--- src/lib.rt:150:26
 part-next-value-end : tie.Need-part-next-value-end Inv-loop μ-loop
 part-next-value-end c = search needs
 
--- src/lib.rt:150:15
 next-value-requires : tie.Need-next-value-requires Inv-loop μ-loop
 next-value-requires c κs = search needs
 
--- src/lib.rt:151:27
 enum-known-c : tie.Need-enum-known-c Inv-loop μ-loop
 enum-known-c c = search needs
 
--- src/lib.rt:151:48
 add-refused : tie.Need-add-refused Inv-loop μ-loop
 add-refused c = omega (arith, code-small (next-as (next-is 20 (from (c .before .before .before .before .before .before .loop .at) (now (c .before .before .before .before .before .before .before .before .before .args .s))) (c .before .before .before .next-value .ensures)) (c .before .c .given .1)))
 
--- src/lib.rt:151:33
 refused-requires-2 : tie.Need-refused-requires-2 Inv-loop μ-loop
 refused-requires-2 c κs = search needs
 
--- src/lib.rt:151:33
 returns-2 : tie.Need-returns-2 Inv-loop μ-loop
 returns-2 c = c .refused2 .ensures ∙ stops (c .before .before .before .before .before .before .before .loop .inv) (c .before .before .before .before .before .before .before .before .if1 .left) (c .before .before .before .before .before .before .loop-test .taken) (next-as (next-is 20 (from (c .before .before .before .before .before .before .before .loop .at) (now (c .before .before .before .before .before .before .before .before .before .before .args .s))) (c .before .before .before .before .next-value .ensures)) (c .before .before .c .given .1))
 
--- src/lib.rt:152:25
 enum-known-n : tie.Need-enum-known-n Inv-loop μ-loop
 enum-known-n c = search needs
 
--- src/lib.rt:153:29
 cast-starts : tie.Need-cast-starts Inv-loop μ-loop
 cast-starts c = omega (arith, c .before .before .before .before .before .before .loop .inv .small, c .before .before .before .before .before .loop-test .taken, c .before .before .before .before .before .before .before .if1 .left)
 
--- src/lib.rt:153:17
 mul-starts : tie.Need-mul-starts Inv-loop μ-loop
 mul-starts c = omega (arith, c .before .before .before .before .before .loop-test .taken, c .before .before .before .before .before .before .before .if1 .left)
 
--- src/lib.rt:153:17
 array-write-starts : tie.Need-array-write-starts Inv-loop μ-loop
 array-write-starts c = omega (arith, c .before .before .before .before .before .loop-test .taken, c .before .before .before .before .before .before .before .if1 .left)
 
--- src/lib.rt:154:27
 cast-lens : tie.Need-cast-lens Inv-loop μ-loop
 cast-lens c = omega (arith, next-short (next-as (next-is 20 (from (c .before .before .before .before .before .before .loop .at) (now (c .before .before .before .before .before .before .before .before .before .args .s))) (c .before .before .before .next-value .ensures)) (c .before .n .given .1)))
 
--- src/lib.rt:154:17
 mul-lens : tie.Need-mul-lens Inv-loop μ-loop
 mul-lens c = omega (arith, c .before .before .before .before .before .loop-test .taken, c .before .before .before .before .before .before .before .if1 .left)
 
--- src/lib.rt:154:17
 array-write-lens : tie.Need-array-write-lens Inv-loop μ-loop
 array-write-lens c = omega (arith, c .before .before .before .before .before .loop-test .taken, c .before .before .before .before .before .before .before .if1 .left)
 
--- src/lib.rt:155:17
 add-at : tie.Need-add-at Inv-loop μ-loop
 add-at c = omega (arith, c .before .before .before .before .before .before .loop .inv .small, c .before .before .before .before .before .loop-test .taken, c .before .before .before .before .before .before .before .if1 .left, next-short (next-as (next-is 20 (from (c .before .before .before .before .before .before .loop .at) (now (c .before .before .before .before .before .before .before .before .before .args .s))) (c .before .before .before .next-value .ensures)) (c .before .n .given .1)))
 
--- src/lib.rt:158:9
 add-i : tie.Need-add-i Inv-loop μ-loop
 add-i c = omega (arith, c .before .before .before .before .before .loop-test .taken, c .before .before .before .before .before .before .before .if1 .left)
 
--- src/lib.rt:149:5
 loop-less : tie.Need-loop-less Inv-loop μ-loop
 loop-less c = omega (arith, c .before .before .before .before .before .loop-test .taken)
 
--- src/lib.rt:149:5
 loop-again : tie.Need-loop-again Inv-loop μ-loop
 loop-again c = goes-on (c .before .before .before .before .before .before .loop .inv) (c .before .before .before .before .before .before .before .if1 .left) (c .before .before .before .before .before .loop-test .taken) (next-as (next-is 20 (from (c .before .before .before .before .before .before .loop .at) (now (c .before .before .before .before .before .before .before .before .before .args .s))) (c .before .before .before .next-value .ensures)) (c .before .n .given .1))
 
--- src/lib.rt:161:9
 refused-requires-3 : tie.Need-refused-requires-3 Inv-loop μ-loop
 refused-requires-3 c κs = search needs
 
--- src/lib.rt:161:9
 returns-3 : tie.Need-returns-3 Inv-loop μ-loop
 returns-3 c = c .refused3 .ensures ∙ more-bytes (c .before .before .before .loop .inv) (c .before .before .before .before .if1 .left) (omega (arith, c .before .before .before .loop .inv .few, c .before .before .loop-test .left)) (c .before .if2 .taken)
 
--- src/lib.rt:139:1
 returns-4 : tie.Need-returns-4 Inv-loop μ-loop
 returns-4 c = ends-well (c .before .before .loop .inv) (c .before .before .before .if1 .left) (omega (arith, c .before .before .loop .inv .few, c .before .loop-test .left)) (omega (arith, c .before .before .loop .inv .inside, c .if2 .left))
 

@@ -1,38 +1,29 @@
+-- `value::read_view` meets its contract: one value, and nothing behind it.
 use native.Mathlib.Omega.{arith}
 use denote.Ref.{now}
 use Rattle.value.specs.Progress.{next-is, next-as, code-small, view-refused, view-more, view-read}
 use borrow.Author.Needs.{needs}
 use Rattle.value.proofs.read_view.Statement.{statement}
 use Rattle.value.proofs.read_view.Tie as tie
-use Rattle.value.proofs.read_view.Reads as reads
-use Rattle.value.proofs.read_view.Lts as lts
-use Rattle.value.proofs.next_value.Reads as next-value-reads
 
--- src/lib.rt:174:11
 next-value-requires : tie.Need-next-value-requires
 next-value-requires c κs = search needs
 
--- src/lib.rt:175:23
 enum-known-c : tie.Need-enum-known-c
 enum-known-c c = search needs
 
--- src/lib.rt:175:29
 add-result : tie.Need-add-result
 add-result c = omega (arith, code-small (next-as (next-is 30 (now (c .before .before .before .before .before .args .s)) (c .before .before .before .next-value .ensures)) (c .before .c .given .1)))
 
--- src/lib.rt:176:21
 enum-known-n : tie.Need-enum-known-n
 enum-known-n c = search needs
 
--- src/lib.rt:178:17
 returns : tie.Need-returns
 returns c = view-more (next-as (next-is 30 (now (c .before .before .before .before .before .before .args .s)) (c .before .before .before .before .next-value .ensures)) (c .before .before .n .given .1)) (c .if1 .taken)
 
--- src/lib.rt:171:1
 returns-2 : tie.Need-returns-2
 returns-2 c = view-refused (next-as (next-is 30 (now (c .before .before .before .before .before .args .s)) (c .before .before .before .next-value .ensures)) (c .before .c .given .1))
 
--- src/lib.rt:171:1
 returns-3 : tie.Need-returns-3
 returns-3 c = view-read (next-as (next-is 30 (now (c .before .before .before .before .before .before .args .s)) (c .before .before .before .before .next-value .ensures)) (c .before .before .n .given .1)) (c .if1 .left)
 

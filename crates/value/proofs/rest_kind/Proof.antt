@@ -1,3 +1,4 @@
+-- `value::rest_kind` meets its contract.
 use denote.Ref.{now}
 use mathlib.Core.Path.{sym, ap, _∙_}
 use Rattle.value.specs.Parts.{kindBehind, restKind}
@@ -5,29 +6,20 @@ use Rattle.value.proofs.Tags.{no-front}
 use borrow.Author.Needs.{needs}
 use Rattle.value.proofs.rest_kind.Statement.{statement}
 use Rattle.value.proofs.rest_kind.Tie as tie
-use Rattle.value.proofs.rest_kind.Reads as reads
-use Rattle.value.proofs.rest_kind.Lts as lts
-use Rattle.value.proofs.kind_at.Reads as kind-at-reads
-use Rattle.value.proofs.shape_of.Reads as shape-of-reads
 
--- src/lib.rt:185:28
 shape-of-requires : tie.Need-shape-of-requires
 shape-of-requires c κs = search needs
 
--- src/lib.rt:185:22
 enum-known-at : tie.Need-enum-known-at
 enum-known-at c = search needs
 
--- src/lib.rt:186:9
 returns : tie.Need-returns
 unfolding restKind kindBehind
 returns c = sym (ap (kindBehind (now (c .before .before .before .args .v))) (sym (c .before .shape-of .ensures)) ∙ no-front (now (c .before .before .before .args .v)) (c .before .shape-of .result) (c .match .keys2))
 
--- src/lib.rt:188:5
 kind-at-requires : tie.Need-kind-at-requires
 kind-at-requires c κs = search needs
 
--- src/lib.rt:182:1
 returns-2 : tie.Need-returns-2
 unfolding restKind kindBehind
 returns-2 c = c .kind-at .ensures ∙ sym (ap (kindBehind (now (c .before .before .before .before .before .before .args .v))) (sym (c .before .before .before .before .shape-of .ensures) ∙ c .before .before .at .given .1))

@@ -1,3 +1,4 @@
+-- `value::second_part` meets its contract.
 use native.Mathlib.Omega.{arith}
 use denote.Ref.{now}
 use mathlib.Core.Path.{sym}
@@ -6,30 +7,22 @@ use Rattle.value.specs.Reader.{from-drop}
 use borrow.Author.Needs.{needs}
 use Rattle.value.proofs.second_part.Statement.{statement}
 use Rattle.value.proofs.second_part.Tie as tie
-use Rattle.value.proofs.second_part.Reads as reads
-use Rattle.value.proofs.second_part.Lts as lts
 
--- src/lib.rt:164:9
 sub-result : tie.Need-sub-result
 sub-result c = search needs
 
--- src/lib.rt:164:9
 part-result-start : tie.Need-part-result-start
 part-result-start c = search needs
 
--- src/lib.rt:164:9
 part-result-end : tie.Need-part-result-end
 part-result-end c = search needs
 
--- src/lib.rt:166:9
 slice-aggregate-result : tie.Need-slice-aggregate-result
 slice-aggregate-result c = search needs
 
--- src/lib.rt:160:1
 returns : tie.Need-returns
 returns c = from-drop (c .before .before .args .at) (now (c .before .before .args .v))
 
--- src/lib.rt:160:1
 returns-2 : tie.Need-returns-2
 returns-2 c = sym (drop-of-length-le (now (c .before .before .args .v)) {i = c .before .before .args .at} (omega arith))
 

@@ -1,3 +1,4 @@
+-- `value::shape_of` meets its contract: the kind byte picks the case of `shapeOf`, and the reader gives the first part's length.
 use native.Mathlib.Omega.{arith}
 use denote.Ref.{now}
 use mathlib.Core.Path.{refl, sym, ap, _∙_}
@@ -11,126 +12,95 @@ use Rattle.value.proofs.Tags.{refused}
 use borrow.Author.Needs.{needs}
 use Rattle.value.proofs.shape_of.Statement.{statement}
 use Rattle.value.proofs.shape_of.Tie as tie
-use Rattle.value.proofs.shape_of.Reads as reads
-use Rattle.value.proofs.shape_of.Lts as lts
-use Rattle.value.proofs.number.Reads as number-reads
-use Rattle.value.proofs.read_value.Reads as read-value-reads
 
--- src/lib.rt:116:9
 returns : tie.Need-returns
 unfolding kindOf shapeAs behind
 returns c = shape-none (now (c .before .before .args .v)) (c .if1 .taken)
 
--- src/lib.rt:118:16
 shared-slice-read-kind : tie.Need-shared-slice-read-kind
 shared-slice-read-kind c = search needs
 
--- src/lib.rt:124:45
 sub-read-value : tie.Need-sub-read-value
 sub-read-value c = search needs
 
--- src/lib.rt:124:45
 part-read-value-start : tie.Need-part-read-value-start
 part-read-value-start c = search needs
 
--- src/lib.rt:124:45
 part-read-value-end : tie.Need-part-read-value-end
 part-read-value-end c = search needs
 
--- src/lib.rt:124:34
 read-value-requires : tie.Need-read-value-requires
 read-value-requires c κs = search needs
 
--- src/lib.rt:124:29
 enum-known-f : tie.Need-enum-known-f
 enum-known-f c = search needs
 
--- src/lib.rt:125:17
 returns-2 : tie.Need-returns-2
 unfolding kindOf shapeAs behind
 returns-2 c = sym (shape-two (now (c .before .before .before .before .before .before .before .args .v)) (c .before .before .before .before .before .if1 .left) Front (λ bs. refl) (c .before .before .before .match .keys4) (c .before .read-value .ensures) ∙ behind-refused Front {r = c .before .read-value .result} (refused (c .before .read-value .result) (c .match2 .keys2)))
 
--- src/lib.rt:127:26
 add-t12 : tie.Need-add-t12
 add-t12 c = omega (arith, taken-short (taken (from 1 (now (c .before .before .before .before .before .before .before .before .before .args .v))) (c .before .before .before .read-value .ensures) (c .before .f .given .1)))
 
--- src/lib.rt:131:17
 returns-3 : tie.Need-returns-3
 unfolding kindOf shapeAs behind
 returns-3 c = sym (shape-at (now (c .before .before .before .before .before .args .v)) (c .before .before .before .if1 .left) (c .before .match .keys5) ∙ number-short (now (c .before .before .before .before .before .args .v)) (c .if2 .taken))
 
--- src/lib.rt:133:34
 shared-slice-read-number : tie.Need-shared-slice-read-number
 shared-slice-read-number c = search needs
 
--- src/lib.rt:133:40
 shared-slice-read-number-2 : tie.Need-shared-slice-read-number-2
 shared-slice-read-number-2 c = search needs
 
--- src/lib.rt:133:27
 number-requires : tie.Need-number-requires
 number-requires c κs = search needs
 
--- src/lib.rt:136:45
 sub-read-value-2 : tie.Need-sub-read-value-2
 sub-read-value-2 c = search needs
 
--- src/lib.rt:136:45
 part-read-value-start-2 : tie.Need-part-read-value-start-2
 part-read-value-start-2 c = search needs
 
--- src/lib.rt:136:45
 part-read-value-end-2 : tie.Need-part-read-value-end-2
 part-read-value-end-2 c = search needs
 
--- src/lib.rt:136:34
 read-value-requires-2 : tie.Need-read-value-requires-2
 read-value-requires-2 c κs = search needs
 
--- src/lib.rt:136:29
 enum-known-a : tie.Need-enum-known-a
 enum-known-a c = search needs
 
--- src/lib.rt:137:17
 returns-4 : tie.Need-returns-4
 unfolding kindOf shapeAs behind
 returns-4 c = sym (shape-two (now (c .before .before .before .before .before .before .before .args .v)) (c .before .before .before .before .before .if1 .left) Pair (λ bs. refl) (c .before .before .before .match .keys6) (c .before .read-value2 .ensures) ∙ behind-refused Pair {r = c .before .read-value2 .result} (refused (c .before .read-value2 .result) (c .match3 .keys2)))
 
--- src/lib.rt:139:25
 add-t24 : tie.Need-add-t24
 add-t24 c = omega (arith, taken-short (taken (from 1 (now (c .before .before .before .before .before .before .before .before .before .args .v))) (c .before .before .before .read-value2 .ensures) (c .before .a .given .1)))
 
--- src/lib.rt:112:1
 returns-5 : tie.Need-returns-5
 unfolding kindOf shapeAs behind
 returns-5 c = sym (shape-at (now (c .before .before .before .before .args .v)) (c .before .before .if1 .left) (c .match .keys1))
 
--- src/lib.rt:112:1
 returns-6 : tie.Need-returns-6
 unfolding kindOf shapeAs behind
 returns-6 c = sym (shape-at (now (c .before .before .before .before .args .v)) (c .before .before .if1 .left) (c .match .keys2))
 
--- src/lib.rt:112:1
 returns-7 : tie.Need-returns-7
 unfolding kindOf shapeAs behind
 returns-7 c = sym (shape-at (now (c .before .before .before .before .args .v)) (c .before .before .if1 .left) (c .match .keys3))
 
--- src/lib.rt:112:1
 returns-8 : tie.Need-returns-8
 unfolding kindOf shapeAs behind
 returns-8 c = sym (shape-two (now (c .before .before .before .before .before .before .before .before .before .args .v)) (c .before .before .before .before .before .before .before .if1 .left) Front (λ bs. refl) (c .before .before .before .before .before .match .keys4) (c .before .before .before .read-value .ensures) ∙ ap (behind Front) (c .before .f .given .1))
 
--- src/lib.rt:112:1
 returns-9 : tie.Need-returns-9
 unfolding kindOf shapeAs behind
 returns-9 c = ap Number (c .number .ensures) ∙ sym (shape-at (now (c .before .before .before .before .before .before .before .before .args .v)) (c .before .before .before .before .before .before .if1 .left) (c .before .before .before .before .match .keys5) ∙ number-there (now (c .before .before .before .before .before .before .before .before .args .v)) (omega arith))
 
--- src/lib.rt:112:1
 returns-10 : tie.Need-returns-10
 unfolding kindOf shapeAs behind
 returns-10 c = sym (shape-two (now (c .before .before .before .before .before .before .before .before .before .args .v)) (c .before .before .before .before .before .before .before .if1 .left) Pair (λ bs. refl) (c .before .before .before .before .before .match .keys6) (c .before .before .before .read-value2 .ensures) ∙ ap (behind Pair) (c .before .a .given .1))
 
--- src/lib.rt:112:1
 returns-11 : tie.Need-returns-11
 unfolding kindOf shapeAs behind
 returns-11 c = sym (shape-at (now (c .before .before .before .before .args .v)) (c .before .before .if1 .left) refl ∙ ap (shapeAs (drop 1 (now (c .before .before .before .before .args .v)))) (unknown-kind (getD (now (c .before .before .before .before .args .v)) 0 0) (omega (arith, c .match .rest .1, c .match .rest .0 .1, c .match .rest .0 .0 .1, c .match .rest .0 .0 .0 .1, c .match .rest .0 .0 .0 .0 .1, c .match .rest .0 .0 .0 .0 .0 .1))))
