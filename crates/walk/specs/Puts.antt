@@ -54,13 +54,18 @@ run l sh n (rebuilt k s f r) μ σ v X = rebuild (put l sh) μ σ n X s (maker k
 run l sh n (switch b s df dr) μ σ v W =
     get l sh df [] >>= λ f. get l sh dr [] >>= λ r. given 43 (asList r) λ _. under (put l sh) μ σ W b v s mkList f r
 
+-- a value made of two, by its kind byte
+pub data Made (k : ℕ) : Type 0 where
+  aList : k ≡ 3 → Made k
+  aPair : k ≡ 5 → Made k
+
 -- the node numbers of a task are in range
 abbrev pub Known : Sheet → Task → Type 0
 Known sh (enter n) = n < length (sh .nodes)
 Known sh (body nd) = (own : ℕ) × Ranged (length (sh .nodes)) (length (sh .sections)) own nd
 Known sh (pair a b u) = (a < length (sh .nodes)) × (b < length (sh .nodes))
-Known sh (inside k b s f r) = (b < length (sh .nodes)) × (s < length (sh .nodes))
-Known sh (rebuilt k s f r) = s < length (sh .nodes)
+Known sh (inside k b s f r) = ((b < length (sh .nodes)) × (s < length (sh .nodes))) × Made k
+Known sh (rebuilt k s f r) = (s < length (sh .nodes)) × Made k
 Known sh (switch b s df dr) = ((b < length (sh .nodes)) × (s < length (sh .nodes))) × ((df < length (sh .nodes)) × (dr < length (sh .nodes)))
 
 -- no view is looked at
@@ -81,7 +86,17 @@ pub record SomeView (view : List ℕ) : Type 0 where
   pub value : Value
   pub shown : Shown view value
 
--- a level takes at most 513 bytes of the stack, and adds at most two variables and two cells. `m` cells are written to so far
+-- the sheet that was read; what the variables in scope stand for, their cells, what was written to the m cells so far, and a
+-- value that P holds of (that the view shows it)
+pub record Given (a lens s : List ℕ) (P : Value → Type 0) (sc : Scope) (cells : Owners) (m top : ℕ) (sh : Sheet) (μ : Values) (σ : List ℕ) (v : Value) (W : Cells) : Type 0 where
+  pub read : readSheet s ≡ ok sh
+  pub scoped : Env a sc top μ
+  pub named : Named (cells .of) (cells .count) σ
+  pub as-many : length σ ≡ length μ
+  pub written : Written a lens m W
+  pub shown : P v
+
+-- a level takes at most 513 bytes of the stack, and adds at most two variables and two cells
 pub record Ready (s starts a lens : List ℕ) (P : Value → Type 0) (sc : Scope) (cells : Owners) (m top levels left : ℕ) (t : Task) : Type 0 where
   pub long : length a ≡ 65536
   pub few : left ≤ 1000000
@@ -92,14 +107,10 @@ pub record Ready (s starts a lens : List ℕ) (P : Value → Type 0) (sc : Scope
   pub lent : Lent s starts
   pub known : Known (lent .sh) t
   pub env : Values
-  pub scoped : Env a sc top env
   pub names : List ℕ
-  pub named : Named (cells .of) (cells .count) names
-  pub as-many : length names ≡ length env
-  pub cells-now : Cells
-  pub written : Written a lens m cells-now
   pub value : Value
-  pub shown : P value
+  pub cells-now : Cells
+  pub given : Given a lens s P sc cells m top (lent .sh) env names value cells-now
 
 -- r says how many steps were taken, and the n cells hold X
 pub record Served (a lens : List ℕ) (n : ℕ) (r : Put) (X : Cells) (steps : ℕ) : Type 0 where
@@ -109,11 +120,16 @@ pub record Served (a lens : List ℕ) (n : ℕ) (r : Put) (X : Cells) (steps : �
 pub record Denied (r : Put) (c : ℕ) : Type 0 where
   pub is : r ≡ Refused c
 
--- the plan and the stack below `top` are kept, and the answer is the task's, for whatever the variables stand for, whatever was
--- written and whatever value P holds of (a view that shows it); m cells before, and as many as `cells` says at the end
+-- the plan and the stack below `top` are kept, and the answer is the task's, whatever is given; m cells were written to before, and
+-- as many as `cells` says at the end
 pub record Gives (b a lens lens′ s : List ℕ) (P : Value → Type 0) (sc : Scope) (cells : Owners) (m top left spent : ℕ) (r : Put) (l : ℕ) (t : Task) : Type 0 where
   pub frame : Frame top b a
   pub long : length lens′ ≡ length lens
-  pub told : (sh : Sheet) → readSheet s ≡ ok sh → (μ : Values) (σ : List ℕ) (v : Value) (W : Cells)
-      → Env b sc top μ → Named (cells .of) (cells .count) σ → length σ ≡ length μ → Written b lens m W → P v
+  pub told : {sh : Sheet} {μ : Values} {σ : List ℕ} {v : Value} {W : Cells} → Given b lens s P sc cells m top sh μ σ v W
       → Answers (Served a lens′ (cells .count) r) (Denied r) spent left (run l sh (cells .count) t μ σ v W)
+
+-- a branch that adds two variables may still be entered
+pub record Inner (sc : Scope) (cells : Owners) (levels : ℕ) : Type 0 where
+  pub some : 1 ≤ levels
+  pub slots : sc .count + 2 * levels ≤ 110
+  pub more-cells : cells .count + 2 * levels ≤ 110

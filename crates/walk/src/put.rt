@@ -1,10 +1,12 @@
 //! Put: a view put back into a node, with what was written in the arena's cells. One function a kind.
 ghost use mathlib.Core.Path.{_≡_};
-ghost use Prim.Native.Nat.{ℕ, _+_, _*_, _≤_, _<_};
-ghost use lib.ListN.{length, set};
+ghost use mathlib.Core.List.{List, [], _∷_};
+ghost use Prim.Native.Nat.{ℕ, suc, _+_, _*_, _/_, _%_, _≤_, _<_};
 ghost use Rattle.value.specs.Value.{Value, vfalse};
-ghost use Rattle.walk.specs.Cells.{Shown};
-ghost use Rattle.walk.specs.Puts.{Ready, Gives, Any, Spans, SomeSpans, SomeView, enter, body, pair, inside, rebuilt, switch};
+ghost use Rattle.value.specs.Parts.{sameBytes};
+ghost use Rattle.walk.specs.Cells.{Shown, addedTwo, pickedCells, judged, unfitRest};
+ghost use Rattle.walk.specs.Puts.{Ready, Inner, Gives, Any, Spans, SomeSpans, SomeView, enter, body, pair, inside, rebuilt, switch};
+ghost use Rattle.walk.specs.PutLeaf.{Leaf};
 use crate::bytes::rebuild;
 use crate::bytes::place_of;
 use crate::bytes::store;
@@ -31,7 +33,10 @@ pub struct Cells {
 }
 
 // The next two variables, from number `at` on, are two new cells.
-fn add_two(cells: Cells, at: usize) -> Cells {
+fn add_two(cells: Cells, at: usize) -> Cells
+    requires { ⌜ (cells .count + 2 ≤ 110) × (at + 2 ≤ 110) ⌝ }
+    ensures { λ r. ⌜ r ≡ addedTwo cells at ⌝ }
+{
     let mut c = cells;
     let n = c.count;
     c.of[at] = n as u8;
@@ -41,7 +46,10 @@ fn add_two(cells: Cells, at: usize) -> Cells {
 }
 
 // The cells of the two variables x and y alone.
-fn pick_cells(cells: Cells, x: usize, y: usize) -> Cells {
+fn pick_cells(cells: Cells, x: usize, y: usize) -> Cells
+    requires { ⌜ (x < 110) × (y < 110) ⌝ }
+    ensures { λ r. ⌜ r ≡ pickedCells cells x y ⌝ }
+{
     let x_cell = cells.of[x];
     let y_cell = cells.of[y];
     let mut c = cells;
@@ -57,7 +65,10 @@ fn put_var(
     cells: Cells,
     x: usize,
     view: &[u8],
-) -> Put {
+) -> Put
+    requires { ⌜ Leaf (now arena) (now lens) (now view) scope cells ⌝ }
+    ensures { λ r. ⌜ ((s : List ℕ) (top left l : ℕ) → Gives (now (arena .entry)) (now (arena .exit)) (now (lens .entry)) (now (lens .exit)) s (Shown (now (view .entry))) scope cells (cells .count) top left 1 r l (body (Node.Var x))) ⌝ }
+{
     if scope.count <= x {
         return Put::Refused(42);
     }
@@ -77,7 +88,9 @@ fn put_var(
 }
 
 // A constant of one byte, its kind.
-fn put_constant(kind: u8, view: &[u8]) -> Put {
+fn put_constant(kind: u8, view: &[u8]) -> Put
+    ensures { λ r. ⌜ r ≡ judged 50 (sameBytes (now (view .entry)) (kind ∷ [])) ⌝ }
+{
     let constant = [kind];
     if value::same(view, &constant) {
         return Put::Done(1);
@@ -85,7 +98,9 @@ fn put_constant(kind: u8, view: &[u8]) -> Put {
     Put::Refused(50)
 }
 
-fn put_number(n: u16, view: &[u8]) -> Put {
+fn put_number(n: u16, view: &[u8]) -> Put
+    ensures { λ r. ⌜ r ≡ judged 50 (sameBytes (now (view .entry)) (4 ∷ n / 256 ∷ n % 256 ∷ [])) ⌝ }
+{
     let constant = [4, value::high(n), value::low(n)];
     if value::same(view, &constant) {
         return Put::Done(1);
@@ -288,7 +303,7 @@ fn put_front(
     view: &[u8],
     at: At,
 ) -> Put
-    requires { ⌜ Ready (now sheet) (now starts) (now arena) (now lens) (Shown (now view)) scope cells (cells .count) (at .top) (at .levels + 1) (at .left + 1) (body (Node.Front first rest)) ⌝ }
+    requires { ⌜ Ready (now sheet) (now starts) (now arena) (now lens) (Shown (now view)) scope cells (cells .count) (at .top) (suc (at .levels)) (suc (at .left)) (body (Node.Front first rest)) ⌝ }
     ensures { λ r. ⌜ Gives (now (arena .entry)) (now (arena .exit)) (now (lens .entry)) (now (lens .exit)) (now (sheet .entry)) (Shown (now (view .entry))) scope cells (cells .count) (at .top) (at .left) 1 r (at .levels) (body (Node.Front first rest)) ⌝ }
 {
     let Shape::Front(mid) = value::shape_of(view) else {
@@ -324,7 +339,7 @@ fn put_pair(
     view: &[u8],
     at: At,
 ) -> Put
-    requires { ⌜ Ready (now sheet) (now starts) (now arena) (now lens) (Shown (now view)) scope cells (cells .count) (at .top) (at .levels + 1) (at .left + 1) (body (Node.Pair a b)) ⌝ }
+    requires { ⌜ Ready (now sheet) (now starts) (now arena) (now lens) (Shown (now view)) scope cells (cells .count) (at .top) (suc (at .levels)) (suc (at .left)) (body (Node.Pair a b)) ⌝ }
     ensures { λ r. ⌜ Gives (now (arena .entry)) (now (arena .exit)) (now (lens .entry)) (now (lens .exit)) (now (sheet .entry)) (Shown (now (view .entry))) scope cells (cells .count) (at .top) (at .left) 1 r (at .levels) (body (Node.Pair a b)) ⌝ }
 {
     let Shape::Pair(mid) = value::shape_of(view) else {
@@ -368,8 +383,9 @@ fn put_under(
     at: At,
 ) -> Put
     requires { ⌜ Ready (now sheet) (now starts) (now arena) (now lens) (Shown (now view)) scope cells (cells .count) (at .top) (at .levels) (spent + at .left) (inside kind branch subject vfalse vfalse) ⌝ }
+    requires { ⌜ Inner scope cells (at .levels) ⌝ }
     requires { ⌜ SomeSpans (now arena) (at .top) start first second ⌝ }
-    ensures { λ r. ⌜ ((f r : Value) → Spans (now (arena .entry)) (at .top) start first second f r → Gives (now (arena .entry)) (now (arena .exit)) (now (lens .entry)) (now (lens .exit)) (now (sheet .entry)) (Shown (now (view .entry))) scope cells (cells .count) (at .top) (at .left) spent r (at .levels) (inside kind branch subject f r)) ⌝ }
+    ensures { λ r. ⌜ ((f u : Value) → Spans (now (arena .entry)) (at .top) start first second f u → Gives (now (arena .entry)) (now (arena .exit)) (now (lens .entry)) (now (lens .exit)) (now (sheet .entry)) (Shown (now (view .entry))) scope cells (cells .count) (at .top) (at .left) spent r (at .levels) (inside kind branch subject f u)) ⌝ }
 {
     let n = cells.count;
     lens[n] = 0;
@@ -403,6 +419,19 @@ fn put_under(
     }
 }
 
+// The rest of a list (kind 3) is no list.
+fn unfit(kind: u8, rest: u8) -> bool
+    ensures { λ r. ⌜ r ≡ unfitRest kind rest ⌝ }
+{
+    if kind != 3 {
+        return false;
+    }
+    if rest < 2 {
+        return true;
+    }
+    3 < rest
+}
+
 // The subject, rebuilt of what the two variables of its branch stand for, into its node. Their cells are the next two.
 fn put_rebuilt(
     sheet: &[u8],
@@ -421,19 +450,15 @@ fn put_rebuilt(
 ) -> Put
     requires { ⌜ Ready (now sheet) (now starts) (now arena) (now lens) Any scope cells (cells .count + 2) (at .top) (at .levels) (spent + at .left) (rebuilt kind subject vfalse vfalse) ⌝ }
     requires { ⌜ SomeSpans (now arena) (at .top) start first second ⌝ }
-    ensures { λ r. ⌜ ((f r : Value) → Spans (now (arena .entry)) (at .top) start first second f r → Gives (now (arena .entry)) (now (arena .exit)) (now (lens .entry)) (now (lens .exit)) (now (sheet .entry)) Any scope cells (cells .count + 2) (at .top) (at .left) spent r (at .levels) (rebuilt kind subject f r)) ⌝ }
+    ensures { λ r. ⌜ ((f u : Value) → Spans (now (arena .entry)) (at .top) start first second f u → Gives (now (arena .entry)) (now (arena .exit)) (now (lens .entry)) (now (lens .exit)) (now (sheet .entry)) Any scope cells (cells .count + 2) (at .top) (at .left) spent r (at .levels) (rebuilt kind subject f u)) ⌝ }
 {
     let n = cells.count;
     let f = place_of(lens[n], n, start, first);
     let r = place_of(lens[n + 1], n + 1, start + first, second);
     let r_start = r.start;
     let rest_kind = arena[r_start];
-    if kind == 3 {
-        if rest_kind != 2 {
-            if rest_kind != 3 {
-                return Put::Refused(43);
-            }
-        }
+    if unfit(kind, rest_kind) {
+        return Put::Refused(43);
     }
     let size = 1 + f.len + r.len;
     if 256 < size {
@@ -473,7 +498,7 @@ fn put_list_case(
     view: &[u8],
     at: At,
 ) -> Put
-    requires { ⌜ Ready (now sheet) (now starts) (now arena) (now lens) (Shown (now view)) scope cells (cells .count) (at .top) (at .levels + 1) (at .left + 1) (body (Node.ListCase subject empty «empty_test» front «front_test» first rest)) ⌝ }
+    requires { ⌜ Ready (now sheet) (now starts) (now arena) (now lens) (Shown (now view)) scope cells (cells .count) (at .top) (suc (at .levels)) (suc (at .left)) (body (Node.ListCase subject empty «empty_test» front «front_test» first rest)) ⌝ }
     ensures { λ r. ⌜ Gives (now (arena .entry)) (now (arena .exit)) (now (lens .entry)) (now (lens .exit)) (now (sheet .entry)) (Shown (now (view .entry))) scope cells (cells .count) (at .top) (at .left) 1 r (at .levels) (body (Node.ListCase subject empty «empty_test» front «front_test» first rest)) ⌝ }
 {
     let top = at.top;
@@ -595,6 +620,8 @@ fn put_switch(
     at: At,
 ) -> Put
     requires { ⌜ Ready (now sheet) (now starts) (now arena) (now lens) (Shown (now view)) scope cells (cells .count) (at .top) (at .levels) (spent + at .left) (switch front subject first rest) ⌝ }
+    requires { ⌜ Inner scope cells (at .levels) ⌝ }
+    requires { ⌜ at .top + 512 + 513 * at .levels ≤ 65536 ⌝ }
     ensures { λ r. ⌜ Gives (now (arena .entry)) (now (arena .exit)) (now (lens .entry)) (now (lens .exit)) (now (sheet .entry)) (Shown (now (view .entry))) scope cells (cells .count) (at .top) (at .left) spent r (at .levels) (switch front subject first rest) ⌝ }
 {
     let top = at.top;
@@ -618,10 +645,11 @@ fn put_switch(
                 Walked::Refused(c) => Put::Refused(c),
                 Walked::Done { len: r, steps: t } => {
                     let kind = arena[mid];
-                    if kind != 2 {
-                        if kind != 3 {
-                            return Put::Refused(43);
-                        }
+                    if kind < 2 {
+                        return Put::Refused(43);
+                    }
+                    if 3 < kind {
+                        return Put::Refused(43);
                     }
                     let then = At {
                         levels: at.levels,
@@ -666,7 +694,7 @@ fn put_truth_case(
     view: &[u8],
     at: At,
 ) -> Put
-    requires { ⌜ Ready (now sheet) (now starts) (now arena) (now lens) (Shown (now view)) scope cells (cells .count) (at .top) (at .levels + 1) (at .left + 1) (body (Node.TruthCase subject no «no_test» yes «yes_test»)) ⌝ }
+    requires { ⌜ Ready (now sheet) (now starts) (now arena) (now lens) (Shown (now view)) scope cells (cells .count) (at .top) (suc (at .levels)) (suc (at .left)) (body (Node.TruthCase subject no «no_test» yes «yes_test»)) ⌝ }
     ensures { λ r. ⌜ Gives (now (arena .entry)) (now (arena .exit)) (now (lens .entry)) (now (lens .exit)) (now (sheet .entry)) (Shown (now (view .entry))) scope cells (cells .count) (at .top) (at .left) 1 r (at .levels) (body (Node.TruthCase subject no «no_test» yes «yes_test»)) ⌝ }
 {
     let top = at.top;
@@ -779,7 +807,7 @@ fn put_split(
     view: &[u8],
     at: At,
 ) -> Put
-    requires { ⌜ Ready (now sheet) (now starts) (now arena) (now lens) (Shown (now view)) scope cells (cells .count) (at .top) (at .levels + 1) (at .left + 1) (body (Node.Split subject node)) ⌝ }
+    requires { ⌜ Ready (now sheet) (now starts) (now arena) (now lens) (Shown (now view)) scope cells (cells .count) (at .top) (suc (at .levels)) (suc (at .left)) (body (Node.Split subject node)) ⌝ }
     ensures { λ r. ⌜ Gives (now (arena .entry)) (now (arena .exit)) (now (lens .entry)) (now (lens .exit)) (now (sheet .entry)) (Shown (now (view .entry))) scope cells (cells .count) (at .top) (at .left) 1 r (at .levels) (body (Node.Split subject node)) ⌝ }
 {
     let top = at.top;
@@ -840,7 +868,7 @@ fn put_call(
     view: &[u8],
     at: At,
 ) -> Put
-    requires { ⌜ Ready (now sheet) (now starts) (now arena) (now lens) (Shown (now view)) scope cells (cells .count) (at .top) (at .levels + 1) (at .left + 1) (body (Node.Call section x y)) ⌝ }
+    requires { ⌜ Ready (now sheet) (now starts) (now arena) (now lens) (Shown (now view)) scope cells (cells .count) (at .top) (suc (at .levels)) (suc (at .left)) (body (Node.Call section x y)) ⌝ }
     ensures { λ r. ⌜ Gives (now (arena .entry)) (now (arena .exit)) (now (lens .entry)) (now (lens .exit)) (now (sheet .entry)) (Shown (now (view .entry))) scope cells (cells .count) (at .top) (at .left) 1 r (at .levels) (body (Node.Call section x y)) ⌝ }
 {
     if scope.count <= x {
@@ -878,7 +906,7 @@ fn put_add(
     view: &[u8],
     at: At,
 ) -> Put
-    requires { ⌜ Ready (now sheet) (now starts) (now arena) (now lens) (Shown (now view)) scope cells (cells .count) (at .top) (at .levels + 1) (at .left + 1) (body (Node.Add node amount)) ⌝ }
+    requires { ⌜ Ready (now sheet) (now starts) (now arena) (now lens) (Shown (now view)) scope cells (cells .count) (at .top) (suc (at .levels)) (suc (at .left)) (body (Node.Add node amount)) ⌝ }
     ensures { λ r. ⌜ Gives (now (arena .entry)) (now (arena .exit)) (now (lens .entry)) (now (lens .exit)) (now (sheet .entry)) (Shown (now (view .entry))) scope cells (cells .count) (at .top) (at .left) 1 r (at .levels) (body (Node.Add node amount)) ⌝ }
 {
     let Shape::Number(m) = value::shape_of(view) else {

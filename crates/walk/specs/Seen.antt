@@ -1,0 +1,120 @@
+-- What the bytes of a value that stands in the arena tell of it: its kind byte, its shape, its two parts, the tests.
+use mathlib.Core.Path.{_≡_, refl, sym, ap, _∙_}
+use mathlib.Core.Bool.{Bool, true, false}
+use mathlib.Core.Option.{Option, none, some}
+use mathlib.Core.List.{List, [], _∷_, _++_}
+use Prim.Native.Nat.{ℕ, zero, suc, _+_, _-_, _≤_, _<_}
+use native.Mathlib.Nat.{le-refl}
+use native.Mathlib.Decide.{decLe}
+use native.Mathlib.Omega.{arith}
+use lib.ListN.{length, drop, getD, getElem?}
+use lib.Seq.{getD-take, getD-drop}
+use Rattle.value.specs.Value.{Value, Values, vfalse, vtrue, list, number, pair, nil, cons, encode, encodes, size, sizes, Encodable, eNumber}
+use Rattle.value.specs.Encoding.{size-encode, size-pos}
+use Rattle.value.specs.Views.{asList, asNumber, ifSmall}
+use Rattle.value.specs.Tests.{Passes, holds}
+use Rattle.value.specs.Laws.{Readable, readable-front, readable-pair}
+use Rattle.value.specs.Parts.{shapeOf, passesBytes}
+use Rattle.value.specs.PartsLaws.{shape, shape-whole, passes-whole}
+use Rattle.value.specs.declared.Shape.{Shape}
+use Rattle.walk.specs.Parts.{part, part-split}
+use Rattle.walk.specs.Arena.{Held, onStack}
+
+module _ {A : Type 0} where
+  pub elem-at : (l : List A) (i : ℕ) (d : A) → i < length l → getElem? l i ≡ some (getD l i d)
+  elem-at [] i d h = absurd (omega arith)
+  elem-at (a ∷ l) zero d h = refl
+  elem-at (a ∷ l) (suc i) d h = elem-at l i d (omega arith)
+
+  pub elem-none : (l : List A) (i : ℕ) → length l ≤ i → getElem? l i ≡ none
+  elem-none [] i h = refl
+  elem-none (a ∷ l) zero h = absurd (omega arith)
+  elem-none (a ∷ l) (suc i) h = elem-none l i (omega arith)
+
+-- the value v, from `start`
+module _ {a : List ℕ} {top start len : ℕ} {v : Value} (h : Held a top start len v) where
+  pub held-some : 1 ≤ len
+  held-some = omega (arith, h .long, size-pos v)
+
+  pub held-short : len ≤ 256
+  held-short = omega (arith, h .long, h .readable .fits)
+
+  -- the kind byte
+  pub held-head : getD a start 0 ≡ getD (encode v) 0 0
+  held-head =
+      let p = held-some in
+      let z : start + 0 ≡ start = omega arith in
+      ap (λ (i : ℕ). getD a i 0) (sym z) ∙ sym (getD-drop start a 0 0) ∙ sym (getD-take len (drop start a) 0 0 (omega arith)) ∙ ap (λ (l : List ℕ). getD l 0 0) (h .bytes)
+
+  -- what the bytes from `start` to `start + len` are taken for
+  same-part : part a start (start + len - start) ≡ encode v
+  same-part = let z : start + len - start ≡ len = omega arith in rw z (h .bytes)
+
+  pub held-shape : {q : Shape} → q ≡ shapeOf (part a start (start + len - start)) → q ≡ shape v
+  held-shape e = e ∙ ap shapeOf same-part ∙ shape-whole (h .readable)
+
+  pub held-passes : (t : ℕ) {p : Bool} → p ≡ passesBytes t (part a start (start + len - start)) → p ≡ holds t v
+  held-passes t e = e ∙ ap (passesBytes t) same-part ∙ passes-whole t (h .readable)
+
+module _ {A : Value → Type 0} where
+  -- a view of a value that is there
+  pub record View (o : (v : Value) → Option (A v)) (v : Value) : Type 0 where
+    pub seen : A v
+    pub is : o v ≡ some seen
+
+pub no-list : {a : List ℕ} {top start len : ℕ} {v : Value} → Held a top start len v → (2 ≤ getD a start 0 → getD a start 0 ≤ 3 → ⊥) → asList v ≡ none
+unfolding asList encode encodes
+no-list {a} {start = start} {v = v} h n = go v (held-head h)
+  where
+    go : (v : Value) → getD a start 0 ≡ getD (encode v) 0 0 → asList v ≡ none
+    go vfalse e = refl
+    go vtrue e = refl
+    go (list nil) e = absurd (n (omega arith) (omega arith))
+    go (list (cons f r)) e = absurd (n (omega arith) (omega arith))
+    go (number k) e = refl
+    go (pair x y) e = refl
+
+pub a-list : {a : List ℕ} {top start len : ℕ} {v : Value} → Held a top start len v → 2 ≤ getD a start 0 → getD a start 0 ≤ 3 → View asList v
+unfolding asList encode encodes
+a-list {a} {start = start} {v = v} h n m = go v (held-head h)
+  where
+    go : (v : Value) → getD a start 0 ≡ getD (encode v) 0 0 → View asList v
+    go vfalse e = absurd (omega arith)
+    go vtrue e = absurd (omega arith)
+    go (list l) e = record { seen = (l, refl); is = refl }
+    go (number k) e = absurd (omega arith)
+    go (pair x y) e = absurd (omega arith)
+
+parts : (a : List ℕ) (top len k n m : ℕ) (x y : List ℕ) → part a top len ≡ k ∷ (x ++ y) → length x ≡ n → len ≡ 1 + n + m → (part a (top + 1) n ≡ x) × (part a (top + 1 + n) m ≡ y)
+parts a top len k n m x y e l z =
+    let s : len ≡ 1 + (n + m) = omega arith in
+    let p = part-split a (k ∷ []) (x ++ y) top 1 (n + m) (rw s at e) refl in
+    part-split a x y (top + 1) n m (p .1) l
+
+-- two values that stand behind a kind byte; the second starts `mid` bytes behind the kind byte
+pub record TwoHeld (a : List ℕ) (top len mid : ℕ) (u v : Value) : Type 0 where
+  pub first : Held a (top + len) (top + 1) (mid - 1) u
+  pub second : Held a (top + len) (top + 1 + (mid - 1)) (len - mid) v
+  pub some : 1 ≤ mid
+  pub inside : mid ≤ len
+
+module _ {a : List ℕ} {top len : ℕ} (base : 32256 ≤ top) where
+  two-held : (k : ℕ) (u v : Value) → part a top len ≡ k ∷ (encode u ++ encode v) → len ≡ suc (size u + size v) → Readable u → Readable v → TwoHeld a top len (1 + size u) u v
+  two-held k u v e z g h =
+      let s : 1 + size u - 1 ≡ size u = omega arith in
+      let t : len - (1 + size u) ≡ size v = omega arith in
+      let p = parts a top len k (size u) (size v) (encode u) (encode v) e (size-encode u) (omega arith) in
+      record {
+        first = rw s (record { place = onStack (omega arith) (omega arith); long = refl; bytes = p .0; readable = g });
+        second = rw (s, t) (record { place = onStack (omega arith) (omega arith); long = refl; bytes = p .1; readable = h });
+        some = omega arith;
+        inside = omega arith;
+      }
+
+  pub held-front : {f : Value} {r : Values} → Held a (top + len) top len (list (cons f r)) → TwoHeld a top len (1 + size f) f (list r)
+  unfolding encode encodes size sizes
+  held-front {f} {r} h = two-held 3 f (list r) (h .bytes) (h .long) (readable-front (h .readable) .0) (readable-front (h .readable) .1)
+
+  pub held-pair : {u v : Value} → Held a (top + len) top len (pair u v) → TwoHeld a top len (1 + size u) u v
+  unfolding encode size
+  held-pair {u} {v} h = two-held 5 u v (h .bytes) (h .long) (readable-pair (h .readable) .0) (readable-pair (h .readable) .1)
