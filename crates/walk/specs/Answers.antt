@@ -1,7 +1,7 @@
 -- What a result says of an outcome under an allowance: rules that follow the definitions of get and put step by step.
-use mathlib.Core.Path.{_≡_, refl, sym, ap, _∙_}
+use mathlib.Core.Path.{_≡_}
 use mathlib.Core.Option.{Option, none, some}
-use Prim.Native.Nat.{ℕ, _+_, _-_, _≤_, _<_}
+use Prim.Native.Nat.{ℕ, _+_, _-_, _<_}
 use native.Mathlib.Omega.{arith}
 use Rattle.rules.specs.Outcome.{Out, done, refused, plus, steps, when, _>>=_, given}
 use Rattle.rules.specs.Allowance.{within}
@@ -34,6 +34,13 @@ module _ {A : Type 0} {S : A → ℕ → Type 0} {D : ℕ → Type 0} {spent : �
     pub refuse : (c : ℕ) → D c → Answers S D spent left (refused c 0)
     unfolding steps
     refuse c d = let o : Out A = refused c 0 in record { told = rw (within-yes left o (omega arith)) (denies d) }
+
+    -- the last call's answer is the answer
+    pub as-done : {o : Out A} {v : A} {m n : ℕ} → within left o ≡ done v m → n ≡ spent + m → S v n → Answers S D spent left o
+    as-done {n = n} e q p = record { told = rw e (serves n q p) }
+
+    pub as-refused : {o : Out A} {c s : ℕ} → within left o ≡ refused c s → D c → Answers S D spent left o
+    as-refused e d = record { told = rw e (denies d) }
 
     module _ {B : Type 0} where
       -- one call was done, and then the rest

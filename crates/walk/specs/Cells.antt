@@ -16,9 +16,9 @@ use Rattle.walk.specs.Parts.{part, Kept, part-kept, take-drop}
 use Rattle.walk.specs.Arena.{Below, inPlan, onStack, Held, Env, below-later}
 use Rattle.walk.specs.declared.scope.Scope.{Scope}
 use Rattle.walk.specs.declared.bytes.Span.{Span}
-use Rattle.walk.specs.declared.put.Cells.{Cells as Owners}
-use Rattle.walk.specs.declared.put.Put.{Put}
-use Rattle.walk.specs.declared.put.Put.the-variants.{Done, Refused}
+use Rattle.walk.specs.declared.putter.Cells.{Cells as Owners}
+use Rattle.walk.specs.declared.putter.Put.{Put}
+use Rattle.walk.specs.declared.putter.Put.the-variants.{Done, Refused}
 
 -- the bytes of the plan and of the stack below `top` are left alone
 pub record Frame (top : ℕ) (b a : List ℕ) : Type 0 where

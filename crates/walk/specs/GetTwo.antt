@@ -1,46 +1,44 @@
 -- Front and pair: what get shows at each return, and what its calls ask.
-use mathlib.Core.Path.{_≡_, refl, sym, ap, _∙_}
-use mathlib.Core.Option.{Option, none, some}
-use mathlib.Core.List.{List, [], _∷_, _++_, append-assoc}
-use Prim.Native.Nat.{ℕ, zero, suc, _+_, _-_, _*_, _≤_, _<_}
+use mathlib.Core.Path.{_≡_, refl, ap, _∙_}
+use mathlib.Core.List.{List, [], _∷_, _++_}
+use Prim.Native.Nat.{ℕ, suc, _+_, _-_, _≤_, _<_}
 use native.Mathlib.Nat.{le-refl}
 use native.Mathlib.Omega.{arith}
-use lib.ListN.{length, getD, set, length-set, length-append}
-use lib.Seq.{getD-set-same}
+use lib.ListN.{length, getD}
 use Rattle.value.specs.Result.{ok}
-use Rattle.value.specs.Value.{Value, Values as Rest, vfalse, vtrue, list, number, pair, nil, cons, encode, encodes, size, sizes, Fits}
-use Rattle.value.specs.Views.{asList}
-use Rattle.value.specs.Laws.{Readable, encodable-front}
-use Rattle.sheet.specs.declared.Node.{Node}
+use Rattle.value.specs.Value.{Value, list, pair, encode, encodes, size, sizes as rest-sizes, ePair}
+use Rattle.value.specs.Laws.{encodable-front}
 use Rattle.sheet.specs.declared.Node.the-variants.{Front, Pair}
 use Rattle.sheet.specs.Sheet.{Sheet, readSheet}
-use Rattle.rules.specs.Outcome.{Out, done, refused}
 use Rattle.rules.specs.Allowance.{within}
 use Rattle.rules.specs.Rules.{Env as Values, getNode, get, bounded}
 use Rattle.walk.specs.declared.scope.Scope.{Scope}
-use Rattle.walk.specs.declared.get.Walked.{Walked}
-use Rattle.walk.specs.declared.get.Walked.the-variants.{Done, Refused}
-use Rattle.walk.specs.Parts.{part, Kept, part-kept, kept-refl, kept-then, kept-set, part-join, part-one}
-use Rattle.walk.specs.Arena.{Held, onStack, Env, env-later, held-later}
-use Rattle.walk.specs.Answers.{Answers, finish, then-done, then-refused, give, give-none, give-yes, give-no}
-use Rattle.walk.specs.Gets.{Task, enter, body, run, Lent, Ready, Served, Denied, Gives, GotDone, got, not-got}
-
--- the kind byte k was written at the top
-pub record Marked (k top : ℕ) (b m : List ℕ) : Type 0 where
-  pub is : m ≡ set b top k
-  pub inside : top < length b
-
-marked-kept : {k top : ℕ} {b m : List ℕ} → Marked k top b m → Kept top b m
-marked-kept {k} {top} {b} w = rw (w .is) (kept-set top b top k (le-refl top))
-
-marked-part : {k top : ℕ} {b m : List ℕ} → Marked k top b m → part m top 1 ≡ k ∷ []
-marked-part {k} {top} {b} {m} w = rw (w .is) (part-one (set b top k) top (simp length-set (w .inside)) ∙ rw (getD-set-same b top k 0 (w .inside)))
+use Rattle.walk.specs.declared.Walked.{Walked}
+use Rattle.walk.specs.declared.Walked.the-variants.{Done, Refused}
+use Rattle.walk.specs.Parts.{part, Kept, part-kept, kept-then, part-join, Marked, marked-kept, marked-part}
+use Rattle.walk.specs.Arena.{onStack, Env, env-later}
+use Rattle.walk.specs.Seen.{no-list, a-list}
+use Rattle.walk.specs.Answers.{finish, then-done, then-refused, give, give-none, give-yes, give-no}
+use Rattle.walk.specs.Gets.{Task, enter, body, run, Ready, Gives, GotDone, got, not-got}
+use Rattle.walk.specs.GetReady.{ready-later, sizes}
 
 -- two values that stand one after the other behind a kind byte
 together : (a : List ℕ) (k top f r : ℕ) (u v : List ℕ) → part a top 1 ≡ k ∷ [] → part a (top + 1) f ≡ u → part a (top + 1 + f) r ≡ v → part a top (1 + f + r) ≡ k ∷ (u ++ v)
 together a k top f r u v e p q =
     let z : top + (1 + f) ≡ top + 1 + f = omega arith in
     part-join a top (1 + f) r ∙ rw (part-join a top 1 f, z, e, p, q)
+
+-- what the two calls ask
+module _ {k : ℕ} {b m s starts : List ℕ} {sc : Scope} {top l left x : ℕ} {t : Task} (w : Ready s starts b sc top (suc l) (suc left) t) (mk : Marked k top b m)
+    (hx : x < length (w .lent .sh .nodes)) where
+  pub two-ready₁ : Ready s starts m sc (top + 1) l left (enter x)
+  two-ready₁ = ready-later w (marked-kept mk) (top + 1) l left (omega arith) (omega (arith, w .few)) (omega (arith, w .room)) (omega arith) hx
+
+  pub two-ready₂ : {a₁ : List ℕ} {r₁ : Walked} {f n y : ℕ} → Gives m a₁ s sc (top + 1) (top + 1) left 0 r₁ l (enter x) → r₁ ≡ Done f n → y < length (w .lent .sh .nodes)
+      → Ready s starts a₁ sc (top + 1 + f) l (left - n) (enter y)
+  two-ready₂ {f = f} {n = n} g e hy =
+      let z = sizes two-ready₁ g e in
+      ready-later w (kept-then (marked-kept mk) (g .kept) (omega arith)) (top + 1 + f) l (left - n) (omega arith) (omega (arith, w .few)) (omega (arith, w .room, z .short)) (omega arith) hy
 
 -- a and b are got behind the kind byte, one after the other
 module _ {k : ℕ} {b m a₁ s : List ℕ} {sc : Scope} {top left : ℕ} {r₁ : Walked} {l x : ℕ}
@@ -106,3 +104,65 @@ module _ {k : ℕ} {b m a₁ s : List ℕ} {sc : Scope} {top left : ℕ} {r₁ :
         told = λ sh es μ w. let d = both sh es μ w in
             then-done _ _ (d .first .is) (then-done _ _ (d .second .is) (give-no _ _ _ (λ le. omega (arith, d .first .held .long, d .second .held .long)) (record { is = refl })));
       }
+
+      pub pair-done : k ≡ 5 → 1 + f + r ≤ 256 → Gives b a₂ s sc top top left 1 (Done (1 + f + r) (1 + n + t)) l (body (Pair x y))
+      unfolding run getNode bounded size encode
+      pair-done five le = record {
+        kept = kept₂;
+        told = λ sh es μ w.
+            let d = both sh es μ w in
+            let p : f ≡ size (d .first .value) = d .first .held .long in
+            let q : r ≡ size (d .second .value) = d .second .held .long in
+            then-done _ _ (d .first .is) (then-done _ _ (d .second .is) (give-yes _ _ _ (omega arith) (λ z. finish refl (record {
+              len = 1 + f + r;
+              is = refl;
+              held = record {
+                place = onStack base (omega arith);
+                long = omega arith;
+                bytes = d .bytes ∙ ap (λ (i : ℕ). i ∷ (encode (d .first .value) ++ encode (d .second .value))) five;
+                readable = record { fits = z; encodable = ePair (d .first .held .readable .encodable) (d .second .held .readable .encodable) };
+              };
+            }))));
+      }
+
+      pub front-43 : (2 ≤ getD a₂ (top + 1 + f) 0 → getD a₂ (top + 1 + f) 0 ≤ 3 → ⊥) → Gives b a₂ s sc top top left 1 (Refused 43) l (body (Front x y))
+      unfolding run getNode
+      front-43 other = record {
+        kept = kept₂;
+        told = λ sh es μ w. let d = both sh es μ w in
+            then-done _ _ (d .first .is) (then-done _ _ (d .second .is) (give-none _ _ (no-list (d .second .held) other) (record { is = refl })));
+      }
+
+      module _ (above : 2 ≤ getD a₂ (top + 1 + f) 0) (below : getD a₂ (top + 1 + f) 0 ≤ 3) where
+        pub front-44 : 256 < 1 + f + r → Gives b a₂ s sc top top left 1 (Refused 44) l (body (Front x y))
+        unfolding run getNode bounded size rest-sizes
+        front-44 lt = record {
+          kept = kept₂;
+          told = λ sh es μ w.
+              let d = both sh es μ w in
+              let m = a-list (d .second .held) above below in
+              let p : f ≡ size (d .first .value) = d .first .held .long in
+              let q : r ≡ size (list (m .seen .0)) = d .second .held .long ∙ ap size (m .seen .1) in
+              then-done _ _ (d .first .is) (then-done _ _ (d .second .is) (give _ _ (m .is) (give-no _ _ _ (λ le. omega arith) (record { is = refl }))));
+        }
+
+        pub front-done : k ≡ 3 → 1 + f + r ≤ 256 → Gives b a₂ s sc top top left 1 (Done (1 + f + r) (1 + n + t)) l (body (Front x y))
+        unfolding run getNode bounded size rest-sizes encode encodes
+        front-done three le = record {
+          kept = kept₂;
+          told = λ sh es μ w.
+              let d = both sh es μ w in
+              let m = a-list (d .second .held) above below in
+              let p : f ≡ size (d .first .value) = d .first .held .long in
+              let q : r ≡ size (list (m .seen .0)) = d .second .held .long ∙ ap size (m .seen .1) in
+              then-done _ _ (d .first .is) (then-done _ _ (d .second .is) (give _ _ (m .is) (give-yes _ _ _ (omega arith) (λ z. finish refl (record {
+                len = 1 + f + r;
+                is = refl;
+                held = record {
+                  place = onStack base (omega arith);
+                  long = omega arith;
+                  bytes = d .bytes ∙ ap (λ (v : Value). k ∷ (encode (d .first .value) ++ encode v)) (m .seen .1) ∙ ap (λ (i : ℕ). i ∷ (encode (d .first .value) ++ encode (list (m .seen .0)))) three;
+                  readable = record { fits = z; encodable = encodable-front (d .first .held .readable .encodable) (rw (m .seen .1) at (d .second .held .readable .encodable)) };
+                };
+              })))));
+        }

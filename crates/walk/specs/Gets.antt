@@ -1,26 +1,24 @@
 -- What a function of get may assume, and what it shows.
-use mathlib.Core.Path.{_≡_, refl, sym, ap, _∙_}
+use mathlib.Core.Path.{_≡_, ap}
 use mathlib.Core.List.{List}
-use Prim.Native.Nat.{ℕ, zero, suc, _+_, _-_, _*_, _≤_, _<_}
-use native.Mathlib.Nat.{le-refl}
+use Prim.Native.Nat.{ℕ, _+_, _-_, _*_, _≤_, _<_}
 use native.Mathlib.Omega.{arith}
-use lib.ListN.{length, getD}
+use lib.ListN.{length}
 use Rattle.value.specs.Result.{ok}
-use Rattle.value.specs.Value.{Value, size}
+use Rattle.value.specs.Value.{Value}
 use Rattle.sheet.specs.declared.Node.{Node}
-use Rattle.sheet.specs.declared.Node.the-variants.{False}
 use Rattle.sheet.specs.Sheet.{Sheet, readSheet}
-use Rattle.sheet.specs.Table.{tableOf, nodeAt}
-use Rattle.sheet.specs.Laws.{Ranged, sheet-ranges, node-read, table-start}
-use Rattle.rules.specs.Outcome.{Out, done, refused, plus}
+use Rattle.sheet.specs.Table.{tableOf}
+use Rattle.sheet.specs.Laws.{Ranged}
+use Rattle.rules.specs.Outcome.{Out, done, refused}
 use Rattle.rules.specs.Allowance.{within}
 use Rattle.rules.specs.Rules.{Env as Values, getNode, get, tested}
 use Rattle.walk.specs.declared.scope.Scope.{Scope}
-use Rattle.walk.specs.declared.get.Walked.{Walked}
-use Rattle.walk.specs.declared.get.Walked.the-variants.{Done, Refused}
-use Rattle.walk.specs.Parts.{Kept, kept-refl}
-use Rattle.walk.specs.Arena.{Held, Env, env-later}
-use Rattle.walk.specs.Answers.{Told, serves, denies, Answers, answer-by, refuse, step, no-step}
+use Rattle.walk.specs.declared.Walked.{Walked}
+use Rattle.walk.specs.declared.Walked.the-variants.{Done, Refused}
+use Rattle.walk.specs.Parts.{Kept}
+use Rattle.walk.specs.Arena.{Held, Env}
+use Rattle.walk.specs.Answers.{Told, serves, denies, Answers}
 
 -- what a function of get does: enter a node by its number, get a node's own value, or get a branch and judge it by its test
 pub data Task : Type 0 where
@@ -50,6 +48,7 @@ pub record Room (a : List ℕ) (sc : Scope) (top : ℕ) : Type 0 where
   pub long : length a ≡ 65536
   pub base : 32256 ≤ top
   pub room : top + 257 ≤ 65536
+  pub slots : sc .count ≤ 110
   pub env : Values
   pub scoped : Env a sc top env
 

@@ -4,7 +4,16 @@ pub mod Arena
 pub mod Seen
 pub mod Answers
 pub mod Gets
+pub mod GetReady
 pub mod GetTwo
+pub mod GetEnter
+pub mod GetLeaf
+pub mod GetBranch
+pub mod GetCase
+pub mod GetCall
+pub mod GetAdd
+pub mod Plan
+pub mod Entry
 pub mod Cells
 pub mod Puts
 pub mod Frames

@@ -2,11 +2,12 @@
 use mathlib.Core.Path.{_≡_, refl, sym, ap, _∙_}
 use mathlib.Core.List.{List, [], _∷_, _++_, append-assoc}
 use Prim.Native.Nat.{ℕ, zero, suc, _+_, _-_, _≤_, _<_}
-use native.Mathlib.Nat.{zero-add, suc-add}
+use native.Mathlib.Nat.{zero-add, suc-add, le-refl}
 use native.Mathlib.Numerals.{add-one}
 use native.Mathlib.Omega.{arith}
-use lib.ListN.{length, take, drop, getD, set, length-set, length-append, length-take, length-drop, List·getD-append}
-use lib.Seq.{take-nil, take-take, take-add, drop-drop, getD-append-add, getD-drop, getD-take, paste, paste-zero, paste-suc, length-paste, length-paste-head, length-take-le, take-at, drop-at, drop-cons, getD-set-same, getD-set-other, take-set-le}
+use native.Mathlib.Decide.{decLt}
+use lib.ListN.{length, take, drop, getD, set, length-set, length-drop, List·getD-append}
+use lib.Seq.{take-nil, take-take, take-add, drop-drop, getD-append-add, getD-drop, getD-take, paste, paste-zero, paste-suc, length-paste, length-paste-head, length-take-le, take-at, drop-at, drop-cons, getD-set-same, getD-set-other, take-set-le, ext-getD}
 
 -- the n bytes from index i
 abbrev pub part : List ℕ → ℕ → ℕ → List ℕ
@@ -58,6 +59,20 @@ part-split a x y i n m e l = (
   sym (take-take n (n + m) (drop i a) (omega arith)) ∙ ap (take n) e ∙ take-at x y n l,
   ap (take m) (sym (drop-drop n i a)) ∙ take-drop n m (drop i a) ∙ ap (drop n) e ∙ drop-at x y n l,
 )
+
+-- the byte k was written at `top`
+pub record Marked (k top : ℕ) (b m : List ℕ) : Type 0 where
+  pub is : m ≡ set b top k
+  pub inside : top < length b
+
+pub marked : (k top : ℕ) (b : List ℕ) → top < length b → Marked k top b (set b top k)
+marked k top b h = record { is = refl; inside = h }
+
+pub marked-kept : {k top : ℕ} {b m : List ℕ} → Marked k top b m → Kept top b m
+marked-kept {k} {top} {b} w = rw (w .is) (kept-set top b top k (le-refl top))
+
+pub marked-part : {k top : ℕ} {b m : List ℕ} → Marked k top b m → part m top 1 ≡ k ∷ []
+marked-part {k} {top} {b} {m} w = rw (w .is) (part-one (set b top k) top (simp length-set (w .inside)) ∙ rw (getD-set-same b top k 0 (w .inside)))
 
 -- A FORWARD COPY of n bytes within the arena: down, or to bytes that are disjoint, it reads each before it is overwritten
 
@@ -121,3 +136,34 @@ module _ {from to i : ℕ} {b a : List ℕ} (m : Copying from to i b a) (n : ℕ
   copying-all e =
       let made : a ≡ paste b to (drop from b) n = m .made ∙ ap (paste b to (drop from b)) e in
       rw made (record { kept = copied-kept b from to n hf ht; bytes = copied-part b from to n hf ht })
+
+-- BYTES COPIED TO THE FRONT
+
+-- s stands at the front
+pub record CopiedIn (s b a : List ℕ) : Type 0 where
+  pub bytes : part a 0 (length s) ≡ s
+  pub long : length a ≡ length b
+
+-- i bytes of it are copied
+pub record CopyingIn (i : ℕ) (s b a : List ℕ) : Type 0 where
+  pub long : length a ≡ length b
+  pub same : (j : ℕ) → j < i → getD a j 0 ≡ getD s j 0
+
+pub copying-in-none : (s b : List ℕ) → CopyingIn 0 s b b
+copying-in-none s b = record { long = refl; same = λ j h. absurd (omega arith) }
+
+module _ {i : ℕ} {s b a : List ℕ} (m : CopyingIn i s b a) where
+  pub copying-in-more : i < length b → CopyingIn (i + 1) s b (set a i (getD s i 0))
+  copying-in-more h = record { long = length-set a i (getD s i 0) ∙ m .long; same = λ j lt. go j lt (decLt j i) }
+    where
+      go : (j : ℕ) → j < i + 1 → Dec (j < i) → getD (set a i (getD s i 0)) j 0 ≡ getD s j 0
+      go j lt (yes y) = getD-set-other a i j (getD s i 0) 0 (λ e. omega arith) ∙ m .same j y
+      go j lt (no n) = let e : j ≡ i = omega arith in rw e (getD-set-same a i (getD s i 0) 0 (omega (arith, m .long)))
+
+  pub copying-in-all : length s ≤ i → length s ≤ length b → CopiedIn s b a
+  copying-in-all h k =
+      let l : length (part a 0 (length s)) ≡ length s = part-length a 0 (length s) (omega (arith, m .long)) in
+      record {
+        bytes = ext-getD 0 (part a 0 (length s)) s l (λ j lt. getD-take (length s) a j 0 (omega arith) ∙ m .same j (omega arith));
+        long = m .long;
+      }

@@ -22,18 +22,18 @@ use Rattle.rules.specs.Outcome.{Out, done, refused, choose, _>>=_}
 use Rattle.rules.specs.Allowance.{within}
 use Rattle.rules.specs.Rules.{Env as Values, Cells, get, putNode, onList, mkList, mkPair, both, under}
 use Rattle.walk.specs.declared.scope.Scope.{Scope}
-use Rattle.walk.specs.declared.get.Walked.{Walked}
-use Rattle.walk.specs.declared.get.Walked.the-variants as walked
-use Rattle.walk.specs.declared.put.Put.{Put}
-use Rattle.walk.specs.declared.put.Put.the-variants.{Done, Refused}
-use Rattle.walk.specs.declared.put.Cells.{Cells as Owners}
+use Rattle.walk.specs.declared.Walked.{Walked}
+use Rattle.walk.specs.declared.Walked.the-variants as walked
+use Rattle.walk.specs.declared.putter.Put.{Put}
+use Rattle.walk.specs.declared.putter.Put.the-variants.{Done, Refused}
+use Rattle.walk.specs.declared.putter.Cells.{Cells as Owners}
 use Rattle.walk.specs.Parts.{part, Kept}
 use Rattle.walk.specs.Arena.{Held, Env}
 use Rattle.walk.specs.Seen.{held-shape, held-short, held-some, TwoHeld, held-front, held-pair}
 use Rattle.walk.specs.Answers.{Answers, then-done, then-refused, give, give-none}
 use Rattle.walk.specs.Cells.{Shown, Frame}
 use Rattle.walk.specs.Frames.{frame-then, kept-frame}
-use Rattle.walk.specs.Shapes.{FrontOf, PairOf, front-of, pair-of, no-pair, empty-of, false-of, true-of, no-list, no-truth}
+use Rattle.walk.specs.Shapes.{FrontOf, PairOf, front-of, pair-of, no-pair, empty-of, false-of, true-of, no-list, no-truth, shape-is}
 use Rattle.walk.specs.Gets as gets
 use Rattle.walk.specs.PutRules.{choose-first, choose-second, choose-none, got-few, got-levels, given-later}
 use Rattle.walk.specs.PutTwo.{ready-for}
@@ -110,10 +110,10 @@ pub record Had (a : List ℕ) (top len k left l x : ℕ) (q : Shape) (sh : Sheet
 
 -- two values that stand in the subject
 pub spans-front : {a : List ℕ} {top len mid : ℕ} {o : Value} → 32256 ≤ top → Held a (top + len) top len o → (f : FrontOf o mid) → Spans a (top + len) (top + 1) (mid - 1) (len - mid) (f .first) (list (f .rest))
-spans-front base h f = rw (f .at) (let t = held-front base (rw (f .whole) at h) in record { one = t .first; two = t .second })
+spans-front base h f = let t = held-front base (f .at) (rw (f .whole) at h) in record { one = t .first; two = t .second }
 
 pub spans-pair : {a : List ℕ} {top len mid : ℕ} {o : Value} → 32256 ≤ top → Held a (top + len) top len o → (f : PairOf o mid) → Spans a (top + len) (top + 1) (mid - 1) (len - mid) (f .first) (f .second)
-spans-pair base h f = rw (f .at) (let t = held-pair base (rw (f .whole) at h) in record { one = t .first; two = t .second })
+spans-pair base h f = let t = held-pair base (f .at) (rw (f .whole) at h) in record { one = t .first; two = t .second }
 
 module _ {b a₁ s : List ℕ} {sc : Scope} {top left : ℕ} {r₀ : Walked} {l x : ℕ} (base : 32256 ≤ top) (g₀ : gets.Gives b a₁ s sc top top left 0 r₀ l (gets.enter x))
     {len k : ℕ} (e₀ : r₀ ≡ walked.Done len k) where
@@ -146,7 +146,7 @@ module _ {b a₁ s : List ℕ} {sc : Scope} {top left : ℕ} {r₀ : Walked} {l 
     pub had : {sh : Sheet} {μ : Values} {lens : List ℕ} {P : Value → Type 0} {cells : Owners} {m : ℕ} {σ : List ℕ} {v : Value} {W : Cells} → Given b lens s P sc cells m top sh μ σ v W
         → Had a₁ top len k left l x q sh μ
     unfolding gets.run
-    had w = let d = gets.got g₀ _ (w .read) _ (w .scoped) e₀ in record { value = d .value; is = d .is; held = d .held; shaped = held-shape (d .held) eq }
+    had w = let d = gets.got g₀ _ (w .read) _ (w .scoped) e₀ in record { value = d .value; is = d .is; held = d .held; shaped = shape-is (held-shape (d .held) eq) }
 
     -- the spans for the branch, and the room for a switch
     pub front-spans : {starts lens : List ℕ} {P : Value → Type 0} {cells : Owners} {m levels total mid : ℕ} {T : Task} → Ready s starts b lens P sc cells m top levels total T → q ≡ is.Front mid

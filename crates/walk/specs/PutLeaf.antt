@@ -17,9 +17,9 @@ use Rattle.sheet.specs.declared.Node.the-variants.{Var, False, True, Empty, Num
 use Rattle.sheet.specs.Sheet.{Sheet}
 use Rattle.rules.specs.Rules.{Env as Values, Cells, putNode, constant, write}
 use Rattle.walk.specs.declared.scope.Scope.{Scope}
-use Rattle.walk.specs.declared.put.Put.{Put}
-use Rattle.walk.specs.declared.put.Put.the-variants.{Done, Refused}
-use Rattle.walk.specs.declared.put.Cells.{Cells as Owners}
+use Rattle.walk.specs.declared.putter.Put.{Put}
+use Rattle.walk.specs.declared.putter.Put.the-variants.{Done, Refused}
+use Rattle.walk.specs.declared.putter.Cells.{Cells as Owners}
 use Rattle.walk.specs.Parts.{part}
 use Rattle.walk.specs.Seen.{elem-at, elem-none}
 use Rattle.walk.specs.Answers.{Answers, answer-by, finish, give, give-none, give-yes, give-no}

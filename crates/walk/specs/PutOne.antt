@@ -17,9 +17,9 @@ use Rattle.sheet.specs.Table.{sectionAt}
 use Rattle.sheet.specs.Laws.{section-read, sheet-ranges}
 use Rattle.rules.specs.Rules.{Env as Values, Cells, two, putNode}
 use Rattle.walk.specs.declared.scope.Scope.{Scope}
-use Rattle.walk.specs.declared.put.Put.{Put}
-use Rattle.walk.specs.declared.put.Put.the-variants.{Done, Refused}
-use Rattle.walk.specs.declared.put.Cells.{Cells as Owners}
+use Rattle.walk.specs.declared.putter.Put.{Put}
+use Rattle.walk.specs.declared.putter.Put.the-variants.{Done, Refused}
+use Rattle.walk.specs.declared.putter.Cells.{Cells as Owners}
 use Rattle.walk.specs.Scope.{picked}
 use Rattle.walk.specs.Arena.{env-pick}
 use Rattle.walk.specs.Seen.{elem-at, elem-none}

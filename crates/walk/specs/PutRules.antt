@@ -14,11 +14,11 @@ use Rattle.rules.specs.Allowance.{within}
 use Rattle.rules.specs.AllowanceLaws.{within-yes, within-done}
 use Rattle.rules.specs.Rules.{Env as Values, Cells, get, put}
 use Rattle.walk.specs.declared.scope.Scope.{Scope}
-use Rattle.walk.specs.declared.get.Walked.{Walked}
-use Rattle.walk.specs.declared.get.Walked.the-variants as walked
-use Rattle.walk.specs.declared.put.Put.{Put}
-use Rattle.walk.specs.declared.put.Put.the-variants.{Done, Refused}
-use Rattle.walk.specs.declared.put.Cells.{Cells as Owners}
+use Rattle.walk.specs.declared.Walked.{Walked}
+use Rattle.walk.specs.declared.Walked.the-variants as walked
+use Rattle.walk.specs.declared.putter.Put.{Put}
+use Rattle.walk.specs.declared.putter.Put.the-variants.{Done, Refused}
+use Rattle.walk.specs.declared.putter.Cells.{Cells as Owners}
 use Rattle.walk.specs.Parts.{Kept}
 use Rattle.walk.specs.Arena.{Env, env-later}
 use Rattle.walk.specs.Answers.{Told, serves, denies, Answers, refuse}

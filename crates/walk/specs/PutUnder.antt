@@ -19,9 +19,9 @@ use Rattle.rules.specs.Outcome.{Out, _>>=_}
 use Rattle.rules.specs.Rules.{Env as Values, Cells, Putter, two, orOld, under, mkList, mkPair}
 use Rattle.walk.specs.declared.scope.Scope.{Scope}
 use Rattle.walk.specs.declared.bytes.Span.{Span}
-use Rattle.walk.specs.declared.put.Put.{Put}
-use Rattle.walk.specs.declared.put.Put.the-variants.{Done, Refused}
-use Rattle.walk.specs.declared.put.Cells.{Cells as Owners}
+use Rattle.walk.specs.declared.putter.Put.{Put}
+use Rattle.walk.specs.declared.putter.Put.the-variants.{Done, Refused}
+use Rattle.walk.specs.declared.putter.Cells.{Cells as Owners}
 use Rattle.walk.specs.Scope.{pushed}
 use Rattle.walk.specs.Parts.{part}
 use Rattle.walk.specs.Arena.{Held, Env, env-push, below-ends}

@@ -1,22 +1,21 @@
 -- What the bytes of a value that stands in the arena tell of it: its kind byte, its shape, its two parts, the tests.
 use mathlib.Core.Path.{_≡_, refl, sym, ap, _∙_}
-use mathlib.Core.Bool.{Bool, true, false}
+use mathlib.Core.Bool.{Bool}
 use mathlib.Core.Option.{Option, none, some}
 use mathlib.Core.List.{List, [], _∷_, _++_}
 use Prim.Native.Nat.{ℕ, zero, suc, _+_, _-_, _≤_, _<_}
-use native.Mathlib.Nat.{le-refl}
-use native.Mathlib.Decide.{decLe}
 use native.Mathlib.Omega.{arith}
 use lib.ListN.{length, drop, getD, getElem?}
 use lib.Seq.{getD-take, getD-drop}
-use Rattle.value.specs.Value.{Value, Values, vfalse, vtrue, list, number, pair, nil, cons, encode, encodes, size, sizes, Encodable, eNumber}
+use Rattle.value.specs.Value.{Value, Values, vfalse, vtrue, list, number, pair, nil, cons, encode, encodes, size, sizes}
 use Rattle.value.specs.Encoding.{size-encode, size-pos}
-use Rattle.value.specs.Views.{asList, asNumber, ifSmall}
-use Rattle.value.specs.Tests.{Passes, holds}
+use Rattle.value.specs.Views.{asList}
+use Rattle.value.specs.Tests.{holds}
 use Rattle.value.specs.Laws.{Readable, readable-front, readable-pair}
 use Rattle.value.specs.Parts.{shapeOf, passesBytes}
 use Rattle.value.specs.PartsLaws.{shape, shape-whole, passes-whole}
 use Rattle.value.specs.declared.Shape.{Shape}
+use Rattle.value.specs.declared.Shape.the-variants as shapes
 use Rattle.walk.specs.Parts.{part, part-split}
 use Rattle.walk.specs.Arena.{Held, onStack}
 
@@ -30,6 +29,27 @@ module _ {A : Type 0} where
   elem-none [] i h = refl
   elem-none (a ∷ l) zero h = absurd (omega arith)
   elem-none (a ∷ l) (suc i) h = elem-none l i (omega arith)
+
+-- a value and its shape; a second part starts behind the kind byte and the first part
+pub data Shaped : Value → Shape → Type 0 where
+  isFalse : Shaped vfalse shapes.False
+  isTrue : Shaped vtrue shapes.True
+  isEmpty : Shaped (list nil) shapes.Empty
+  isFront : {f : Value} {r : Values} {mid : ℕ} → mid ≡ 1 + size f → Shaped (list (cons f r)) (shapes.Front mid)
+  isNumber : {n : ℕ} → Shaped (number n) (shapes.Number n)
+  isPair : {x y : Value} {mid : ℕ} → mid ≡ 1 + size x → Shaped (pair x y) (shapes.Pair mid)
+
+shaped : (v : Value) {q : Shape} → q ≡ shape v → Shaped v q
+unfolding shape
+shaped vfalse e = rw e isFalse
+shaped vtrue e = rw e isTrue
+shaped (list nil) e = rw e isEmpty
+shaped (list (cons f r)) e = rw e (isFront refl)
+shaped (number n) e = rw e isNumber
+shaped (pair x y) e = rw e (isPair refl)
+
+pub shaped-as : {v : Value} {q q′ : Shape} → Shaped v q → q ≡ q′ → Shaped v q′
+shaped-as s e = rw e at s
 
 -- the value v, from `start`
 module _ {a : List ℕ} {top start len : ℕ} {v : Value} (h : Held a top start len v) where
@@ -50,8 +70,8 @@ module _ {a : List ℕ} {top start len : ℕ} {v : Value} (h : Held a top start 
   same-part : part a start (start + len - start) ≡ encode v
   same-part = let z : start + len - start ≡ len = omega arith in rw z (h .bytes)
 
-  pub held-shape : {q : Shape} → q ≡ shapeOf (part a start (start + len - start)) → q ≡ shape v
-  held-shape e = e ∙ ap shapeOf same-part ∙ shape-whole (h .readable)
+  pub held-shape : {q : Shape} → q ≡ shapeOf (part a start (start + len - start)) → Shaped v q
+  held-shape e = shaped v (e ∙ ap shapeOf same-part ∙ shape-whole (h .readable))
 
   pub held-passes : (t : ℕ) {p : Bool} → p ≡ passesBytes t (part a start (start + len - start)) → p ≡ holds t v
   held-passes t e = e ∙ ap (passesBytes t) same-part ∙ passes-whole t (h .readable)
@@ -111,10 +131,10 @@ module _ {a : List ℕ} {top len : ℕ} (base : 32256 ≤ top) where
         inside = omega arith;
       }
 
-  pub held-front : {f : Value} {r : Values} → Held a (top + len) top len (list (cons f r)) → TwoHeld a top len (1 + size f) f (list r)
+  pub held-front : {f : Value} {r : Values} {mid : ℕ} → mid ≡ 1 + size f → Held a (top + len) top len (list (cons f r)) → TwoHeld a top len mid f (list r)
   unfolding encode encodes size sizes
-  held-front {f} {r} h = two-held 3 f (list r) (h .bytes) (h .long) (readable-front (h .readable) .0) (readable-front (h .readable) .1)
+  held-front {f} {r} e h = rw e (two-held 3 f (list r) (h .bytes) (h .long) (readable-front (h .readable) .0) (readable-front (h .readable) .1))
 
-  pub held-pair : {u v : Value} → Held a (top + len) top len (pair u v) → TwoHeld a top len (1 + size u) u v
+  pub held-pair : {u v : Value} {mid : ℕ} → mid ≡ 1 + size u → Held a (top + len) top len (pair u v) → TwoHeld a top len mid u v
   unfolding encode size
-  held-pair {u} {v} h = two-held 5 u v (h .bytes) (h .long) (readable-pair (h .readable) .0) (readable-pair (h .readable) .1)
+  held-pair {u} {v} e h = rw e (two-held 5 u v (h .bytes) (h .long) (readable-pair (h .readable) .0) (readable-pair (h .readable) .1))

@@ -12,6 +12,7 @@ use Rattle.value.specs.Laws.{Readable}
 use Rattle.value.specs.PartsLaws.{shape}
 use Rattle.value.specs.declared.Shape.{Shape}
 use Rattle.value.specs.declared.Shape.the-variants as is
+use Rattle.walk.specs.Seen.{Shaped, isFalse, isTrue, isEmpty, isFront, isNumber, isPair}
 
 -- a list with members
 pub record FrontOf (v : Value) (mid : ℕ) : Type 0 where
@@ -111,6 +112,15 @@ no-number (number k) n = absurd (n _ refl)
 no-number (pair a b) n = refl
 
 -- THE SUBJECT OF A CASE
+
+pub shape-is : {v : Value} {q : Shape} → Shaped v q → q ≡ shape v
+unfolding shape
+shape-is isFalse = refl
+shape-is isTrue = refl
+shape-is isEmpty = refl
+shape-is (isFront e) = ap is.Front e
+shape-is isNumber = refl
+shape-is (isPair e) = ap is.Pair e
 
 pub empty-of : (v : Value) → is.Empty ≡ shape v → v ≡ list nil
 unfolding shape which

@@ -10,8 +10,8 @@ use lib.ListN.{length, drop, getD, set, length-set, length-drop}
 use lib.Seq.{paste, paste-zero, paste-suc, getD-drop}
 use borrow.Author.Tests.{ne-eqb, eq-eqb, lt-ltb, le-ltb}
 use Rattle.walk.specs.declared.bytes.Span.{Span}
-use Rattle.walk.specs.declared.put.Put.{Put}
-use Rattle.walk.specs.declared.put.Put.the-variants.{Done, Refused}
+use Rattle.walk.specs.declared.putter.Put.{Put}
+use Rattle.walk.specs.declared.putter.Put.the-variants.{Done, Refused}
 use Rattle.walk.specs.Cells.{placeOf, judged, unfitRest}
 
 -- i elements are copied

@@ -3,7 +3,7 @@ ghost use mathlib.Core.Path.{_≡_};
 ghost use Prim.Native.Nat.{_+_, _≤_, _<_};
 ghost use lib.ListN.{length, drop};
 ghost use lib.Seq.{paste};
-ghost use Rattle.walk.specs.Parts.{Apart, Copied};
+ghost use Rattle.walk.specs.Parts.{Apart, Copied, CopiedIn};
 ghost use Rattle.walk.specs.Cells.{placeOf, rebuiltBytes};
 
 /// Copies n bytes of the arena from one place to another, forwards.
@@ -15,6 +15,18 @@ pub fn copy(arena: &mut [u8], from: usize, to: usize, n: usize)
     let mut i = 0;
     while i < n {
         arena[to + i] = arena[from + i];
+        i += 1;
+    }
+}
+
+/// Copies bytes to the front of the arena.
+pub fn copy_in(from: &[u8], arena: &mut [u8])
+    requires { ⌜ length (now from) ≤ length (now arena) ⌝ }
+    ensures { λ _. ⌜ CopiedIn (now (from .entry)) (now (arena .entry)) (now (arena .exit)) ⌝ }
+{
+    let mut i = 0;
+    while i < from.len() {
+        arena[i] = from[i];
         i += 1;
     }
 }

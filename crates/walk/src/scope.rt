@@ -1,7 +1,8 @@
 //! The scope: where the variables' values stand in the arena.
 ghost use mathlib.Core.Path.{_≡_};
 ghost use Prim.Native.Nat.{_+_, _<_, _≤_};
-ghost use Rattle.walk.specs.Scope.{noVariable, pushed, picked};
+ghost use Rattle.walk.specs.Scope.{noVariable, pushed, picked, Spanned};
+use value::Spans;
 
 /// The variables in scope, at most 110: where each one's bytes start and how many they are.
 pub struct Scope {
@@ -58,4 +59,24 @@ pub fn pick_two(scope: Scope, x: usize, y: usize) -> Scope
     s.lens[1] = y_len;
     s.count = 2;
     s
+}
+
+/// The k variables of a plan, whose values stand at its spans.
+pub fn of_spans(k: usize, spans: Spans) -> Scope
+    requires { ⌜ k ≤ 16 ⌝ }
+    ensures { λ r. ⌜ Spanned k (spans .starts) (spans .lens) r ⌝ }
+{
+    let mut starts = [0u16; 110];
+    let mut lens = [0u16; 110];
+    let mut i = 0;
+    while i < k {
+        starts[i] = spans.starts[i];
+        lens[i] = spans.lens[i];
+        i += 1;
+    }
+    Scope {
+        count: k,
+        starts,
+        lens,
+    }
 }

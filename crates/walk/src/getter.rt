@@ -1,9 +1,10 @@
 //! Get: the value of a node, written to the arena at the top of its stack. One function a kind.
 ghost use mathlib.Core.Path.{_≡_};
 ghost use mathlib.Core.List.{List};
-ghost use Prim.Native.Nat.{ℕ, _+_, _/_, _%_, _≤_, _<_};
+ghost use Prim.Native.Nat.{ℕ, suc, _+_, _/_, _%_, _≤_, _<_};
 ghost use lib.ListN.{length, set};
 ghost use Rattle.walk.specs.Gets.{Room, Ready, Gives, enter, body, branch};
+use crate::Walked;
 use crate::bytes::copy;
 use crate::scope::Scope;
 use crate::scope::pick_two;
@@ -16,12 +17,6 @@ pub struct At {
     pub levels: usize,
     pub left: usize,
     pub top: usize,
-}
-
-/// What a get gives: a value of `len` bytes at the top and the steps taken, or a refusal.
-pub enum Walked {
-    Done { len: usize, steps: usize },
-    Refused(u8),
 }
 
 fn get_var(arena: &mut [u8], scope: Scope, x: usize, top: usize) -> Walked
@@ -156,7 +151,7 @@ fn get_front(
     rest: usize,
     at: At,
 ) -> Walked
-    requires { ⌜ Ready (now sheet) (now starts) (now arena) scope (at .top) (at .levels + 1) (at .left + 1) (body (Node.Front first rest)) ⌝ }
+    requires { ⌜ Ready (now sheet) (now starts) (now arena) scope (at .top) (suc (at .levels)) (suc (at .left)) (body (Node.Front first rest)) ⌝ }
     ensures { λ r. ⌜ Gives (now (arena .entry)) (now (arena .exit)) (now (sheet .entry)) scope (at .top) (at .top) (at .left) 1 r (at .levels) (body (Node.Front first rest)) ⌝ }
 {
     let top = at.top;
@@ -192,10 +187,11 @@ fn get_front(
                 Walked::Refused(c) => Walked::Refused(c),
                 Walked::Done { len: r, steps: t } => {
                     let kind = arena[mid];
-                    if kind != 2 {
-                        if kind != 3 {
-                            return Walked::Refused(43);
-                        }
+                    if kind < 2 {
+                        return Walked::Refused(43);
+                    }
+                    if 3 < kind {
+                        return Walked::Refused(43);
                     }
                     if 256 < 1 + f + r {
                         return Walked::Refused(44);
@@ -219,7 +215,7 @@ fn get_pair(
     b: usize,
     at: At,
 ) -> Walked
-    requires { ⌜ Ready (now sheet) (now starts) (now arena) scope (at .top) (at .levels + 1) (at .left + 1) (body (Node.Pair a b)) ⌝ }
+    requires { ⌜ Ready (now sheet) (now starts) (now arena) scope (at .top) (suc (at .levels)) (suc (at .left)) (body (Node.Pair a b)) ⌝ }
     ensures { λ r. ⌜ Gives (now (arena .entry)) (now (arena .exit)) (now (sheet .entry)) scope (at .top) (at .top) (at .left) 1 r (at .levels) (body (Node.Pair a b)) ⌝ }
 {
     let top = at.top;
@@ -314,7 +310,7 @@ fn get_list_case(
     rest: usize,
     at: At,
 ) -> Walked
-    requires { ⌜ Ready (now sheet) (now starts) (now arena) scope (at .top) (at .levels + 1) (at .left + 1) (body (Node.ListCase subject empty «empty_test» front «front_test» first rest)) ⌝ }
+    requires { ⌜ Ready (now sheet) (now starts) (now arena) scope (at .top) (suc (at .levels)) (suc (at .left)) (body (Node.ListCase subject empty «empty_test» front «front_test» first rest)) ⌝ }
     ensures { λ r. ⌜ Gives (now (arena .entry)) (now (arena .exit)) (now (sheet .entry)) scope (at .top) (at .top) (at .left) 1 r (at .levels) (body (Node.ListCase subject empty «empty_test» front «front_test» first rest)) ⌝ }
 {
     let top = at.top;
@@ -382,7 +378,7 @@ fn get_truth_case(
     yes_test: u8,
     at: At,
 ) -> Walked
-    requires { ⌜ Ready (now sheet) (now starts) (now arena) scope (at .top) (at .levels + 1) (at .left + 1) (body (Node.TruthCase subject no «no_test» yes «yes_test»)) ⌝ }
+    requires { ⌜ Ready (now sheet) (now starts) (now arena) scope (at .top) (suc (at .levels)) (suc (at .left)) (body (Node.TruthCase subject no «no_test» yes «yes_test»)) ⌝ }
     ensures { λ r. ⌜ Gives (now (arena .entry)) (now (arena .exit)) (now (sheet .entry)) scope (at .top) (at .top) (at .left) 1 r (at .levels) (body (Node.TruthCase subject no «no_test» yes «yes_test»)) ⌝ }
 {
     let top = at.top;
@@ -445,7 +441,7 @@ fn get_split(
     node: usize,
     at: At,
 ) -> Walked
-    requires { ⌜ Ready (now sheet) (now starts) (now arena) scope (at .top) (at .levels + 1) (at .left + 1) (body (Node.Split subject node)) ⌝ }
+    requires { ⌜ Ready (now sheet) (now starts) (now arena) scope (at .top) (suc (at .levels)) (suc (at .left)) (body (Node.Split subject node)) ⌝ }
     ensures { λ r. ⌜ Gives (now (arena .entry)) (now (arena .exit)) (now (sheet .entry)) scope (at .top) (at .top) (at .left) 1 r (at .levels) (body (Node.Split subject node)) ⌝ }
 {
     let top = at.top;
@@ -490,7 +486,7 @@ fn get_call(
     y: usize,
     at: At,
 ) -> Walked
-    requires { ⌜ Ready (now sheet) (now starts) (now arena) scope (at .top) (at .levels + 1) (at .left + 1) (body (Node.Call section x y)) ⌝ }
+    requires { ⌜ Ready (now sheet) (now starts) (now arena) scope (at .top) (suc (at .levels)) (suc (at .left)) (body (Node.Call section x y)) ⌝ }
     ensures { λ r. ⌜ Gives (now (arena .entry)) (now (arena .exit)) (now (sheet .entry)) scope (at .top) (at .top) (at .left) 1 r (at .levels) (body (Node.Call section x y)) ⌝ }
 {
     if scope.count <= x {
@@ -518,7 +514,7 @@ fn get_add(
     amount: u16,
     at: At,
 ) -> Walked
-    requires { ⌜ Ready (now sheet) (now starts) (now arena) scope (at .top) (at .levels + 1) (at .left + 1) (body (Node.Add node amount)) ⌝ }
+    requires { ⌜ Ready (now sheet) (now starts) (now arena) scope (at .top) (suc (at .levels)) (suc (at .left)) (body (Node.Add node amount)) ⌝ }
     ensures { λ r. ⌜ Gives (now (arena .entry)) (now (arena .exit)) (now (sheet .entry)) scope (at .top) (at .top) (at .left) 1 r (at .levels) (body (Node.Add node amount)) ⌝ }
 {
     let top = at.top;

@@ -1,0 +1,200 @@
+-- Get on bytes: what the entry shows of its answer, and that it is the rules' answer.
+use mathlib.Core.Path.{_≡_, refl, sym, ap, _∙_}
+use mathlib.Core.List.{List, _++_, map}
+use Prim.Native.Nat.{ℕ, _+_, _-_, _≤_, _<_}
+use native.Mathlib.Omega.{arith}
+use lib.ListN.{length, take, drop, getD, length-append, length-drop}
+use lib.Seq.{length-take-le, drop-at, drop-append-le, take-append-le}
+use Rattle.value.specs.Result.{ok, refusal}
+use Rattle.value.specs.Value.{Value, vfalse, encode, size, flat}
+use Rattle.value.specs.Encoding.{size-encode}
+use Rattle.value.specs.Laws.{ReadAs, readValues-sound}
+use Rattle.value.specs.Reading.{readPlan}
+use Rattle.value.specs.Spans.{places, starts, spansOf}
+use Rattle.value.specs.declared.Spans.{Spans}
+use Rattle.sheet.specs.Sheet.{Sheet, readSheet}
+use Rattle.sheet.specs.Table.{tableOf}
+use Rattle.sheet.specs.declared.Table.{Table}
+use Rattle.sheet.specs.Laws.{sheet-ranges, table-ok, table-refused}
+use Rattle.rules.specs.Outcome.{Out, done, refused, mapOut, reading}
+use Rattle.rules.specs.Rules.{get}
+use Rattle.rules.specs.Answer.{getWalk, getBytes}
+use Rattle.walk.specs.declared.scope.Scope.{Scope}
+use Rattle.walk.specs.declared.Walked.{Walked}
+use Rattle.walk.specs.declared.Walked.the-variants.{Done, Refused}
+use Rattle.walk.specs.Parts.{part, CopiedIn}
+use Rattle.walk.specs.Plan.{standing, flat-short, starts-length, sizes-at, sizes-length, placed, spans-refused, spread}
+use Rattle.walk.specs.Scope.{Spanned}
+use Rattle.walk.specs.Arena.{Held, inPlan, Env}
+use Rattle.walk.specs.Seen.{held-short}
+use Rattle.walk.specs.Answers.{Told, serves, denies}
+use Rattle.walk.specs.Gets.{enter, run, Ready, Served, Denied, Gives}
+
+-- the result r and the arena a say the outcome: a value's bytes stand at 32,256
+pub data Says (a : List ℕ) (r : Walked) : Out (List ℕ) → Type 0 where
+  says-done : {bs : List ℕ} {n : ℕ} (len : ℕ) → r ≡ Done len n → len ≡ length bs → len ≤ 256 → part a 32256 len ≡ bs → Says a r (done bs n)
+  says-refused : {c n : ℕ} → r ≡ Refused c → Says a r (refused c n)
+
+-- get on the bytes of a sheet and a plan, with the arena b before and a behind it
+pub record GetCall (sheet plan : List ℕ) (allowance : ℕ) (b a : List ℕ) (r : Walked) : Type 0 where
+  pub long : length a ≡ length b
+  pub behind : drop 65536 a ≡ drop 65536 b
+  pub short : length b < 65536 → (r ≡ Refused 2) × (a ≡ b)
+  pub too-many : 65536 ≤ length b → 1000000 < allowance → (r ≡ Refused 3) × (a ≡ b)
+  pub says : 65536 ≤ length b → allowance ≤ 1000000 → Says a r (getBytes sheet plan allowance)
+
+-- the sheet and the plan are read, and the scope has the plan's variables
+pub record Planned (sheet plan : List ℕ) (table : Table) (sc : Scope) (allowance : ℕ) (b : List ℕ) : Type 0 where
+  pub sh : Sheet
+  pub μ : List Value
+  pub read : readSheet sheet ≡ ok sh
+  pub is : table ≡ tableOf (ok sh)
+  pub values : readPlan (sh .k) plan ≡ ok μ
+  pub spanned : Spanned (sh .k) (places (starts 0 μ)) (places (map size μ)) sc
+  pub few : allowance ≤ 1000000
+  pub long : length b ≡ 65536
+
+pub record PlanGot (sheet plan : List ℕ) (allowance : ℕ) (b a : List ℕ) (r : Walked) : Type 0 where
+  pub long : length a ≡ length b
+  pub says : Says a r (getBytes sheet plan allowance)
+
+-- THE WALK FROM THE ROOT
+
+module _ {sheet plan : List ℕ} {table : Table} {sc : Scope} {allowance : ℕ} {b : List ℕ} (w : Planned sheet plan table sc allowance b) where
+  plan-read : ReadAs (w .sh .k) plan (w .μ)
+  plan-read = readValues-sound 20 (w .sh .k) plan (w .values)
+
+  plan-small : (length (w .μ) ≤ 16) × (length plan ≤ 4096)
+  plan-small =
+      let r = plan-read in
+      let z = sheet-ranges sheet (w .read) .few-variables in
+      let k : length (w .μ) ≤ 16 = omega (arith, r .count, z) in
+      (k, omega (arith, ap length (r .bytes), flat-short (r .readable)))
+
+  -- the plan fits in the arena
+  pub plan-fits : length plan ≤ length b
+  plan-fits = omega (arith, plan-small .1, w .long)
+
+  module _ {m : List ℕ} (c : CopiedIn plan b m) where
+    plan-env : Env m sc 32256 (w .μ)
+    plan-env = record {
+      count = w .spanned .count ∙ sym (plan-read .count);
+      starts-long = w .spanned .starts-long;
+      lens-long = w .spanned .lens-long;
+      each = λ i h. go i h;
+    }
+      where
+        go : (i : ℕ) → i < length (w .μ) → Held m 32256 (getD (sc .starts) i 0) (getD (sc .lens) i 0) (getD (w .μ) i vfalse)
+        go i h =
+            let r = plan-read in
+            let k : i < w .sh .k = omega (arith, r .count) in
+            let p : part m 0 (length (flat (w .μ))) ≡ flat (w .μ) = rw (r .bytes) at (c .bytes) in
+            let s = standing m 0 (r .readable) p i h in
+            let e : getD (sc .starts) i 0 ≡ getD (starts 0 (w .μ)) i 0 = w .spanned .start i k ∙ placed (starts 0 (w .μ)) i (omega (arith, starts-length 0 (w .μ))) in
+            let f : getD (sc .lens) i 0 ≡ size (getD (w .μ) i vfalse) = w .spanned .len i k ∙ placed (map size (w .μ)) i (omega (arith, sizes-length (w .μ))) ∙ sizes-at (w .μ) i h in
+            let z : length (flat (w .μ)) ≤ 4096 = omega (arith, plan-small .1, ap length (r .bytes)) in
+            rw (e, f) (record { place = inPlan (omega (arith, s .inside)); long = refl; bytes = s .bytes; readable = s .readable })
+
+    pub plan-ready : Ready sheet (table .starts) m sc 32256 48 allowance (enter (table .root))
+    unfolding tableOf
+    plan-ready =
+        let z : table .root ≡ w .sh .root = ap (λ (t : Table). t .root) (w .is) in
+        record {
+          long = c .long ∙ w .long;
+          few = w .few;
+          base = omega arith;
+          room = omega arith;
+          slots = omega (arith, w .spanned .count, sheet-ranges sheet (w .read) .few-variables);
+          lent = record { sh = w .sh; read = w .read; table = ap (λ (t : Table). t .starts) (w .is) };
+          known = rw z (sheet-ranges sheet (w .read) .root);
+          env = w .μ;
+          scoped = plan-env;
+        }
+
+    pub plan-got : {a : List ℕ} {r : Walked} → Gives m a sheet sc 32256 32256 allowance 0 r 48 (enter (table .root)) → PlanGot sheet plan allowance b a r
+    unfolding tableOf getBytes getWalk reading mapOut run
+    plan-got {a} {r} g =
+        let z : table .root ≡ w .sh .root = ap (λ (t : Table). t .root) (w .is) in
+        record {
+          long = g .kept .long ∙ c .long;
+          says = rw (w .read, w .values) (go (rw z at (g .told (w .sh) (w .read) (w .μ) plan-env .told)));
+        }
+      where
+        go : {o : Out Value} → Told (Served a 32256 r) (Denied r) 0 o → Says a r (mapOut encode o)
+        go (serves {v = v} {s = s} n e p) =
+            let q : n ≡ s = omega arith in
+            says-done (p .len) (p .is ∙ ap (Done (p .len)) q) (p .held .long ∙ sym (size-encode v)) (held-short (p .held)) (p .held .bytes)
+        go (denies d) = says-refused (d .is)
+
+-- THE RETURNS OF THE ENTRY
+
+-- the table says that a sheet was read
+pub record TableRead (sheet : List ℕ) (table : Table) : Type 0 where
+  pub sh : Sheet
+  pub read : readSheet sheet ≡ ok sh
+  pub is : table ≡ tableOf (ok sh)
+  pub k-is : table .k ≡ sh .k
+  pub few : table .k ≤ 16
+
+pub table-read : (sheet : List ℕ) {table : Table} → table ≡ tableOf (readSheet sheet) → table .refusal ≡ 0 → TableRead sheet table
+unfolding tableOf
+table-read sheet {table} is fine =
+    let p = table-ok sheet (sym (ap (λ (t : Table). t .refusal) is) ∙ fine) in
+    let e : table ≡ tableOf (ok (p .0)) = is ∙ ap tableOf (p .1) in
+    let k : table .k ≡ p .0 .k = ap (λ (t : Table). t .k) e in
+    record { sh = p .0; read = p .1; is = e; k-is = k; few = omega (arith, k, sheet-ranges sheet (p .1) .few-variables) }
+
+spanned-as : {k k′ : ℕ} {ss ss′ ls ls′ : List ℕ} {sc : Scope} → k ≡ k′ → ss ≡ ss′ → ls ≡ ls′ → Spanned k ss ls sc → Spanned k′ ss′ ls′ sc
+spanned-as e f g s = rw (e, f, g) at s
+
+pub get-planned : {sheet plan : List ℕ} {allowance : ℕ} {table : Table} {sc : Scope} {sp : Spans} (b : List ℕ) → 65536 ≤ length b → allowance ≤ 1000000 → TableRead sheet table
+    → sp ≡ spansOf (table .k) plan → sp .refusal ≡ 0 → Spanned (table .k) (sp .starts) (sp .lens) sc → Planned sheet plan table sc allowance (take 65536 b)
+get-planned {plan = plan} {table = table} b room few t read z s =
+    let w = spread (table .k) plan (t .few) read z in
+    record {
+      sh = t .sh;
+      μ = w .μ;
+      read = t .read;
+      is = t .is;
+      values = ap (λ (k : ℕ). readPlan k plan) (sym (t .k-is)) ∙ w .values;
+      spanned = spanned-as (t .k-is) (w .starts-are) (w .lens-are) s;
+      few = few;
+      long = length-take-le 65536 b room;
+    }
+
+-- what stands in the front stands in the whole
+says-whole : (x : List ℕ) {a : List ℕ} {r : Walked} {o : Out (List ℕ)} → length a ≡ 65536 → Says a r o → Says (a ++ x) r o
+says-whole x {a} l (says-done {bs = bs} len e q h p) =
+    let z : part (a ++ x) 32256 len ≡ part a 32256 len = rw (drop-append-le 32256 a x (omega arith)) (take-append-le len (drop 32256 a) x (rw length-drop (omega arith))) in
+    says-done len e q h (z ∙ p)
+says-whole x l (says-refused e) = says-refused e
+
+module _ {sheet plan : List ℕ} {allowance : ℕ} {b : List ℕ} where
+  pub get-2 : length b < 65536 → GetCall sheet plan allowance b b (Refused 2)
+  get-2 h = record { long = refl; behind = refl; short = λ _. (refl, refl); too-many = λ k _. absurd (omega arith); says = λ k _. absurd (omega arith) }
+
+  module _ (room : 65536 ≤ length b) where
+    pub get-3 : 1000000 < allowance → GetCall sheet plan allowance b b (Refused 3)
+    get-3 h = record { long = refl; behind = refl; short = λ k. absurd (omega arith); too-many = λ _ _. (refl, refl); says = λ _ k. absurd (omega arith) }
+
+    module _ (few : allowance ≤ 1000000) where
+      answered : {a : List ℕ} {r : Walked} → length a ≡ length b → drop 65536 a ≡ drop 65536 b → Says a r (getBytes sheet plan allowance) → GetCall sheet plan allowance b a r
+      answered l d s = record { long = l; behind = d; short = λ k. absurd (omega arith); too-many = λ _ k. absurd (omega arith); says = λ _ _. s }
+
+      pub get-sheet-refused : {table : Table} → table ≡ tableOf (readSheet sheet) → (table .refusal ≡ 0 → ⊥) → GetCall sheet plan allowance b b (Refused (table .refusal))
+      unfolding getBytes reading
+      get-sheet-refused {table} is n =
+          let z : table .refusal ≡ tableOf (readSheet sheet) .refusal = ap (λ (t : Table). t .refusal) is in
+          let e : readSheet sheet ≡ refusal (table .refusal) = table-refused sheet (λ y. n (z ∙ y)) ∙ ap refusal (sym z) in
+          answered refl refl (rw e (says-refused refl))
+
+      pub get-plan-refused : {table : Table} {sp : Spans} → TableRead sheet table → sp ≡ spansOf (table .k) plan → (sp .refusal ≡ 0 → ⊥) → GetCall sheet plan allowance b b (Refused (sp .refusal))
+      unfolding getBytes reading
+      get-plan-refused {table} {sp} t read n =
+          let e : readPlan (t .sh .k) plan ≡ refusal (sp .refusal) = rw (t .k-is) at (spans-refused (table .k) plan (t .few) read n) in
+          answered refl refl (rw (t .read, e) (says-refused refl))
+
+      pub get-done : {a : List ℕ} {r : Walked} → PlanGot sheet plan allowance (take 65536 b) a r → GetCall sheet plan allowance b (a ++ drop 65536 b) r
+      get-done {a} {r} g =
+          let l : length a ≡ 65536 = g .long ∙ length-take-le 65536 b room in
+          answered (rw (length-append, length-drop) (omega arith)) (drop-at a (drop 65536 b) 65536 l) (says-whole (drop 65536 b) l (g .says))

@@ -1,0 +1,230 @@
+-- List cases, truth cases and splits: what get shows at each return, and what its calls ask.
+use mathlib.Core.Path.{_≡_, refl, sym, ap, _∙_}
+use mathlib.Core.Bool.{true}
+use mathlib.Core.Option.{none, some}
+use mathlib.Core.List.{List, [], _∷_, _++_, append-assoc}
+use Prim.Native.Nat.{ℕ, suc, _+_, _-_, _≤_, _<_}
+use native.Mathlib.Nat.{le-refl, add-zero}
+use native.Mathlib.Omega.{arith}
+use lib.ListN.{length}
+use Rattle.value.specs.Value.{Value, Values as Rest, vfalse, vtrue, list, number, pair, nil, cons, size}
+use Rattle.value.specs.Views.{asList, asPair, asTruth}
+use Rattle.value.specs.Tests.{passes, holds, table, class}
+use Rattle.value.specs.Parts.{shapeOf}
+use Rattle.value.specs.declared.Shape.{Shape}
+use Rattle.value.specs.declared.Shape.the-variants as shapes
+use Rattle.sheet.specs.declared.Node.the-variants.{ListCase, TruthCase, Split}
+use Rattle.rules.specs.Outcome.{Out, done, refused, plus, when, _>>=_, given}
+use Rattle.rules.specs.Rules.{Env as Values, two, getNode, get, tested, onList}
+use Rattle.walk.specs.declared.scope.Scope.{Scope}
+use Rattle.walk.specs.declared.Walked.{Walked}
+use Rattle.walk.specs.declared.Walked.the-variants.{Done, Refused}
+use Rattle.walk.specs.Parts.{part, kept-then}
+use Rattle.walk.specs.Scope.{pushed}
+use Rattle.walk.specs.Arena.{Env, env-later, env-push}
+use Rattle.walk.specs.Seen.{Shaped, isFalse, isTrue, isEmpty, isFront, isPair, shaped-as, held-shape, TwoHeld, held-front, held-pair}
+use Rattle.walk.specs.Answers.{answer-by, then-done, then-refused, give, give-none}
+use Rattle.walk.specs.Gets.{Task, enter, body, branch, run, Ready, Gives, GotDone, got, not-got}
+use Rattle.walk.specs.GetReady.{ready-in, ready-later, sizes}
+
+-- a test that says yes to anything changes nothing
+any-holds : (v : Value) → holds 0 v ≡ true
+unfolding holds table class
+any-holds vfalse = refl
+any-holds vtrue = refl
+any-holds (list nil) = refl
+any-holds (list (cons f nil)) = refl
+any-holds (list (cons f (cons g r))) = refl
+any-holds (number n) = refl
+any-holds (pair a b) = refl
+
+untested : (o : Out Value) → tested 0 o ≡ o
+unfolding tested _>>=_ plus given when
+untested (done v s) = ap (plus s) (go (passes 0 v)) ∙ ap (done v) (add-zero s)
+  where
+    go : (d : Dec (holds 0 v ≡ true)) → given 46 (when d) (λ _. done v 0) ≡ done v 0
+    go (yes p) = refl
+    go (no n) = absurd (n (any-holds v))
+untested (refused c s) = refl
+
+-- a value by its shape
+empty-seen : {v : Value} → Shaped v shapes.Empty → v ≡ list nil
+empty-seen isEmpty = refl
+
+false-seen : {v : Value} → Shaped v shapes.False → v ≡ vfalse
+false-seen isFalse = refl
+
+true-seen : {v : Value} → Shaped v shapes.True → v ≡ vtrue
+true-seen isTrue = refl
+
+front-seen : {v : Value} {mid : ℕ} → Shaped v (shapes.Front mid) → (f : Value) × (r : Rest) × (v ≡ list (cons f r)) × (mid ≡ 1 + size f)
+front-seen (isFront {f} {r} e) = (f, r, refl, e)
+
+pair-seen : {v : Value} {mid : ℕ} → Shaped v (shapes.Pair mid) → (x : Value) × (y : Value) × (v ≡ pair x y) × (mid ≡ 1 + size x)
+pair-seen (isPair {x} {y} e) = (x, y, refl, e)
+
+-- the subject of a case is asked for as the case is, a level below
+pub subject-ready : {s starts b : List ℕ} {sc : Scope} {top l left : ℕ} {t : Task} {x : ℕ} (w : Ready s starts b sc top (suc l) (suc left) t) → x < length (w .lent .sh .nodes)
+    → Ready s starts b sc top l left (enter x)
+subject-ready {l = l} {left = left} w h = record {
+  long = w .long;
+  few = omega (arith, w .few);
+  base = w .base;
+  room = omega (arith, w .room);
+  slots = omega (arith, w .slots);
+  lent = w .lent;
+  known = h;
+  env = w .env;
+  scoped = w .scoped;
+}
+
+-- the subject x is got
+module _ {b a₁ s : List ℕ} {sc : Scope} {top left : ℕ} {r₁ : Walked} {l x : ℕ} (g₁ : Gives b a₁ s sc top top left 0 r₁ l (enter x)) where
+  pub list-refused : {e te n tn df dr c : ℕ} → r₁ ≡ Refused c → Gives b a₁ s sc top top left 1 (Refused c) l (body (ListCase x e te n tn df dr))
+  unfolding run getNode
+  list-refused q = record { kept = g₁ .kept; told = λ sh es μ w. then-refused _ _ (not-got g₁ sh es μ w q .1) (record { is = refl }) }
+
+  pub truth-refused : {f tf t tt′ c : ℕ} → r₁ ≡ Refused c → Gives b a₁ s sc top top left 1 (Refused c) l (body (TruthCase x f tf t tt′))
+  unfolding run getNode
+  truth-refused q = record { kept = g₁ .kept; told = λ sh es μ w. then-refused _ _ (not-got g₁ sh es μ w q .1) (record { is = refl }) }
+
+  pub split-refused : {i c : ℕ} → r₁ ≡ Refused c → Gives b a₁ s sc top top left 1 (Refused c) l (body (Split x i))
+  unfolding run getNode
+  split-refused q = record { kept = g₁ .kept; told = λ sh es μ w. then-refused _ _ (not-got g₁ sh es μ w q .1) (record { is = refl }) }
+
+  module _ {len n : ℕ} (e₁ : r₁ ≡ Done len n) {q : Shape} (qs : q ≡ shapeOf (part a₁ top (top + len - top))) where
+    -- it is of another shape
+    pub list-43 : {e te m tm df dr : ℕ} → ((v : Value) → Shaped v q → asList v ≡ none) → Gives b a₁ s sc top top left 1 (Refused 43) l (body (ListCase x e te m tm df dr))
+    unfolding run getNode
+    list-43 other = record {
+      kept = g₁ .kept;
+      told = λ sh es μ w. let d = got g₁ sh es μ w e₁ in then-done _ _ (d .is) (give-none _ _ (other (d .value) (held-shape (d .held) qs)) (record { is = refl }));
+    }
+
+    pub truth-43 : {f tf t tt′ : ℕ} → ((v : Value) → Shaped v q → asTruth v ≡ none) → Gives b a₁ s sc top top left 1 (Refused 43) l (body (TruthCase x f tf t tt′))
+    unfolding run getNode
+    truth-43 other = record {
+      kept = g₁ .kept;
+      told = λ sh es μ w. let d = got g₁ sh es μ w e₁ in then-done _ _ (d .is) (give-none _ _ (other (d .value) (held-shape (d .held) qs)) (record { is = refl }));
+    }
+
+    pub split-43 : {i : ℕ} → ((v : Value) → Shaped v q → asPair v ≡ none) → Gives b a₁ s sc top top left 1 (Refused 43) l (body (Split x i))
+    unfolding run getNode
+    split-43 other = record {
+      kept = g₁ .kept;
+      told = λ sh es μ w. let d = got g₁ sh es μ w e₁ in then-done _ _ (d .is) (give-none _ _ (other (d .value) (held-shape (d .held) qs)) (record { is = refl }));
+    }
+
+    -- it is an empty list, False or True: the branch is got in the same scope
+    module _ (base : 32256 ≤ top) where
+      env₂ : {μ : Values} → Env b sc top μ → Env a₁ sc (top + len) μ
+      env₂ w = env-later (g₁ .kept) base (top + len) (omega arith) w
+
+      pub list-empty : {a₂ : List ℕ} {r₂ : Walked} {e te m tm df dr : ℕ} → q ≡ shapes.Empty → Gives a₁ a₂ s sc (top + len) top (left - n) (1 + n) r₂ l (branch te e)
+          → Gives b a₂ s sc top top left 1 r₂ l (body (ListCase x e te m tm df dr))
+      unfolding run getNode asList onList
+      list-empty p g₂ = record {
+        kept = kept-then (g₁ .kept) (g₂ .kept) (le-refl top);
+        told = λ sh es μ w.
+            let d = got g₁ sh es μ w e₁ in
+            let z : d .value ≡ list nil = empty-seen (shaped-as (held-shape (d .held) qs) p) in
+            then-done _ _ (d .is) (rw z (give _ _ refl (g₂ .told sh es μ (env₂ w))));
+      }
+
+      pub truth-no : {a₂ : List ℕ} {r₂ : Walked} {f tf t tt′ : ℕ} → q ≡ shapes.False → Gives a₁ a₂ s sc (top + len) top (left - n) (1 + n) r₂ l (branch tf f)
+          → Gives b a₂ s sc top top left 1 r₂ l (body (TruthCase x f tf t tt′))
+      unfolding run getNode asTruth
+      truth-no p g₂ = record {
+        kept = kept-then (g₁ .kept) (g₂ .kept) (le-refl top);
+        told = λ sh es μ w.
+            let d = got g₁ sh es μ w e₁ in
+            let z : d .value ≡ vfalse = false-seen (shaped-as (held-shape (d .held) qs) p) in
+            then-done _ _ (d .is) (rw z (give _ _ refl (g₂ .told sh es μ (env₂ w))));
+      }
+
+      pub truth-yes : {a₂ : List ℕ} {r₂ : Walked} {f tf t tt′ : ℕ} → q ≡ shapes.True → Gives a₁ a₂ s sc (top + len) top (left - n) (1 + n) r₂ l (branch tt′ t)
+          → Gives b a₂ s sc top top left 1 r₂ l (body (TruthCase x f tf t tt′))
+      unfolding run getNode asTruth
+      truth-yes p g₂ = record {
+        kept = kept-then (g₁ .kept) (g₂ .kept) (le-refl top);
+        told = λ sh es μ w.
+            let d = got g₁ sh es μ w e₁ in
+            let z : d .value ≡ vtrue = true-seen (shaped-as (held-shape (d .held) qs) p) in
+            then-done _ _ (d .is) (rw z (give _ _ refl (g₂ .told sh es μ (env₂ w))));
+      }
+
+    -- what the branch in the same scope asks
+    pub case-ready : {starts : List ℕ} {t : Task} {te e : ℕ} (w : Ready s starts b sc top (suc l) (suc left) t) → x < length (w .lent .sh .nodes) → e < length (w .lent .sh .nodes)
+        → Ready s starts a₁ sc (top + len) l (1 + n + (left - n)) (branch te e)
+    case-ready w h k =
+        let z = sizes (subject-ready w h) g₁ e₁ in
+        ready-later w (g₁ .kept) (top + len) l (1 + n + (left - n)) (omega arith) (omega (arith, w .few, z .steps)) (omega (arith, w .room, z .short)) (omega arith) k
+
+    -- it has two parts, which the branch's scope has besides
+    module _ {mid : ℕ} {more : Scope} (is : more ≡ pushed (pushed sc (top + 1) (mid - 1)) (top + 1 + (mid - 1)) (len - mid)) where
+      env-inner : {μ : Values} {u v : Value} → 32256 ≤ top → sc .count + 2 ≤ 110 → Env b sc top μ → TwoHeld a₁ top len mid u v → Env a₁ more (top + len) (μ ++ two u v)
+      env-inner {μ} {u} {v} base c w p =
+          rw (is, ← append-assoc μ (u ∷ []) (v ∷ [])) (env-push (env-push (env-later (g₁ .kept) base (top + len) (omega arith) w) (p .first) (omega arith)) (p .second) (omega arith))
+
+      inner-ready : {starts : List ℕ} {t : Task} {te e : ℕ} {u v : Value} (w : Ready s starts b sc top (suc l) (suc left) t) → x < length (w .lent .sh .nodes)
+          → e < length (w .lent .sh .nodes) → TwoHeld a₁ top len mid u v → Ready s starts a₁ more (top + len) l (1 + n + (left - n)) (branch te e)
+      inner-ready {u = u} {v = v} w h k p =
+          let z = sizes (subject-ready w h) g₁ e₁ in
+          let c : more .count ≡ sc .count + 1 + 1 = ap (λ (m : Scope). m .count) is in
+          ready-in w (g₁ .kept) (top + len) l (1 + n + (left - n)) (omega arith) (omega (arith, w .few, z .steps)) (omega (arith, w .room, z .short))
+          (omega (arith, w .slots, c)) k (w .env ++ two u v) (env-inner (w .base) (omega (arith, w .slots, z .deep)) (w .scoped) p)
+
+    module _ {mid : ℕ} (p : q ≡ shapes.Front mid) where
+      front-parts : 32256 ≤ top → {o : Out Value} (d : GotDone a₁ top len n o) → (f : Value) × (r : Rest) × (d .value ≡ list (cons f r)) × TwoHeld a₁ top len mid f (list r)
+      front-parts base d =
+          let (f, r, z, e) = front-seen (shaped-as (held-shape (d .held) qs) p) in
+          (f, r, z, held-front base e (rw z at (d .held)))
+
+      -- where the second part starts
+      pub front-mid : {starts : List ℕ} → Ready s starts b sc top l left (enter x) → (1 ≤ mid) × (mid ≤ len)
+      front-mid w =
+          let h = front-parts (w .base) (got g₁ (w .lent .sh) (w .lent .read) (w .env) (w .scoped) e₁) .3 in
+          (h .some, h .inside)
+
+      module _ {more : Scope} (is : more ≡ pushed (pushed sc (top + 1) (mid - 1)) (top + 1 + (mid - 1)) (len - mid)) where
+        pub front-ready : {starts : List ℕ} {t : Task} {te e : ℕ} (w : Ready s starts b sc top (suc l) (suc left) t) → x < length (w .lent .sh .nodes) → e < length (w .lent .sh .nodes)
+            → Ready s starts a₁ more (top + len) l (1 + n + (left - n)) (branch te e)
+        front-ready w h k = inner-ready is w h k (front-parts (w .base) (got g₁ (w .lent .sh) (w .lent .read) (w .env) (w .scoped) e₁) .3)
+
+        pub list-front : 32256 ≤ top → sc .count + 2 ≤ 110 → {a₂ : List ℕ} {r₂ : Walked} {e te m tm df dr : ℕ} → Gives a₁ a₂ s more (top + len) top (left - n) (1 + n) r₂ l (branch tm m)
+            → Gives b a₂ s sc top top left 1 r₂ l (body (ListCase x e te m tm df dr))
+        unfolding run getNode asList onList
+        list-front base c g₂ = record {
+          kept = kept-then (g₁ .kept) (g₂ .kept) (le-refl top);
+          told = λ sh es μ w.
+              let d = got g₁ sh es μ w e₁ in
+              let (f, r, z, h) = front-parts base d in
+              then-done _ _ (d .is) (rw z (give _ _ refl (g₂ .told sh es (μ ++ two f (list r)) (env-inner is base c w h))));
+        }
+
+    module _ {mid : ℕ} (p : q ≡ shapes.Pair mid) where
+      pair-parts : 32256 ≤ top → {o : Out Value} (d : GotDone a₁ top len n o) → (u : Value) × (v : Value) × (d .value ≡ pair u v) × TwoHeld a₁ top len mid u v
+      pair-parts base d =
+          let (u, v, z, e) = pair-seen (shaped-as (held-shape (d .held) qs) p) in
+          (u, v, z, held-pair base e (rw z at (d .held)))
+
+      pub pair-mid : {starts : List ℕ} → Ready s starts b sc top l left (enter x) → (1 ≤ mid) × (mid ≤ len)
+      pair-mid w =
+          let h = pair-parts (w .base) (got g₁ (w .lent .sh) (w .lent .read) (w .env) (w .scoped) e₁) .3 in
+          (h .some, h .inside)
+
+      module _ {more : Scope} (is : more ≡ pushed (pushed sc (top + 1) (mid - 1)) (top + 1 + (mid - 1)) (len - mid)) where
+        pub pair-ready : {starts : List ℕ} {t : Task} {te e : ℕ} (w : Ready s starts b sc top (suc l) (suc left) t) → x < length (w .lent .sh .nodes) → e < length (w .lent .sh .nodes)
+            → Ready s starts a₁ more (top + len) l (1 + n + (left - n)) (branch te e)
+        pair-ready w h k = inner-ready is w h k (pair-parts (w .base) (got g₁ (w .lent .sh) (w .lent .read) (w .env) (w .scoped) e₁) .3)
+
+        pub split-done : 32256 ≤ top → sc .count + 2 ≤ 110 → {a₂ : List ℕ} {r₂ : Walked} {i : ℕ} → Gives a₁ a₂ s more (top + len) top (left - n) (1 + n) r₂ l (branch 0 i)
+            → Gives b a₂ s sc top top left 1 r₂ l (body (Split x i))
+        unfolding run getNode asPair
+        split-done base c g₂ = record {
+          kept = kept-then (g₁ .kept) (g₂ .kept) (le-refl top);
+          told = λ sh es μ w.
+              let d = got g₁ sh es μ w e₁ in
+              let (u, v, z, h) = pair-parts base d in
+              then-done _ _ (d .is) (rw z (give _ _ refl (answer-by (g₂ .told sh es (μ ++ two u v) (env-inner is base c w h)) (sym (untested _)))));
+        }

@@ -1,0 +1,127 @@
+-- Variables, constants and numbers: what get shows at each return, and what it asks.
+use mathlib.Core.Path.{_≡_, refl, ap, _∙_}
+use mathlib.Core.Bool.{true, false}
+use mathlib.Core.List.{List, [], _∷_}
+use Prim.Native.Nat.{ℕ, _+_, _-_, _/_, _%_, _≤_, _<_}
+use native.Mathlib.Nat.{le-refl}
+use native.Mathlib.Omega.{arith}
+use lib.ListN.{length, getD, set, length-set}
+use lib.Seq.{getD-set-same, getD-set-other}
+use Rattle.value.specs.Value.{Value, vfalse, number, encode, encodes, size, sizes}
+use Rattle.value.specs.Laws.{Readable}
+use Rattle.sheet.specs.declared.Node.the-variants.{Var, False, True, Empty, Number}
+use Rattle.rules.specs.Rules.{getNode}
+use Rattle.rules.specs.Readable.{nil-readable, truth-readable, number-readable}
+use Rattle.walk.specs.declared.scope.Scope.{Scope}
+use Rattle.walk.specs.declared.Walked.{Walked}
+use Rattle.walk.specs.declared.Walked.the-variants.{Done, Refused}
+use Rattle.walk.specs.Parts.{part, kept-refl, kept-then, kept-set, part-one, part-cons, Marked, marked-kept, marked-part, Apart, up, Copied}
+use Rattle.walk.specs.Arena.{onStack, below-ends}
+use Rattle.walk.specs.Seen.{elem-at, elem-none, held-short}
+use Rattle.walk.specs.Answers.{finish, give, give-none}
+use Rattle.walk.specs.Gets.{body, run, Room, Served, Gives}
+
+-- VARIABLES
+
+module _ {b s : List ℕ} {sc : Scope} {top left l x : ℕ} where
+  pub var-42 : sc .count ≤ x → Gives b b s sc top top left 1 (Refused 42) l (body (Var x))
+  unfolding run getNode
+  var-42 h = record {
+    kept = kept-refl top b;
+    told = λ sh es μ w. give-none _ _ (elem-none μ x (omega (arith, w .count))) (record { is = refl });
+  }
+
+  pub var-done : {a : List ℕ} → x < sc .count → 32256 ≤ top → Copied (getD (sc .starts) x 0) top (getD (sc .lens) x 0) b a
+      → Gives b a s sc top top left 1 (Done (getD (sc .lens) x 0) 1) l (body (Var x))
+  unfolding run getNode
+  var-done h base m = record {
+    kept = m .kept;
+    told = λ sh es μ w.
+        let lt : x < length μ = omega (arith, w .count) in
+        let v = w .each x lt in
+        give _ _ (elem-at μ x vfalse lt) (finish refl (record {
+          len = getD (sc .lens) x 0;
+          is = refl;
+          held = record { place = onStack base (le-refl _); long = v .long; bytes = m .bytes ∙ v .bytes; readable = v .readable };
+        }));
+  }
+
+-- where a variable stands
+pub record Stands (b : List ℕ) (sc : Scope) (x top : ℕ) : Type 0 where
+  pub slot : x < 110
+  pub starts-long : length (sc .starts) ≡ 110
+  pub lens-long : length (sc .lens) ≡ 110
+  pub from-inside : getD (sc .starts) x 0 + getD (sc .lens) x 0 ≤ length b
+  pub to-inside : top + getD (sc .lens) x 0 ≤ length b
+  pub apart : Apart (getD (sc .starts) x 0) top (getD (sc .lens) x 0)
+
+pub stands : {b : List ℕ} {sc : Scope} {top x : ℕ} → Room b sc top → x < sc .count → Stands b sc x top
+stands {b} {sc} {top} {x} w h =
+    let e = w .scoped in
+    let v = e .each x (omega (arith, e .count)) in
+    let p = below-ends (v .place) (w .base) in
+    let q = held-short v in
+    record {
+      slot = omega (arith, w .slots);
+      starts-long = e .starts-long;
+      lens-long = e .lens-long;
+      from-inside = omega (arith, w .long, w .room);
+      to-inside = omega (arith, w .long, w .room);
+      apart = up p;
+    }
+
+-- CONSTANTS
+
+-- one byte was written, the bytes of the value v
+module _ {k : ℕ} {b a : List ℕ} {top : ℕ} {r : Walked} (base : 32256 ≤ top) (m : Marked k top b a) (e : r ≡ Done 1 1) where
+  constant-done : {v : Value} → k ∷ [] ≡ encode v → 1 ≡ size v → Readable v → Served a top r v 1
+  constant-done n z g = record { len = 1; is = e; held = record { place = onStack base (le-refl _); long = z; bytes = marked-part m ∙ n; readable = g } }
+
+  module _ {s : List ℕ} {sc : Scope} {left l : ℕ} where
+    pub false-done : k ≡ 0 → Gives b a s sc top top left 1 r l (body False)
+    unfolding run getNode encode size
+    false-done q = record { kept = marked-kept m; told = λ sh es μ w. finish refl (constant-done (ap (λ (i : ℕ). i ∷ []) q) refl (truth-readable false)) }
+
+    pub true-done : k ≡ 1 → Gives b a s sc top top left 1 r l (body True)
+    unfolding run getNode encode size
+    true-done q = record { kept = marked-kept m; told = λ sh es μ w. finish refl (constant-done (ap (λ (i : ℕ). i ∷ []) q) refl (truth-readable true)) }
+
+    pub empty-done : k ≡ 2 → Gives b a s sc top top left 1 r l (body Empty)
+    unfolding run getNode encode encodes size sizes
+    empty-done q = record { kept = marked-kept m; told = λ sh es μ w. finish refl (constant-done (ap (λ (i : ℕ). i ∷ []) q) refl nil-readable) }
+
+-- NUMBERS
+
+-- the two bytes of a number, behind its kind byte
+pub number-bytes : (b : List ℕ) (top n : ℕ) → top + 3 ≤ length b → getD b top 0 ≡ 4 → part (set (set b (top + 1) (n / 256)) (top + 2) (n % 256)) top 3 ≡ encode (number n)
+unfolding encode
+number-bytes b top n h k =
+    let c : List ℕ = set b (top + 1) (n / 256) in
+    let a : List ℕ = set c (top + 2) (n % 256) in
+    let lc : length c ≡ length b = length-set b (top + 1) (n / 256) in
+    let la : length a ≡ length b = length-set c (top + 2) (n % 256) ∙ lc in
+    let e₀ : getD a top 0 ≡ 4 = getD-set-other c (top + 2) top (n % 256) 0 (λ q. omega arith) ∙ getD-set-other b (top + 1) top (n / 256) 0 (λ q. omega arith) ∙ k in
+    let e₁ : getD a (top + 1) 0 ≡ n / 256 = getD-set-other c (top + 2) (top + 1) (n % 256) 0 (λ q. omega arith) ∙ getD-set-same b (top + 1) (n / 256) 0 (omega arith) in
+    let e₂ : getD a (top + 2) 0 ≡ n % 256 = getD-set-same c (top + 2) (n % 256) 0 (omega arith) in
+    let z : top + 1 + 1 ≡ top + 2 = omega arith in
+    part-cons a top 2 (omega arith) ∙ rw (part-cons a (top + 1) 1 (omega arith), z, part-one a (top + 2) (omega arith), e₀, e₁, e₂)
+
+pub number-done : {b a s : List ℕ} {sc : Scope} {top left l n : ℕ} {r : Walked} → 32256 ≤ top → top + 3 ≤ length b → n ≤ 65535
+    → (a ≡ set (set (set b top 4) (top + 1) (n / 256)) (top + 2) (n % 256)) × (r ≡ Done 3 1) → Gives b a s sc top top left 1 r l (body (Number n))
+unfolding run getNode size
+number-done {b} {top = top} {n = n} base h le e =
+    let c : List ℕ = set b top 4 in
+    let lc : length c ≡ length b = length-set b top 4 in
+    record {
+      kept = rw (e .0) (kept-then (kept-then (kept-set top b top 4 (le-refl top)) (kept-set top c (top + 1) (n / 256) (omega arith)) (le-refl top)) (kept-set top (set c (top + 1) (n / 256)) (top + 2) (n % 256) (omega arith)) (le-refl top));
+      told = λ sh es μ w. finish refl (record {
+        len = 3;
+        is = e .1;
+        held = record {
+          place = onStack base (le-refl _);
+          long = refl;
+          bytes = rw (e .0) (number-bytes c top n (omega arith) (getD-set-same b top 4 0 (omega arith)));
+          readable = number-readable le;
+        };
+      });
+    }
