@@ -62,6 +62,15 @@ pub shown-true : Shown (1 ∷ []) vtrue
 unfolding encode size
 shown-true = record { bytes = refl; readable = record { fits = omega arith; encodable = eTrue } }
 
+pub view-nil : SomeView (2 ∷ [])
+view-nil = record { value = list nil; shown = shown-nil }
+
+pub view-false : SomeView (0 ∷ [])
+view-false = record { value = vfalse; shown = shown-false }
+
+pub view-true : SomeView (1 ∷ [])
+view-true = record { value = vtrue; shown = shown-true }
+
 pub list-seen : {o : Value} (l : Rest) → o ≡ list l → (e : o ≡ list l) × (asList o ≡ some (l, e))
 unfolding asList
 list-seen l z = subst (λ (v : Value). (e : v ≡ list l) × (asList v ≡ some (l, e))) (sym z) (refl, refl)

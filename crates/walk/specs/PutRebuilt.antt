@@ -8,7 +8,7 @@ use native.Mathlib.Nat.{le-refl}
 use native.Mathlib.Numerals.{add-one}
 use native.Mathlib.Omega.{arith}
 use lib.Dec.{eqb, ltb}
-use lib.ListN.{length, take, drop, getD, set, length-set, length-drop, replicate, getElem?}
+use lib.ListN.{length, take, drop, getD, set, length-append, length-drop, replicate, getElem?}
 use lib.Seq.{getD-take, getD-drop, paste, take-paste, length-paste}
 use borrow.Author.Tests.{lt-ltb, le-ltb}
 use Rattle.value.specs.Value.{Value, Values as Rest, vfalse, vtrue, list, number, pair, nil, cons, encode, encodes, size, sizes, Encodable, ePair}
@@ -112,12 +112,23 @@ built-bytes a k f r x y p q l h =
     take-paste (paste d 1 (drop (f .start) a) (f .len)) (1 + f .len) (drop (r .start) a) (r .len) (omega arith) lr
     ∙ ap₂ _++_ (take-paste d 1 (drop (f .start) a) (f .len) (omega arith) lf ∙ ap (λ (z : List ℕ). k ∷ z) (p .bytes)) (q .bytes)
 
+built-long : (a : List ℕ) (k : ℕ) (f r : Span) (x y : Value) → Stands a f x → Stands a r y → length a ≡ 65536 → 1 + f .len + r .len ≤ 256
+    → 1 + f .len + r .len ≡ length (take (1 + f .len + r .len) (rebuiltBytes a k (f .start) (f .len) (r .start) (r .len)))
+built-long a k f r x y p q l h =
+    let e = built-bytes a k f r x y p q l h in
+    let n : length (k ∷ (encode x ++ encode y)) ≡ 1 + f .len + r .len = omega (arith, length-append (encode x) (encode y), size-encode x, size-encode y, p .long, q .long) in
+    sym (ap length e ∙ n)
+
 -- THE RETURNS
 
 -- where the two variables' values stand
 pub record Placed (lens : List ℕ) (n start first second : ℕ) (f r : Span) : Type 0 where
   pub one : f ≡ placeOf (getD lens n 0) n start first
   pub two : r ≡ placeOf (getD lens (n + 1) 0) (n + 1) (start + first) second
+
+pub placed : (lens : List ℕ) (n start first second : ℕ) {f r : Span} → f ≡ placeOf (getD lens n 0) n start first → r ≡ placeOf (getD lens (n + 1) 0) (n + 1) (start + first) second
+    → Placed lens n start first second f r
+placed lens n start first second e e′ = record { one = e; two = e′ }
 
 record Both (a : List ℕ) (n : ℕ) (X : Cells) (f r : Span) (x y : Value) : Type 0 where
   named : getElem? X n ≡ some (getD X n none)
@@ -217,3 +228,11 @@ rebuilt-places w t p =
     let one = o .one in
     let two = o .two in
     (one .inside, two .inside, omega (arith, one .long, one .readable .fits), omega (arith, two .long, two .readable .fits), stands-some two)
+
+-- how long the view is
+pub rebuilt-count : (kind : ℕ) {s starts a lens bytes : List ℕ} {sc : Scope} {cells : Owners} {top levels left start first second : ℕ} {T : Task} {f r : Span}
+    → Ready s starts a lens Any sc cells (cells .count + 2) top levels left T → SomeSpans a top start first second → Placed lens (cells .count) start first second f r → 1 + f .len + r .len ≤ 256
+    → bytes ≡ rebuiltBytes a kind (f .start) (f .len) (r .start) (r .len) → 1 + f .len + r .len ≡ length (take (1 + f .len + r .len) bytes)
+rebuilt-count kind {a = a} {f = f} {r = r} w t p le e =
+    let o = both p (w .base) (omega (arith, w .room)) (w .given .written) (t .spans) in
+    built-long a kind f r _ _ (o .one) (o .two) (w .long) le ∙ ap (λ (l : List ℕ). length (take (1 + f .len + r .len) l)) (sym e)

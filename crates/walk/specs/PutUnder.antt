@@ -25,7 +25,7 @@ use Rattle.walk.specs.declared.putter.Cells.{Cells as Owners}
 use Rattle.walk.specs.Scope.{pushed}
 use Rattle.walk.specs.Parts.{part}
 use Rattle.walk.specs.Arena.{Held, Env, env-push, below-ends}
-use Rattle.walk.specs.Seen.{elem-at}
+use Rattle.walk.specs.Seen.{held-short}
 use Rattle.walk.specs.Answers.{Answers, answer-by, then-done, then-refused, give, give-none, give-yes, give-no}
 use Rattle.walk.specs.Cells.{Slot, blank, full, Written, Shown, Frame, addedTwo, placeOf, rebuiltBytes, unfitRest}
 use Rattle.walk.specs.Frames.{frame-refl, frame-then, spans-framed}
@@ -44,6 +44,14 @@ pub record Opened (lens lens₁ : List ℕ) (sc sc′ : Scope) (cells cells′ :
   pub scope : sc′ ≡ pushed (pushed sc start first) (start + first) second
   pub owners : cells′ ≡ addedTwo cells (sc .count)
   pub blanks : lens₁ ≡ set (set lens (cells .count) 0) (cells .count + 1) 0
+
+pub opened : (lens : List ℕ) {sc sc′ : Scope} {cells cells′ : Owners} {l : ℕ} (start first second : ℕ) → Inner sc cells l → sc′ ≡ pushed (pushed sc start first) (start + first) second → cells′ ≡ addedTwo cells (sc .count)
+    → Opened lens (set (set lens (cells .count) 0) (cells .count + 1) 0) sc sc′ cells cells′ start first second
+opened lens start first second i is ic = record { slots = omega (arith, i .some, i .slots); more-cells = omega (arith, i .some, i .more-cells); scope = is; owners = ic; blanks = refl }
+
+-- where the two variables' values end
+pub spans-few : {a : List ℕ} {top start first second : ℕ} → SomeSpans a top start first second → 32256 ≤ top → (start + first ≤ top) × (second ≤ 256)
+spans-few t base = (below-ends (t .spans .one .place) base, held-short (t .spans .two))
 
 -- what is given in the branch
 given-inner : {b lens lens₁ s : List ℕ} {P : Value → Type 0} {sc sc′ : Scope} {cells cells′ : Owners} {top start first second : ℕ} {sh : Sheet} {μ : Values} {σ : List ℕ} {v f u : Value} {W : Cells}

@@ -1,10 +1,10 @@
 -- `put_constant` meets its contract.
 use Rattle.walk.specs.Storing.{judged-yes, judged-no}
 use borrow.Author.Needs.{needs}
-use Rattle.walk.proofs.put.put_constant.Statement.{statement}
-use Rattle.walk.proofs.put.put_constant.Tie as tie
-use Rattle.walk.proofs.put.put_constant.Reads as reads
-use Rattle.walk.proofs.put.put_constant.Lts as lts
+use Rattle.walk.proofs.putter.put_constant.Statement.{statement}
+use Rattle.walk.proofs.putter.put_constant.Tie as tie
+use Rattle.walk.proofs.putter.put_constant.Reads as reads
+use Rattle.walk.proofs.putter.put_constant.Lts as lts
 use Rattle.value.proofs.same.Reads as same-reads
 
 -- src/put.rt:95:26

@@ -1,10 +1,10 @@
 -- `put_number` meets its contract.
 use Rattle.walk.specs.Storing.{judged-yes, judged-no}
 use borrow.Author.Needs.{needs}
-use Rattle.walk.proofs.put.put_number.Statement.{statement}
-use Rattle.walk.proofs.put.put_number.Tie as tie
-use Rattle.walk.proofs.put.put_number.Reads as reads
-use Rattle.walk.proofs.put.put_number.Lts as lts
+use Rattle.walk.proofs.putter.put_number.Statement.{statement}
+use Rattle.walk.proofs.putter.put_number.Tie as tie
+use Rattle.walk.proofs.putter.put_number.Reads as reads
+use Rattle.walk.proofs.putter.put_number.Lts as lts
 use Rattle.value.proofs.high.Reads as high-reads
 use Rattle.value.proofs.low.Reads as low-reads
 use Rattle.value.proofs.same.Reads as same-reads

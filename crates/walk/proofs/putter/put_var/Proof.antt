@@ -2,10 +2,10 @@
 use native.Mathlib.Omega.{arith}
 use Rattle.walk.specs.PutLeaf.{cell-few, slot-few, view-few, var-42, var-blank, var-same, var-54}
 use borrow.Author.Needs.{needs}
-use Rattle.walk.proofs.put.put_var.Statement.{statement}
-use Rattle.walk.proofs.put.put_var.Tie as tie
-use Rattle.walk.proofs.put.put_var.Reads as reads
-use Rattle.walk.proofs.put.put_var.Lts as lts
+use Rattle.walk.proofs.putter.put_var.Statement.{statement}
+use Rattle.walk.proofs.putter.put_var.Tie as tie
+use Rattle.walk.proofs.putter.put_var.Reads as reads
+use Rattle.walk.proofs.putter.put_var.Lts as lts
 use Rattle.value.proofs.same.Reads as same-reads
 use Rattle.walk.proofs.bytes.store.Reads as store-reads
 

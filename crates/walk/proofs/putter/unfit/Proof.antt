@@ -1,9 +1,9 @@
 -- `unfit` meets its contract.
 use Rattle.walk.specs.Storing.{other-kind, too-low, by-height}
-use Rattle.walk.proofs.put.unfit.Statement.{statement}
-use Rattle.walk.proofs.put.unfit.Tie as tie
-use Rattle.walk.proofs.put.unfit.Reads as reads
-use Rattle.walk.proofs.put.unfit.Lts as lts
+use Rattle.walk.proofs.putter.unfit.Statement.{statement}
+use Rattle.walk.proofs.putter.unfit.Tie as tie
+use Rattle.walk.proofs.putter.unfit.Reads as reads
+use Rattle.walk.proofs.putter.unfit.Lts as lts
 
 -- src/put.rt:427:9
 returns : tie.Need-returns
