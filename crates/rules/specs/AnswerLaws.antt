@@ -2,7 +2,7 @@
 use mathlib.Core.Path.{_≡_, refl, ap, _∙_}
 use mathlib.Core.Option.{Option, none, some}
 use mathlib.Core.List.{List}
-use Prim.Native.Nat.{ℕ, _≤_}
+use Prim.Native.Nat.{ℕ, _≤_, _<_}
 use native.Mathlib.Omega.{arith}
 use native.Mathlib.Nat.{le-trans}
 use native.Mathlib.Decide.{decLe}
@@ -14,7 +14,7 @@ use Rattle.sheet.specs.Sheet.{Sheet, readSheet}
 use Rattle.rules.specs.Outcome.{Out, done, refused, when, mapOut, given, reading}
 use Rattle.rules.specs.Rules.{Env, Cells, get, put}
 use Rattle.rules.specs.Answer.{Answer, refusal, success, answer, door, getWalk, getBytes, getAnswer, count, newPlan, putWalk, putBytes, putAnswer}
-use Rattle.rules.specs.OutcomeLaws.{given-yes}
+use Rattle.rules.specs.OutcomeLaws.{given-yes, given-not}
 use Rattle.rules.specs.AllowanceLaws.{within-done, done-within}
 
 module _ {A B : Type 0} where
@@ -53,10 +53,30 @@ module _ {need output scratch allowance : ℕ} {o : Out (List ℕ)} where
       let (h₃, _, e₃) = given-done _ _ _ e₂ in let (h₄, _, e₄) = given-done _ _ _ e₃ in
       (record { output-long = h₁; scratch-long = h₂; some-steps = h₃; few-steps = h₄ }, e₄)
 
-  door-open : Lent need output scratch allowance → door need output scratch allowance o ≡ o
+  -- it opens
+  pub door-open : Lent need output scratch allowance → door need output scratch allowance o ≡ o
   unfolding door
   door-open l = given-yes 1 (decLe need output) (l .output-long) ∙ given-yes 2 (decLe 65536 scratch) (l .scratch-long)
       ∙ given-yes 3 (decLe 1 allowance) (l .some-steps) ∙ given-yes 3 (decLe allowance 1000000) (l .few-steps)
+
+-- and the four ways in which it stays shut
+module _ (need output scratch allowance : ℕ) (o : Out (List ℕ)) where
+  pub door-output : output < need → door need output scratch allowance o ≡ refused 1 0
+  unfolding door
+  door-output h = given-not 1 (decLe need output) _ (λ k. omega arith)
+
+  pub door-scratch : need ≤ output → scratch < 65536 → door need output scratch allowance o ≡ refused 2 0
+  unfolding door
+  door-scratch h k = given-yes 1 (decLe need output) h ∙ given-not 2 (decLe 65536 scratch) _ (λ l. omega arith)
+
+  pub door-none : need ≤ output → 65536 ≤ scratch → allowance ≡ 0 → door need output scratch allowance o ≡ refused 3 0
+  unfolding door
+  door-none h k e = given-yes 1 (decLe need output) h ∙ given-yes 2 (decLe 65536 scratch) k ∙ given-not 3 (decLe 1 allowance) _ (λ l. omega arith)
+
+  pub door-over : need ≤ output → 65536 ≤ scratch → 1000000 < allowance → door need output scratch allowance o ≡ refused 3 0
+  unfolding door
+  door-over h k e = given-yes 1 (decLe need output) h ∙ given-yes 2 (decLe 65536 scratch) k ∙ given-yes 3 (decLe 1 allowance) (omega arith)
+      ∙ given-not 3 (decLe allowance 1000000) _ (λ l. omega arith)
 
 lent-larger : {need output scratch allowance : ℕ} (b : ℕ) → allowance ≤ b → b ≤ 1000000 → Lent need output scratch allowance → Lent need output scratch b
 lent-larger b h k l = record { output-long = l .output-long; scratch-long = l .scratch-long; some-steps = le-trans (l .some-steps) h; few-steps = k }

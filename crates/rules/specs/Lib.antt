@@ -12,3 +12,4 @@ pub mod Scope
 pub mod Consistency
 pub mod Acceptability
 pub mod Trips
+pub mod Refusals

@@ -87,6 +87,12 @@ module _ {A B : Type 0} where
   given-yes c (yes p) a = refl
   given-yes c (no p) a = absurd (p a)
 
+  -- and one that says no
+  pub given-not : (c : ℕ) (d : Dec A) (f : A → Out B) → (A → ⊥) → given c (when d) f ≡ refused c 0
+  unfolding given when
+  given-not c (yes p) f n = absurd (n p)
+  given-not c (no p) f n = refl
+
 module _ {A P Q : Type 0} {S : A → ℕ → Type 0} {x y : Out A} where
   pub after-choose : (p : Dec P) (q : Dec Q) → (P → After (Unit {0}) S x) → (Q → After (Unit {0}) S y) → After (Unit {0}) S (choose p q x y)
   unfolding choose

@@ -1,9 +1,15 @@
-//! The rules of get and put: the crate is there for the definitions and laws of specs/.
-ghost use mathlib.Core.Path.{_≡_};
+//! The rules of get and put: the crate is there for the definitions and laws of specs/. Its code is the numbers that they name.
 
-/// The number of levels that a walk has: a node at depth 49 is refused.
-pub fn levels() -> usize
-    ensures { λ r. ⌜ r ≡ 48 ⌝ }
-{
-    48
-}
+/// The levels of a walk: a node at depth 49 is refused.
+pub const LEVELS: usize = 48;
+
+/// The largest allowance of steps.
+pub const ALLOWANCE: usize = 1_000_000;
+
+/// The bytes of scratch that a call takes.
+pub const SCRATCH: usize = 65_536;
+
+/// The bytes of output that a get takes, and a put.
+pub const GET_OUTPUT: usize = 256;
+
+pub const PUT_OUTPUT: usize = 4_096;

@@ -1,0 +1,79 @@
+-- What shows that a call was answered: refused at the door, refused behind it, or done.
+use mathlib.Core.Path.{_≡_, refl, sym, ap, _∙_}
+use mathlib.Core.Bool.{Bool, true, false}
+use mathlib.Core.List.{List, [], _∷_, _++_}
+use Prim.Native.Nat.{ℕ, _+_, _≤_, _<_}
+use native.Mathlib.Nat.{zero-add}
+use native.Mathlib.Omega.{arith}
+use borrow.Author.Tests.{lt-leb}
+use lib.Dec.{leb}
+use lib.ListN.{length, take, drop, length-append, length-drop}
+use lib.Seq.{paste, take-at}
+use Rattle.rules.specs.Outcome.{Out, done, refused}
+use Rattle.rules.specs.Answer.{Answer, refusal, success, answer, door}
+use Rattle.rules.specs.AnswerLaws.{Lent, door-open, door-output, door-scratch, door-none, door-over}
+use Rattle.rules.specs.Refusals.{Lists, lRefused, lDone, listed-above}
+use Rattle.lens.specs.declared.Reply.{Reply}
+use Rattle.lens.specs.declared.Reply.the-variants.{Done, Refused}
+use Rattle.lens.specs.Buffers.{zeros, zeroed}
+use Rattle.lens.specs.Calls.{reply, written, cleared, afterRefusal, Answered}
+
+-- scratch that was only changed within its first n bytes is cleared to the same bytes
+pub zeros-same : (n : ℕ) (s a : List ℕ) → drop n a ≡ drop n s → zeros n a ≡ zeros n s
+unfolding zeros
+zeros-same n s a e = rw e
+
+-- THE DOOR
+
+module _ (need : ℕ) (o s : List ℕ) (allowance : ℕ) (w : Out (List ℕ)) where
+  abbrev Call : Answer
+  Call = answer (door need (length o) (length s) allowance w)
+
+  at-door : (c : ℕ) → leb c 3 ≡ true → door need (length o) (length s) allowance w ≡ refused c 0 → Answered Call (Refused c) o o s s
+  unfolding answer reply written cleared afterRefusal
+  at-door c l e = rw e (record { answer = refl; output = refl; scratch = rw l refl })
+
+  pub shut-output : length o < need → Answered Call (Refused 1) o o s s
+  shut-output h = at-door 1 refl (door-output need (length o) (length s) allowance w h)
+
+  pub shut-scratch : need ≤ length o → length s < 65536 → Answered Call (Refused 2) o o s s
+  shut-scratch h k = at-door 2 refl (door-scratch need (length o) (length s) allowance w h k)
+
+  pub shut-none : need ≤ length o → 65536 ≤ length s → allowance ≡ 0 → Answered Call (Refused 3) o o s s
+  shut-none h k e = at-door 3 refl (door-none need (length o) (length s) allowance w h k e)
+
+  pub shut-over : need ≤ length o → 65536 ≤ length s → 1000000 < allowance → Answered Call (Refused 3) o o s s
+  shut-over h k e = at-door 3 refl (door-over need (length o) (length s) allowance w h k e)
+
+  -- BEHIND IT
+
+  high : {c n : ℕ} → Lists w → w ≡ refused c n → 3 < c
+  high {c} {n} l e = go (rw e at l)
+    where
+      go : Lists {A = List ℕ} (refused c n) → 3 < c
+      go (lRefused h) = listed-above c h
+
+  pub refused-behind : Lent need (length o) (length s) allowance → Lists w → {c n : ℕ} → w ≡ refused c n → {s′ : List ℕ} → s′ ≡ zeroed s → Answered Call (Refused c) o o s s′
+  unfolding answer reply written cleared afterRefusal
+  refused-behind l h {c} {n} e {s′} z =
+      let k : leb c 3 ≡ false = lt-leb c 3 (high h e) in
+      rw (door-open {o = w} l, e) (record { answer = refl; output = refl; scratch = rw k z })
+
+  pub done-behind : Lent need (length o) (length s) allowance → {bs : List ℕ} {n len : ℕ} → w ≡ done bs n → len ≡ length bs
+      → {o′ s′ : List ℕ} → o′ ≡ bs ++ drop len o → s′ ≡ zeroed s → Answered Call (Done len n) o o′ s s′
+  unfolding answer reply written cleared
+  done-behind l {bs} {n} {len} e q {o′} {s′} p z =
+      rw (door-open {o = w} l, e) (record { answer = ap (λ k. Done k n) q; output = p ∙ ap (λ (k : ℕ). bs ++ drop k o) q; scratch = z })
+
+-- bytes of scratch at the front of the output
+pub at-front : (o t bs : List ℕ) (from len : ℕ) → take len (drop from t) ≡ bs → paste o 0 (drop from t) len ≡ bs ++ drop len o
+at-front o t bs from len e = rw (e, zero-add)
+
+-- a success lies within the output
+pub done-inside : {a : Answer} {r : Reply} {o o′ s s′ : List ℕ} → Answered a r o o′ s s′ → {len n : ℕ} → r ≡ Done len n → len ≤ length o′
+unfolding reply written
+done-inside {a} {r} {o} {o′} w {len} {n} e = go a (w .answer) (w .output)
+  where
+    go : (a : Answer) → r ≡ reply a → o′ ≡ written a o → len ≤ length o′
+    go (refusal c) p q = let z : _≡_ {A = ℕ} 0 1 = cc in absurd (omega arith)
+    go (success bs m) p q = let l : length bs ≡ len = cc in rw (q, length-append) (omega arith)

@@ -1,0 +1,36 @@
+-- What a call answers, as the code has it, and what its output and scratch then hold: document 01, "Where each refusal is met".
+use mathlib.Core.Path.{_≡_}
+use mathlib.Core.Bool.{Bool, true, false}
+use mathlib.Core.List.{List, _++_}
+use Prim.Native.Nat.{ℕ}
+use lib.Dec.{leb}
+use lib.ListN.{length, drop}
+use Rattle.rules.specs.Answer.{Answer, refusal, success}
+use Rattle.lens.specs.declared.Reply.{Reply}
+use Rattle.lens.specs.declared.Reply.the-variants.{Done, Refused}
+use Rattle.lens.specs.Buffers.{zeroed}
+
+-- a refusal is its number; a success is how many bytes and how many steps
+unfoldable pub reply : Answer → Reply
+reply (refusal c) = Refused c
+reply (success bs n) = Done (length bs) n
+
+-- the bytes stand at the front of the output, and those behind them do not change; a refusal writes none
+unfoldable pub written : Answer → List ℕ → List ℕ
+written (refusal c) o = o
+written (success bs n) o = bs ++ drop (length bs) o
+
+-- refusals 1 to 3 do not touch scratch; every other ending zeroes its first 65,536 bytes and touches no others
+unfoldable pub afterRefusal : Bool → List ℕ → List ℕ
+afterRefusal true s = s
+afterRefusal false s = zeroed s
+
+unfoldable pub cleared : Answer → List ℕ → List ℕ
+cleared (refusal c) s = afterRefusal (leb c 3) s
+cleared (success bs n) s = zeroed s
+
+-- the call's answer is a: r says so, and output o and scratch s became o′ and s′
+pub record Answered (a : Answer) (r : Reply) (o o′ s s′ : List ℕ) : Type 0 where
+  pub answer : r ≡ reply a
+  pub output : o′ ≡ written a o
+  pub scratch : s′ ≡ cleared a s

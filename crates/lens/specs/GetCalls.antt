@@ -1,0 +1,75 @@
+-- Get: from the walk's answer to the call's.
+use mathlib.Core.Path.{_≡_, refl, sym, ap, _∙_}
+use mathlib.Core.List.{List, [], _∷_, _++_}
+use Prim.Native.Nat.{ℕ, _+_, _≤_, _<_}
+use native.Mathlib.Omega.{arith}
+use lib.ListN.{length, take, drop}
+use lib.Seq.{paste}
+use Rattle.rules.specs.Outcome.{Out, done, refused}
+use Rattle.rules.specs.Answer.{Answer, answer, door, getBytes, getAnswer}
+use Rattle.rules.specs.AnswerLaws.{Lent}
+use Rattle.rules.specs.Refusals.{lists-get-bytes}
+use Rattle.walk.specs.declared.Walked.{Walked}
+use Rattle.walk.specs.declared.Walked.the-variants.{Done as Walked·Done, Refused as Walked·Refused}
+use Rattle.walk.specs.Entry.{Says, says-done, says-refused, GetCall}
+use Rattle.lens.specs.declared.Reply.{Reply}
+use Rattle.lens.specs.declared.Reply.the-variants.{Done, Refused}
+use Rattle.lens.specs.Buffers.{zeroed}
+use Rattle.lens.specs.Calls.{Answered}
+use Rattle.lens.specs.CallLaws.{zeros-same, shut-output, shut-scratch, shut-none, shut-over, refused-behind, done-behind, at-front}
+
+-- what a walk that is done says
+pub record SaysDone (a : List ℕ) (len n : ℕ) (o : Out (List ℕ)) : Type 0 where
+  pub bytes : List ℕ
+  pub is : o ≡ done bytes n
+  pub long : len ≡ length bytes
+  pub short : len ≤ 256
+  pub stands : take len (drop 32256 a) ≡ bytes
+
+pub said-done : {a : List ℕ} {r : Walked} {o : Out (List ℕ)} {len n : ℕ} → Says a r o → r ≡ Walked·Done len n → SaysDone a len n o
+said-done {a} {len = len} {n = n} (says-done {bs = bs} {n = m} k e l h p) d =
+    let q : k ≡ len = cc in
+    let z : m ≡ n = cc in
+    record { bytes = bs; is = ap (done bs) z; long = sym q ∙ l; short = rw q at h; stands = ap (λ (i : ℕ). take i (drop 32256 a)) (sym q) ∙ p }
+said-done (says-refused e) d = let z : _≡_ {A = ℕ} 0 1 = cc in absurd (omega arith)
+
+pub said-refused : {a : List ℕ} {r : Walked} {o : Out (List ℕ)} {c : ℕ} → Says a r o → r ≡ Walked·Refused c → (n : ℕ) × (o ≡ refused c n)
+said-refused (says-done k e l h p) d = let z : _≡_ {A = ℕ} 0 1 = cc in absurd (omega arith)
+said-refused {c = c} (says-refused {c = k} {n = n} e) d = let q : k ≡ c = cc in (n, ap (λ x. refused x n) q)
+
+module _ (sheet plan : List ℕ) (allowance : ℕ) (o s : List ℕ) where
+  abbrev pub GetAnswered : Reply → List ℕ → List ℕ → Type 0
+  GetAnswered r o′ s′ = Answered (getAnswer sheet plan allowance (length o) (length s)) r o o′ s s′
+
+  pub get-output : length o < 256 → GetAnswered (Refused 1) o s
+  unfolding getAnswer
+  get-output h = shut-output 256 o s allowance (getBytes sheet plan allowance) h
+
+  pub get-scratch : 256 ≤ length o → length s < 65536 → GetAnswered (Refused 2) o s
+  unfolding getAnswer
+  get-scratch h k = shut-scratch 256 o s allowance (getBytes sheet plan allowance) h k
+
+  pub get-none : 256 ≤ length o → 65536 ≤ length s → allowance ≡ 0 → GetAnswered (Refused 3) o s
+  unfolding getAnswer
+  get-none h k e = shut-none 256 o s allowance (getBytes sheet plan allowance) h k e
+
+  pub get-over : 256 ≤ length o → 65536 ≤ length s → 1000000 < allowance → GetAnswered (Refused 3) o s
+  unfolding getAnswer
+  get-over h k e = shut-over 256 o s allowance (getBytes sheet plan allowance) h k e
+
+  module _ (l : Lent 256 (length o) (length s) allowance) {a : List ℕ} {r : Walked} (g : GetCall sheet plan allowance s a r) where
+    pub get-says : Says a r (getBytes sheet plan allowance)
+    get-says = g .says (l .scratch-long) (l .few-steps)
+
+    pub get-refused : {c : ℕ} {s′ : List ℕ} → r ≡ Walked·Refused c → s′ ≡ zeroed a → GetAnswered (Refused c) o s′
+    unfolding getAnswer
+    get-refused e z = refused-behind 256 o s allowance (getBytes sheet plan allowance) l (lists-get-bytes sheet plan allowance) (said-refused get-says e .1) (z ∙ zeros-same 65536 s a (g .behind))
+
+    pub get-done : {len n : ℕ} {o′ s′ : List ℕ} → r ≡ Walked·Done len n → o′ ≡ paste o 0 (drop 32256 a) len → s′ ≡ zeroed a → GetAnswered (Done len n) o′ s′
+    unfolding getAnswer
+    get-done {len} e p z =
+        let d = said-done get-says e in
+        done-behind 256 o s allowance (getBytes sheet plan allowance) l (d .is) (d .long) (p ∙ at-front o a (d .bytes) 32256 len (d .stands)) (z ∙ zeros-same 65536 s a (g .behind))
+
+    pub get-fits : {len n : ℕ} → r ≡ Walked·Done len n → (32256 + len ≤ length a) × (0 + len ≤ length o)
+    get-fits e = let d = said-done get-says e in (omega (arith, d .short, g .long, l .scratch-long), omega (arith, d .short, l .output-long))

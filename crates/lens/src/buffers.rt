@@ -1,0 +1,30 @@
+//! The caller's buffers: scratch cleared, and an answer copied out.
+ghost use mathlib.Core.Path.{_≡_};
+ghost use Prim.Native.Nat.{_+_, _≤_};
+ghost use lib.ListN.{length, drop};
+ghost use lib.Seq.{paste};
+ghost use Rattle.lens.specs.Buffers.{zeroed};
+
+/// The first 65,536 bytes of scratch are zero.
+pub fn clear(scratch: &mut [u8])
+    requires { ⌜ 65536 ≤ length (now scratch) ⌝ }
+    ensures { λ _. ⌜ now (scratch .exit) ≡ zeroed (now (scratch .entry)) ⌝ }
+{
+    let mut i = 0;
+    while i < 65536 {
+        scratch[i] = 0;
+        i += 1;
+    }
+}
+
+/// The bytes of scratch from `from` on, n of them, at place `to` of the output.
+pub fn copy_out(scratch: &[u8], from: usize, n: usize, out: &mut [u8], to: usize)
+    requires { ⌜ (from + n ≤ length (now scratch)) × (to + n ≤ length (now out)) ⌝ }
+    ensures { λ _. ⌜ now (out .exit) ≡ paste (now (out .entry)) to (drop from (now (scratch .entry))) n ⌝ }
+{
+    let mut i = 0;
+    while i < n {
+        out[to + i] = scratch[from + i];
+        i += 1;
+    }
+}
