@@ -31,3 +31,5 @@ pub mod PutCase
 pub mod PutList
 pub mod PutTruth
 pub mod PutSwitch
+pub mod Gather
+pub mod PutEntry

@@ -7,6 +7,7 @@ ghost use Rattle.value.specs.Parts.{sameBytes};
 ghost use Rattle.walk.specs.Cells.{Shown, addedTwo, pickedCells, judged, unfitRest};
 ghost use Rattle.walk.specs.Puts.{Ready, Inner, Gives, Any, Spans, SomeSpans, SomeView, enter, body, pair, inside, rebuilt, switch};
 ghost use Rattle.walk.specs.PutLeaf.{Leaf};
+ghost use Rattle.walk.specs.Gather.{Counted};
 use crate::bytes::rebuild;
 use crate::bytes::place_of;
 use crate::bytes::store;
@@ -30,6 +31,20 @@ pub enum Put {
 pub struct Cells {
     pub count: usize,
     pub of: [u8; 110],
+}
+
+/// The cells of the k variables of a plan: cell i for variable i.
+pub fn first_cells(k: usize) -> Cells
+    requires { ⌜ k ≤ 16 ⌝ }
+    ensures { λ r. ⌜ Counted k r ⌝ }
+{
+    let mut of = [0u8; 110];
+    let mut i = 0;
+    while i < k {
+        of[i] = i as u8;
+        i += 1;
+    }
+    Cells { count: k, of }
 }
 
 // The next two variables, from number `at` on, are two new cells.
