@@ -11,7 +11,7 @@ use Rattle.rules.specs.AnswerLaws.{Lent}
 use Rattle.rules.specs.Refusals.{lists-get-bytes}
 use Rattle.walk.specs.declared.Walked.{Walked}
 use Rattle.walk.specs.declared.Walked.the-variants.{Done as Walked·Done, Refused as Walked·Refused}
-use Rattle.walk.specs.Entry.{Says, says-done, says-refused, GetCall}
+use Rattle.walk.specs.Entry.{Says, says-done, says-refused, WalkCall}
 use Rattle.lens.specs.declared.Reply.{Reply}
 use Rattle.lens.specs.declared.Reply.the-variants.{Done, Refused}
 use Rattle.lens.specs.Buffers.{zeroed}
@@ -19,21 +19,21 @@ use Rattle.lens.specs.Calls.{Answered}
 use Rattle.lens.specs.CallLaws.{zeros-same, shut-output, shut-scratch, shut-none, shut-over, refused-behind, done-behind, at-front}
 
 -- what a walk that is done says
-pub record SaysDone (a : List ℕ) (len n : ℕ) (o : Out (List ℕ)) : Type 0 where
+pub record SaysDone (most : ℕ) (a : List ℕ) (len n : ℕ) (o : Out (List ℕ)) : Type 0 where
   pub bytes : List ℕ
   pub is : o ≡ done bytes n
   pub long : len ≡ length bytes
-  pub short : len ≤ 256
+  pub short : len ≤ most
   pub stands : take len (drop 32256 a) ≡ bytes
 
-pub said-done : {a : List ℕ} {r : Walked} {o : Out (List ℕ)} {len n : ℕ} → Says a r o → r ≡ Walked·Done len n → SaysDone a len n o
-said-done {a} {len = len} {n = n} (says-done {bs = bs} {n = m} k e l h p) d =
+pub said-done : {most : ℕ} {a : List ℕ} {r : Walked} {o : Out (List ℕ)} {len n : ℕ} → Says most a r o → r ≡ Walked·Done len n → SaysDone most a len n o
+said-done {a = a} {len = len} {n = n} (says-done {bs = bs} {n = m} k e l h p) d =
     let q : k ≡ len = cc in
     let z : m ≡ n = cc in
     record { bytes = bs; is = ap (done bs) z; long = sym q ∙ l; short = rw q at h; stands = ap (λ (i : ℕ). take i (drop 32256 a)) (sym q) ∙ p }
 said-done (says-refused e) d = let z : _≡_ {A = ℕ} 0 1 = cc in absurd (omega arith)
 
-pub said-refused : {a : List ℕ} {r : Walked} {o : Out (List ℕ)} {c : ℕ} → Says a r o → r ≡ Walked·Refused c → (n : ℕ) × (o ≡ refused c n)
+pub said-refused : {most : ℕ} {a : List ℕ} {r : Walked} {o : Out (List ℕ)} {c : ℕ} → Says most a r o → r ≡ Walked·Refused c → (n : ℕ) × (o ≡ refused c n)
 said-refused (says-done k e l h p) d = let z : _≡_ {A = ℕ} 0 1 = cc in absurd (omega arith)
 said-refused {c = c} (says-refused {c = k} {n = n} e) d = let q : k ≡ c = cc in (n, ap (λ x. refused x n) q)
 
@@ -57,8 +57,8 @@ module _ (sheet plan : List ℕ) (allowance : ℕ) (o s : List ℕ) where
   unfolding getAnswer
   get-over h k e = shut-over 256 o s allowance (getBytes sheet plan allowance) h k e
 
-  module _ (l : Lent 256 (length o) (length s) allowance) {a : List ℕ} {r : Walked} (g : GetCall sheet plan allowance s a r) where
-    pub get-says : Says a r (getBytes sheet plan allowance)
+  module _ (l : Lent 256 (length o) (length s) allowance) {a : List ℕ} {r : Walked} (g : WalkCall 256 (getBytes sheet plan allowance) allowance s a r) where
+    pub get-says : Says 256 a r (getBytes sheet plan allowance)
     get-says = g .says (l .scratch-long) (l .few-steps)
 
     pub get-refused : {c : ℕ} {s′ : List ℕ} → r ≡ Walked·Refused c → s′ ≡ zeroed a → GetAnswered (Refused c) o s′

@@ -1,4 +1,4 @@
--- Get on bytes: what the entry shows of its answer, and that it is the rules' answer.
+-- Walks on bytes: what an entry shows of its answer; and that get's is the rules' answer.
 use mathlib.Core.Path.{_≡_, refl, sym, ap, _∙_}
 use mathlib.Core.List.{List, _++_, map}
 use Prim.Native.Nat.{ℕ, _+_, _-_, _≤_, _<_}
@@ -30,18 +30,18 @@ use Rattle.walk.specs.Seen.{held-short}
 use Rattle.walk.specs.Answers.{Told, serves, denies}
 use Rattle.walk.specs.Gets.{enter, run, Ready, Served, Denied, Gives}
 
--- the result r and the arena a say the outcome: a value's bytes stand at 32,256
-pub data Says (a : List ℕ) (r : Walked) : Out (List ℕ) → Type 0 where
-  says-done : {bs : List ℕ} {n : ℕ} (len : ℕ) → r ≡ Done len n → len ≡ length bs → len ≤ 256 → part a 32256 len ≡ bs → Says a r (done bs n)
-  says-refused : {c n : ℕ} → r ≡ Refused c → Says a r (refused c n)
+-- the result r and the arena a say the outcome: its bytes, at most `most`, stand at 32,256
+pub data Says (most : ℕ) (a : List ℕ) (r : Walked) : Out (List ℕ) → Type 0 where
+  says-done : {bs : List ℕ} {n : ℕ} (len : ℕ) → r ≡ Done len n → len ≡ length bs → len ≤ most → part a 32256 len ≡ bs → Says most a r (done bs n)
+  says-refused : {c n : ℕ} → r ≡ Refused c → Says most a r (refused c n)
 
--- get on the bytes of a sheet and a plan, with the arena b before and a behind it
-pub record GetCall (sheet plan : List ℕ) (allowance : ℕ) (b a : List ℕ) (r : Walked) : Type 0 where
+-- a call whose outcome is w, with the arena b before and a behind it
+pub record WalkCall (most : ℕ) (w : Out (List ℕ)) (allowance : ℕ) (b a : List ℕ) (r : Walked) : Type 0 where
   pub long : length a ≡ length b
   pub behind : drop 65536 a ≡ drop 65536 b
   pub short : length b < 65536 → (r ≡ Refused 2) × (a ≡ b)
   pub too-many : 65536 ≤ length b → 1000000 < allowance → (r ≡ Refused 3) × (a ≡ b)
-  pub says : 65536 ≤ length b → allowance ≤ 1000000 → Says a r (getBytes sheet plan allowance)
+  pub says : 65536 ≤ length b → allowance ≤ 1000000 → Says most a r w
 
 -- the sheet and the plan are read, and the scope has the plan's variables
 pub record Planned (sheet plan : List ℕ) (table : Table) (sc : Scope) (allowance : ℕ) (b : List ℕ) : Type 0 where
@@ -54,17 +54,17 @@ pub record Planned (sheet plan : List ℕ) (table : Table) (sc : Scope) (allowan
   pub few : allowance ≤ 1000000
   pub long : length b ≡ 65536
 
-pub record PlanGot (sheet plan : List ℕ) (allowance : ℕ) (b a : List ℕ) (r : Walked) : Type 0 where
+pub record PlanWalked (most : ℕ) (w : Out (List ℕ)) (b a : List ℕ) (r : Walked) : Type 0 where
   pub long : length a ≡ length b
-  pub says : Says a r (getBytes sheet plan allowance)
+  pub says : Says most a r w
 
 -- THE WALK FROM THE ROOT
 
 module _ {sheet plan : List ℕ} {table : Table} {sc : Scope} {allowance : ℕ} {b : List ℕ} (w : Planned sheet plan table sc allowance b) where
-  plan-read : ReadAs (w .sh .k) plan (w .μ)
+  pub plan-read : ReadAs (w .sh .k) plan (w .μ)
   plan-read = readValues-sound 20 (w .sh .k) plan (w .values)
 
-  plan-small : (length (w .μ) ≤ 16) × (length plan ≤ 4096)
+  pub plan-small : (length (w .μ) ≤ 16) × (length plan ≤ 4096)
   plan-small =
       let r = plan-read in
       let z = sheet-ranges sheet (w .read) .few-variables in
@@ -76,7 +76,7 @@ module _ {sheet plan : List ℕ} {table : Table} {sc : Scope} {allowance : ℕ} 
   plan-fits = omega (arith, plan-small .1, w .long)
 
   module _ {m : List ℕ} (c : CopiedIn plan b m) where
-    plan-env : Env m sc 32256 (w .μ)
+    pub plan-env : Env m sc 32256 (w .μ)
     plan-env = record {
       count = w .spanned .count ∙ sym (plan-read .count);
       starts-long = w .spanned .starts-long;
@@ -111,7 +111,7 @@ module _ {sheet plan : List ℕ} {table : Table} {sc : Scope} {allowance : ℕ} 
           scoped = plan-env;
         }
 
-    pub plan-got : {a : List ℕ} {r : Walked} → Gives m a sheet sc 32256 32256 allowance 0 r 48 (enter (table .root)) → PlanGot sheet plan allowance b a r
+    pub plan-got : {a : List ℕ} {r : Walked} → Gives m a sheet sc 32256 32256 allowance 0 r 48 (enter (table .root)) → PlanWalked 256 (getBytes sheet plan allowance) b a r
     unfolding tableOf getBytes getWalk reading mapOut run
     plan-got {a} {r} g =
         let z : table .root ≡ w .sh .root = ap (λ (t : Table). t .root) (w .is) in
@@ -120,7 +120,7 @@ module _ {sheet plan : List ℕ} {table : Table} {sc : Scope} {allowance : ℕ} 
           says = rw (w .read, w .values) (go (rw z at (g .told (w .sh) (w .read) (w .μ) plan-env .told)));
         }
       where
-        go : {o : Out Value} → Told (Served a 32256 r) (Denied r) 0 o → Says a r (mapOut encode o)
+        go : {o : Out Value} → Told (Served a 32256 r) (Denied r) 0 o → Says 256 a r (mapOut encode o)
         go (serves {v = v} {s = s} n e p) =
             let q : n ≡ s = omega arith in
             says-done (p .len) (p .is ∙ ap (Done (p .len)) q) (p .held .long ∙ sym (size-encode v)) (held-short (p .held)) (p .held .bytes)
@@ -147,9 +147,9 @@ table-read sheet {table} is fine =
 spanned-as : {k k′ : ℕ} {ss ss′ ls ls′ : List ℕ} {sc : Scope} → k ≡ k′ → ss ≡ ss′ → ls ≡ ls′ → Spanned k ss ls sc → Spanned k′ ss′ ls′ sc
 spanned-as e f g s = rw (e, f, g) at s
 
-pub get-planned : {sheet plan : List ℕ} {allowance : ℕ} {table : Table} {sc : Scope} {sp : Spans} (b : List ℕ) → 65536 ≤ length b → allowance ≤ 1000000 → TableRead sheet table
+pub planned : {sheet plan : List ℕ} {allowance : ℕ} {table : Table} {sc : Scope} {sp : Spans} (b : List ℕ) → 65536 ≤ length b → allowance ≤ 1000000 → TableRead sheet table
     → sp ≡ spansOf (table .k) plan → sp .refusal ≡ 0 → Spanned (table .k) (sp .starts) (sp .lens) sc → Planned sheet plan table sc allowance (take 65536 b)
-get-planned {plan = plan} {table = table} b room few t read z s =
+planned {plan = plan} {table = table} b room few t read z s =
     let w = spread (table .k) plan (t .few) read z in
     record {
       sh = t .sh;
@@ -163,38 +163,49 @@ get-planned {plan = plan} {table = table} b room few t read z s =
     }
 
 -- what stands in the front stands in the whole
-says-whole : (x : List ℕ) {a : List ℕ} {r : Walked} {o : Out (List ℕ)} → length a ≡ 65536 → Says a r o → Says (a ++ x) r o
-says-whole x {a} l (says-done {bs = bs} len e q h p) =
+says-whole : (x : List ℕ) {most : ℕ} {a : List ℕ} {r : Walked} {o : Out (List ℕ)} → most ≤ 4096 → length a ≡ 65536 → Says most a r o → Says most (a ++ x) r o
+says-whole x {a = a} t l (says-done {bs = bs} len e q h p) =
     let z : part (a ++ x) 32256 len ≡ part a 32256 len = rw (drop-append-le 32256 a x (omega arith)) (take-append-le len (drop 32256 a) x (rw length-drop (omega arith))) in
     says-done len e q h (z ∙ p)
-says-whole x l (says-refused e) = says-refused e
+says-whole x t l (says-refused e) = says-refused e
 
-module _ {sheet plan : List ℕ} {allowance : ℕ} {b : List ℕ} where
-  pub get-2 : length b < 65536 → GetCall sheet plan allowance b b (Refused 2)
-  get-2 h = record { long = refl; behind = refl; short = λ _. (refl, refl); too-many = λ k _. absurd (omega arith); says = λ k _. absurd (omega arith) }
+module _ {most : ℕ} {w : Out (List ℕ)} {allowance : ℕ} {b : List ℕ} where
+  pub call-2 : length b < 65536 → WalkCall most w allowance b b (Refused 2)
+  call-2 h = record { long = refl; behind = refl; short = λ _. (refl, refl); too-many = λ k _. absurd (omega arith); says = λ k _. absurd (omega arith) }
 
   module _ (room : 65536 ≤ length b) where
-    pub get-3 : 1000000 < allowance → GetCall sheet plan allowance b b (Refused 3)
-    get-3 h = record { long = refl; behind = refl; short = λ k. absurd (omega arith); too-many = λ _ _. (refl, refl); says = λ _ k. absurd (omega arith) }
+    pub call-3 : 1000000 < allowance → WalkCall most w allowance b b (Refused 3)
+    call-3 h = record { long = refl; behind = refl; short = λ k. absurd (omega arith); too-many = λ _ _. (refl, refl); says = λ _ k. absurd (omega arith) }
 
     module _ (few : allowance ≤ 1000000) where
-      answered : {a : List ℕ} {r : Walked} → length a ≡ length b → drop 65536 a ≡ drop 65536 b → Says a r (getBytes sheet plan allowance) → GetCall sheet plan allowance b a r
+      answered : {a : List ℕ} {r : Walked} → length a ≡ length b → drop 65536 a ≡ drop 65536 b → Says most a r w → WalkCall most w allowance b a r
       answered l d s = record { long = l; behind = d; short = λ k. absurd (omega arith); too-many = λ _ k. absurd (omega arith); says = λ _ _. s }
 
-      pub get-sheet-refused : {table : Table} → table ≡ tableOf (readSheet sheet) → (table .refusal ≡ 0 → ⊥) → GetCall sheet plan allowance b b (Refused (table .refusal))
-      unfolding getBytes reading
-      get-sheet-refused {table} is n =
-          let z : table .refusal ≡ tableOf (readSheet sheet) .refusal = ap (λ (t : Table). t .refusal) is in
-          let e : readSheet sheet ≡ refusal (table .refusal) = table-refused sheet (λ y. n (z ∙ y)) ∙ ap refusal (sym z) in
-          answered refl refl (rw e (says-refused refl))
+      pub call-refused : {c n : ℕ} → w ≡ refused c n → WalkCall most w allowance b b (Refused c)
+      call-refused e = answered refl refl (rw e (says-refused refl))
 
-      pub get-plan-refused : {table : Table} {sp : Spans} → TableRead sheet table → sp ≡ spansOf (table .k) plan → (sp .refusal ≡ 0 → ⊥) → GetCall sheet plan allowance b b (Refused (sp .refusal))
-      unfolding getBytes reading
-      get-plan-refused {table} {sp} t read n =
-          let e : readPlan (t .sh .k) plan ≡ refusal (sp .refusal) = rw (t .k-is) at (spans-refused (table .k) plan (t .few) read n) in
-          answered refl refl (rw (t .read, e) (says-refused refl))
-
-      pub get-done : {a : List ℕ} {r : Walked} → PlanGot sheet plan allowance (take 65536 b) a r → GetCall sheet plan allowance b (a ++ drop 65536 b) r
-      get-done {a} {r} g =
+      pub call-done : {a : List ℕ} {r : Walked} → most ≤ 4096 → PlanWalked most w (take 65536 b) a r → WalkCall most w allowance b (a ++ drop 65536 b) r
+      call-done {a} {r} t g =
           let l : length a ≡ 65536 = g .long ∙ length-take-le 65536 b room in
-          answered (rw (length-append, length-drop) (omega arith)) (drop-at a (drop 65536 b) 65536 l) (says-whole (drop 65536 b) l (g .says))
+          answered (rw (length-append, length-drop) (omega arith)) (drop-at a (drop 65536 b) 65536 l) (says-whole (drop 65536 b) t l (g .says))
+
+-- a refusal of the sheet, and of the plan
+pub sheet-refusal : (sheet : List ℕ) {table : Table} → table ≡ tableOf (readSheet sheet) → (table .refusal ≡ 0 → ⊥) → readSheet sheet ≡ refusal (table .refusal)
+sheet-refusal sheet {table} is n =
+    let z : table .refusal ≡ tableOf (readSheet sheet) .refusal = ap (λ (t : Table). t .refusal) is in
+    table-refused sheet (λ y. n (z ∙ y)) ∙ ap refusal (sym z)
+
+pub plan-refusal : {sheet : List ℕ} {table : Table} {sp : Spans} (plan : List ℕ) (t : TableRead sheet table) → sp ≡ spansOf (table .k) plan → (sp .refusal ≡ 0 → ⊥) → readPlan (t .sh .k) plan ≡ refusal (sp .refusal)
+plan-refusal {table = table} plan t read n = rw (t .k-is) at (spans-refused (table .k) plan (t .few) read n)
+
+pub plan-values : {sheet : List ℕ} {table : Table} {sp : Spans} (plan : List ℕ) (t : TableRead sheet table) → sp ≡ spansOf (table .k) plan → sp .refusal ≡ 0 → (μ : List Value) × (readPlan (t .sh .k) plan ≡ ok μ)
+plan-values {table = table} plan t read z = let w = spread (table .k) plan (t .few) read z in (w .μ, ap (λ (k : ℕ). readPlan k plan) (sym (t .k-is)) ∙ w .values)
+
+module _ (sheet plan : List ℕ) (allowance : ℕ) where
+  pub get-sheet-refused : {c : ℕ} → readSheet sheet ≡ refusal c → getBytes sheet plan allowance ≡ refused c 0
+  unfolding getBytes reading
+  get-sheet-refused e = rw e
+
+  pub get-plan-refused : {sh : Sheet} {c : ℕ} → readSheet sheet ≡ ok sh → readPlan (sh .k) plan ≡ refusal c → getBytes sheet plan allowance ≡ refused c 0
+  unfolding getBytes reading
+  get-plan-refused e f = rw (e, f)

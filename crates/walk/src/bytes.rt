@@ -1,7 +1,10 @@
 //! Bytes moved within the arena.
-ghost use Prim.Native.Nat.{_+_, _≤_};
-ghost use lib.ListN.{length};
+ghost use mathlib.Core.Path.{_≡_};
+ghost use Prim.Native.Nat.{_+_, _≤_, _<_};
+ghost use lib.ListN.{length, drop};
+ghost use lib.Seq.{paste};
 ghost use Rattle.walk.specs.Parts.{Apart, Copied, CopiedIn};
+ghost use Rattle.walk.specs.Cells.{placeOf, rebuiltBytes};
 
 /// Copies n bytes of the arena from one place to another, forwards.
 pub fn copy(arena: &mut [u8], from: usize, to: usize, n: usize)
@@ -26,4 +29,68 @@ pub fn copy_in(from: &[u8], arena: &mut [u8])
         arena[i] = from[i];
         i += 1;
     }
+}
+
+/// Copies a slice into the arena.
+pub fn store(arena: &mut [u8], at: usize, from: &[u8])
+    requires { ⌜ at + length (now from) ≤ length (now arena) ⌝ }
+    ensures { λ _. ⌜ now (arena .exit) ≡ paste (now (arena .entry)) at (now (from .entry)) (length (now (from .entry))) ⌝ }
+{
+    let mut i = 0;
+    while i < from.len() {
+        arena[at + i] = from[i];
+        i += 1;
+    }
+}
+
+/// Where a value stands.
+pub struct Span {
+    pub start: usize,
+    pub len: usize,
+}
+
+/// Where a variable's value stands: in the slot of its cell where it was written, or else where it stood.
+pub fn place_of(written: u16, cell: usize, start: usize, len: usize) -> Span
+    requires { ⌜ cell < 110 ⌝ }
+    ensures { λ r. ⌜ r ≡ placeOf written cell start len ⌝ }
+{
+    if written == 0 {
+        return Span { start, len };
+    }
+    Span {
+        start: 4096 + 256 * cell,
+        len: written as usize,
+    }
+}
+
+// A part of the arena is copied into `whole`.
+fn fill(whole: [u8; 256], at: usize, arena: &[u8], start: usize, len: usize) -> [u8; 256]
+    requires { ⌜ (at + len ≤ 256) × (start + len ≤ length (now arena)) ⌝ }
+    ensures { λ r. ⌜ r ≡ paste whole at (drop start (now (arena .entry))) len ⌝ }
+{
+    let mut w = whole;
+    let mut i = 0;
+    while i < len {
+        w[at + i] = arena[start + i];
+        i += 1;
+    }
+    w
+}
+
+/// A kind byte and two values of the arena behind it.
+pub fn rebuild(
+    arena: &[u8],
+    kind: u8,
+    first: usize,
+    flen: usize,
+    second: usize,
+    slen: usize,
+) -> [u8; 256]
+    requires { ⌜ (1 + flen + slen ≤ 256) × (first + flen ≤ length (now arena)) × (second + slen ≤ length (now arena)) ⌝ }
+    ensures { λ r. ⌜ r ≡ rebuiltBytes (now (arena .entry)) kind first flen second slen ⌝ }
+{
+    let mut whole = [0u8; 256];
+    whole[0] = kind;
+    let half = fill(whole, 1, arena, first, flen);
+    fill(half, 1 + flen, arena, second, slen)
 }

@@ -2,20 +2,29 @@
 //!
 //! The arena is 65,536 bytes: the plan from 0, the 256 bytes of each cell from 4,096, and from 32,256 a stack of the values
 //! that are being built. A walk at `top` leaves the stack below `top` and the plan alone.
-ghost use Rattle.walk.specs.Entry.{Planned, PlanGot, GetCall};
+ghost use Rattle.rules.specs.Answer.{getBytes, putBytes};
+ghost use Rattle.walk.specs.Entry.{Planned, PlanWalked, WalkCall};
+ghost use Rattle.walk.specs.Gather.{SomePlaced, Gathered};
+ghost use Rattle.walk.specs.PutEntry.{Viewed};
 
 mod bytes;
 mod getter;
+mod putter;
 mod scope;
 
+use crate::bytes::copy;
 use crate::bytes::copy_in;
+use crate::bytes::place_of;
 use crate::getter::At;
 use crate::getter::get_node;
+use crate::putter::Put;
+use crate::putter::first_cells;
+use crate::putter::put_node;
 use crate::scope::Scope;
 use crate::scope::of_spans;
 use sheet::Table;
 
-/// What a get gives: a value of `len` bytes at the top of the stack and the steps taken, or a refusal.
+/// What a walk gives: `len` bytes at the top of the stack and the steps taken, or a refusal.
 pub enum Walked {
     Done { len: usize, steps: usize },
     Refused(u8),
@@ -31,7 +40,7 @@ fn get_plan(
     arena: &mut [u8],
 ) -> Walked
     requires { ⌜ Planned (now sheet) (now plan) table scope allowance (now arena) ⌝ }
-    ensures { λ r. ⌜ PlanGot (now (sheet .entry)) (now (plan .entry)) allowance (now (arena .entry)) (now (arena .exit)) r ⌝ }
+    ensures { λ r. ⌜ PlanWalked 256 (getBytes (now (sheet .entry)) (now (plan .entry)) allowance) (now (arena .entry)) (now (arena .exit)) r ⌝ }
 {
     copy_in(plan, arena);
     get_node(
@@ -50,7 +59,7 @@ fn get_plan(
 
 /// Get: the value of a sheet's root for a plan, at byte 32,256 of the arena, of which the first 65,536 bytes are used.
 pub fn get(sheet: &[u8], plan: &[u8], allowance: usize, arena: &mut [u8]) -> Walked
-    ensures { λ r. ⌜ GetCall (now (sheet .entry)) (now (plan .entry)) allowance (now (arena .entry)) (now (arena .exit)) r ⌝ }
+    ensures { λ r. ⌜ WalkCall 256 (getBytes (now (sheet .entry)) (now (plan .entry)) allowance) allowance (now (arena .entry)) (now (arena .exit)) r ⌝ }
 {
     if arena.len() < 65536 {
         return Walked::Refused(2);
@@ -68,4 +77,94 @@ pub fn get(sheet: &[u8], plan: &[u8], allowance: usize, arena: &mut [u8]) -> Wal
     }
     let scope = of_spans(table.k, spans);
     get_plan(sheet, plan, table, scope, allowance, &mut arena[..65536])
+}
+
+// The new plan, from byte 32,256 on: each variable's value, from where it now stands.
+fn gather(arena: &mut [u8], lens: &[u16; 110], scope: Scope) -> usize
+    requires { ⌜ SomePlaced (now arena) (now lens) scope ⌝ }
+    ensures { λ r. ⌜ Gathered (scope .count) (now (lens .entry)) scope (now (arena .entry)) (now (arena .exit)) r ⌝ }
+{
+    let mut len = 0;
+    let mut i = 0;
+    while i < scope.count {
+        let from = place_of(lens[i], i, scope.starts[i] as usize, scope.lens[i] as usize);
+        copy(arena, from.start, 32256 + len, from.len);
+        len += from.len;
+        i += 1;
+    }
+    len
+}
+
+// The walk of put from the root, over an arena of 65,536 bytes.
+fn put_plan(
+    sheet: &[u8],
+    plan: &[u8],
+    view: &[u8],
+    table: Table,
+    scope: Scope,
+    allowance: usize,
+    arena: &mut [u8],
+) -> Walked
+    requires { ⌜ Planned (now sheet) (now plan) table scope allowance (now arena) ⌝ }
+    requires { ⌜ Viewed (now view) ⌝ }
+    ensures { λ r. ⌜ PlanWalked 4096 (putBytes (now (sheet .entry)) (now (plan .entry)) (now (view .entry)) allowance) (now (arena .entry)) (now (arena .exit)) r ⌝ }
+{
+    copy_in(plan, arena);
+    let mut lens = [0u16; 110];
+    let cells = first_cells(scope.count);
+    match put_node(
+        sheet,
+        &table.starts,
+        arena,
+        &mut lens,
+        scope,
+        cells,
+        table.root,
+        view,
+        At {
+            levels: 48,
+            left: allowance,
+            top: 32256,
+        },
+    ) {
+        Put::Refused(c) => Walked::Refused(c),
+        Put::Done(steps) => {
+            let len = gather(arena, &lens, scope);
+            Walked::Done { len, steps }
+        }
+    }
+}
+
+/// Put: the plan for which a sheet's root is the view, at byte 32,256 of the arena, of which the first 65,536 bytes are used.
+pub fn put(sheet: &[u8], plan: &[u8], view: &[u8], allowance: usize, arena: &mut [u8]) -> Walked
+    ensures { λ r. ⌜ WalkCall 4096 (putBytes (now (sheet .entry)) (now (plan .entry)) (now (view .entry)) allowance) allowance (now (arena .entry)) (now (arena .exit)) r ⌝ }
+{
+    if arena.len() < 65536 {
+        return Walked::Refused(2);
+    }
+    if 1000000 < allowance {
+        return Walked::Refused(3);
+    }
+    let table = sheet::read_sheet(sheet);
+    if table.refusal != 0 {
+        return Walked::Refused(table.refusal);
+    }
+    let spans = value::read_plan(table.k, plan);
+    if spans.refusal != 0 {
+        return Walked::Refused(spans.refusal);
+    }
+    let code = value::read_view(view);
+    if code != 0 {
+        return Walked::Refused(code);
+    }
+    let scope = of_spans(table.k, spans);
+    put_plan(
+        sheet,
+        plan,
+        view,
+        table,
+        scope,
+        allowance,
+        &mut arena[..65536],
+    )
 }

@@ -4,7 +4,7 @@ use mathlib.Core.Path.{sym}
 use native.Mathlib.Omega.{arith}
 use denote.Ref.{now}
 use lib.Seq.{length-take-le}
-use Rattle.walk.specs.Entry.{table-read, get-2, get-3, get-sheet-refused, get-plan-refused, get-planned, get-done}
+use Rattle.walk.specs.Entry.{table-read, call-2, call-3, call-refused, call-done, sheet-refusal, plan-refusal, planned, get-sheet-refused, get-plan-refused}
 use borrow.Author.Needs.{needs}
 use Rattle.walk.proofs.get.Statement.{statement}
 use Rattle.walk.proofs.get.Tie as tie
@@ -17,11 +17,11 @@ use Rattle.walk.proofs.scope.of_spans.Reads as of-spans-reads
 
 -- src/lib.rt:54:9
 returns : tie.Need-returns
-returns c = get-2 (c .if1 .taken)
+returns c = call-2 (c .if1 .taken)
 
 -- src/lib.rt:57:9
 returns-2 : tie.Need-returns-2
-returns-2 c = get-3 (omega (arith, c .before .if1 .left)) (c .if2 .taken)
+returns-2 c = call-3 (omega (arith, c .before .if1 .left)) (c .if2 .taken)
 
 -- src/lib.rt:59:9
 read-sheet-requires : tie.Need-read-sheet-requires
@@ -29,7 +29,7 @@ read-sheet-requires c κs = search needs
 
 -- src/lib.rt:61:9
 returns-3 : tie.Need-returns-3
-returns-3 c = get-sheet-refused (omega (arith, c .before .before .before .before .if1 .left)) (omega (arith, c .before .before .before .if2 .left)) (c .before .before .read-sheet .ensures) (c .if3 .taken)
+returns-3 c = call-refused (omega (arith, c .before .before .before .before .if1 .left)) (omega (arith, c .before .before .before .if2 .left)) (get-sheet-refused _ _ _ (sheet-refusal _ (c .before .before .read-sheet .ensures) (c .if3 .taken)))
 
 -- src/lib.rt:63:9
 read-plan-requires : tie.Need-read-plan-requires
@@ -37,7 +37,7 @@ read-plan-requires c κs = search needs
 
 -- src/lib.rt:65:9
 returns-4 : tie.Need-returns-4
-returns-4 c = get-plan-refused (omega (arith, c .before .before .before .before .before .before .before .if1 .left)) (omega (arith, c .before .before .before .before .before .before .if2 .left)) (table-read _ (c .before .before .before .before .before .read-sheet .ensures) (c .before .before .before .if3 .left)) (c .before .before .read-plan .ensures) (c .if4 .taken)
+returns-4 c = call-refused (omega (arith, c .before .before .before .before .before .before .before .if1 .left)) (omega (arith, c .before .before .before .before .before .before .if2 .left)) (let t = table-read _ (c .before .before .before .before .before .read-sheet .ensures) (c .before .before .before .if3 .left) in get-plan-refused _ _ _ (t .read) (plan-refusal _ t (c .before .before .read-plan .ensures) (c .if4 .taken)))
 
 -- src/lib.rt:67:9
 of-spans-requires : tie.Need-of-spans-requires
@@ -53,7 +53,7 @@ slice-aggregate-get-plan c = sym (length-take-le 65536 (now (c .before .before .
 
 -- src/lib.rt:68:5
 get-plan-requires : tie.Need-get-plan-requires
-get-plan-requires c κs = get-planned (now (c .before .before .before .before .before .before .before .before .before .before .before .before .before .args .arena)) (omega (arith, c .before .before .before .before .before .before .before .before .before .if1 .left)) (omega (arith, c .before .before .before .before .before .before .before .before .if2 .left)) (table-read _ (c .before .before .before .before .before .before .before .read-sheet .ensures) (c .before .before .before .before .before .if3 .left)) (c .before .before .before .before .read-plan .ensures) (c .before .before .if4 .left) (c .before .of-spans .ensures)
+get-plan-requires c κs = planned (now (c .before .before .before .before .before .before .before .before .before .before .before .before .before .args .arena)) (omega (arith, c .before .before .before .before .before .before .before .before .before .if1 .left)) (omega (arith, c .before .before .before .before .before .before .before .before .if2 .left)) (table-read _ (c .before .before .before .before .before .before .before .read-sheet .ensures) (c .before .before .before .before .before .if3 .left)) (c .before .before .before .before .read-plan .ensures) (c .before .before .if4 .left) (c .before .of-spans .ensures)
 
 -- src/lib.rt:50:1
 same-length : tie.Need-same-length
@@ -61,7 +61,7 @@ same-length c = search needs
 
 -- src/lib.rt:50:1
 returns-5 : tie.Need-returns-5
-returns-5 c = get-done (omega (arith, c .before .before .before .before .before .before .before .before .before .before .before .before .if1 .left)) (omega (arith, c .before .before .before .before .before .before .before .before .before .before .before .if2 .left)) (c .before .before .get-plan .ensures)
+returns-5 c = call-done (omega (arith, c .before .before .before .before .before .before .before .before .before .before .before .before .if1 .left)) (omega (arith, c .before .before .before .before .before .before .before .before .before .before .before .if2 .left)) (omega arith) (c .before .before .get-plan .ensures)
 
 pub get-spec : {M : Type 1} → statement M
 get-spec =

@@ -1,0 +1,176 @@
+-- Cells written to, added and dropped again, and the cells of the variables in scope.
+use mathlib.Core.Path.{_≡_, refl, sym, ap, _∙_}
+use mathlib.Core.Option.{Option, none, some}
+use mathlib.Core.List.{List, [], _∷_, _++_, append-assoc}
+use Prim.Native.Nat.{ℕ, zero, suc, _+_, _-_, _*_, _≤_, _<_}
+use native.Mathlib.Nat.{le-refl}
+use native.Mathlib.Numerals.{add-one}
+use native.Mathlib.Decide.{decLt}
+use native.Mathlib.Omega.{arith}
+use lib.ListN.{length, take, drop, getD, set, length-set, length-append, List·getD-append, length-drop}
+use lib.Seq.{getD-set-same, getD-set-other, getD-append-add, getD-take, length-take-le, take-length, drop-drop, take-at, drop-at, paste, length-paste, drop-paste, length-paste-head}
+use Rattle.value.specs.Value.{Value, encode, size}
+use Rattle.value.specs.Encoding.{size-encode}
+use Rattle.value.specs.Laws.{Readable}
+use Rattle.rules.specs.Rules.{Cells, two}
+use Rattle.walk.specs.declared.putter.Cells.{Cells as Owners}
+use Rattle.walk.specs.Parts.{part, Kept, part-kept, kept-below, part-length}
+use Rattle.walk.specs.Cells.{Frame, Slot, blank, full, Written, Named, Shown}
+
+module _ {A : Type 0} where
+  -- two members more
+  pub two-left : (l : List A) (x y d : A) (i : ℕ) → i < length l → getD (l ++ two x y) i d ≡ getD l i d
+  two-left l x y d i h = List·getD-append l (two x y) d i h
+
+  pub two-first : (l : List A) (x y d : A) (i : ℕ) → i ≡ length l → getD (l ++ two x y) i d ≡ x
+  two-first l x y d i e = let z : i ≡ length l + 0 = omega arith in rw z (getD-append-add l (two x y) 0 d)
+
+  pub two-second : (l : List A) (x y d : A) (i : ℕ) → i ≡ length l + 1 → getD (l ++ two x y) i d ≡ y
+  two-second l x y d i e = rw e (getD-append-add l (two x y) 1 d)
+
+  -- two members set
+  pub set-two-left : (l : List A) (n i : ℕ) (x y d : A) → i < n → getD (set (set l n x) (n + 1) y) i d ≡ getD l i d
+  set-two-left l n i x y d h = getD-set-other (set l n x) (n + 1) i y d (λ e. omega arith) ∙ getD-set-other l n i x d (λ e. omega arith)
+
+  pub set-two-first : (l : List A) (n i : ℕ) (x y d : A) → i ≡ n → n + 2 ≤ length l → getD (set (set l n x) (n + 1) y) i d ≡ x
+  set-two-first l n i x y d e h = getD-set-other (set l n x) (n + 1) i y d (λ q. omega arith) ∙ rw e (getD-set-same l n x d (omega arith))
+
+  pub set-two-second : (l : List A) (n i : ℕ) (x y d : A) → i ≡ n + 1 → n + 2 ≤ length l → getD (set (set l n x) (n + 1) y) i d ≡ y
+  set-two-second l n i x y d e h = rw e (getD-set-same (set l n x) (n + 1) y d (rw length-set (omega arith)))
+
+-- an index of two more than n
+data Either (n i : ℕ) : Type 0 where
+  before : i < n → Either n i
+  first : i ≡ n → Either n i
+  second : i ≡ n + 1 → Either n i
+
+either : (n i : ℕ) → i < n + 2 → Either n i
+either n i h = go (decLt i n) (decLt i (n + 1))
+  where
+    go : Dec (i < n) → Dec (i < n + 1) → Either n i
+    go (yes p) q = before p
+    go (no p) (yes q) = first (omega arith)
+    go (no p) (no q) = second (omega arith)
+
+-- two blank cells more
+pub written-more : {a lens : List ℕ} {n : ℕ} {W : Cells} → Written a lens n W → n + 2 ≤ 110 → Written a (set (set lens n 0) (n + 1) 0) (n + 2) (W ++ two none none)
+written-more {a} {lens} {n} {W} w h = record {
+  count = length-append W (two none none) ∙ omega (arith, w .count);
+  few = h;
+  long = simp length-set (w .long);
+  each = λ i l. go i (either n i l);
+}
+  where
+    go : (i : ℕ) → Either n i → Slot a (4096 + 256 * i) (getD (set (set lens n 0) (n + 1) 0) i 0) (getD (W ++ two none none) i none)
+    go i (before l) = rw (set-two-left lens n i 0 0 0 l, two-left W none none none i (omega (arith, w .count))) (w .each i l)
+    go i (first e) = rw (two-first W none none none i (omega (arith, w .count))) (blank (set-two-first lens n i 0 0 0 e (omega (arith, w .long))))
+    go i (second e) = rw (two-second W none none none i (omega (arith, w .count))) (blank (set-two-second lens n i 0 0 0 e (omega (arith, w .long))))
+
+pub written-at : {a lens : List ℕ} {n m : ℕ} {W : Cells} → n ≡ m → Written a lens n W → Written a lens m W
+written-at e w = rw e at w
+
+-- the last two dropped
+pub written-less : {a lens : List ℕ} {n : ℕ} {X : Cells} → Written a lens (n + 2) X → Written a lens n (take n X)
+written-less {a} {lens} {n} {X} w = record {
+  count = length-take-le n X (omega (arith, w .count));
+  few = omega (arith, w .few);
+  long = w .long;
+  each = λ i l. rw (getD-take n X i none l) (w .each i (omega arith));
+}
+
+pub named-more : {cs : List ℕ} {n k : ℕ} {σ : List ℕ} → Named cs n σ → k ≡ length σ → k + 2 ≤ 110 → Named (set (set cs k n) (k + 1) (n + 1)) (n + 2) (σ ++ two n (suc n))
+named-more {cs} {n} {k} {σ} w e h = record {
+  long = simp length-set (w .long);
+  each = λ i l. go i (either k i (let z : i < length σ + 2 = rw length-append at l in omega arith));
+  inside = λ i l. below i (either k i (let z : i < length σ + 2 = rw length-append at l in omega arith));
+}
+  where
+    go : (i : ℕ) → Either k i → getD (set (set cs k n) (k + 1) (n + 1)) i 0 ≡ getD (σ ++ two n (suc n)) i 0
+    go i (before l) = set-two-left cs k i n (n + 1) 0 l ∙ w .each i (omega arith) ∙ sym (two-left σ n (suc n) 0 i (omega arith))
+    go i (first q) = set-two-first cs k i n (n + 1) 0 q (omega (arith, w .long)) ∙ sym (two-first σ n (suc n) 0 i (omega arith))
+    go i (second q) = set-two-second cs k i n (n + 1) 0 q (omega (arith, w .long)) ∙ add-one n ∙ sym (two-second σ n (suc n) 0 i (omega arith))
+
+    below : (i : ℕ) → Either k i → getD (σ ++ two n (suc n)) i 0 < n + 2
+    below i (before l) = rw (two-left σ n (suc n) 0 i (omega arith)) (let z : getD σ i 0 < n = w .inside i (omega arith) in omega arith)
+    below i (first q) = rw (two-first σ n (suc n) 0 i (omega arith)) (omega arith)
+    below i (second q) = rw (two-second σ n (suc n) 0 i (omega arith)) (omega arith)
+
+-- two variables alone
+pub named-pick : {cs : List ℕ} {n x y : ℕ} {σ : List ℕ} → Named cs n σ → x < length σ → y < length σ
+    → Named (set (set cs 0 (getD cs x 0)) 1 (getD cs y 0)) n (two (getD σ x 0) (getD σ y 0))
+named-pick {cs} {n} {x} {y} {σ} w hx hy = record {
+  long = simp length-set (w .long);
+  each = go;
+  inside = below;
+}
+  where
+    go : (i : ℕ) → i < 2 → getD (set (set cs 0 (getD cs x 0)) 1 (getD cs y 0)) i 0 ≡ getD (two (getD σ x 0) (getD σ y 0)) i 0
+    go zero h = getD-set-other (set cs 0 (getD cs x 0)) 1 0 (getD cs y 0) 0 (λ q. omega arith) ∙ getD-set-same cs 0 (getD cs x 0) 0 (omega (arith, w .long)) ∙ w .each x hx
+    go (suc zero) h = getD-set-same (set cs 0 (getD cs x 0)) 1 (getD cs y 0) 0 (simp length-set (omega (arith, w .long))) ∙ w .each y hy
+    go (suc (suc i)) h = absurd (omega arith)
+
+    below : (i : ℕ) → i < 2 → getD (two (getD σ x 0) (getD σ y 0)) i 0 < n
+    below zero h = w .inside x hx
+    below (suc zero) h = w .inside y hy
+    below (suc (suc i)) h = absurd (omega arith)
+
+-- A SLOT IS FILLED
+
+-- what changed is the n bytes at `at`
+pub record Filled (at n : ℕ) (s b a : List ℕ) : Type 0 where
+  pub below : Kept at b a
+  pub above : drop (at + n) a ≡ drop (at + n) b
+  pub bytes : part a at n ≡ s
+
+pub filled : (b s : List ℕ) (at : ℕ) → at + length s ≤ length b → Filled at (length s) s b (paste b at s (length s))
+filled b s at h =
+    let l : length (take at b) ≡ at = length-take-le at b (omega arith) in
+    let q : paste b at s (length s) ≡ take at b ++ (take (length s) s ++ drop (at + length s) b) = append-assoc (take at b) (take (length s) s) (drop (at + length s) b) in
+    record {
+      below = record { same = ap (take at) q ∙ take-at (take at b) _ at l; long = length-paste b at s (length s) h (le-refl _) };
+      above = drop-paste b at s (length s) (omega arith) (le-refl _);
+      bytes = ap (λ (x : List ℕ). take (length s) (drop at x)) q ∙ ap (take (length s)) (drop-at (take at b) _ at l)
+          ∙ rw take-length (take-at s (drop (at + length s) b) (length s) refl);
+    }
+
+filled-above : {at n : ℕ} {s b a : List ℕ} → Filled at n s b a → (i m : ℕ) → at + n ≤ i → part a i m ≡ part b i m
+filled-above {at} {n} {s} {b} {a} f i m h =
+    let z : at + n + (i - (at + n)) ≡ i = omega arith in
+    let p : (l : List ℕ) → drop (i - (at + n)) (drop (at + n) l) ≡ drop i l = λ l. drop-drop (i - (at + n)) (at + n) l ∙ ap (λ (j : ℕ). drop j l) z in
+    ap (take m) (sym (p a) ∙ ap (drop (i - (at + n))) (f .above) ∙ p b)
+
+module _ {b a s : List ℕ} {n c : ℕ} (f : Filled (4096 + 256 * c) n s b a) (small : n ≤ 256) where
+  pub filled-frame : (top : ℕ) → c < 110 → Frame top b a
+  filled-frame top h = record {
+    plan = kept-below (f .below) 4096 (omega arith) .same;
+    stack = filled-above f 32256 (top - 32256) (omega arith);
+    long = f .below .long;
+  }
+
+  slot-other : {i len : ℕ} {o : Option Value} → (i ≡ c → ⊥) → Slot b (4096 + 256 * i) len o → Slot a (4096 + 256 * i) len o
+  slot-other ne (blank z) = blank z
+  slot-other {i} {len} ne (full {v = v} z p r) = go (decLt i c)
+    where
+      go : Dec (i < c) → Slot a (4096 + 256 * i) len (some v)
+      go (yes h) = full z (part-kept (f .below) (4096 + 256 * i) len (omega (arith, r .fits)) ∙ p) r
+      go (no h) = full z (filled-above f (4096 + 256 * i) len (let k : c < i = omega arith in omega arith) ∙ p) r
+
+  -- v was written to the cell c
+  pub written-set : {lens : List ℕ} {m : ℕ} {W : Cells} {v : Value} → Written b lens m W → c < m → n ≡ size v → s ≡ encode v → Readable v → Written a (set lens c n) m (set W c (some v))
+  written-set {lens} {m} {W} {v} w h z e r = record {
+    count = length-set W c (some v) ∙ w .count;
+    few = w .few;
+    long = length-set lens c n ∙ w .long;
+    each = λ i l. go i l (decLt i c) (decLt c i);
+  }
+    where
+      other : (i : ℕ) → i < m → (i ≡ c → ⊥) → Slot a (4096 + 256 * i) (getD (set lens c n) i 0) (getD (set W c (some v)) i none)
+      other i l ne = rw (getD-set-other lens c i n 0 ne, getD-set-other W c i (some v) none ne) (slot-other ne (w .each i l))
+
+      here : (i : ℕ) → i ≡ c → Slot a (4096 + 256 * i) (getD (set lens c n) i 0) (getD (set W c (some v)) i none)
+      here i q = rw (q, getD-set-same lens c n 0 (omega (arith, w .long, w .few)), getD-set-same W c (some v) none (omega (arith, w .count))) (full z (f .bytes ∙ e) r)
+
+      go : (i : ℕ) → i < m → Dec (i < c) → Dec (c < i) → Slot a (4096 + 256 * i) (getD (set lens c n) i 0) (getD (set W c (some v)) i none)
+      go i l (yes p) q = other i l (λ k. omega arith)
+      go i l (no p) (yes q) = other i l (λ k. omega arith)
+      go i l (no p) (no q) = here i (omega arith)

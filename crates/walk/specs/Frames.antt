@@ -1,0 +1,61 @@
+-- What a change that leaves the plan and the stack below `top` alone keeps: the values that stand there, and the scope's.
+use mathlib.Core.Path.{_≡_, refl, sym, ap, _∙_}
+use mathlib.Core.Option.{Option, none, some}
+use mathlib.Core.List.{List}
+use Prim.Native.Nat.{ℕ, _+_, _-_, _*_, _≤_, _<_}
+use native.Mathlib.Nat.{le-refl, le-trans}
+use native.Mathlib.Omega.{arith}
+use lib.ListN.{length, take, drop, getD}
+use lib.Seq.{take-take, drop-drop}
+use Rattle.value.specs.Value.{Value, size}
+use Rattle.value.specs.Laws.{Readable}
+use Rattle.rules.specs.Rules.{Env as Values, Cells}
+use Rattle.walk.specs.declared.scope.Scope.{Scope}
+use Rattle.walk.specs.Parts.{part, Kept, part-kept, kept-below, take-drop}
+use Rattle.walk.specs.Arena.{Below, inPlan, onStack, Held, Env, below-later}
+use Rattle.walk.specs.Cells.{Frame, Slot, blank, full, Written}
+use Rattle.walk.specs.Puts.{Spans}
+
+-- a part of a part
+part-part : (l : List ℕ) (i n j m : ℕ) → j + m ≤ n → part (part l i n) j m ≡ part l (i + j) m
+part-part l i n j m h =
+    take-drop j m (take n (drop i l)) ∙ ap (drop j) (take-take (j + m) n (drop i l) h) ∙ sym (take-drop j m (drop i l)) ∙ ap (take m) (drop-drop j i l)
+
+pub frame-refl : (top : ℕ) (b : List ℕ) → Frame top b b
+frame-refl top b = record { plan = refl; stack = refl; long = refl }
+
+pub frame-part : {top : ℕ} {b a : List ℕ} {start len : ℕ} → Frame top b a → Below top start len → part a start len ≡ part b start len
+frame-part {top} {b} {a} {start} {len} f (inPlan h) = part-kept {k = 4096} {b = b} {a = a} (record { same = f .plan; long = f .long }) start len h
+frame-part {top} {b} {a} {start} {len} f (onStack h k) =
+    let z : 32256 + (start - 32256) ≡ start = omega arith in
+    let p : (l : List ℕ) → part (part l 32256 (top - 32256)) (start - 32256) len ≡ part l start len
+        = λ l. part-part l 32256 (top - 32256) (start - 32256) len (omega arith) ∙ ap (λ (i : ℕ). part l i len) z in
+    sym (p a) ∙ ap (λ (l : List ℕ). part l (start - 32256) len) (f .stack) ∙ p b
+
+pub frame-below : {top top′ : ℕ} {b a : List ℕ} → Frame top′ b a → 32256 ≤ top → top ≤ top′ → Frame top b a
+frame-below {top} {top′} {b} {a} f h p = record { plan = f .plan; stack = frame-part {len = top - 32256} f (onStack (le-refl 32256) (omega arith)); long = f .long }
+
+-- one change after another
+pub frame-then : {top top′ : ℕ} {c b a : List ℕ} → Frame top c b → Frame top′ b a → 32256 ≤ top → top ≤ top′ → Frame top c a
+frame-then f g h p = let k = frame-below g h p in record { plan = k .plan ∙ f .plan; stack = k .stack ∙ f .stack; long = k .long ∙ f .long }
+
+pub kept-frame : {top : ℕ} {b a : List ℕ} → Kept top b a → 32256 ≤ top → Frame top b a
+kept-frame {top} {b} {a} k h = record { plan = kept-below k 4096 (omega arith) .same; stack = part-kept k 32256 (top - 32256) (omega arith); long = k .long }
+
+module _ {b a : List ℕ} {top : ℕ} (f : Frame top b a) (top′ : ℕ) (p : top ≤ top′) where
+  pub held-framed : {start len : ℕ} {v : Value} → Held b top start len v → Held a top′ start len v
+  held-framed h = record { place = below-later top′ p (h .place); long = h .long; bytes = frame-part f (h .place) ∙ h .bytes; readable = h .readable }
+
+  pub env-framed : {s : Scope} {μ : Values} → Env b s top μ → Env a s top′ μ
+  env-framed w = record { count = w .count; starts-long = w .starts-long; lens-long = w .lens-long; each = λ i h. held-framed (w .each i h) }
+
+  pub spans-framed : {start first second : ℕ} {x y : Value} → Spans b top start first second x y → Spans a top′ start first second x y
+  spans-framed s = record { one = held-framed (s .one); two = held-framed (s .two) }
+
+-- the slots of the cells lie below the stack: a get leaves them alone
+slot-kept : {b a : List ℕ} {k start len : ℕ} {o : Option Value} → Kept k b a → start + 256 ≤ k → Slot b start len o → Slot a start len o
+slot-kept e h (blank z) = blank z
+slot-kept {start = start} {len = len} e h (full z p r) = full z (part-kept e start len (omega (arith, r .fits)) ∙ p) r
+
+pub written-kept : {b a lens : List ℕ} {k n : ℕ} {W : Cells} → Kept k b a → 32256 ≤ k → Written b lens n W → Written a lens n W
+written-kept e h w = record { count = w .count; few = w .few; long = w .long; each = λ i l. slot-kept e (omega (arith, w .few)) (w .each i l) }

@@ -1,0 +1,82 @@
+-- Entering a node for put: depth, allowance, the node that is read; and what its own put asks.
+use mathlib.Core.Path.{_≡_, refl, sym, ap, _∙_}
+use mathlib.Core.List.{List}
+use Prim.Native.Nat.{ℕ, zero, suc, _+_, _-_, _*_, _≤_, _<_}
+use native.Mathlib.Omega.{arith}
+use lib.ListN.{length, getD}
+use Rattle.value.specs.Result.{Result, ok}
+use Rattle.value.specs.Value.{Value}
+use Rattle.sheet.specs.declared.Node.{Node}
+use Rattle.sheet.specs.declared.Node.the-variants.{False}
+use Rattle.sheet.specs.Sheet.{Sheet, readSheet}
+use Rattle.sheet.specs.Table.{nodeAt}
+use Rattle.sheet.specs.Laws.{Ranged, sheet-ranges, node-read, table-start}
+use Rattle.rules.specs.Rules.{put}
+use Rattle.walk.specs.declared.scope.Scope.{Scope}
+use Rattle.walk.specs.declared.putter.Put.{Put}
+use Rattle.walk.specs.declared.putter.Put.the-variants.{Done, Refused}
+use Rattle.walk.specs.declared.putter.Cells.{Cells as Owners}
+use Rattle.walk.specs.Answers.{refuse, step, no-step}
+use Rattle.walk.specs.Gets.{Lent}
+use Rattle.walk.specs.Frames.{frame-refl}
+use Rattle.walk.specs.Puts.{Task, enter, body, run, Given, Ready, Gives}
+
+-- the sheet that is lent is the one that is read
+pub same-sheet : {s starts : List ℕ} {sh : Sheet} (t : Lent s starts) → readSheet s ≡ ok sh → t .sh ≡ sh
+same-sheet {s} {sh = sh} t e = let q : readSheet s ≡ ok (t .sh) = t .read in cc
+
+node-there : {s starts : List ℕ} {x : ℕ} (t : Lent s starts) → x < length (t .sh .nodes) → nodeAt s (getD starts x 0) ≡ getD (t .sh .nodes) x False
+node-there {s} {starts} {x} t h = ap (nodeAt s) (ap (λ (l : List ℕ). getD l x 0) (t .table) ∙ table-start (t .sh) x h) ∙ node-read s (t .read) x h
+
+module _ {b lens s : List ℕ} {P : Value → Type 0} {sc : Scope} {cells : Owners} {m top left x : ℕ} where
+  pub put-40 : {levels : ℕ} → levels ≡ 0 → Gives b b lens lens s P sc cells m top left 0 (Refused 40) levels (enter x)
+  unfolding run put
+  put-40 e = rw e (record { frame = frame-refl top b; long = refl; told = λ w. refuse 40 (record { is = refl }) })
+
+  put-none : (l : ℕ) → left ≡ 0 → Gives b b lens lens s P sc cells m top left 0 (Refused 41) (suc l) (enter x)
+  unfolding run put
+  put-none l e = record { frame = frame-refl top b; long = refl; told = λ w. no-step _ e (record { is = refl }) }
+
+  pub put-41 : {levels : ℕ} → (levels ≡ 0 → ⊥) → left ≡ 0 → Gives b b lens lens s P sc cells m top left 0 (Refused 41) levels (enter x)
+  put-41 {levels} n e = let z : levels ≡ suc (levels - 1) = omega arith in rw z (put-none (levels - 1) e)
+
+  module _ {starts : List ℕ} {nd N : Node} (read : nd ≡ nodeAt s (getD starts x 0)) (is : nd ≡ N) where
+    put-one : {a lens′ : List ℕ} {r : Put} (l : ℕ) (t : Lent s starts) → x < length (t .sh .nodes) → 0 < left
+        → Gives b a lens lens′ s P sc cells m top (left - 1) 1 r l (body N) → Gives b a lens lens′ s P sc cells m top left 0 r (suc l) (enter x)
+    unfolding run put
+    put-one l t h p g = record {
+      frame = g .frame;
+      long = g .long;
+      told = λ {sh} w.
+          let e : N ≡ getD (sh .nodes) x False = sym is ∙ read ∙ node-there t h ∙ ap (λ (q : Sheet). getD (q .nodes) x False) (same-sheet t (w .read)) in
+          step _ p (rw (← e) (g .told w));
+    }
+
+    -- the node's own put, which is proved of the node that was read
+    pub put-body : {a lens′ : List ℕ} {r : Put} {levels : ℕ} → (levels ≡ 0 → ⊥) → (left ≡ 0 → ⊥) → Ready s starts b lens P sc cells m top levels left (enter x)
+        → Gives b a lens lens′ s P sc cells m top (left - 1) 1 r (levels - 1) (body N) → Gives b a lens lens′ s P sc cells m top left 0 r levels (enter x)
+    put-body {levels = levels} n p w g = let z : levels ≡ suc (levels - 1) = omega arith in rw z (put-one (levels - 1) (w .lent) (w .known) (omega arith) g)
+
+    pub body-ready : {levels : ℕ} → (levels ≡ 0 → ⊥) → (left ≡ 0 → ⊥) → Ready s starts b lens P sc cells m top levels left (enter x) → Ready s starts b lens P sc cells m top (suc (levels - 1)) (suc (left - 1)) (body N)
+    body-ready {levels} n p w =
+        let z : suc (levels - 1) ≡ levels = omega arith in
+        let y : suc (left - 1) ≡ left = omega arith in
+        let e : getD (w .lent .sh .nodes) x False ≡ N = sym (node-there (w .lent) (w .known)) ∙ sym read ∙ is in
+        rw (z, y) (record {
+          long = w .long;
+          few = w .few;
+          base = w .base;
+          room = w .room;
+          slots = w .slots;
+          more-cells = w .more-cells;
+          lent = w .lent;
+          known = (x, rw e at (sheet-ranges s (w .lent .read) .node x (w .known)));
+          env = w .env;
+          names = w .names;
+          value = w .value;
+          cells-now = w .cells-now;
+          given = w .given;
+        })
+
+  pub node-few : {starts : List ℕ} {levels : ℕ} → Ready s starts b lens P sc cells m top levels left (enter x) → x < 200
+  node-few w = let k = sheet-ranges s (w .lent .read) .few-nodes in omega (arith, w .known)
