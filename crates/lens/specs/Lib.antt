@@ -2,5 +2,5 @@ pub mod Buffers
 pub mod Calls
 pub mod CallLaws
 pub mod Trips
-pub mod GetCalls
+pub mod WalkCalls
 pub mod RoundTrips

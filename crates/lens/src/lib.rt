@@ -2,9 +2,10 @@
 ghost use mathlib.Core.Path.{_≡_};
 ghost use Prim.Native.Nat.{_≤_};
 ghost use lib.ListN.{length};
-ghost use Rattle.rules.specs.Answer.{getAnswer};
+ghost use Rattle.rules.specs.Answer.{getAnswer, putAnswer};
 ghost use Rattle.lens.specs.Buffers.{zeroed};
 ghost use Rattle.lens.specs.Calls.{Answered};
+ghost use Rattle.lens.specs.Trips.{Stands, Unmoved};
 
 mod buffers;
 
@@ -38,6 +39,7 @@ fn refused(code: u8, scratch: &mut [u8]) -> Reply
 /// Get: the list that a sheet reads out of a plan, at the front of `out`, which takes 256 bytes. Scratch takes 65,536.
 pub fn get(sheet: &[u8], plan: &[u8], allowance: u32, out: &mut [u8], scratch: &mut [u8]) -> Reply
     ensures { λ r. ⌜ Answered (getAnswer (now (sheet .entry)) (now (plan .entry)) allowance (length (now (out .entry))) (length (now (scratch .entry)))) r (now (out .entry)) (now (out .exit)) (now (scratch .entry)) (now (scratch .exit)) ⌝ }
+    ensures { λ r. ⌜ Unmoved (now (sheet .entry)) (now (plan .entry)) r (now (out .exit)) ⌝ }
 {
     if out.len() < rules::GET_OUTPUT {
         return Reply::Refused(1);
@@ -53,6 +55,42 @@ pub fn get(sheet: &[u8], plan: &[u8], allowance: u32, out: &mut [u8], scratch: &
         return Reply::Refused(3);
     }
     match walk::get(sheet, plan, steps_allowed, scratch) {
+        Walked::Refused(c) => refused(c, scratch),
+        Walked::Done { len, steps } => {
+            copy_out(scratch, 32256, len, out, 0);
+            clear(scratch);
+            Reply::Done { len, steps }
+        }
+    }
+}
+
+/// Put: the new plan that a list edited by the venue gives back, at the front of `out`, which takes 4,096 bytes. Scratch
+/// takes 65,536.
+pub fn put(
+    sheet: &[u8],
+    plan: &[u8],
+    view: &[u8],
+    allowance: u32,
+    out: &mut [u8],
+    scratch: &mut [u8],
+) -> Reply
+    ensures { λ r. ⌜ Answered (putAnswer (now (sheet .entry)) (now (plan .entry)) (now (view .entry)) allowance (length (now (out .entry))) (length (now (scratch .entry)))) r (now (out .entry)) (now (out .exit)) (now (scratch .entry)) (now (scratch .exit)) ⌝ }
+    ensures { λ r. ⌜ Stands (now (sheet .entry)) (now (view .entry)) allowance r (now (out .exit)) ⌝ }
+{
+    if out.len() < rules::PUT_OUTPUT {
+        return Reply::Refused(1);
+    }
+    if scratch.len() < rules::SCRATCH {
+        return Reply::Refused(2);
+    }
+    let steps_allowed = allowance as usize;
+    if steps_allowed == 0 {
+        return Reply::Refused(3);
+    }
+    if rules::ALLOWANCE < steps_allowed {
+        return Reply::Refused(3);
+    }
+    match walk::put(sheet, plan, view, steps_allowed, scratch) {
         Walked::Refused(c) => refused(c, scratch),
         Walked::Done { len, steps } => {
             copy_out(scratch, 32256, len, out, 0);
