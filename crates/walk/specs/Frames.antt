@@ -29,7 +29,7 @@ frame-part {top} {b} {a} {start} {len} f (inPlan h) = part-kept {k = 4096} {b = 
 frame-part {top} {b} {a} {start} {len} f (onStack h k) =
     let z : 32256 + (start - 32256) ≡ start = omega arith in
     let p : (l : List ℕ) → part (part l 32256 (top - 32256)) (start - 32256) len ≡ part l start len
-        = λ l. part-part l 32256 (top - 32256) (start - 32256) len (omega arith) ∙ ap (λ (i : ℕ). part l i len) z in
+    = λ l. part-part l 32256 (top - 32256) (start - 32256) len (omega arith) ∙ ap (λ (i : ℕ). part l i len) z in
     sym (p a) ∙ ap (λ (l : List ℕ). part l (start - 32256) len) (f .stack) ∙ p b
 
 pub frame-below : {top top′ : ℕ} {b a : List ℕ} → Frame top′ b a → 32256 ≤ top → top ≤ top′ → Frame top b a

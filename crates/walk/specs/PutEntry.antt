@@ -200,7 +200,7 @@ module _ {sheet plan view : List ℕ} {table : Table} {sc : Scope} {allowance : 
             let z : putBytes sheet plan view allowance ≡ done (flat (newPlan X (w .μ))) k = put-is ∙ ap (mapOut (λ X. flat (newPlan X (w .μ)))) e in
             let p = placed-new in
             let y : part a′ 32256 len ≡ flat (newPlan X (w .μ))
-                = h .told p ∙ ap flat (ap (λ (i : ℕ). take i (newPlan X (w .μ))) (p .count) ∙ take-length (newPlan X (w .μ))) in
+            = h .told p ∙ ap flat (ap (λ (i : ℕ). take i (newPlan X (w .μ))) (p .count) ∙ take-length (newPlan X (w .μ))) in
             let few : len ≤ 4096 = omega (arith, h .short, few-variables) in
             let l : length (part a′ 32256 len) ≡ len = part-length a′ 32256 len (omega (arith, h .kept .long, p .long)) in
             record { long = h .kept .long ∙ g .frame .long ∙ c .long; says = rw z (says-done len refl (sym l ∙ ap length y) few y) }

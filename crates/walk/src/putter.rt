@@ -8,11 +8,11 @@ ghost use Rattle.walk.specs.Cells.{Shown, addedTwo, pickedCells, judged,
 ghost use Rattle.walk.specs.Puts.{Ready, Inner, Gives, Any, Spans, SomeSpans, SomeView, enter, body, pair, inside, rebuilt, switch};
 ghost use Rattle.walk.specs.PutLeaf.{Leaf};
 ghost use Rattle.walk.specs.Gather.{Counted};
-use crate::bytes::rebuild;
+use crate::Walked;
 use crate::bytes::place_of;
+use crate::bytes::rebuild;
 use crate::bytes::store;
 use crate::getter::At;
-use crate::Walked;
 use crate::getter::get_node;
 use crate::scope::Scope;
 use crate::scope::empty;
