@@ -13,3 +13,4 @@ pub mod Consistency
 pub mod Acceptability
 pub mod Trips
 pub mod Refusals
+pub mod Published
