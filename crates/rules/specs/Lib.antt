@@ -14,3 +14,5 @@ pub mod Acceptability
 pub mod Trips
 pub mod Refusals
 pub mod Published
+pub mod UpTo
+pub mod PublishedGet

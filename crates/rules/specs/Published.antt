@@ -41,8 +41,8 @@ pub data Merge1 : Option Value → Option Value → Option Value → Type 0 wher
   same : {v u : Value} → v ≡ u → Merge1 (some v) (some u) (some u)
 
 pub data Merge : Writes → Writes → Writes → Type 0 where
-  ends : Merge [] [] []
-  more : {o p q : Option Value} {ω₁ ω₂ ω : Writes} → Merge1 o p q → Merge ω₁ ω₂ ω → Merge (o ∷ ω₁) (p ∷ ω₂) (q ∷ ω)
+  mEnds : Merge [] [] []
+  mMore : {o p q : Option Value} {ω₁ ω₂ ω : Writes} → Merge1 o p q → Merge ω₁ ω₂ ω → Merge (o ∷ ω₁) (p ∷ ω₂) (q ∷ ω)
 
 -- μ′ ◁ μ: what is updated, and the rest as it was
 infixl 30 _◁_
@@ -78,11 +78,18 @@ pub data Expr : Type 0 where
   const : Value → Expr
   front : ℕ → ℕ → Expr
   case : ℕ → Branch → Branch → Expr
-  letIn : Pattern → ℕ → ℕ → Expr -- HOBiT's let, a case of one branch
+  letIn : Pattern → ℕ → ℕ → Expr  -- HOBiT's let, a case of one branch
   -- document 01's
-  both : ℕ → ℕ → Expr
+  couple : ℕ → ℕ → Expr
   call : ℕ → ℕ → ℕ → Expr
   add : ℕ → ℕ → Expr
+
+-- a branch without variables, and a list's with first and rest
+abbrev pub plain : Pattern → ℕ → ℕ → Branch
+plain p e t = record { pattern = p; body = e; exit = t; by = [] }
+
+abbrev pub opened : ℕ → ℕ → ℕ → ℕ → Branch
+opened n t df dr = record { pattern = pFront; body = n; exit = t; by = two df dr }
 
 -- what a node stands for
 abbrev pub expr : Node → Expr
@@ -92,17 +99,18 @@ expr True = const vtrue
 expr Empty = const (list nil)
 expr (Number n) = const (number n)  -- (document 01's)
 expr (Front a b) = front a b
-expr (Pair a b) = both a b
-expr (ListCase s e te n tn df dr) =
-    case s (record { pattern = pEmpty; body = e; exit = te; by = [] }) (record { pattern = pFront; body = n; exit = tn; by = two df dr })
-expr (TruthCase s f tf t tt) =
-    case s (record { pattern = pFalse; body = f; exit = tf; by = [] }) (record { pattern = pTrue; body = t; exit = tt; by = [] })
+expr (Pair a b) = couple a b
+expr (ListCase s e te n tn df dr) = case s (plain pEmpty e te) (opened n tn df dr)
+expr (TruthCase s f tf t tt) = case s (plain pFalse f tf) (plain pTrue t tt)
 expr (Split s i) = letIn pPair s i
 expr (Call sec x y) = call sec x y
 expr (Add n k) = add n k
 
+abbrev pub node : Sheet → ℕ → Node
+node sh n = getD (sh .nodes) n False
+
 abbrev pub residual : Sheet → ℕ → Expr
-residual sh n = expr (getD (sh .nodes) n False)
+residual sh n = expr (node sh n)
 
 -- GET: `Get sh μ E v` is μ ⊢ get E ⇒ v. Of a case, i says which of its two branches
 
@@ -119,7 +127,7 @@ pub data Get (sh : Sheet) : Env → Expr → Value → Type 0 where
   g-let : {μ μᵢ : Env} {p : Pattern} {s e : ℕ} {v₀ v : Value} → Get sh μ (residual sh s) v₀ → Match p v₀ μᵢ
       → Get sh (μ ++ μᵢ) (residual sh e) v → Get sh μ (letIn p s e) v
   -- document 01's: pairs; a section's variables 0 and 1 are the caller's x and y; the lens that adds k
-  g-pair : {μ : Env} {a b : ℕ} {u v : Value} → Get sh μ (residual sh a) u → Get sh μ (residual sh b) v → Get sh μ (both a b) (pair u v)
+  g-pair : {μ : Env} {a b : ℕ} {u v : Value} → Get sh μ (residual sh a) u → Get sh μ (residual sh b) v → Get sh μ (couple a b) (pair u v)
   g-call : {μ : Env} {sec x y : ℕ} {a b v : Value} → getElem? μ x ≡ some a → getElem? μ y ≡ some b
       → Get sh (two a b) (residual sh (getD (sh .sections) sec 0)) v → Get sh μ (call sec x y) v
   g-add : {μ : Env} {n k m : ℕ} → Get sh μ (residual sh n) (number m) → m + k ≤ 65535 → Get sh μ (add n k) (number (m + k))
@@ -151,7 +159,7 @@ pub data Put (sh : Sheet) : Env → Value → Expr → Writes → Type 0 where
       → Match p u (ωᵢ ◁ μᵢ) → Put sh μ u (residual sh s) ω₀ → Merge ω ω₀ ω′ → Put sh μ v (letIn p s e) ω′
   -- document 01's. What a section writes to its variables 0 and 1 is written to x and y: if these are one variable, both agree
   p-pair : {μ : Env} {a b : ℕ} {u v : Value} {ω₁ ω₂ ω : Writes} → Put sh μ u (residual sh a) ω₁ → Put sh μ v (residual sh b) ω₂
-      → Merge ω₁ ω₂ ω → Put sh μ (pair u v) (both a b) ω
+      → Merge ω₁ ω₂ ω → Put sh μ (pair u v) (couple a b) ω
   p-call : {μ : Env} {sec x y : ℕ} {a b v : Value} {o q : Option Value} {ω : Writes} → getElem? μ x ≡ some a → getElem? μ y ≡ some b
       → Put sh (two a b) v (residual sh (getD (sh .sections) sec 0)) (two o q) → Merge (only μ x o) (only μ y q) ω → Put sh μ v (call sec x y) ω
   p-add : {μ : Env} {n k m : ℕ} {ω : Writes} → m ≤ 65535 → k ≤ m → Put sh μ (number (m - k)) (residual sh n) ω → Put sh μ (number m) (add n k) ω
