@@ -16,3 +16,5 @@ pub mod Refusals
 pub mod Published
 pub mod UpTo
 pub mod PublishedGet
+pub mod PublishedCells
+pub mod PublishedPut

@@ -1,0 +1,225 @@
+-- Put and the published relation: sound, complete up to our limits, and one set of writes.
+use mathlib.Core.Path.{_≡_, refl, sym}
+use mathlib.Core.Bool.{Bool, true, false, not}
+use mathlib.Core.Option.{Option, none, some, Option·none-ne-some, Option·some-injective, map-eq-some-iff}
+use mathlib.Core.List.{List, [], _∷_, _++_, append-nil}
+use Prim.Native.Nat.{ℕ, zero, suc, _+_, _-_, _≤_}
+use native.Mathlib.Omega.{arith}
+use lib.ListN.{length, take, getD, getElem?}
+use Rattle.value.specs.Value.{Value, Values, vfalse, vtrue, list, number, pair, nil, cons, truth}
+use Rattle.value.specs.Views.{asList, asFront, asPair, asNumber, asTruth}
+use Rattle.value.specs.Tests.{Passes, passes}
+use Rattle.sheet.specs.declared.Node.{Node}
+use Rattle.sheet.specs.declared.Node.the-variants.{Var, False, True, Empty, Number, Front, Pair, ListCase, TruthCase, Split, Call, Add}
+use Rattle.sheet.specs.Sheet.{Sheet}
+use Rattle.rules.specs.Outcome.{Out, done, refused, choose}
+use Rattle.rules.specs.Allowance.{within}
+use Rattle.rules.specs.Rules.{Env, Cells, Getter, Putter, two, pick, onList, get, orOld, constant, write, both, under, mkList, mkPair, putNode, put}
+use Rattle.rules.specs.OutcomeLaws.{After, fine, stopped, after-map, after-at, as-number, after-plus, after-bind, after-given, after-list}
+use Rattle.rules.specs.AllowanceLaws.{within-done}
+use Rattle.rules.specs.Related.{All2, ends, more, all2-at, all2-flip}
+use Rattle.rules.specs.Consistency.{Later}
+use Rattle.rules.specs.Published.{Writes, Over, blank, only, Merge, _◁_, Pattern, pFalse, pTrue, pEmpty, pFront, pPair, Match, m-false, m-true, m-empty, m-front, m-pair, Branch, plain, opened, Expr, var, const, front, case, letIn, couple, call, add, expr, node, residual, Get, Put, p-var, p-const, p-cons, p-case, p-case-switch, p-let, p-pair, p-call, p-add}
+use Rattle.rules.specs.PublishedGet.{GetsSoundly, gets-soundly, GetsAll, gets-all, match-truth, match-env, match-value, Fair, fair, get-one}
+use Rattle.rules.specs.PublishedCells.{Sits, Laid, Has, Seen, Joined, seen-later, laid-later, seen-left, seen-right, merge-is, joined-merge, joined-blank, only-seen, seen-only, joined-new, joined-same, laid-section, section-seen, joined-section, laid-wider, joined-outside, cells-inside, seen-cut, seen-over}
+use Rattle.rules.specs.UpTo.{Limit, deep, UpTo, limited, Comes, reach, up-plus, up-map, up-within, up-bind, comes-bind, up-given, up-when, up-size, up-first, up-second}
+
+-- SOUND
+
+-- X is W merged with the writes of the published relation
+pub record Written (sh : Sheet) (μ : Env) (v : Value) (e : Expr) (σ : List ℕ) (W X : Cells) : Type 0 where
+  pub ω : Writes
+  pub rel : Put sh μ v e ω
+  pub joined : Joined σ W ω X
+
+abbrev pub PutsSoundly : Sheet → Putter → Type 0
+PutsSoundly sh p = (n : ℕ) (μ : Env) (σ : List ℕ) (v : Value) (W : Cells) → Laid W σ μ
+    → After (Unit {0}) (λ X s. Written sh μ v (residual sh n) σ W X) (p n μ σ v W)
+
+after-choice : {A P Q : Type 0} {S : A → ℕ → Type 0} {x y : Out A} (p : Dec P) (q : Dec Q)
+    → (P → After (Unit {0}) S x) → (¬ P → Q → After (Unit {0}) S y) → After (Unit {0}) S (choose p q x y)
+unfolding choose
+after-choice (yes p) q h k = h p
+after-choice (no p) (yes q) h k = k p q
+after-choice (no p) (no q) h k = stopped tt
+
+-- v into node a, then u into node b
+record Twice (sh : Sheet) (μ : Env) (v : Value) (a : ℕ) (u : Value) (b : ℕ) (σ : List ℕ) (W X : Cells) : Type 0 where
+  ω₁ : Writes
+  ω₂ : Writes
+  ω : Writes
+  first : Put sh μ v (residual sh a) ω₁
+  over : Over ω₁ μ
+  second : Put sh μ u (residual sh b) ω₂
+  merged : Merge ω₁ ω₂ ω
+  joined : Joined σ W ω X
+
+-- v into a branch that binds μᵢ, then the rebuilt subject: what the rules of case and let have in common
+record Taken (sh : Sheet) (μ : Env) (v : Value) (p : Pattern) (b : ℕ) (μᵢ : Env) (s : ℕ) (σ : List ℕ) (W X : Cells) : Type 0 where
+  ω : Writes
+  ωᵢ : Writes
+  ω₀ : Writes
+  ω′ : Writes
+  u : Value
+  branch : Put sh (μ ++ μᵢ) v (residual sh b) (ω ++ ωᵢ)
+  over : Over ω μ
+  overᵢ : Over ωᵢ μᵢ
+  rebuilt : Match p u (ωᵢ ◁ μᵢ)
+  subject : Put sh μ u (residual sh s) ω₀
+  merged : Merge ω ω₀ ω′
+  joined : Joined σ W ω′ X
+
+mkList-match : (a b u : Value) → mkList a b ≡ some u → Match pFront u (two a b)
+unfolding mkList
+mkList-match a b u e = let (l, el, eu) = map-eq-some-iff _ (asList b) .0 e in go (l .0) (l .1) eu
+  where
+    go : (l : Values) → b ≡ list l → list (cons a l) ≡ u → Match pFront u (two a b)
+    go l eb eu = rw (eb, ← eu) m-front
+
+mkPair-match : (a b u : Value) → mkPair a b ≡ some u → Match pPair u (two a b)
+unfolding mkPair
+mkPair-match a b u e = rw (← Option·some-injective _ _ e) m-pair
+
+module _ {sh : Sheet} {μ : Env} {v : Value} {σ : List ℕ} {W : Cells} where
+  -- a branch that binds nothing
+  taken-plain : {X : Cells} {p : Pattern} {b s : ℕ} {u : Value} → Match p u [] → Twice sh μ v b u s σ W X → Taken sh μ v p b [] s σ W X
+  unfolding _◁_
+  taken-plain m t = record {
+    ω = t .ω₁;
+    ωᵢ = [];
+    ω₀ = t .ω₂;
+    ω′ = t .ω;
+    u = _;
+    branch = rw (append-nil, append-nil) (t .first);
+    over = t .over;
+    overᵢ = ends;
+    rebuilt = m;
+    subject = t .second;
+    merged = t .merged;
+    joined = t .joined;
+  }
+
+  stays : {X : Cells} {s : ℕ} {b₁ b₂ : Branch} {v₀ : Value} {μᵢ : Env} (i : Bool) → Get sh μ (residual sh s) v₀ → Match (pick i b₁ b₂ .pattern) v₀ μᵢ
+      → Passes (pick i b₁ b₂ .exit) v → Taken sh μ v (pick i b₁ b₂ .pattern) (pick i b₁ b₂ .body) μᵢ s σ W X → Written sh μ v (case s b₁ b₂) σ W X
+  stays i d m h t = record { ω = t .ω′; rel = p-case i d m h (t .branch) (t .over) (t .overᵢ) (t .rebuilt) (t .subject) (t .merged); joined = t .joined }
+
+  switches : {X : Cells} {s : ℕ} {b₁ b₂ : Branch} {v₀ u₀ : Value} {μᵢ μⱼ : Env} (i : Bool) → Get sh μ (residual sh s) v₀ → Match (pick i b₁ b₂ .pattern) v₀ μᵢ
+      → ¬ Passes (pick i b₁ b₂ .exit) v → Passes (pick (not i) b₁ b₂ .exit) v → All2 (λ n w. Get sh [] (residual sh n) w) (pick (not i) b₁ b₂ .by) μⱼ
+      → Match (pick (not i) b₁ b₂ .pattern) u₀ μⱼ
+      → Taken sh μ v (pick (not i) b₁ b₂ .pattern) (pick (not i) b₁ b₂ .body) μⱼ s σ W X → Written sh μ v (case s b₁ b₂) σ W X
+  switches i d m h k ds m₀ t = record { ω = t .ω′; rel = p-case-switch i d m h k ds m₀ (t .branch) (t .over) (t .overᵢ) (t .rebuilt) (t .subject) (t .merged); joined = t .joined }
+
+  written-front : {X : Cells} {a b : ℕ} (f : Value) (r : Values) → v ≡ list (cons f r) → Twice sh μ f a (list r) b σ W X → Written sh μ v (front a b) σ W X
+  written-front f r e t = rw e (record { ω = t .ω; rel = p-cons (t .first) (t .second) (t .merged); joined = t .joined })
+
+  written-pair : {X : Cells} {a b : ℕ} (x y : Value) → v ≡ pair x y → Twice sh μ x a y b σ W X → Written sh μ v (couple a b) σ W X
+  written-pair x y e t = rw e (record { ω = t .ω; rel = p-pair (t .first) (t .second) (t .merged); joined = t .joined })
+
+  written-add : {X : Cells} {n k : ℕ} (m : ℕ) → v ≡ number m → m ≤ 65535 → k ≤ m → Written sh μ (number (m - k)) (residual sh n) σ W X → Written sh μ v (add n k) σ W X
+  written-add m e z low t = rw e (record { ω = t .ω; rel = p-add z low (t .rel); joined = t .joined })
+
+  -- what is written to a section's two variables
+  written-call : {X : Cells} {sec x y : ℕ} {a b : Value} {c d : ℕ} → Laid W σ μ → getElem? μ x ≡ some a → getElem? σ x ≡ some c → getElem? μ y ≡ some b → getElem? σ y ≡ some d
+      → Written sh (two a b) v (residual sh (getD (sh .sections) sec 0)) (two c d) W X → Written sh μ v (call sec x y) σ W X
+  written-call {X} {sec} {x} {y} {a} {b} {c} {d} laid ea ec eb ed t = go (t .rel) (t .joined) (t .joined .seen)
+    where
+      go : {ω : Writes} → Put sh (two a b) v (residual sh (getD (sh .sections) sec 0)) ω → Joined (two c d) W ω X → Seen ω (two c d) X → Written sh μ v (call sec x y) σ W X
+      go r j (more {a = o} f (more {a = q} h ends)) =
+          let (ω′, m) = merge-is (only-seen σ μ x c a ea ec laid f) (only-seen σ μ y d b eb ed laid h) in
+          record { ω = ω′; rel = p-call ea eb r m; joined = joined-section σ μ x c a ea ec y d b eb ed laid j m }
+
+module _ (sh : Sheet) (g : Getter) (gets : GetsSoundly sh g) (p : Putter) (ih : PutsSoundly sh p) (μ : Env) (σ : List ℕ) (v : Value) (W : Cells) (laid : Laid W σ μ) where
+  abbrev Sound : Expr → Out Cells → Type 0
+  Sound e = After (Unit {0}) (λ X s. Written sh μ v e σ W X)
+
+  constant-sound : (u : Value) → Sound (const u) (constant v u W)
+  unfolding constant
+  constant-sound u = after-given _ λ e _. fine (record { ω = blank μ; rel = rw e p-const; joined = joined-blank laid })
+
+  write-sound : (x c : ℕ) (m : Value) (o : Option Value) → getElem? μ x ≡ some m → getElem? σ x ≡ some c → getElem? W c ≡ some o → Sound (var x) (write c v W o)
+  unfolding write
+  write-sound x c m none em ec eo = fine (record { ω = only μ x (some v); rel = p-var em; joined = joined-new σ μ x c m em ec v laid eo })
+  write-sound x c m (some w) em ec eo = after-given _ λ e _. fine (record { ω = only μ x (some v); rel = p-var em; joined = joined-same σ μ x c m em ec v laid (rw e at eo) })
+
+  both-sound : (a b : ℕ) (x y : Value) → After (Unit {0}) (λ X s. Twice sh μ x a y b σ W X) (both p μ σ W a x b y)
+  unfolding both
+  both-sound a b x y = after-bind (ih a μ σ x W laid) λ X s _ h. after-map (ih b μ σ y X (laid-later laid (h .joined .later))) λ Y t k.
+      let (ω, m) = merge-is (seen-later (h .joined .seen) (k .joined .later)) (k .joined .seen) in record {
+        ω₁ = h .ω;
+        ω₂ = k .ω;
+        ω = ω;
+        first = h .rel;
+        over = seen-over (h .joined .seen) laid;
+        second = k .rel;
+        merged = m;
+        joined = joined-merge (h .joined) (k .joined) m;
+      }
+
+  under-sound : (b s : ℕ) (q : Pattern) (mk : Value → Value → Option Value) (f r : Value) → ((x y u : Value) → mk x y ≡ some u → Match q u (two x y))
+      → After (Unit {0}) (λ X t. Taken sh μ v q b (two f r) s σ W X) (under p μ σ W b v s mk f r)
+  unfolding under _◁_
+  under-sound b s q mk f r k = after-bind (ih b _ _ v _ (laid-wider W f r laid)) λ X i _ h. after-given _ λ x′ ex. after-given _ λ y′ ey.
+      after-given _ λ u eu. after-given _ λ _ _.
+      let (ω, x, y, e, _) = seen-cut σ _ _ (h .joined .seen) in
+      let j : Joined (σ ++ two (length W) (suc (length W))) (W ++ two none none) (ω ++ two x y) X = rw e at (h .joined) in
+      let o : Over ω μ = seen-over (seen-cut σ _ _ (h .joined .seen) .4) laid in
+      let j₁ = joined-outside W laid ω x y o X j in let (cx, cy) = cells-inside W laid ω x y o X j in
+      let zx : x′ ≡ x = cc in let zy : y′ ≡ y = cc in
+      after-map (ih s μ σ u _ (laid-later laid (j₁ .later))) λ Z t h₀.
+      let (ω′, m) = merge-is (seen-later (j₁ .seen) (h₀ .joined .later)) (h₀ .joined .seen) in record {
+        ω = ω;
+        ωᵢ = two x y;
+        ω₀ = h₀ .ω;
+        ω′ = ω′;
+        u = u;
+        branch = rw e at (h .rel);
+        over = o;
+        overᵢ = more tt (more tt ends);
+        rebuilt = k _ _ u (rw (zx, zy) at eu);
+        subject = h₀ .rel;
+        merged = m;
+        joined = joined-merge j₁ (h₀ .joined) m;
+      }
+
+  put-node-sound : (nd : Node) → Sound (expr nd) (putNode g p sh nd μ σ v W)
+  unfolding putNode
+  put-node-sound (Var x) = after-given _ λ c ec. after-given _ λ o eo. let (m, em, _) = all2-at x laid ec in write-sound x c m o em ec eo
+  put-node-sound False = constant-sound vfalse
+  put-node-sound True = constant-sound vtrue
+  put-node-sound Empty = constant-sound (list nil)
+  put-node-sound (Number n) = constant-sound (number n)
+  put-node-sound (Front a b) = after-given _ λ c _. after-map (both-sound a b _ _) λ X s t. written-front (c .0) (c .1) (c .2) t
+  put-node-sound (Pair a b) = after-given _ λ c _. after-map (both-sound a b _ _) λ X s t. written-pair (c .0) (c .1) (c .2) t
+  put-node-sound (ListCase s e te n tn df dr) = after-bind (gets s μ) λ o i _ ds. after-given _ λ l _. after-list (l .0)
+      (λ el. let d : Get sh μ (residual sh s) (list nil) = rw (l .1, el) at ds in after-choice _ _
+      (λ h. after-map (both-sound e s v (list nil)) λ X t k. stays false d m-empty h (taken-plain m-empty k))
+      (λ h k. after-bind (gets df []) λ f i₁ _ dF. after-bind (gets dr []) λ r i₂ _ dR. after-given _ λ q _.
+      after-map (under-sound n s pFront mkList f r mkList-match) λ X t w.
+      switches {u₀ = list (cons f (q .0))} false d m-empty h k (more dF (more dR ends)) (rest-list f r (q .0) (q .1)) w))
+      (λ f r el. let d : Get sh μ (residual sh s) (list (cons f r)) = rw (l .1, el) at ds in after-choice _ _
+      (λ h. after-map (under-sound n s pFront mkList f (list r) mkList-match) λ X t w. stays true d m-front h w)
+      (λ h k. after-map (both-sound e s v (list nil)) λ X t w. switches true d m-front h k ends m-empty (taken-plain m-empty w)))
+    where
+      rest-list : (f r : Value) (q : Values) → r ≡ list q → Match pFront (list (cons f q)) (two f r)
+      rest-list f r q eq = rw eq m-front
+  put-node-sound (TruthCase s f tf t t₁) = after-bind (gets s μ) λ o i _ ds. after-given _ λ b _. side (b .0) (rw (b .1) at ds)
+    where
+      side : (b : Bool) → Get sh μ (residual sh s) (truth b) → Sound (expr (TruthCase s f tf t t₁))
+          (choose (passes (pick b tf t₁) v) (passes (pick (not b) tf t₁) v) (both p μ σ W (pick b f t) v s (truth b)) (both p μ σ W (pick (not b) f t) v s (truth (not b))))
+      side false d = after-choice _ _
+          (λ h. after-map (both-sound f s v vfalse) λ X j w. stays false d m-false h (taken-plain m-false w))
+          (λ h k. after-map (both-sound t s v vtrue) λ X j w. switches false d m-false h k ends m-true (taken-plain m-true w))
+      side true d = after-choice _ _
+          (λ h. after-map (both-sound t s v vtrue) λ X j w. stays true d m-true h (taken-plain m-true w))
+          (λ h k. after-map (both-sound f s v vfalse) λ X j w. switches true d m-true h k ends m-false (taken-plain m-false w))
+  put-node-sound (Split s i) = after-bind (gets s μ) λ o j _ ds. after-given _ λ c _. let d : Get sh μ (residual sh s) (pair (c .0) (c .1)) = rw (c .2) at ds in
+      after-map (under-sound i s pPair mkPair (c .0) (c .1) mkPair-match) λ X t w.
+      record { ω = w .ω′; rel = p-let d m-pair (w .branch) (w .over) (w .overᵢ) (w .rebuilt) (w .subject) (w .merged); joined = w .joined }
+  put-node-sound (Call sec x y) = after-given _ λ a ea. after-given _ λ c ec. after-given _ λ b eb. after-given _ λ d ed.
+      after-map (ih _ _ _ v W (laid-section laid x y ea ec eb ed)) λ X s t. written-call laid ea ec eb ed t
+  put-node-sound (Add n k) = after-given _ λ m _. after-given _ λ low _. after-map (ih n μ σ _ W laid) λ X s t. written-add (m .0) (m .1) (m .2) low t
+
+pub puts-soundly : (l : ℕ) (sh : Sheet) → PutsSoundly sh (put l sh)
+unfolding put
+puts-soundly zero sh n μ σ v W h = stopped tt
+puts-soundly (suc l) sh n μ σ v W h = after-plus 1 (put-node-sound sh (get l sh) (gets-soundly l sh) (put l sh) (puts-soundly l sh) μ σ v W h _)
