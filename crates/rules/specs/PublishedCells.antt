@@ -196,10 +196,10 @@ laid-wider W f r h = all2-append (all2-map (λ c m s. record { cell = s .cell; t
     (more (record { cell = none; there = at-seam W none none }) (more (record { cell = none; there = at-last W none none }) ends))
 
 module _ {σ : List ℕ} {μ : Env} (W : Cells) (laid : Laid W σ μ) (ω : Writes) (x y : Option Value) where
-  wider-later : {Y : Cells} → Later W Y → Later (W ++ two none none) (Y ++ two x y)
+  pub wider-later : {Y : Cells} → Later W Y → Later (W ++ two none none) (Y ++ two x y)
   wider-later h = all2-append h (more (λ w e. absurd (Option·none-ne-some w e)) (more (λ w e. absurd (Option·none-ne-some w e)) ends))
 
-  wider-seen : {Y : Cells} → Later W Y → Seen ω σ Y → Seen (ω ++ two x y) (σ ++ two (length W) (suc (length W))) (Y ++ two x y)
+  pub wider-seen : {Y : Cells} → Later W Y → Seen ω σ Y → Seen (ω ++ two x y) (σ ++ two (length W) (suc (length W))) (Y ++ two x y)
   wider-seen {Y} k h = rw (all2-length k) (all2-append (all2-map (λ o c f. record { has = λ v e. at-left Y _ c (f .has v e) }) h)
       (more (record { has = λ v e. rw (← e) (at-seam Y x y) }) (more (record { has = λ v e. rw (← e) (at-last Y x y) }) ends)))
 

@@ -19,9 +19,9 @@ use Rattle.rules.specs.OutcomeLaws.{After, fine, stopped, after-map, aft
 use Rattle.rules.specs.AllowanceLaws.{within-done}
 use Rattle.rules.specs.Related.{All2, ends, more, all2-at, all2-flip}
 use Rattle.rules.specs.Consistency.{Later}
-use Rattle.rules.specs.Published.{Writes, Over, blank, only, Merge, _◁_, Pattern, pFalse, pTrue, pEmpty, pFront, pPair, Match, m-false, m-true, m-empty, m-front, m-pair, Branch, plain, opened, Expr, var, const, front, case, letIn, couple, call, add, expr, node, residual, Get, Put, p-var, p-const, p-cons, p-case, p-case-switch, p-let, p-pair, p-call, p-add}
+use Rattle.rules.specs.Published.{Writes, Over, blank, only, Merge1, neither, left, right, same, Merge, mEnds, mMore, _◁_, Pattern, pFalse, pTrue, pEmpty, pFront, pPair, Match, m-false, m-true, m-empty, m-front, m-pair, Branch, plain, opened, Expr, var, const, front, case, letIn, couple, call, add, expr, node, residual, Get, Put, p-var, p-const, p-cons, p-case, p-case-switch, p-let, p-pair, p-call, p-add}
 use Rattle.rules.specs.PublishedGet.{GetsSoundly, gets-soundly, GetsAll, gets-all, match-truth, match-env, match-value, Fair, fair, get-one}
-use Rattle.rules.specs.PublishedCells.{Sits, Laid, Has, Seen, Joined, seen-later, laid-later, seen-left, seen-right, merge-is, joined-merge, joined-blank, only-seen, seen-only, joined-new, joined-same, laid-section, section-seen, joined-section, laid-wider, joined-outside, cells-inside, seen-cut, seen-over}
+use Rattle.rules.specs.PublishedCells.{Sits, Laid, Has, Seen, Joined, seen-later, laid-later, seen-left, seen-right, merge-is, joined-merge, joined-blank, only-seen, seen-only, joined-new, joined-same, laid-section, section-seen, joined-section, laid-wider, wider-later, wider-seen, joined-outside, cells-inside, seen-cut, seen-over}
 use Rattle.rules.specs.UpTo.{Limit, deep, UpTo, limited, Comes, reach, up-plus, up-map, up-within, up-bind, comes-bind, up-given, up-when, up-size, up-first, up-second}
 
 -- SOUND
@@ -55,11 +55,10 @@ record Twice (sh : Sheet) (μ : Env) (v : Value) (a : ℕ) (u : Value) (b : ℕ)
   joined : Joined σ W ω X
 
 -- v into a branch that binds μᵢ, then the rebuilt subject: what the rules of case and let have in common
-record Taken (sh : Sheet) (μ : Env) (v : Value) (p : Pattern) (b : ℕ) (μᵢ : Env) (s : ℕ) (σ : List ℕ) (W X : Cells) : Type 0 where
+record Back (sh : Sheet) (μ : Env) (v : Value) (p : Pattern) (b : ℕ) (μᵢ : Env) (s : ℕ) (ω′ : Writes) : Type 0 where
   ω : Writes
   ωᵢ : Writes
   ω₀ : Writes
-  ω′ : Writes
   u : Value
   branch : Put sh (μ ++ μᵢ) v (residual sh b) (ω ++ ωᵢ)
   over : Over ω μ
@@ -67,6 +66,10 @@ record Taken (sh : Sheet) (μ : Env) (v : Value) (p : Pattern) (b : ℕ) (μᵢ 
   rebuilt : Match p u (ωᵢ ◁ μᵢ)
   subject : Put sh μ u (residual sh s) ω₀
   merged : Merge ω ω₀ ω′
+
+record Taken (sh : Sheet) (μ : Env) (v : Value) (p : Pattern) (b : ℕ) (μᵢ : Env) (s : ℕ) (σ : List ℕ) (W X : Cells) : Type 0 where
+  ω′ : Writes
+  back : Back sh μ v p b μᵢ s ω′
   joined : Joined σ W ω′ X
 
 mkList-match : (a b u : Value) → mkList a b ≡ some u → Match pFront u (two a b)
@@ -85,29 +88,31 @@ module _ {sh : Sheet} {μ : Env} {v : Value} {σ : List ℕ} {W : Cells} where
   taken-plain : {X : Cells} {p : Pattern} {b s : ℕ} {u : Value} → Match p u [] → Twice sh μ v b u s σ W X → Taken sh μ v p b [] s σ W X
   unfolding _◁_
   taken-plain m t = record {
-    ω = t .ω₁;
-    ωᵢ = [];
-    ω₀ = t .ω₂;
     ω′ = t .ω;
-    u = _;
-    branch = rw (append-nil, append-nil) (t .first);
-    over = t .over;
-    overᵢ = ends;
-    rebuilt = m;
-    subject = t .second;
-    merged = t .merged;
+    back = record {
+      ω = t .ω₁;
+      ωᵢ = [];
+      ω₀ = t .ω₂;
+      u = _;
+      branch = rw (append-nil, append-nil) (t .first);
+      over = t .over;
+      overᵢ = ends;
+      rebuilt = m;
+      subject = t .second;
+      merged = t .merged;
+    };
     joined = t .joined;
   }
 
   stays : {X : Cells} {s : ℕ} {b₁ b₂ : Branch} {v₀ : Value} {μᵢ : Env} (i : Bool) → Get sh μ (residual sh s) v₀ → Match (pick i b₁ b₂ .pattern) v₀ μᵢ
       → Passes (pick i b₁ b₂ .exit) v → Taken sh μ v (pick i b₁ b₂ .pattern) (pick i b₁ b₂ .body) μᵢ s σ W X → Written sh μ v (case s b₁ b₂) σ W X
-  stays i d m h t = record { ω = t .ω′; rel = p-case i d m h (t .branch) (t .over) (t .overᵢ) (t .rebuilt) (t .subject) (t .merged); joined = t .joined }
+  stays i d m h t = let b = t .back in record { ω = t .ω′; rel = p-case i d m h (b .branch) (b .over) (b .overᵢ) (b .rebuilt) (b .subject) (b .merged); joined = t .joined }
 
   switches : {X : Cells} {s : ℕ} {b₁ b₂ : Branch} {v₀ u₀ : Value} {μᵢ μⱼ : Env} (i : Bool) → Get sh μ (residual sh s) v₀ → Match (pick i b₁ b₂ .pattern) v₀ μᵢ
       → ¬ Passes (pick i b₁ b₂ .exit) v → Passes (pick (not i) b₁ b₂ .exit) v → All2 (λ n w. Get sh [] (residual sh n) w) (pick (not i) b₁ b₂ .by) μⱼ
       → Match (pick (not i) b₁ b₂ .pattern) u₀ μⱼ
       → Taken sh μ v (pick (not i) b₁ b₂ .pattern) (pick (not i) b₁ b₂ .body) μⱼ s σ W X → Written sh μ v (case s b₁ b₂) σ W X
-  switches i d m h k ds m₀ t = record { ω = t .ω′; rel = p-case-switch i d m h k ds m₀ (t .branch) (t .over) (t .overᵢ) (t .rebuilt) (t .subject) (t .merged); joined = t .joined }
+  switches i d m h k ds m₀ t = let b = t .back in record { ω = t .ω′; rel = p-case-switch i d m h k ds m₀ (b .branch) (b .over) (b .overᵢ) (b .rebuilt) (b .subject) (b .merged); joined = t .joined }
 
   written-front : {X : Cells} {a b : ℕ} (f : Value) (r : Values) → v ≡ list (cons f r) → Twice sh μ f a (list r) b σ W X → Written sh μ v (front a b) σ W X
   written-front f r e t = rw e (record { ω = t .ω; rel = p-cons (t .first) (t .second) (t .merged); joined = t .joined })
@@ -167,17 +172,19 @@ module _ (sh : Sheet) (g : Getter) (gets : GetsSoundly sh g) (p : Putter) (ih : 
       let zx : x′ ≡ x = cc in let zy : y′ ≡ y = cc in
       after-map (ih s μ σ u _ (laid-later laid (j₁ .later))) λ Z t h₀.
       let (ω′, m) = merge-is (seen-later (j₁ .seen) (h₀ .joined .later)) (h₀ .joined .seen) in record {
-        ω = ω;
-        ωᵢ = two x y;
-        ω₀ = h₀ .ω;
         ω′ = ω′;
-        u = u;
-        branch = rw e at (h .rel);
-        over = o;
-        overᵢ = more tt (more tt ends);
-        rebuilt = k _ _ u (rw (zx, zy) at eu);
-        subject = h₀ .rel;
-        merged = m;
+        back = record {
+          ω = ω;
+          ωᵢ = two x y;
+          ω₀ = h₀ .ω;
+          u = u;
+          branch = rw e at (h .rel);
+          over = o;
+          overᵢ = more tt (more tt ends);
+          rebuilt = k _ _ u (rw (zx, zy) at eu);
+          subject = h₀ .rel;
+          merged = m;
+        };
         joined = joined-merge j₁ (h₀ .joined) m;
       }
 
@@ -214,7 +221,7 @@ module _ (sh : Sheet) (g : Getter) (gets : GetsSoundly sh g) (p : Putter) (ih : 
           (λ h k. after-map (both-sound f s v vfalse) λ X j w. switches true d m-true h k ends m-false (taken-plain m-false w))
   put-node-sound (Split s i) = after-bind (gets s μ) λ o j _ ds. after-given _ λ c _. let d : Get sh μ (residual sh s) (pair (c .0) (c .1)) = rw (c .2) at ds in
       after-map (under-sound i s pPair mkPair (c .0) (c .1) mkPair-match) λ X t w.
-      record { ω = w .ω′; rel = p-let d m-pair (w .branch) (w .over) (w .overᵢ) (w .rebuilt) (w .subject) (w .merged); joined = w .joined }
+      let b = w .back in record { ω = w .ω′; rel = p-let d m-pair (b .branch) (b .over) (b .overᵢ) (b .rebuilt) (b .subject) (b .merged); joined = w .joined }
   put-node-sound (Call sec x y) = after-given _ λ a ea. after-given _ λ c ec. after-given _ λ b eb. after-given _ λ d ed.
       after-map (ih _ _ _ v W (laid-section laid x y ea ec eb ed)) λ X s t. written-call laid ea ec eb ed t
   put-node-sound (Add n k) = after-given _ λ m _. after-given _ λ low _. after-map (ih n μ σ _ W laid) λ X s t. written-add (m .0) (m .1) (m .2) low t
@@ -223,3 +230,182 @@ pub puts-soundly : (l : ℕ) (sh : Sheet) → PutsSoundly sh (put l sh)
 unfolding put
 puts-soundly zero sh n μ σ v W h = stopped tt
 puts-soundly (suc l) sh n μ σ v W h = after-plus 1 (put-node-sound sh (get l sh) (gets-soundly l sh) (put l sh) (puts-soundly l sh) μ σ v W h _)
+
+-- COMPLETE UP TO OUR LIMITS
+
+-- where W and the published writes have cells Y in common
+abbrev pub PutsAll : Sheet → Putter → Type 0
+PutsAll sh p = (n : ℕ) (μ : Env) (σ : List ℕ) (v : Value) (W : Cells) (ω : Writes) (Y : Cells) → Laid W σ μ → Put sh μ v (residual sh n) ω
+    → Later W Y → Seen ω σ Y → UpTo (Joined σ W ω) (p n μ σ v W)
+
+match-mkList : (a b u : Value) → Match pFront u (two a b) → mkList a b ≡ some u
+unfolding mkList asList
+match-mkList a b u m-front = refl
+
+match-mkPair : (a b u : Value) → Match pPair u (two a b) → mkPair a b ≡ some u
+unfolding mkPair
+match-mkPair a b u m-pair = refl
+
+scope-nil : {sh : Sheet} {μ : Env} {v : Value} {e : Expr} {ω : Writes} → Put sh (μ ++ []) v e (ω ++ []) → Put sh μ v e ω
+scope-nil {sh} {μ} {v} {e} {ω} d = rw (append-nil, append-nil) at d
+
+module _ (sh : Sheet) (g : Getter) (gets : GetsAll sh g) (p : Putter) (ih : PutsAll sh p) (μ : Env) (σ : List ℕ) (W : Cells) (laid : Laid W σ μ)
+    (Y : Cells) (later : Later W Y) where
+  constant-all : (v : Value) → UpTo (Joined σ W (blank μ)) (constant v v W)
+  unfolding constant
+  constant-all v = up-when _ _ refl λ _. reach (joined-blank laid)
+
+  write-all : (v : Value) (x c : ℕ) (m : Value) (o : Option Value) → getElem? μ x ≡ some m → getElem? σ x ≡ some c → getElem? W c ≡ some o → Seen (only μ x (some v)) σ Y
+      → UpTo (Joined σ W (only μ x (some v))) (write c v W o)
+  unfolding write
+  write-all v x c m none em ec eo s = reach (joined-new σ μ x c m em ec v laid eo)
+  write-all v x c m (some w) em ec eo s =
+      let (q, eq, h) = all2-at c later eo in let e : w ≡ v = cc (h w refl, seen-only σ μ x c m em ec (some v) s .has v refl) in
+      up-when _ _ e λ _. reach (joined-same σ μ x c m em ec v laid (rw e at eo))
+
+  both-all : (a b : ℕ) (x y : Value) (ω₁ ω₂ ω : Writes) → Put sh μ x (residual sh a) ω₁ → Put sh μ y (residual sh b) ω₂ → Merge ω₁ ω₂ ω → Seen ω σ Y
+      → UpTo (Joined σ W ω) (both p μ σ W a x b y)
+  unfolding both
+  both-all a b x y ω₁ ω₂ ω d₁ d₂ m s = up-bind _ (ih a μ σ x W ω₁ Y laid d₁ later (seen-left m s)) λ X j.
+      up-map (ih b μ σ y X ω₂ Y (laid-later laid (j .later)) d₂ (j .least Y later (seen-left m s)) (seen-right m s)) λ Z k. joined-merge j k m
+
+  under-all : (v : Value) (b s : ℕ) (mk : Value → Value → Option Value) (f r u : Value) (ω : Writes) (x y : Option Value) (ω₀ ω′ : Writes)
+      → Put sh (μ ++ two f r) v (residual sh b) (ω ++ two x y) → Over ω μ → mk (orOld x f) (orOld y r) ≡ some u → Put sh μ u (residual sh s) ω₀ → Merge ω ω₀ ω′ → Seen ω′ σ Y
+      → UpTo (Joined σ W ω′) (under p μ σ W b v s mk f r)
+  unfolding under
+  under-all v b s mk f r u ω x y ω₀ ω′ d over eu d₀ m h =
+      up-bind _ (ih b _ _ v _ (ω ++ two x y) (Y ++ two x y) (laid-wider W f r laid) d (wider-later W laid ω x y later) (wider-seen W laid ω x y later (seen-left m h))) λ X j.
+      let j₁ = joined-outside W laid ω x y over X j in let (cx, cy) = cells-inside W laid ω x y over X j in
+      up-given _ _ cx (up-given _ _ cy (up-given _ _ eu (up-size _ λ _.
+      up-map (ih s μ σ u _ ω₀ Y (laid-later laid (j₁ .later)) d₀ (j₁ .least Y later (seen-left m h)) (seen-right m h)) λ Z k. joined-merge j₁ k m)))
+
+  back-plain : {v : Value} {q : Pattern} {b s : ℕ} {u : Value} {ω′ : Writes} → Match q u [] → Back sh μ v q b [] s ω′ → Seen ω′ σ Y → UpTo (Joined σ W ω′) (both p μ σ W b v s u)
+  unfolding _◁_
+  back-plain {v} {q} {b} {s} {u} {ω′} m k h = go (k .branch) (k .overᵢ) (k .rebuilt)
+    where
+      go : {ωᵢ : Writes} → Put sh (μ ++ []) v (residual sh b) (k .ω ++ ωᵢ) → Over ωᵢ [] → Match q (k .u) (ωᵢ ◁ []) → UpTo (Joined σ W ω′) (both p μ σ W b v s u)
+      go d ends m′ = both-all b s v u (k .ω) (k .ω₀) ω′ (scope-nil d) (rw (match-value m′ m) at (k .subject)) (k .merged) h
+
+  back-open : {v : Value} {q : Pattern} {b s : ℕ} {f r : Value} {ω′ : Writes} (mk : Value → Value → Option Value) → ((x y u : Value) → Match q u (two x y) → mk x y ≡ some u)
+      → Back sh μ v q b (two f r) s ω′ → Seen ω′ σ Y → UpTo (Joined σ W ω′) (under p μ σ W b v s mk f r)
+  unfolding _◁_
+  back-open {v} {q} {b} {s} {f} {r} {ω′} mk inv k h = go (k .branch) (k .overᵢ) (k .rebuilt)
+    where
+      go : {ωᵢ : Writes} → Put sh (μ ++ two f r) v (residual sh b) (k .ω ++ ωᵢ) → Over ωᵢ (two f r) → Match q (k .u) (ωᵢ ◁ two f r) → UpTo (Joined σ W ω′) (under p μ σ W b v s mk f r)
+      go d (more {a = x} _ (more {a = y} _ ends)) m′ = under-all v b s mk f r (k .u) (k .ω) x y (k .ω₀) ω′ d (k .over) (inv _ _ _ m′) (k .subject) (k .merged) h
+
+  put-node-complete : (nd : Node) (v : Value) {ω : Writes} → Put sh μ v (expr nd) ω → Seen ω σ Y → UpTo (Joined σ W ω) (putNode g p sh nd μ σ v W)
+  unfolding putNode asList asFront asPair asTruth onList
+  put-node-complete (Var x) v (p-var em) h =
+      let (c, ec, _) = all2-at x (all2-flip laid) em in let (m, _, t) = all2-at x laid ec in
+      up-given _ _ ec (up-given _ _ (t .there) (write-all v x c _ (t .cell) em ec (t .there) h))
+  put-node-complete False v p-const h = constant-all _
+  put-node-complete True v p-const h = constant-all _
+  put-node-complete Empty v p-const h = constant-all _
+  put-node-complete (Number n) v p-const h = constant-all _
+  put-node-complete (Front a b) v (p-cons d₁ d₂ m) h = up-given _ _ refl (both-all a b _ _ _ _ _ d₁ d₂ m h)
+  put-node-complete (Pair a b) v (p-pair d₁ d₂ m) h = up-given _ _ refl (both-all a b _ _ _ _ _ d₁ d₂ m h)
+  put-node-complete (ListCase s e te n tn df dr) v {ω} rel h = go rel
+    where
+      stay : {v₀ : Value} {μᵢ : Env} (i : Bool) → Get sh μ (residual sh s) v₀ → Match (pick i (plain pEmpty e te) (opened n tn df dr) .pattern) v₀ μᵢ → Passes (pick i (plain pEmpty e te) (opened n tn df dr) .exit) v
+          → Back sh μ v (pick i (plain pEmpty e te) (opened n tn df dr) .pattern) (pick i (plain pEmpty e te) (opened n tn df dr) .body) μᵢ s ω → UpTo (Joined σ W ω) (putNode g p sh (ListCase s e te n tn df dr) μ σ v W)
+      stay false ds m-empty q b = comes-bind _ (gets s μ _ ds) (up-given _ _ refl (up-first _ _ _ q (back-plain m-empty b h)))
+      stay true ds m-front q b = comes-bind _ (gets s μ _ ds) (up-given _ _ refl (up-first _ _ _ q (back-open mkList match-mkList b h)))
+
+      switch : {v₀ u₀ : Value} {μᵢ μⱼ : Env} (i : Bool) → Get sh μ (residual sh s) v₀ → Match (pick i (plain pEmpty e te) (opened n tn df dr) .pattern) v₀ μᵢ → ¬ Passes (pick i (plain pEmpty e te) (opened n tn df dr) .exit) v
+          → Passes (pick (not i) (plain pEmpty e te) (opened n tn df dr) .exit) v → All2 (λ k w. Get sh [] (residual sh k) w) (pick (not i) (plain pEmpty e te) (opened n tn df dr) .by) μⱼ
+          → Match (pick (not i) (plain pEmpty e te) (opened n tn df dr) .pattern) u₀ μⱼ
+          → Back sh μ v (pick (not i) (plain pEmpty e te) (opened n tn df dr) .pattern) (pick (not i) (plain pEmpty e te) (opened n tn df dr) .body) μⱼ s ω → UpTo (Joined σ W ω) (putNode g p sh (ListCase s e te n tn df dr) μ σ v W)
+      switch false ds m-empty q q′ (more dF (more dR ends)) m-front b = comes-bind _ (gets s μ _ ds) (up-given _ _ refl (up-second _ _ _ q q′ (comes-bind _ (gets df [] _ dF) (comes-bind _ (gets dr [] _ dR) (up-given _ _ refl (back-open mkList match-mkList b h))))))
+      switch true ds m-front q q′ dd m-empty b = comes-bind _ (gets s μ _ ds) (up-given _ _ refl (up-second _ _ _ q q′ (back-plain m-empty b h)))
+
+      go : Put sh μ v (expr (ListCase s e te n tn df dr)) ω → UpTo (Joined σ W ω) (putNode g p sh (ListCase s e te n tn df dr) μ σ v W)
+      go (p-case i ds mᵢ q d o oᵢ r d₀ m) = stay i ds mᵢ q (record { ω = _; ωᵢ = _; ω₀ = _; u = _; branch = d; over = o; overᵢ = oᵢ; rebuilt = r; subject = d₀; merged = m })
+      go (p-case-switch i ds mᵢ q q′ dd mⱼ d o oᵢ r d₀ m) = switch i ds mᵢ q q′ dd mⱼ (record { ω = _; ωᵢ = _; ω₀ = _; u = _; branch = d; over = o; overᵢ = oᵢ; rebuilt = r; subject = d₀; merged = m })
+  put-node-complete (TruthCase s f tf t t₁) v {ω} e h = go e
+    where
+      stay : {v₀ : Value} {μᵢ : Env} (i : Bool) → Get sh μ (residual sh s) v₀ → Match (pick i (plain pFalse f tf) (plain pTrue t t₁) .pattern) v₀ μᵢ → Passes (pick i (plain pFalse f tf) (plain pTrue t t₁) .exit) v
+          → Back sh μ v (pick i (plain pFalse f tf) (plain pTrue t t₁) .pattern) (pick i (plain pFalse f tf) (plain pTrue t t₁) .body) μᵢ s ω → UpTo (Joined σ W ω) (putNode g p sh (TruthCase s f tf t t₁) μ σ v W)
+      stay false ds m-false q b = comes-bind _ (gets s μ _ ds) (up-given _ _ refl (up-first _ _ _ q (back-plain m-false b h)))
+      stay true ds m-true q b = comes-bind _ (gets s μ _ ds) (up-given _ _ refl (up-first _ _ _ q (back-plain m-true b h)))
+
+      switch : {v₀ u₀ : Value} {μᵢ μⱼ : Env} (i : Bool) → Get sh μ (residual sh s) v₀ → Match (pick i (plain pFalse f tf) (plain pTrue t t₁) .pattern) v₀ μᵢ → ¬ Passes (pick i (plain pFalse f tf) (plain pTrue t t₁) .exit) v
+          → Passes (pick (not i) (plain pFalse f tf) (plain pTrue t t₁) .exit) v → All2 (λ k w. Get sh [] (residual sh k) w) (pick (not i) (plain pFalse f tf) (plain pTrue t t₁) .by) μⱼ
+          → Match (pick (not i) (plain pFalse f tf) (plain pTrue t t₁) .pattern) u₀ μⱼ
+          → Back sh μ v (pick (not i) (plain pFalse f tf) (plain pTrue t t₁) .pattern) (pick (not i) (plain pFalse f tf) (plain pTrue t t₁) .body) μⱼ s ω → UpTo (Joined σ W ω) (putNode g p sh (TruthCase s f tf t t₁) μ σ v W)
+      switch false ds m-false q q′ dd m-true b = comes-bind _ (gets s μ _ ds) (up-given _ _ refl (up-second _ _ _ q q′ (back-plain m-true b h)))
+      switch true ds m-true q q′ dd m-false b = comes-bind _ (gets s μ _ ds) (up-given _ _ refl (up-second _ _ _ q q′ (back-plain m-false b h)))
+
+      go : Put sh μ v (expr (TruthCase s f tf t t₁)) ω → UpTo (Joined σ W ω) (putNode g p sh (TruthCase s f tf t t₁) μ σ v W)
+      go (p-case i ds mᵢ q d o oᵢ r d₀ m) = stay i ds mᵢ q (record { ω = _; ωᵢ = _; ω₀ = _; u = _; branch = d; over = o; overᵢ = oᵢ; rebuilt = r; subject = d₀; merged = m })
+      go (p-case-switch i ds mᵢ q q′ dd mⱼ d o oᵢ r d₀ m) = switch i ds mᵢ q q′ dd mⱼ (record { ω = _; ωᵢ = _; ω₀ = _; u = _; branch = d; over = o; overᵢ = oᵢ; rebuilt = r; subject = d₀; merged = m })
+  put-node-complete (Split s i) v (p-let ds m-pair d o oᵢ r d₀ m) h = comes-bind _ (gets s μ _ ds) (up-given _ _ refl (back-open mkPair match-mkPair
+      (record { ω = _; ωᵢ = _; ω₀ = _; u = _; branch = d; over = o; overᵢ = oᵢ; rebuilt = r; subject = d₀; merged = m }) h))
+  put-node-complete (Call sec x y) v (p-call {a = a} {b = b} ea eb d m) h =
+      let (c, ec, _) = all2-at x (all2-flip laid) ea in let (e, ee, _) = all2-at y (all2-flip laid) eb in
+      up-given _ _ ea (up-given _ _ ec (up-given _ _ eb (up-given _ _ ee
+      (up-map (ih _ _ _ v W _ Y (laid-section laid x y ea ec eb ee) d later (section-seen σ μ x c a ea ec y e b eb ee m h)) λ X j.
+      joined-section σ μ x c a ea ec y e b eb ee laid j m))))
+  put-node-complete (Add n k) v (p-add {m = m} z low d) h =
+      let (z′, e) = as-number m z in up-given _ _ e (up-when _ _ low λ _. ih n μ σ _ W _ Y laid d later h)
+
+pub puts-all : (l : ℕ) (sh : Sheet) → PutsAll sh (put l sh)
+unfolding put
+puts-all zero sh n μ σ v W ω Y laid d later h = limited deep
+puts-all (suc l) sh n μ σ v W ω Y laid d later h = up-plus 1 (put-node-complete sh (get l sh) (gets-all l sh) (put l sh) (puts-all l sh) μ σ W laid Y later _ v d h)
+
+-- ONE SET OF WRITES
+
+merge1-one : {o p q q′ : Option Value} → Merge1 o p q → Merge1 o p q′ → q ≡ q′
+merge1-one neither neither = refl
+merge1-one left left = refl
+merge1-one right right = refl
+merge1-one (same e) (same e′) = refl
+
+merge-one : {ω₁ ω₂ ω ω′ : Writes} → Merge ω₁ ω₂ ω → Merge ω₁ ω₂ ω′ → ω ≡ ω′
+merge-one mEnds mEnds = refl
+merge-one (mMore m ms) (mMore k ks) = let e = merge1-one m k in let es = merge-one ms ks in cc
+
+-- writes to a branch's scope have one part outside and one of its own
+over-one : {ω ω₁ : Writes} (ωᵢ ωⱼ : Writes) {μ : Env} → Over ω μ → Over ω₁ μ → ω ++ ωᵢ ≡ ω₁ ++ ωⱼ → (ω ≡ ω₁) × (ωᵢ ≡ ωⱼ)
+over-one ωᵢ ωⱼ ends ends e = (refl, e)
+over-one ωᵢ ωⱼ (more _ h) (more _ k) e = let (p, q) = over-one ωᵢ ωⱼ h k (cc) in (cc, q)
+
+const-one : {sh : Sheet} {μ : Env} {v c : Value} {ω : Writes} → Put sh μ v (const c) ω → ω ≡ blank μ
+const-one p-const = refl
+
+defaults-one : {sh : Sheet} {ns : List ℕ} {μ μ′ : Env} → All2 (λ n w. Get sh [] (residual sh n) w) ns μ → All2 (λ n w. Get sh [] (residual sh n) w) ns μ′ → μ ≡ μ′
+defaults-one ends ends = refl
+defaults-one {sh} (more {a = n} d ds) (more d′ ds′) = let e = get-one sh (fair (node sh n)) d d′ in let es = defaults-one ds ds′ in cc
+
+module _ (sh : Sheet) where
+  pub put-one : {μ : Env} {v : Value} {e : Expr} {ω ω′ : Writes} → Fair e → Put sh μ v e ω → Put sh μ v e ω′ → ω ≡ ω′
+  put-one f (p-var e) (p-var e′) = refl
+  put-one f p-const d = sym (const-one d)
+  put-one f (p-cons {a = a} {b = b} d₁ d₂ m) (p-cons d₁′ d₂′ m′) =
+      let e₁ = put-one (fair (node sh a)) d₁ d₁′ in let e₂ = put-one (fair (node sh b)) d₂ d₂′ in merge-one m (rw (← e₁, ← e₂) at m′)
+  put-one f (p-case {s = s} {b₁ = b₁} {b₂ = b₂} i ds m h d o oᵢ r d₀ mg) (p-case j ds′ m′ h′ d′ o′ oᵢ′ r′ d₀′ mg′) =
+      let es = get-one sh (fair (node sh s)) ds ds′ in let ei = f i j _ _ _ m (rw (← es) at m′) in let eμ = match-env m (rw (← es, ← ei) at m′) in
+      let ed = put-one (fair (node sh (pick i b₁ b₂ .body))) d (rw (← ei, ← eμ) at d′) in let (e₁, e₂) = over-one _ _ o o′ ed in
+      let eu = match-value r (rw (← ei, ← eμ, ← e₂) at r′) in let e₀ = put-one (fair (node sh s)) d₀ (rw (← eu) at d₀′) in
+      merge-one mg (rw (← e₁, ← e₀) at mg′)
+  put-one f (p-case {s = s} i ds m h d o oᵢ r d₀ mg) (p-case-switch j ds′ m′ h′ k′ dd′ n′ d′ o′ oᵢ′ r′ d₀′ mg′) =
+      let es = get-one sh (fair (node sh s)) ds ds′ in let ei = f i j _ _ _ m (rw (← es) at m′) in absurd (h′ (rw ei at h))
+  put-one f (p-case-switch {s = s} i ds m h k dd n d o oᵢ r d₀ mg) (p-case j ds′ m′ h′ d′ o′ oᵢ′ r′ d₀′ mg′) =
+      let es = get-one sh (fair (node sh s)) ds ds′ in let ei = f i j _ _ _ m (rw (← es) at m′) in absurd (h (rw (← ei) at h′))
+  put-one f (p-case-switch {s = s} {b₁ = b₁} {b₂ = b₂} i ds m h k dd n d o oᵢ r d₀ mg) (p-case-switch j ds′ m′ h′ k′ dd′ n′ d′ o′ oᵢ′ r′ d₀′ mg′) =
+      let es = get-one sh (fair (node sh s)) ds ds′ in let ei = f i j _ _ _ m (rw (← es) at m′) in let eμ = defaults-one dd (rw (← ei) at dd′) in
+      let ed = put-one (fair (node sh (pick (not i) b₁ b₂ .body))) d (rw (← ei, ← eμ) at d′) in let (e₁, e₂) = over-one _ _ o o′ ed in
+      let eu = match-value r (rw (← ei, ← eμ, ← e₂) at r′) in let e₀ = put-one (fair (node sh s)) d₀ (rw (← eu) at d₀′) in
+      merge-one mg (rw (← e₁, ← e₀) at mg′)
+  put-one f (p-let {s = s} {e = b} ds m d o oᵢ r d₀ mg) (p-let ds′ m′ d′ o′ oᵢ′ r′ d₀′ mg′) =
+      let es = get-one sh (fair (node sh s)) ds ds′ in let eμ = match-env m (rw (← es) at m′) in
+      let ed = put-one (fair (node sh b)) d (rw (← eμ) at d′) in let (e₁, e₂) = over-one _ _ o o′ ed in
+      let eu = match-value r (rw (← eμ, ← e₂) at r′) in let e₀ = put-one (fair (node sh s)) d₀ (rw (← eu) at d₀′) in
+      merge-one mg (rw (← e₁, ← e₀) at mg′)
+  put-one f (p-pair {a = a} {b = b} d₁ d₂ m) (p-pair d₁′ d₂′ m′) =
+      let e₁ = put-one (fair (node sh a)) d₁ d₁′ in let e₂ = put-one (fair (node sh b)) d₂ d₂′ in merge-one m (rw (← e₁, ← e₂) at m′)
+  put-one f (p-call {sec = sec} {a = a} {b = b} {o = o} {q = q} ea eb d m) (p-call {a = a′} {b = b′} {o = o′} {q = q′} ea′ eb′ d′ m′) =
+      let e₁ : a′ ≡ a = cc in let e₂ : b′ ≡ b = cc in let e = put-one (fair (node sh (getD (sh .sections) sec 0))) d (rw (e₁, e₂) at d′) in
+      let eo : o′ ≡ o = cc in let eq : q′ ≡ q = cc in merge-one m (rw (eo, eq) at m′)
+  put-one f (p-add {n = n} z low d) (p-add z′ low′ d′) = put-one (fair (node sh n)) d d′
