@@ -18,3 +18,4 @@ pub mod UpTo
 pub mod PublishedGet
 pub mod PublishedCells
 pub mod PublishedPut
+pub mod PublishedWalks

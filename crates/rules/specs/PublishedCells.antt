@@ -76,6 +76,14 @@ seen-later h k = all2-map (λ o c f. record { has = λ v e. let (q, eq, g) = all
 pub laid-later : {σ : List ℕ} {μ : Env} {W X : Cells} → Laid W σ μ → Later W X → Laid X σ μ
 laid-later h k = all2-map (λ c m f. let (q, eq, _) = all2-at c k (f .there) in record { cell = q; there = eq }) h
 
+-- cells each later than the other are the same, so a merge is one
+pub later-same : {X Y : Cells} → Later X Y → Later Y X → X ≡ Y
+later-same ends ends = refl
+later-same (more f h) (more g k) = let e = same-option _ _ f g in let es = later-same h k in cc
+
+pub joined-one : {σ : List ℕ} {W X Y : Cells} {ω : Writes} → Joined σ W ω X → Joined σ W ω Y → X ≡ Y
+joined-one j k = later-same (j .least _ (k .later) (k .seen)) (k .least _ (j .later) (j .seen))
+
 -- MERGED WRITES
 
 merge1-left : {o p q : Option Value} → Merge1 o p q → (v : Value) → o ≡ some v → q ≡ some v
@@ -137,7 +145,7 @@ unfolding blank
 seen-blank ends = ends
 seen-blank (more r h) = more no-binding (seen-blank h)
 
-blank-at : (μ : Env) (x : ℕ) {m : Value} → getElem? μ x ≡ some m → getElem? (blank μ) x ≡ some none
+pub blank-at : (μ : Env) (x : ℕ) {m : Value} → getElem? μ x ≡ some m → getElem? (blank μ) x ≡ some none
 unfolding blank
 blank-at [] x e = absurd (Option·none-ne-some _ e)
 blank-at (v ∷ μ) zero e = refl

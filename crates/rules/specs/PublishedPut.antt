@@ -17,11 +17,11 @@ use Rattle.rules.specs.Allowance.{within}
 use Rattle.rules.specs.Rules.{Env, Cells, Getter, Putter, two, pick, onList, get, orOld, constant, write, both, under, mkList, mkPair, putNode, put}
 use Rattle.rules.specs.OutcomeLaws.{After, fine, stopped, after-map, after-at, as-number, after-plus, after-bind, after-given, after-list}
 use Rattle.rules.specs.AllowanceLaws.{within-done}
-use Rattle.rules.specs.Related.{All2, ends, more, all2-at, all2-flip}
+use Rattle.rules.specs.Related.{All2, ends, more, all2-at, all2-flip, all2-set}
 use Rattle.rules.specs.Consistency.{Later}
 use Rattle.rules.specs.Published.{Writes, Over, blank, only, Merge1, neither, left, right, same, Merge, mEnds, mMore, _◁_, Pattern, pFalse, pTrue, pEmpty, pFront, pPair, Match, m-false, m-true, m-empty, m-front, m-pair, Branch, plain, opened, Expr, var, const, front, case, letIn, couple, call, add, expr, node, residual, Get, Put, p-var, p-const, p-cons, p-case, p-case-switch, p-let, p-pair, p-call, p-add}
 use Rattle.rules.specs.PublishedGet.{GetsSoundly, gets-soundly, GetsAll, gets-all, match-truth, match-env, match-value, Fair, fair, get-one}
-use Rattle.rules.specs.PublishedCells.{Sits, Laid, Has, Seen, Joined, seen-later, laid-later, seen-left, seen-right, merge-is, joined-merge, joined-blank, only-seen, seen-only, joined-new, joined-same, laid-section, section-seen, joined-section, laid-wider, wider-later, wider-seen, joined-outside, cells-inside, seen-cut, seen-over}
+use Rattle.rules.specs.PublishedCells.{Sits, Laid, Has, Seen, Joined, seen-later, laid-later, joined-one, seen-left, seen-right, merge-is, joined-merge, joined-blank, only-seen, seen-only, joined-new, joined-same, laid-section, section-seen, joined-section, laid-wider, wider-later, wider-seen, joined-outside, cells-inside, seen-cut, seen-over}
 use Rattle.rules.specs.UpTo.{Limit, deep, UpTo, limited, Comes, reach, up-plus, up-map, up-within, up-bind, comes-bind, up-given, up-when, up-size, up-first, up-second}
 
 -- SOUND
@@ -409,3 +409,43 @@ module _ (sh : Sheet) where
       let e₁ : a′ ≡ a = cc in let e₂ : b′ ≡ b = cc in let e = put-one (fair (node sh (getD (sh .sections) sec 0))) d (rw (e₁, e₂) at d′) in
       let eo : o′ ≡ o = cc in let eq : q′ ≡ q = cc in merge-one m (rw (eo, eq) at m′)
   put-one f (p-add {n = n} z low d) (p-add z′ low′ d′) = put-one (fair (node sh n)) d d′
+
+-- and they are of the variables in scope
+over-blank : (μ : Env) → Over (blank μ) μ
+unfolding blank
+over-blank [] = ends
+over-blank (v ∷ μ) = more tt (over-blank μ)
+
+over-only : (μ : Env) (x : ℕ) (o : Option Value) {m : Value} → getElem? μ x ≡ some m → Over (only μ x o) μ
+unfolding only
+over-only μ x o e = all2-set x o (over-blank μ) e tt
+
+over-merge : {ω₁ ω₂ ω : Writes} {μ : Env} → Merge ω₁ ω₂ ω → Over ω₁ μ → Over ω μ
+over-merge mEnds ends = ends
+over-merge (mMore m ms) (more _ h) = more tt (over-merge ms h)
+
+pub put-over : {sh : Sheet} {μ : Env} {v : Value} {e : Expr} {ω : Writes} → Put sh μ v e ω → Over ω μ
+put-over (p-var {μ = μ} {x = x} e) = over-only μ x _ e
+put-over (p-const {μ = μ}) = over-blank μ
+put-over (p-cons d₁ d₂ m) = over-merge m (put-over d₁)
+put-over (p-case i ds m h d o oᵢ r d₀ mg) = over-merge mg o
+put-over (p-case-switch i ds m h k dd n d o oᵢ r d₀ mg) = over-merge mg o
+put-over (p-let ds m d o oᵢ r d₀ mg) = over-merge mg o
+put-over (p-pair d₁ d₂ m) = over-merge m (put-over d₁)
+put-over (p-call {μ = μ} {x = x} ea eb d m) = over-merge m (over-only μ x _ ea)
+put-over (p-add z low d) = put-over d
+
+-- THE THEOREMS, for every sheet, node, environment, number of levels and allowance; σ says which cell each variable is, and W
+-- what was written before
+module _ (sh : Sheet) (n : ℕ) (μ : Env) (v : Value) (σ : List ℕ) (W : Cells) (laid : Laid W σ μ) where
+  -- where put succeeds, the published relation holds, and W was merged with its writes
+  pub put-sound : (l a s : ℕ) (X : Cells) → within a (put l sh n μ σ v W) ≡ done X s → Written sh μ v (residual sh n) σ W X
+  put-sound l a s X e = after-at (rw (within-done a (put l sh n μ σ v W) e .0) at (puts-soundly l sh n μ σ v W laid))
+
+  -- where the published relation holds and X is W merged with its writes, put gives X or is refused with 40, 41 or 44
+  pub put-complete : (l a : ℕ) (ω : Writes) (X : Cells) → Put sh μ v (residual sh n) ω → Joined σ W ω X → Comes X (within a (put l sh n μ σ v W))
+  put-complete l a ω X d j = up-within a (up-map (puts-all l sh n μ σ v W ω X laid d (j .later) (j .seen)) λ Z k. joined-one k j)
+
+-- one set of writes
+pub put-functional : (sh : Sheet) (n : ℕ) (μ : Env) (v : Value) (ω ω′ : Writes) → Put sh μ v (residual sh n) ω → Put sh μ v (residual sh n) ω′ → ω ≡ ω′
+put-functional sh n μ v ω ω′ d d′ = put-one sh (fair (node sh n)) d d′
