@@ -51,7 +51,7 @@ unfoldable pub _◁_ : Writes → Env → Env
 (o ∷ ω) ◁ [] = []
 (o ∷ ω) ◁ (v ∷ μ) = orOld o v ∷ (ω ◁ μ)
 
--- PATTERNS p, and match(p, v, μ): v is p with its variables replaced as μ says. `pPair` is document 01's
+-- PATTERNS p, and match(p, v, μ): v is p with its variables replaced as μ says. `pPair` is an extension of document 01
 
 pub data Pattern : Type 0 where
   pFalse pTrue pEmpty pFront pPair : Pattern
@@ -78,8 +78,8 @@ pub data Expr : Type 0 where
   const : Value → Expr
   front : ℕ → ℕ → Expr
   case : ℕ → Branch → Branch → Expr
-  letIn : Pattern → ℕ → ℕ → Expr  -- HOBiT's let, a case of one branch
-  -- document 01's
+  -- extensions of document 01: HOBiT's let (a case of one branch) of a pair, pairs, sections, the lens that adds
+  letIn : Pattern → ℕ → ℕ → Expr
   couple : ℕ → ℕ → Expr
   call : ℕ → ℕ → ℕ → Expr
   add : ℕ → ℕ → Expr
@@ -97,7 +97,7 @@ expr (Var x) = var x
 expr False = const vfalse
 expr True = const vtrue
 expr Empty = const (list nil)
-expr (Number n) = const (number n)  -- (document 01's)
+expr (Number n) = const (number n)  -- (an extension)
 expr (Front a b) = front a b
 expr (Pair a b) = couple a b
 expr (ListCase s e te n tn df dr) = case s (plain pEmpty e te) (opened n tn df dr)
@@ -124,9 +124,10 @@ pub data Get (sh : Sheet) : Env → Expr → Value → Type 0 where
   g-case : {μ μᵢ : Env} {s : ℕ} {b₁ b₂ : Branch} {v₀ v : Value} (i : Bool) → Get sh μ (residual sh s) v₀
       → Match (pick i b₁ b₂ .pattern) v₀ μᵢ → Get sh (μ ++ μᵢ) (residual sh (pick i b₁ b₂ .body)) v
       → Passes (pick i b₁ b₂ .exit) v → Get sh μ (case s b₁ b₂) v
+  -- EXTENSIONS. HOBiT's let has one branch and no exit condition; a section's variables 0 and 1 are the caller's x and y; k is
+  -- added where the sum is a number of kind 04
   g-let : {μ μᵢ : Env} {p : Pattern} {s e : ℕ} {v₀ v : Value} → Get sh μ (residual sh s) v₀ → Match p v₀ μᵢ
       → Get sh (μ ++ μᵢ) (residual sh e) v → Get sh μ (letIn p s e) v
-  -- document 01's: pairs; a section's variables 0 and 1 are the caller's x and y; the lens that adds k
   g-pair : {μ : Env} {a b : ℕ} {u v : Value} → Get sh μ (residual sh a) u → Get sh μ (residual sh b) v → Get sh μ (couple a b) (pair u v)
   g-call : {μ : Env} {sec x y : ℕ} {a b v : Value} → getElem? μ x ≡ some a → getElem? μ y ≡ some b
       → Get sh (two a b) (residual sh (getD (sh .sections) sec 0)) v → Get sh μ (call sec x y) v
@@ -135,7 +136,7 @@ pub data Get (sh : Sheet) : Env → Expr → Value → Type 0 where
 -- PUT: `Put sh μ v E ω` is μ ⊢ put v ⇐ E ⊣ ω
 
 pub data Put (sh : Sheet) : Env → Value → Expr → Writes → Type 0 where
-  -- x is a variable of μ: in the paper, what has a type has no other
+  -- {x = v}. x is a variable of μ: in the paper, what has a type has no other
   p-var : {μ : Env} {x : ℕ} {v old : Value} → getElem? μ x ≡ some old → Put sh μ v (var x) (only μ x (some v))
   p-const : {μ : Env} {c : Value} → Put sh μ c (const c) (blank μ)
   p-cons : {μ : Env} {a b : ℕ} {f : Value} {r : Values} {ω₁ ω₂ ω : Writes} → Put sh μ f (residual sh a) ω₁
@@ -154,10 +155,10 @@ pub data Put (sh : Sheet) : Env → Value → Expr → Writes → Type 0 where
       → Match (pick (not i) b₁ b₂ .pattern) u₀ μⱼ
       → Put sh (μ ++ μⱼ) v (residual sh (pick (not i) b₁ b₂ .body)) (ω ++ ωⱼ) → Over ω μ → Over ωⱼ μⱼ
       → Match (pick (not i) b₁ b₂ .pattern) u (ωⱼ ◁ μⱼ) → Put sh μ u (residual sh s) ω₀ → Merge ω ω₀ ω′ → Put sh μ v (case s b₁ b₂) ω′
+  -- EXTENSIONS. What a section writes to its variables 0 and 1 is written to x and y: if these are one variable, both agree
   p-let : {μ μᵢ : Env} {p : Pattern} {s e : ℕ} {v₀ v u : Value} {ω ωᵢ ω₀ ω′ : Writes} → Get sh μ (residual sh s) v₀ → Match p v₀ μᵢ
       → Put sh (μ ++ μᵢ) v (residual sh e) (ω ++ ωᵢ) → Over ω μ → Over ωᵢ μᵢ
       → Match p u (ωᵢ ◁ μᵢ) → Put sh μ u (residual sh s) ω₀ → Merge ω ω₀ ω′ → Put sh μ v (letIn p s e) ω′
-  -- document 01's. What a section writes to its variables 0 and 1 is written to x and y: if these are one variable, both agree
   p-pair : {μ : Env} {a b : ℕ} {u v : Value} {ω₁ ω₂ ω : Writes} → Put sh μ u (residual sh a) ω₁ → Put sh μ v (residual sh b) ω₂
       → Merge ω₁ ω₂ ω → Put sh μ (pair u v) (couple a b) ω
   p-call : {μ : Env} {sec x y : ℕ} {a b v : Value} {o q : Option Value} {ω : Writes} → getElem? μ x ≡ some a → getElem? μ y ≡ some b

@@ -1,33 +1,28 @@
 -- Get and the published relation: sound, complete up to our limits, and one value.
-use mathlib.Core.Path.{_≡_, refl, sym}
+use mathlib.Core.Path.{_≡_, refl}
 use mathlib.Core.Bool.{Bool, true, false}
-use mathlib.Core.Option.{Option, none, some}
-use mathlib.Core.List.{List, [], _∷_, _++_, append-nil}
-use Prim.Native.Nat.{ℕ, zero, suc, _+_, _≤_}
+use mathlib.Core.List.{[], _++_, append-nil}
+use Prim.Native.Nat.{ℕ, zero, suc}
 use native.Mathlib.Omega.{arith}
-use lib.ListN.{getD, getElem?}
-use Rattle.value.specs.Value.{Value, Values, vfalse, vtrue, list, number, pair, nil, cons, truth}
-use Rattle.value.specs.Views.{asList, asPair, asNumber, asTruth}
+use lib.ListN.{getD}
+use Rattle.value.specs.Value.{Value, vfalse, vtrue, list, number, pair, nil, cons, truth}
+use Rattle.value.specs.Views.{asList, asPair, asTruth}
 use Rattle.value.specs.Tests.{Passes}
 use Rattle.sheet.specs.declared.Node.{Node}
 use Rattle.sheet.specs.declared.Node.the-variants.{Var, False, True, Empty, Number, Front, Pair, ListCase, TruthCase, Split, Call, Add}
 use Rattle.sheet.specs.Sheet.{Sheet}
 use Rattle.rules.specs.Outcome.{Out, done}
 use Rattle.rules.specs.Allowance.{within}
-use Rattle.rules.specs.Rules.{Env, Getter, two, pick, bounded, tested, onList, getNode, get}
+use Rattle.rules.specs.Rules.{Env, Getter, pick, bounded, tested, onList, getNode, get}
 use Rattle.rules.specs.OutcomeLaws.{After, fine, stopped, after-map, after-at, as-number, after-plus, after-bind, after-given, after-list}
 use Rattle.rules.specs.AllowanceLaws.{within-done}
 use Rattle.rules.specs.Published.{Pattern, pFalse, pTrue, pEmpty, pFront, pPair, Match, m-false, m-true, m-empty, m-front, m-pair, Branch, plain, opened, Expr, var, const, front, case, letIn, couple, call, add, expr, node, residual, Get, g-var, g-const, g-cons, g-case, g-let, g-pair, g-call, g-add}
-use Rattle.rules.specs.UpTo.{Limit, deep, UpTo, limited, Comes, reach, up-plus, up-within, comes-bind, up-given, up-when, up-size}
+use Rattle.rules.specs.UpTo.{deep, limited, Comes, reach, up-plus, up-within, comes-bind, up-given, up-when, up-size}
 
 -- SOUND
 
 abbrev pub GetsSoundly : Sheet → Getter → Type 0
 GetsSoundly sh g = (n : ℕ) (μ : Env) → After (Unit {0}) (λ v s. Get sh μ (residual sh n) v) (g n μ)
-
-pub match-truth : (b : Bool) → Match (pick b pFalse pTrue) (truth b) []
-match-truth false = m-false
-match-truth true = m-true
 
 -- the scope of a branch that binds nothing
 nil-scope : {sh : Sheet} {μ : Env} {e : Expr} {v : Value} → Get sh μ e v → Get sh (μ ++ []) e v

@@ -1,28 +1,27 @@
 -- Put and the published relation: sound, complete up to our limits, and one set of writes.
 use mathlib.Core.Path.{_≡_, refl, sym}
 use mathlib.Core.Bool.{Bool, true, false, not}
-use mathlib.Core.Option.{Option, none, some, Option·none-ne-some, Option·some-injective, map-eq-some-iff}
+use mathlib.Core.Option.{Option, none, some, Option·some-injective, map-eq-some-iff}
 use mathlib.Core.List.{List, [], _∷_, _++_, append-nil}
-use Prim.Native.Nat.{ℕ, zero, suc, _+_, _-_, _≤_}
-use native.Mathlib.Omega.{arith}
-use lib.ListN.{length, take, getD, getElem?}
+use Prim.Native.Nat.{ℕ, zero, suc, _-_, _≤_}
+use lib.ListN.{length, getD, getElem?}
 use Rattle.value.specs.Value.{Value, Values, vfalse, vtrue, list, number, pair, nil, cons, truth}
-use Rattle.value.specs.Views.{asList, asFront, asPair, asNumber, asTruth}
+use Rattle.value.specs.Views.{asList, asFront, asPair, asTruth}
 use Rattle.value.specs.Tests.{Passes, passes}
 use Rattle.sheet.specs.declared.Node.{Node}
 use Rattle.sheet.specs.declared.Node.the-variants.{Var, False, True, Empty, Number, Front, Pair, ListCase, TruthCase, Split, Call, Add}
 use Rattle.sheet.specs.Sheet.{Sheet}
-use Rattle.rules.specs.Outcome.{Out, done, refused, choose}
+use Rattle.rules.specs.Outcome.{Out, done, choose}
 use Rattle.rules.specs.Allowance.{within}
 use Rattle.rules.specs.Rules.{Env, Cells, Getter, Putter, two, pick, onList, get, orOld, constant, write, both, under, mkList, mkPair, putNode, put}
 use Rattle.rules.specs.OutcomeLaws.{After, fine, stopped, after-map, after-at, as-number, after-plus, after-bind, after-given, after-list}
 use Rattle.rules.specs.AllowanceLaws.{within-done}
 use Rattle.rules.specs.Related.{All2, ends, more, all2-at, all2-flip, all2-set}
 use Rattle.rules.specs.Consistency.{Later}
-use Rattle.rules.specs.Published.{Writes, Over, blank, only, Merge1, neither, left, right, same, Merge, mEnds, mMore, _◁_, Pattern, pFalse, pTrue, pEmpty, pFront, pPair, Match, m-false, m-true, m-empty, m-front, m-pair, Branch, plain, opened, Expr, var, const, front, case, letIn, couple, call, add, expr, node, residual, Get, Put, p-var, p-const, p-cons, p-case, p-case-switch, p-let, p-pair, p-call, p-add}
-use Rattle.rules.specs.PublishedGet.{GetsSoundly, gets-soundly, GetsAll, gets-all, match-truth, match-env, match-value, Fair, fair, get-one}
-use Rattle.rules.specs.PublishedCells.{Sits, Laid, Has, Seen, Joined, seen-later, laid-later, joined-one, seen-left, seen-right, merge-is, joined-merge, joined-blank, only-seen, seen-only, joined-new, joined-same, laid-section, section-seen, joined-section, laid-wider, wider-later, wider-seen, joined-outside, cells-inside, seen-cut, seen-over}
-use Rattle.rules.specs.UpTo.{Limit, deep, UpTo, limited, Comes, reach, up-plus, up-map, up-within, up-bind, comes-bind, up-given, up-when, up-size, up-first, up-second}
+use Rattle.rules.specs.Published.{Writes, Over, blank, only, Merge1, neither, left, right, same, Merge, mEnds, mMore, _◁_, Pattern, pFalse, pTrue, pEmpty, pFront, pPair, Match, m-false, m-true, m-empty, m-front, m-pair, Branch, plain, opened, Expr, var, const, front, case, couple, call, add, expr, node, residual, Get, Put, p-var, p-const, p-cons, p-case, p-case-switch, p-let, p-pair, p-call, p-add}
+use Rattle.rules.specs.PublishedGet.{GetsSoundly, gets-soundly, GetsAll, gets-all, match-env, match-value, Fair, fair, get-one}
+use Rattle.rules.specs.PublishedCells.{Laid, Seen, Joined, seen-later, laid-later, joined-one, seen-left, seen-right, merge-is, joined-merge, joined-blank, only-seen, seen-only, joined-new, joined-same, laid-section, section-seen, joined-section, laid-wider, wider-later, wider-seen, joined-outside, cells-inside, seen-cut, seen-over}
+use Rattle.rules.specs.UpTo.{deep, UpTo, limited, Comes, reach, up-plus, up-map, up-within, up-bind, comes-bind, up-given, up-when, up-size, up-first, up-second}
 
 -- SOUND
 
@@ -249,6 +248,23 @@ match-mkPair a b u m-pair = refl
 scope-nil : {sh : Sheet} {μ : Env} {v : Value} {e : Expr} {ω : Writes} → Put sh (μ ++ []) v e (ω ++ []) → Put sh μ v e ω
 scope-nil {sh} {μ} {v} {e} {ω} d = rw (append-nil, append-nil) at d
 
+-- Q of each way to put into a case: the branch is kept, or switched
+abbrev Stays : Sheet → Env → Value → ℕ → Branch → Branch → Writes → Type 0 → Type 0
+Stays sh μ v s b₁ b₂ ω Q = (i : Bool) (v₀ : Value) (μᵢ : Env) → Get sh μ (residual sh s) v₀ → Match (pick i b₁ b₂ .pattern) v₀ μᵢ → Passes (pick i b₁ b₂ .exit) v
+    → Back sh μ v (pick i b₁ b₂ .pattern) (pick i b₁ b₂ .body) μᵢ s ω → Q
+
+abbrev Switches : Sheet → Env → Value → ℕ → Branch → Branch → Writes → Type 0 → Type 0
+Switches sh μ v s b₁ b₂ ω Q = (i : Bool) (v₀ u₀ : Value) (μᵢ μⱼ : Env) → Get sh μ (residual sh s) v₀ → Match (pick i b₁ b₂ .pattern) v₀ μᵢ
+    → ¬ Passes (pick i b₁ b₂ .exit) v → Passes (pick (not i) b₁ b₂ .exit) v → All2 (λ n w. Get sh [] (residual sh n) w) (pick (not i) b₁ b₂ .by) μⱼ
+    → Match (pick (not i) b₁ b₂ .pattern) u₀ μⱼ → Back sh μ v (pick (not i) b₁ b₂ .pattern) (pick (not i) b₁ b₂ .body) μⱼ s ω → Q
+
+by-case : {sh : Sheet} {μ : Env} {v : Value} {s : ℕ} {b₁ b₂ : Branch} {ω : Writes} {Q : Type 0} → Put sh μ v (case s b₁ b₂) ω
+    → Stays sh μ v s b₁ b₂ ω Q → Switches sh μ v s b₁ b₂ ω Q → Q
+by-case (p-case i ds mᵢ q d o oᵢ r d₀ m) f g =
+    f i _ _ ds mᵢ q (record { ω = _; ωᵢ = _; ω₀ = _; u = _; branch = d; over = o; overᵢ = oᵢ; rebuilt = r; subject = d₀; merged = m })
+by-case (p-case-switch i ds mᵢ q q′ dd mⱼ d o oⱼ r d₀ m) f g =
+    g i _ _ _ _ ds mᵢ q q′ dd mⱼ (record { ω = _; ωᵢ = _; ω₀ = _; u = _; branch = d; over = o; overᵢ = oⱼ; rebuilt = r; subject = d₀; merged = m })
+
 module _ (sh : Sheet) (g : Getter) (gets : GetsAll sh g) (p : Putter) (ih : PutsAll sh p) (μ : Env) (σ : List ℕ) (W : Cells) (laid : Laid W σ μ)
     (Y : Cells) (later : Later W Y) where
   constant-all : (v : Value) → UpTo (Joined σ W (blank μ)) (constant v v W)
@@ -305,40 +321,25 @@ module _ (sh : Sheet) (g : Getter) (gets : GetsAll sh g) (p : Putter) (ih : Puts
   put-node-complete (Number n) v p-const h = constant-all _
   put-node-complete (Front a b) v (p-cons d₁ d₂ m) h = up-given _ _ refl (both-all a b _ _ _ _ _ d₁ d₂ m h)
   put-node-complete (Pair a b) v (p-pair d₁ d₂ m) h = up-given _ _ refl (both-all a b _ _ _ _ _ d₁ d₂ m h)
-  put-node-complete (ListCase s e te n tn df dr) v {ω} rel h = go rel
+  put-node-complete (ListCase s e te n tn df dr) v {ω} rel h = by-case rel stay switch
     where
-      stay : {v₀ : Value} {μᵢ : Env} (i : Bool) → Get sh μ (residual sh s) v₀ → Match (pick i (plain pEmpty e te) (opened n tn df dr) .pattern) v₀ μᵢ → Passes (pick i (plain pEmpty e te) (opened n tn df dr) .exit) v
-          → Back sh μ v (pick i (plain pEmpty e te) (opened n tn df dr) .pattern) (pick i (plain pEmpty e te) (opened n tn df dr) .body) μᵢ s ω → UpTo (Joined σ W ω) (putNode g p sh (ListCase s e te n tn df dr) μ σ v W)
-      stay false ds m-empty q b = comes-bind _ (gets s μ _ ds) (up-given _ _ refl (up-first _ _ _ q (back-plain m-empty b h)))
-      stay true ds m-front q b = comes-bind _ (gets s μ _ ds) (up-given _ _ refl (up-first _ _ _ q (back-open mkList match-mkList b h)))
+      stay : Stays sh μ v s (plain pEmpty e te) (opened n tn df dr) ω (UpTo (Joined σ W ω) (putNode g p sh (ListCase s e te n tn df dr) μ σ v W))
+      stay false v₀ μᵢ ds m-empty q b = comes-bind _ (gets s μ _ ds) (up-given _ _ refl (up-first _ _ _ q (back-plain m-empty b h)))
+      stay true v₀ μᵢ ds m-front q b = comes-bind _ (gets s μ _ ds) (up-given _ _ refl (up-first _ _ _ q (back-open mkList match-mkList b h)))
 
-      switch : {v₀ u₀ : Value} {μᵢ μⱼ : Env} (i : Bool) → Get sh μ (residual sh s) v₀ → Match (pick i (plain pEmpty e te) (opened n tn df dr) .pattern) v₀ μᵢ → ¬ Passes (pick i (plain pEmpty e te) (opened n tn df dr) .exit) v
-          → Passes (pick (not i) (plain pEmpty e te) (opened n tn df dr) .exit) v → All2 (λ k w. Get sh [] (residual sh k) w) (pick (not i) (plain pEmpty e te) (opened n tn df dr) .by) μⱼ
-          → Match (pick (not i) (plain pEmpty e te) (opened n tn df dr) .pattern) u₀ μⱼ
-          → Back sh μ v (pick (not i) (plain pEmpty e te) (opened n tn df dr) .pattern) (pick (not i) (plain pEmpty e te) (opened n tn df dr) .body) μⱼ s ω → UpTo (Joined σ W ω) (putNode g p sh (ListCase s e te n tn df dr) μ σ v W)
-      switch false ds m-empty q q′ (more dF (more dR ends)) m-front b = comes-bind _ (gets s μ _ ds) (up-given _ _ refl (up-second _ _ _ q q′ (comes-bind _ (gets df [] _ dF) (comes-bind _ (gets dr [] _ dR) (up-given _ _ refl (back-open mkList match-mkList b h))))))
-      switch true ds m-front q q′ dd m-empty b = comes-bind _ (gets s μ _ ds) (up-given _ _ refl (up-second _ _ _ q q′ (back-plain m-empty b h)))
-
-      go : Put sh μ v (expr (ListCase s e te n tn df dr)) ω → UpTo (Joined σ W ω) (putNode g p sh (ListCase s e te n tn df dr) μ σ v W)
-      go (p-case i ds mᵢ q d o oᵢ r d₀ m) = stay i ds mᵢ q (record { ω = _; ωᵢ = _; ω₀ = _; u = _; branch = d; over = o; overᵢ = oᵢ; rebuilt = r; subject = d₀; merged = m })
-      go (p-case-switch i ds mᵢ q q′ dd mⱼ d o oᵢ r d₀ m) = switch i ds mᵢ q q′ dd mⱼ (record { ω = _; ωᵢ = _; ω₀ = _; u = _; branch = d; over = o; overᵢ = oᵢ; rebuilt = r; subject = d₀; merged = m })
-  put-node-complete (TruthCase s f tf t t₁) v {ω} e h = go e
+      switch : Switches sh μ v s (plain pEmpty e te) (opened n tn df dr) ω (UpTo (Joined σ W ω) (putNode g p sh (ListCase s e te n tn df dr) μ σ v W))
+      switch false v₀ u₀ μᵢ μⱼ ds m-empty q q′ (more dF (more dR ends)) m-front b = comes-bind _ (gets s μ _ ds) (up-given _ _ refl (up-second _ _ _ q q′
+          (comes-bind _ (gets df [] _ dF) (comes-bind _ (gets dr [] _ dR) (up-given _ _ refl (back-open mkList match-mkList b h))))))
+      switch true v₀ u₀ μᵢ μⱼ ds m-front q q′ dd m-empty b = comes-bind _ (gets s μ _ ds) (up-given _ _ refl (up-second _ _ _ q q′ (back-plain m-empty b h)))
+  put-node-complete (TruthCase s f tf t t₁) v {ω} rel h = by-case rel stay switch
     where
-      stay : {v₀ : Value} {μᵢ : Env} (i : Bool) → Get sh μ (residual sh s) v₀ → Match (pick i (plain pFalse f tf) (plain pTrue t t₁) .pattern) v₀ μᵢ → Passes (pick i (plain pFalse f tf) (plain pTrue t t₁) .exit) v
-          → Back sh μ v (pick i (plain pFalse f tf) (plain pTrue t t₁) .pattern) (pick i (plain pFalse f tf) (plain pTrue t t₁) .body) μᵢ s ω → UpTo (Joined σ W ω) (putNode g p sh (TruthCase s f tf t t₁) μ σ v W)
-      stay false ds m-false q b = comes-bind _ (gets s μ _ ds) (up-given _ _ refl (up-first _ _ _ q (back-plain m-false b h)))
-      stay true ds m-true q b = comes-bind _ (gets s μ _ ds) (up-given _ _ refl (up-first _ _ _ q (back-plain m-true b h)))
+      stay : Stays sh μ v s (plain pFalse f tf) (plain pTrue t t₁) ω (UpTo (Joined σ W ω) (putNode g p sh (TruthCase s f tf t t₁) μ σ v W))
+      stay false v₀ μᵢ ds m-false q b = comes-bind _ (gets s μ _ ds) (up-given _ _ refl (up-first _ _ _ q (back-plain m-false b h)))
+      stay true v₀ μᵢ ds m-true q b = comes-bind _ (gets s μ _ ds) (up-given _ _ refl (up-first _ _ _ q (back-plain m-true b h)))
 
-      switch : {v₀ u₀ : Value} {μᵢ μⱼ : Env} (i : Bool) → Get sh μ (residual sh s) v₀ → Match (pick i (plain pFalse f tf) (plain pTrue t t₁) .pattern) v₀ μᵢ → ¬ Passes (pick i (plain pFalse f tf) (plain pTrue t t₁) .exit) v
-          → Passes (pick (not i) (plain pFalse f tf) (plain pTrue t t₁) .exit) v → All2 (λ k w. Get sh [] (residual sh k) w) (pick (not i) (plain pFalse f tf) (plain pTrue t t₁) .by) μⱼ
-          → Match (pick (not i) (plain pFalse f tf) (plain pTrue t t₁) .pattern) u₀ μⱼ
-          → Back sh μ v (pick (not i) (plain pFalse f tf) (plain pTrue t t₁) .pattern) (pick (not i) (plain pFalse f tf) (plain pTrue t t₁) .body) μⱼ s ω → UpTo (Joined σ W ω) (putNode g p sh (TruthCase s f tf t t₁) μ σ v W)
-      switch false ds m-false q q′ dd m-true b = comes-bind _ (gets s μ _ ds) (up-given _ _ refl (up-second _ _ _ q q′ (back-plain m-true b h)))
-      switch true ds m-true q q′ dd m-false b = comes-bind _ (gets s μ _ ds) (up-given _ _ refl (up-second _ _ _ q q′ (back-plain m-false b h)))
-
-      go : Put sh μ v (expr (TruthCase s f tf t t₁)) ω → UpTo (Joined σ W ω) (putNode g p sh (TruthCase s f tf t t₁) μ σ v W)
-      go (p-case i ds mᵢ q d o oᵢ r d₀ m) = stay i ds mᵢ q (record { ω = _; ωᵢ = _; ω₀ = _; u = _; branch = d; over = o; overᵢ = oᵢ; rebuilt = r; subject = d₀; merged = m })
-      go (p-case-switch i ds mᵢ q q′ dd mⱼ d o oᵢ r d₀ m) = switch i ds mᵢ q q′ dd mⱼ (record { ω = _; ωᵢ = _; ω₀ = _; u = _; branch = d; over = o; overᵢ = oᵢ; rebuilt = r; subject = d₀; merged = m })
+      switch : Switches sh μ v s (plain pFalse f tf) (plain pTrue t t₁) ω (UpTo (Joined σ W ω) (putNode g p sh (TruthCase s f tf t t₁) μ σ v W))
+      switch false v₀ u₀ μᵢ μⱼ ds m-false q q′ dd m-true b = comes-bind _ (gets s μ _ ds) (up-given _ _ refl (up-second _ _ _ q q′ (back-plain m-true b h)))
+      switch true v₀ u₀ μᵢ μⱼ ds m-true q q′ dd m-false b = comes-bind _ (gets s μ _ ds) (up-given _ _ refl (up-second _ _ _ q q′ (back-plain m-false b h)))
   put-node-complete (Split s i) v (p-let ds m-pair d o oᵢ r d₀ m) h = comes-bind _ (gets s μ _ ds) (up-given _ _ refl (back-open mkPair match-mkPair
       (record { ω = _; ωᵢ = _; ω₀ = _; u = _; branch = d; over = o; overᵢ = oᵢ; rebuilt = r; subject = d₀; merged = m }) h))
   put-node-complete (Call sec x y) v (p-call {a = a} {b = b} ea eb d m) h =

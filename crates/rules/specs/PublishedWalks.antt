@@ -1,23 +1,23 @@
 -- Walks from a whole plan, with nothing written yet: they give the published value, and exactly the published writes.
 use mathlib.Core.Path.{_≡_, refl, ap, sym, _∙_}
-use mathlib.Core.Option.{Option, none, some, Option·none-ne-some}
-use mathlib.Core.List.{List, [], _∷_}
+use mathlib.Core.Option.{none, some, Option·none-ne-some}
+use mathlib.Core.List.{[], _∷_}
 use Prim.Native.Nat.{ℕ, zero, suc, _+_}
 use native.Mathlib.Omega.{arith}
 use lib.ListN.{length, getElem?, replicate}
 use Rattle.value.specs.Value.{Value}
 use Rattle.sheet.specs.Sheet.{Sheet}
-use Rattle.rules.specs.Outcome.{Out, done}
+use Rattle.rules.specs.Outcome.{done}
 use Rattle.rules.specs.Allowance.{within}
-use Rattle.rules.specs.Rules.{Env, Cells, get, orOld, put}
+use Rattle.rules.specs.Rules.{Env, Cells, orOld, put}
 use Rattle.rules.specs.Answer.{getWalk, count, newPlan, putWalk}
-use Rattle.rules.specs.Related.{All2, ends, more, all2-at, all2-of, all2-length}
+use Rattle.rules.specs.Related.{ends, more, all2-at, all2-of, all2-length}
 use Rattle.rules.specs.Consistency.{Later}
 use Rattle.rules.specs.Published.{Writes, Over, blank, _◁_, residual, Get, Put}
-use Rattle.rules.specs.PublishedCells.{Sits, Laid, Has, Seen, Joined, later-same, blank-at, seen-over}
+use Rattle.rules.specs.PublishedCells.{Laid, Seen, Joined, later-same, blank-at, seen-over}
 use Rattle.rules.specs.PublishedGet.{get-sound, get-complete}
-use Rattle.rules.specs.PublishedPut.{Written, put-sound, puts-all, put-over}
-use Rattle.rules.specs.UpTo.{UpTo, Comes, up-map, up-within}
+use Rattle.rules.specs.PublishedPut.{put-sound, puts-all, put-over}
+use Rattle.rules.specs.UpTo.{Comes, up-map, up-within}
 
 -- VARIABLE i IS CELL i
 
