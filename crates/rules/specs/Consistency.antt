@@ -33,10 +33,10 @@ Agree σ X μ = All2 (Reads X) σ μ
 abbrev pub Puts : (Env → Out Value) → List ℕ → Value → Cells → Cells → ℕ → Type 0
 Puts G σ v W X s = Later W X × ((μ : Env) → Agree σ X μ → Gives (G μ) v s)
 
-later-refl : (W : Cells) → Later W W
+pub later-refl : (W : Cells) → Later W W
 later-refl = all2-self λ o w e. e
 
-later-trans : {W X Y : Cells} → Later W X → Later X Y → Later W Y
+pub later-trans : {W X Y : Cells} → Later W X → Later X Y → Later W Y
 later-trans = all2-join λ a b c h k w e. k w (h w e)
 
 earlier : {X Y : Cells} {σ : List ℕ} {μ : Env} → Later X Y → Agree σ Y μ → Agree σ X μ

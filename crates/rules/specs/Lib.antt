@@ -13,3 +13,9 @@ pub mod Consistency
 pub mod Acceptability
 pub mod Trips
 pub mod Refusals
+pub mod Published
+pub mod UpTo
+pub mod PublishedGet
+pub mod PublishedCells
+pub mod PublishedPut
+pub mod PublishedWalks

@@ -114,7 +114,7 @@ module _ {A R : Type 0} {Q : A → ℕ → Type 0} where
   after-list (cons f r) h hc = hc f r refl
 
 -- a number of kind 04 is seen as one
-as-number : (n : ℕ) → n ≤ 65535 → (k : n ≤ 65535) × (asNumber (number n) ≡ some (n, refl, k))
+pub as-number : (n : ℕ) → n ≤ 65535 → (k : n ≤ 65535) × (asNumber (number n) ≡ some (n, refl, k))
 unfolding asNumber ifSmall
 as-number n h = go (decLe n 65535)
   where

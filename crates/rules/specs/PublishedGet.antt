@@ -1,0 +1,205 @@
+-- Get and the published relation: sound, complete up to our limits, and one value.
+use mathlib.Core.Path.{_≡_, refl}
+use mathlib.Core.Bool.{Bool, true, false}
+use mathlib.Core.List.{[], _++_, append-nil}
+use Prim.Native.Nat.{ℕ, zero, suc}
+use native.Mathlib.Omega.{arith}
+use lib.ListN.{getD}
+use Rattle.value.specs.Value.{Value, vfalse, vtrue, list, number, pair, nil, cons, truth}
+use Rattle.value.specs.Views.{asList, asPair, asTruth}
+use Rattle.value.specs.Tests.{Passes}
+use Rattle.sheet.specs.declared.Node.{Node}
+use Rattle.sheet.specs.declared.Node.the-variants.{Var, False, True, Empty, Number, Front, Pair, ListCase, TruthCase, Split, Call, Add}
+use Rattle.sheet.specs.Sheet.{Sheet}
+use Rattle.rules.specs.Outcome.{Out, done}
+use Rattle.rules.specs.Allowance.{within}
+use Rattle.rules.specs.Rules.{Env, Getter, pick, bounded, tested, onList, getNode, get}
+use Rattle.rules.specs.OutcomeLaws.{After, fine, stopped, after-map, after-at, as-number, after-plus, after-bind, after-given, after-list}
+use Rattle.rules.specs.AllowanceLaws.{within-done}
+use Rattle.rules.specs.Published.{Pattern, pFalse, pTrue, pEmpty, pFront, pPair, Match, m-false, m-true, m-empty, m-front, m-pair, Branch, plain, opened, Expr, var, const, front, case, letIn, couple, call, add, expr, node, residual, Get, g-var, g-const, g-cons, g-case, g-let, g-pair, g-call, g-add}
+use Rattle.rules.specs.UpTo.{deep, limited, Comes, reach, up-plus, up-within, comes-bind, up-given, up-when, up-size}
+
+-- SOUND
+
+abbrev pub GetsSoundly : Sheet → Getter → Type 0
+GetsSoundly sh g = (n : ℕ) (μ : Env) → After (Unit {0}) (λ v s. Get sh μ (residual sh n) v) (g n μ)
+
+-- the scope of a branch that binds nothing
+nil-scope : {sh : Sheet} {μ : Env} {e : Expr} {v : Value} → Get sh μ e v → Get sh (μ ++ []) e v
+nil-scope d = rw append-nil d
+
+module _ (sh : Sheet) (g : Getter) (ih : GetsSoundly sh g) where
+  -- a branch's result, and its exit condition
+  tested-soundly : (t : ℕ) (o : Out Value) {P : Value → Type 0} → After (Unit {0}) (λ v s. P v) o → After (Unit {0}) (λ v s. P v × Passes t v) (tested t o)
+  unfolding tested
+  tested-soundly t o h = after-bind h λ v s _ d. after-given _ λ p _. fine (d, p)
+
+  get-node-sound : (nd : Node) (μ : Env) → After (Unit {0}) (λ v s. Get sh μ (expr nd) v) (getNode g sh nd μ)
+  unfolding getNode bounded
+  get-node-sound (Var x) μ = after-given _ λ v e. fine (g-var e)
+  get-node-sound False μ = fine g-const
+  get-node-sound True μ = fine g-const
+  get-node-sound Empty μ = fine g-const
+  get-node-sound (Number n) μ = fine g-const
+  get-node-sound (Front a b) μ = after-bind (ih a μ) λ f s _ df. after-bind (ih b μ) λ r t _ dr. after-given _ λ l _. after-given _ λ _ _.
+      fine (g-cons df (rw (l .1) at dr))
+  get-node-sound (Pair a b) μ = after-bind (ih a μ) λ f s _ df. after-bind (ih b μ) λ r t _ dr. after-given _ λ _ _. fine (g-pair df dr)
+  get-node-sound (ListCase s e te n tn df dr) μ = after-bind (ih s μ) λ v i _ ds. after-given _ λ l _. after-list (l .0)
+      (λ el. after-map (tested-soundly te _ (ih e μ)) λ u t h. g-case false (rw (l .1, el) at ds) m-empty (nil-scope (h .0)) (h .1))
+      (λ f r el. after-map (tested-soundly tn _ (ih n _)) λ u t h. g-case true (rw (l .1, el) at ds) m-front (h .0) (h .1))
+  get-node-sound (TruthCase s f tf t t₁) μ = after-bind (ih s μ) λ v i _ ds. after-given _ λ b _.
+      after-map (tested-soundly _ _ (ih _ μ)) λ u j h. side (b .0) (rw (b .1) at ds) h
+    where
+      side : {u : Value} (b : Bool) → Get sh μ (residual sh s) (truth b) → Get sh μ (residual sh (pick b f t)) u × Passes (pick b tf t₁) u → Get sh μ (expr (TruthCase s f tf t t₁)) u
+      side false ds h = g-case false ds m-false (nil-scope (h .0)) (h .1)
+      side true ds h = g-case true ds m-true (nil-scope (h .0)) (h .1)
+  get-node-sound (Split s i) μ = after-bind (ih s μ) λ v j _ ds. after-given _ λ p _. after-map (ih i _) λ u t h. g-let (rw (p .2) at ds) m-pair h
+  get-node-sound (Call sec x y) μ = after-given _ λ a ea. after-given _ λ b eb. after-map (ih _ _) λ v s h. g-call ea eb h
+  get-node-sound (Add n k) μ = after-bind (ih n μ) λ v s _ d. after-given _ λ m _. after-given _ λ q _. fine (g-add (rw (m .1) at d) q)
+
+pub gets-soundly : (l : ℕ) (sh : Sheet) → GetsSoundly sh (get l sh)
+unfolding get
+gets-soundly zero sh n μ = stopped tt
+gets-soundly (suc l) sh n μ = after-plus 1 (get-node-sound sh (get l sh) (gets-soundly l sh) _ μ)
+
+-- COMPLETE UP TO OUR LIMITS
+
+abbrev pub GetsAll : Sheet → Getter → Type 0
+GetsAll sh g = (n : ℕ) (μ : Env) (v : Value) → Get sh μ (residual sh n) v → Comes v (g n μ)
+
+scope-nil : {sh : Sheet} {μ : Env} {e : Expr} {v : Value} → Get sh (μ ++ []) e v → Get sh μ e v
+scope-nil {sh} {μ} {e} {v} d = rw append-nil at d
+
+module _ (sh : Sheet) (g : Getter) (ih : GetsAll sh g) where
+  tested-all : (t : ℕ) {o : Out Value} {v : Value} → Comes v o → Passes t v → Comes v (tested t o)
+  unfolding tested
+  tested-all t h p = comes-bind _ h (up-when _ _ p λ _. reach refl)
+
+  get-node-complete : (nd : Node) (μ : Env) (v : Value) → Get sh μ (expr nd) v → Comes v (getNode g sh nd μ)
+  unfolding getNode bounded asList asPair asTruth onList
+  get-node-complete (Var x) μ v (g-var e) = up-given _ _ e (reach refl)
+  get-node-complete False μ v g-const = reach refl
+  get-node-complete True μ v g-const = reach refl
+  get-node-complete Empty μ v g-const = reach refl
+  get-node-complete (Number n) μ v g-const = reach refl
+  get-node-complete (Front a b) μ v (g-cons df dr) = comes-bind _ (ih a μ _ df) (comes-bind _ (ih b μ _ dr) (up-given _ _ refl (up-size _ λ _. reach refl)))
+  get-node-complete (Pair a b) μ v (g-pair df dr) = comes-bind _ (ih a μ _ df) (comes-bind _ (ih b μ _ dr) (up-size _ λ _. reach refl))
+  get-node-complete (ListCase s e te n tn df dr) μ v (g-case i ds m d p) = go i ds m d p
+    where
+      go : {μᵢ : Env} {v₀ : Value} (i : Bool) → Get sh μ (residual sh s) v₀ → Match (pick i (plain pEmpty e te) (opened n tn df dr) .pattern) v₀ μᵢ
+          → Get sh (μ ++ μᵢ) (residual sh (pick i (plain pEmpty e te) (opened n tn df dr) .body)) v → Passes (pick i (plain pEmpty e te) (opened n tn df dr) .exit) v
+          → Comes v (getNode g sh (ListCase s e te n tn df dr) μ)
+      go false ds m-empty d p = comes-bind _ (ih s μ _ ds) (up-given _ _ refl (tested-all te (ih e μ v (scope-nil d)) p))
+      go true ds m-front d p = comes-bind _ (ih s μ _ ds) (up-given _ _ refl (tested-all tn (ih n _ v d) p))
+  get-node-complete (TruthCase s f tf t t₁) μ v (g-case i ds m d p) = go i ds m d p
+    where
+      go : {μᵢ : Env} {v₀ : Value} (i : Bool) → Get sh μ (residual sh s) v₀ → Match (pick i (plain pFalse f tf) (plain pTrue t t₁) .pattern) v₀ μᵢ
+          → Get sh (μ ++ μᵢ) (residual sh (pick i (plain pFalse f tf) (plain pTrue t t₁) .body)) v → Passes (pick i (plain pFalse f tf) (plain pTrue t t₁) .exit) v
+          → Comes v (getNode g sh (TruthCase s f tf t t₁) μ)
+      go false ds m-false d p = comes-bind _ (ih s μ _ ds) (up-given _ _ refl (tested-all tf (ih f μ v (scope-nil d)) p))
+      go true ds m-true d p = comes-bind _ (ih s μ _ ds) (up-given _ _ refl (tested-all t₁ (ih t μ v (scope-nil d)) p))
+  get-node-complete (Split s i) μ v (g-let ds m-pair d) = comes-bind _ (ih s μ _ ds) (up-given _ _ refl (ih i _ v d))
+  get-node-complete (Call sec x y) μ v (g-call ea eb d) = up-given _ _ ea (up-given _ _ eb (ih _ _ v d))
+  get-node-complete (Add n k) μ v (g-add {m = m} d q) = comes-bind _ (ih n μ _ d) (let (z, e) = as-number m (omega arith) in up-given _ _ e (up-when _ _ q λ _. reach refl))
+
+pub gets-all : (l : ℕ) (sh : Sheet) → GetsAll sh (get l sh)
+unfolding get
+gets-all zero sh n μ v d = limited deep
+gets-all (suc l) sh n μ v d = up-plus 1 (get-node-complete sh (get l sh) (gets-all l sh) _ μ v d)
+
+-- ONE VALUE
+
+-- a pattern and a value have one environment, and a pattern and an environment one value
+pub match-env : {p : Pattern} {v : Value} {μ μ′ : Env} → Match p v μ → Match p v μ′ → μ ≡ μ′
+match-env m-false m-false = refl
+match-env m-true m-true = refl
+match-env m-empty m-empty = refl
+match-env m-front m-front = refl
+match-env m-pair m-pair = refl
+
+pub match-value : {p : Pattern} {v u : Value} {μ : Env} → Match p v μ → Match p u μ → v ≡ u
+match-value m-false m-false = refl
+match-value m-true m-true = refl
+match-value m-empty m-empty = refl
+match-value m-front m-front = refl
+match-value m-pair m-pair = refl
+
+-- a value matches one pattern
+unfoldable shape : Value → Pattern
+shape vfalse = pFalse
+shape vtrue = pTrue
+shape (list nil) = pEmpty
+shape (list (cons f r)) = pFront
+shape (number n) = pPair
+shape (pair a b) = pPair
+
+match-shape : {p : Pattern} {v : Value} {μ : Env} → Match p v μ → shape v ≡ p
+unfolding shape
+match-shape m-false = refl
+match-shape m-true = refl
+match-shape m-empty = refl
+match-shape m-front = refl
+match-shape m-pair = refl
+
+-- the patterns of two branches do not overlap
+abbrev pub Apart : Branch → Branch → Type 0
+Apart b₁ b₂ = (i j : Bool) (v : Value) (μᵢ μⱼ : Env) → Match (pick i b₁ b₂ .pattern) v μᵢ → Match (pick j b₁ b₂ .pattern) v μⱼ → i ≡ j
+
+apart-of : (b₁ b₂ : Branch) → (b₁ .pattern ≡ b₂ .pattern → ⊥) → Apart b₁ b₂
+apart-of b₁ b₂ h false false v μᵢ μⱼ m m′ = refl
+apart-of b₁ b₂ h false true v μᵢ μⱼ m m′ = absurd (h (cc (match-shape m, match-shape m′)))
+apart-of b₁ b₂ h true false v μᵢ μⱼ m m′ = absurd (h (cc (match-shape m, match-shape m′)))
+apart-of b₁ b₂ h true true v μᵢ μⱼ m m′ = refl
+
+abbrev pub Fair : Expr → Type 0
+Fair (var x) = Unit {0}
+Fair (const c) = Unit {0}
+Fair (front a b) = Unit {0}
+Fair (case s b₁ b₂) = Apart b₁ b₂
+Fair (letIn p s e) = Unit {0}
+Fair (couple a b) = Unit {0}
+Fair (call sec x y) = Unit {0}
+Fair (add n k) = Unit {0}
+
+pub fair : (nd : Node) → Fair (expr nd)
+fair (Var x) = tt
+fair False = tt
+fair True = tt
+fair Empty = tt
+fair (Number n) = tt
+fair (Front a b) = tt
+fair (Pair a b) = tt
+fair (ListCase s e te n tn df dr) = apart-of (plain pEmpty e te) (opened n tn df dr) λ h. let z : _≡_ {A = ℕ} 0 1 = cc in omega arith
+fair (TruthCase s f tf t t₁) = apart-of (plain pFalse f tf) (plain pTrue t t₁) λ h. let z : _≡_ {A = ℕ} 0 1 = cc in omega arith
+fair (Split s i) = tt
+fair (Call sec x y) = tt
+fair (Add n k) = tt
+
+module _ (sh : Sheet) where
+  pub get-one : {μ : Env} {e : Expr} {v v′ : Value} → Fair e → Get sh μ e v → Get sh μ e v′ → v ≡ v′
+  get-one h (g-var e) (g-var e′) = cc
+  get-one h g-const g-const = refl
+  get-one h (g-cons {a = a} {b = b} df dr) (g-cons df′ dr′) = let ef = get-one (fair (node sh a)) df df′ in let er = get-one (fair (node sh b)) dr dr′ in cc
+  get-one h (g-case {s = s} {b₁ = b₁} {b₂ = b₂} i ds m d p) (g-case j ds′ m′ d′ p′) =
+      let es = get-one (fair (node sh s)) ds ds′ in let ei = h i j _ _ _ m (rw (← es) at m′) in
+      let eμ = match-env m (rw (← es, ← ei) at m′) in get-one (fair (node sh (pick i b₁ b₂ .body))) d (rw (← ei, ← eμ) at d′)
+  get-one h (g-let {s = s} {e = e} ds m d) (g-let ds′ m′ d′) =
+      let es = get-one (fair (node sh s)) ds ds′ in let eμ = match-env m (rw (← es) at m′) in get-one (fair (node sh e)) d (rw (← eμ) at d′)
+  get-one h (g-pair {a = a} {b = b} df dr) (g-pair df′ dr′) = let ef = get-one (fair (node sh a)) df df′ in let er = get-one (fair (node sh b)) dr dr′ in cc
+  get-one h (g-call {sec = sec} {a = a} {b = b} ea eb d) (g-call {a = a′} {b = b′} ea′ eb′ d′) =
+      let e₁ : a′ ≡ a = cc in let e₂ : b′ ≡ b = cc in get-one (fair (node sh (getD (sh .sections) sec 0))) d (rw (e₁, e₂) at d′)
+  get-one h (g-add {n = n} d q) (g-add d′ q′) = let e = get-one (fair (node sh n)) d d′ in cc
+
+-- THE THEOREMS, for every sheet, node, environment, number of levels and allowance
+module _ (sh : Sheet) (n : ℕ) (μ : Env) (v : Value) where
+  -- where get succeeds, the published relation holds of the same value
+  pub get-sound : (l a s : ℕ) → within a (get l sh n μ) ≡ done v s → Get sh μ (residual sh n) v
+  get-sound l a s e = after-at (rw (within-done a (get l sh n μ) e .0) at (gets-soundly l sh n μ))
+
+  -- where the published relation holds, get gives that value or is refused with 40, 41 or 44
+  pub get-complete : (l a : ℕ) → Get sh μ (residual sh n) v → Comes v (within a (get l sh n μ))
+  get-complete l a d = up-within a (gets-all l sh n μ v d)
+
+  -- one value
+  pub get-functional : (v′ : Value) → Get sh μ (residual sh n) v → Get sh μ (residual sh n) v′ → v ≡ v′
+  get-functional v′ d d′ = get-one sh (fair (node sh n)) d d′

@@ -1,0 +1,452 @@
+-- Put and the published relation: sound, complete up to our limits, and one set of writes.
+use mathlib.Core.Path.{_≡_, refl, sym}
+use mathlib.Core.Bool.{Bool, true, false, not}
+use mathlib.Core.Option.{Option, none, some, Option·some-injective, map-eq-some-iff}
+use mathlib.Core.List.{List, [], _∷_, _++_, append-nil}
+use Prim.Native.Nat.{ℕ, zero, suc, _-_, _≤_}
+use lib.ListN.{length, getD, getElem?}
+use Rattle.value.specs.Value.{Value, Values, vfalse, vtrue, list, number, pair, nil, cons, truth}
+use Rattle.value.specs.Views.{asList, asFront, asPair, asTruth}
+use Rattle.value.specs.Tests.{Passes, passes}
+use Rattle.sheet.specs.declared.Node.{Node}
+use Rattle.sheet.specs.declared.Node.the-variants.{Var, False, True, Empty, Number, Front, Pair, ListCase, TruthCase, Split, Call, Add}
+use Rattle.sheet.specs.Sheet.{Sheet}
+use Rattle.rules.specs.Outcome.{Out, done, choose}
+use Rattle.rules.specs.Allowance.{within}
+use Rattle.rules.specs.Rules.{Env, Cells, Getter, Putter, two, pick, onList, get, orOld, constant, write, both, under, mkList, mkPair, putNode, put}
+use Rattle.rules.specs.OutcomeLaws.{After, fine, stopped, after-map, after-at, as-number, after-plus, after-bind, after-given, after-list}
+use Rattle.rules.specs.AllowanceLaws.{within-done}
+use Rattle.rules.specs.Related.{All2, ends, more, all2-at, all2-flip, all2-set}
+use Rattle.rules.specs.Consistency.{Later}
+use Rattle.rules.specs.Published.{Writes, Over, blank, only, Merge1, neither, left, right, same, Merge, mEnds, mMore, _◁_, Pattern, pFalse, pTrue, pEmpty, pFront, pPair, Match, m-false, m-true, m-empty, m-front, m-pair, Branch, plain, opened, Expr, var, const, front, case, couple, call, add, expr, node, residual, Get, Put, p-var, p-const, p-cons, p-case, p-case-switch, p-let, p-pair, p-call, p-add}
+use Rattle.rules.specs.PublishedGet.{GetsSoundly, gets-soundly, GetsAll, gets-all, match-env, match-value, Fair, fair, get-one}
+use Rattle.rules.specs.PublishedCells.{Laid, Seen, Joined, seen-later, laid-later, joined-one, seen-left, seen-right, merge-is, joined-merge, joined-blank, only-seen, seen-only, joined-new, joined-same, laid-section, section-seen, joined-section, laid-wider, wider-later, wider-seen, joined-outside, cells-inside, seen-cut, seen-over}
+use Rattle.rules.specs.UpTo.{deep, UpTo, limited, Comes, reach, up-plus, up-map, up-within, up-bind, comes-bind, up-given, up-when, up-size, up-first, up-second}
+
+-- SOUND
+
+-- X is W merged with the writes of the published relation
+pub record Written (sh : Sheet) (μ : Env) (v : Value) (e : Expr) (σ : List ℕ) (W X : Cells) : Type 0 where
+  pub ω : Writes
+  pub rel : Put sh μ v e ω
+  pub joined : Joined σ W ω X
+
+abbrev pub PutsSoundly : Sheet → Putter → Type 0
+PutsSoundly sh p = (n : ℕ) (μ : Env) (σ : List ℕ) (v : Value) (W : Cells) → Laid W σ μ
+    → After (Unit {0}) (λ X s. Written sh μ v (residual sh n) σ W X) (p n μ σ v W)
+
+after-choice : {A P Q : Type 0} {S : A → ℕ → Type 0} {x y : Out A} (p : Dec P) (q : Dec Q)
+    → (P → After (Unit {0}) S x) → (¬ P → Q → After (Unit {0}) S y) → After (Unit {0}) S (choose p q x y)
+unfolding choose
+after-choice (yes p) q h k = h p
+after-choice (no p) (yes q) h k = k p q
+after-choice (no p) (no q) h k = stopped tt
+
+-- v into node a, then u into node b
+record Twice (sh : Sheet) (μ : Env) (v : Value) (a : ℕ) (u : Value) (b : ℕ) (σ : List ℕ) (W X : Cells) : Type 0 where
+  ω₁ : Writes
+  ω₂ : Writes
+  ω : Writes
+  first : Put sh μ v (residual sh a) ω₁
+  over : Over ω₁ μ
+  second : Put sh μ u (residual sh b) ω₂
+  merged : Merge ω₁ ω₂ ω
+  joined : Joined σ W ω X
+
+-- v into a branch that binds μᵢ, then the rebuilt subject: what the rules of case and let have in common
+record Back (sh : Sheet) (μ : Env) (v : Value) (p : Pattern) (b : ℕ) (μᵢ : Env) (s : ℕ) (ω′ : Writes) : Type 0 where
+  ω : Writes
+  ωᵢ : Writes
+  ω₀ : Writes
+  u : Value
+  branch : Put sh (μ ++ μᵢ) v (residual sh b) (ω ++ ωᵢ)
+  over : Over ω μ
+  overᵢ : Over ωᵢ μᵢ
+  rebuilt : Match p u (ωᵢ ◁ μᵢ)
+  subject : Put sh μ u (residual sh s) ω₀
+  merged : Merge ω ω₀ ω′
+
+record Taken (sh : Sheet) (μ : Env) (v : Value) (p : Pattern) (b : ℕ) (μᵢ : Env) (s : ℕ) (σ : List ℕ) (W X : Cells) : Type 0 where
+  ω′ : Writes
+  back : Back sh μ v p b μᵢ s ω′
+  joined : Joined σ W ω′ X
+
+mkList-match : (a b u : Value) → mkList a b ≡ some u → Match pFront u (two a b)
+unfolding mkList
+mkList-match a b u e = let (l, el, eu) = map-eq-some-iff _ (asList b) .0 e in go (l .0) (l .1) eu
+  where
+    go : (l : Values) → b ≡ list l → list (cons a l) ≡ u → Match pFront u (two a b)
+    go l eb eu = rw (eb, ← eu) m-front
+
+mkPair-match : (a b u : Value) → mkPair a b ≡ some u → Match pPair u (two a b)
+unfolding mkPair
+mkPair-match a b u e = rw (← Option·some-injective _ _ e) m-pair
+
+module _ {sh : Sheet} {μ : Env} {v : Value} {σ : List ℕ} {W : Cells} where
+  -- a branch that binds nothing
+  taken-plain : {X : Cells} {p : Pattern} {b s : ℕ} {u : Value} → Match p u [] → Twice sh μ v b u s σ W X → Taken sh μ v p b [] s σ W X
+  unfolding _◁_
+  taken-plain m t = record {
+    ω′ = t .ω;
+    back = record {
+      ω = t .ω₁;
+      ωᵢ = [];
+      ω₀ = t .ω₂;
+      u = _;
+      branch = rw (append-nil, append-nil) (t .first);
+      over = t .over;
+      overᵢ = ends;
+      rebuilt = m;
+      subject = t .second;
+      merged = t .merged;
+    };
+    joined = t .joined;
+  }
+
+  stays : {X : Cells} {s : ℕ} {b₁ b₂ : Branch} {v₀ : Value} {μᵢ : Env} (i : Bool) → Get sh μ (residual sh s) v₀ → Match (pick i b₁ b₂ .pattern) v₀ μᵢ
+      → Passes (pick i b₁ b₂ .exit) v → Taken sh μ v (pick i b₁ b₂ .pattern) (pick i b₁ b₂ .body) μᵢ s σ W X → Written sh μ v (case s b₁ b₂) σ W X
+  stays i d m h t = let b = t .back in record { ω = t .ω′; rel = p-case i d m h (b .branch) (b .over) (b .overᵢ) (b .rebuilt) (b .subject) (b .merged); joined = t .joined }
+
+  switches : {X : Cells} {s : ℕ} {b₁ b₂ : Branch} {v₀ u₀ : Value} {μᵢ μⱼ : Env} (i : Bool) → Get sh μ (residual sh s) v₀ → Match (pick i b₁ b₂ .pattern) v₀ μᵢ
+      → ¬ Passes (pick i b₁ b₂ .exit) v → Passes (pick (not i) b₁ b₂ .exit) v → All2 (λ n w. Get sh [] (residual sh n) w) (pick (not i) b₁ b₂ .by) μⱼ
+      → Match (pick (not i) b₁ b₂ .pattern) u₀ μⱼ
+      → Taken sh μ v (pick (not i) b₁ b₂ .pattern) (pick (not i) b₁ b₂ .body) μⱼ s σ W X → Written sh μ v (case s b₁ b₂) σ W X
+  switches i d m h k ds m₀ t = let b = t .back in record { ω = t .ω′; rel = p-case-switch i d m h k ds m₀ (b .branch) (b .over) (b .overᵢ) (b .rebuilt) (b .subject) (b .merged); joined = t .joined }
+
+  written-front : {X : Cells} {a b : ℕ} (f : Value) (r : Values) → v ≡ list (cons f r) → Twice sh μ f a (list r) b σ W X → Written sh μ v (front a b) σ W X
+  written-front f r e t = rw e (record { ω = t .ω; rel = p-cons (t .first) (t .second) (t .merged); joined = t .joined })
+
+  written-pair : {X : Cells} {a b : ℕ} (x y : Value) → v ≡ pair x y → Twice sh μ x a y b σ W X → Written sh μ v (couple a b) σ W X
+  written-pair x y e t = rw e (record { ω = t .ω; rel = p-pair (t .first) (t .second) (t .merged); joined = t .joined })
+
+  written-add : {X : Cells} {n k : ℕ} (m : ℕ) → v ≡ number m → m ≤ 65535 → k ≤ m → Written sh μ (number (m - k)) (residual sh n) σ W X → Written sh μ v (add n k) σ W X
+  written-add m e z low t = rw e (record { ω = t .ω; rel = p-add z low (t .rel); joined = t .joined })
+
+  -- what is written to a section's two variables
+  written-call : {X : Cells} {sec x y : ℕ} {a b : Value} {c d : ℕ} → Laid W σ μ → getElem? μ x ≡ some a → getElem? σ x ≡ some c → getElem? μ y ≡ some b → getElem? σ y ≡ some d
+      → Written sh (two a b) v (residual sh (getD (sh .sections) sec 0)) (two c d) W X → Written sh μ v (call sec x y) σ W X
+  written-call {X} {sec} {x} {y} {a} {b} {c} {d} laid ea ec eb ed t = go (t .rel) (t .joined) (t .joined .seen)
+    where
+      go : {ω : Writes} → Put sh (two a b) v (residual sh (getD (sh .sections) sec 0)) ω → Joined (two c d) W ω X → Seen ω (two c d) X → Written sh μ v (call sec x y) σ W X
+      go r j (more {a = o} f (more {a = q} h ends)) =
+          let (ω′, m) = merge-is (only-seen σ μ x c a ea ec laid f) (only-seen σ μ y d b eb ed laid h) in
+          record { ω = ω′; rel = p-call ea eb r m; joined = joined-section σ μ x c a ea ec y d b eb ed laid j m }
+
+module _ (sh : Sheet) (g : Getter) (gets : GetsSoundly sh g) (p : Putter) (ih : PutsSoundly sh p) (μ : Env) (σ : List ℕ) (v : Value) (W : Cells) (laid : Laid W σ μ) where
+  abbrev Sound : Expr → Out Cells → Type 0
+  Sound e = After (Unit {0}) (λ X s. Written sh μ v e σ W X)
+
+  constant-sound : (u : Value) → Sound (const u) (constant v u W)
+  unfolding constant
+  constant-sound u = after-given _ λ e _. fine (record { ω = blank μ; rel = rw e p-const; joined = joined-blank laid })
+
+  write-sound : (x c : ℕ) (m : Value) (o : Option Value) → getElem? μ x ≡ some m → getElem? σ x ≡ some c → getElem? W c ≡ some o → Sound (var x) (write c v W o)
+  unfolding write
+  write-sound x c m none em ec eo = fine (record { ω = only μ x (some v); rel = p-var em; joined = joined-new σ μ x c m em ec v laid eo })
+  write-sound x c m (some w) em ec eo = after-given _ λ e _. fine (record { ω = only μ x (some v); rel = p-var em; joined = joined-same σ μ x c m em ec v laid (rw e at eo) })
+
+  both-sound : (a b : ℕ) (x y : Value) → After (Unit {0}) (λ X s. Twice sh μ x a y b σ W X) (both p μ σ W a x b y)
+  unfolding both
+  both-sound a b x y = after-bind (ih a μ σ x W laid) λ X s _ h. after-map (ih b μ σ y X (laid-later laid (h .joined .later))) λ Y t k.
+      let (ω, m) = merge-is (seen-later (h .joined .seen) (k .joined .later)) (k .joined .seen) in record {
+        ω₁ = h .ω;
+        ω₂ = k .ω;
+        ω = ω;
+        first = h .rel;
+        over = seen-over (h .joined .seen) laid;
+        second = k .rel;
+        merged = m;
+        joined = joined-merge (h .joined) (k .joined) m;
+      }
+
+  under-sound : (b s : ℕ) (q : Pattern) (mk : Value → Value → Option Value) (f r : Value) → ((x y u : Value) → mk x y ≡ some u → Match q u (two x y))
+      → After (Unit {0}) (λ X t. Taken sh μ v q b (two f r) s σ W X) (under p μ σ W b v s mk f r)
+  unfolding under _◁_
+  under-sound b s q mk f r k = after-bind (ih b _ _ v _ (laid-wider W f r laid)) λ X i _ h. after-given _ λ x′ ex. after-given _ λ y′ ey.
+      after-given _ λ u eu. after-given _ λ _ _.
+      let (ω, x, y, e, _) = seen-cut σ _ _ (h .joined .seen) in
+      let j : Joined (σ ++ two (length W) (suc (length W))) (W ++ two none none) (ω ++ two x y) X = rw e at (h .joined) in
+      let o : Over ω μ = seen-over (seen-cut σ _ _ (h .joined .seen) .4) laid in
+      let j₁ = joined-outside W laid ω x y o X j in let (cx, cy) = cells-inside W laid ω x y o X j in
+      let zx : x′ ≡ x = cc in let zy : y′ ≡ y = cc in
+      after-map (ih s μ σ u _ (laid-later laid (j₁ .later))) λ Z t h₀.
+      let (ω′, m) = merge-is (seen-later (j₁ .seen) (h₀ .joined .later)) (h₀ .joined .seen) in record {
+        ω′ = ω′;
+        back = record {
+          ω = ω;
+          ωᵢ = two x y;
+          ω₀ = h₀ .ω;
+          u = u;
+          branch = rw e at (h .rel);
+          over = o;
+          overᵢ = more tt (more tt ends);
+          rebuilt = k _ _ u (rw (zx, zy) at eu);
+          subject = h₀ .rel;
+          merged = m;
+        };
+        joined = joined-merge j₁ (h₀ .joined) m;
+      }
+
+  put-node-sound : (nd : Node) → Sound (expr nd) (putNode g p sh nd μ σ v W)
+  unfolding putNode
+  put-node-sound (Var x) = after-given _ λ c ec. after-given _ λ o eo. let (m, em, _) = all2-at x laid ec in write-sound x c m o em ec eo
+  put-node-sound False = constant-sound vfalse
+  put-node-sound True = constant-sound vtrue
+  put-node-sound Empty = constant-sound (list nil)
+  put-node-sound (Number n) = constant-sound (number n)
+  put-node-sound (Front a b) = after-given _ λ c _. after-map (both-sound a b _ _) λ X s t. written-front (c .0) (c .1) (c .2) t
+  put-node-sound (Pair a b) = after-given _ λ c _. after-map (both-sound a b _ _) λ X s t. written-pair (c .0) (c .1) (c .2) t
+  put-node-sound (ListCase s e te n tn df dr) = after-bind (gets s μ) λ o i _ ds. after-given _ λ l _. after-list (l .0)
+      (λ el. let d : Get sh μ (residual sh s) (list nil) = rw (l .1, el) at ds in after-choice _ _
+      (λ h. after-map (both-sound e s v (list nil)) λ X t k. stays false d m-empty h (taken-plain m-empty k))
+      (λ h k. after-bind (gets df []) λ f i₁ _ dF. after-bind (gets dr []) λ r i₂ _ dR. after-given _ λ q _.
+      after-map (under-sound n s pFront mkList f r mkList-match) λ X t w.
+      switches {u₀ = list (cons f (q .0))} false d m-empty h k (more dF (more dR ends)) (rest-list f r (q .0) (q .1)) w))
+      (λ f r el. let d : Get sh μ (residual sh s) (list (cons f r)) = rw (l .1, el) at ds in after-choice _ _
+      (λ h. after-map (under-sound n s pFront mkList f (list r) mkList-match) λ X t w. stays true d m-front h w)
+      (λ h k. after-map (both-sound e s v (list nil)) λ X t w. switches true d m-front h k ends m-empty (taken-plain m-empty w)))
+    where
+      rest-list : (f r : Value) (q : Values) → r ≡ list q → Match pFront (list (cons f q)) (two f r)
+      rest-list f r q eq = rw eq m-front
+  put-node-sound (TruthCase s f tf t t₁) = after-bind (gets s μ) λ o i _ ds. after-given _ λ b _. side (b .0) (rw (b .1) at ds)
+    where
+      side : (b : Bool) → Get sh μ (residual sh s) (truth b) → Sound (expr (TruthCase s f tf t t₁))
+          (choose (passes (pick b tf t₁) v) (passes (pick (not b) tf t₁) v) (both p μ σ W (pick b f t) v s (truth b)) (both p μ σ W (pick (not b) f t) v s (truth (not b))))
+      side false d = after-choice _ _
+          (λ h. after-map (both-sound f s v vfalse) λ X j w. stays false d m-false h (taken-plain m-false w))
+          (λ h k. after-map (both-sound t s v vtrue) λ X j w. switches false d m-false h k ends m-true (taken-plain m-true w))
+      side true d = after-choice _ _
+          (λ h. after-map (both-sound t s v vtrue) λ X j w. stays true d m-true h (taken-plain m-true w))
+          (λ h k. after-map (both-sound f s v vfalse) λ X j w. switches true d m-true h k ends m-false (taken-plain m-false w))
+  put-node-sound (Split s i) = after-bind (gets s μ) λ o j _ ds. after-given _ λ c _. let d : Get sh μ (residual sh s) (pair (c .0) (c .1)) = rw (c .2) at ds in
+      after-map (under-sound i s pPair mkPair (c .0) (c .1) mkPair-match) λ X t w.
+      let b = w .back in record { ω = w .ω′; rel = p-let d m-pair (b .branch) (b .over) (b .overᵢ) (b .rebuilt) (b .subject) (b .merged); joined = w .joined }
+  put-node-sound (Call sec x y) = after-given _ λ a ea. after-given _ λ c ec. after-given _ λ b eb. after-given _ λ d ed.
+      after-map (ih _ _ _ v W (laid-section laid x y ea ec eb ed)) λ X s t. written-call laid ea ec eb ed t
+  put-node-sound (Add n k) = after-given _ λ m _. after-given _ λ low _. after-map (ih n μ σ _ W laid) λ X s t. written-add (m .0) (m .1) (m .2) low t
+
+pub puts-soundly : (l : ℕ) (sh : Sheet) → PutsSoundly sh (put l sh)
+unfolding put
+puts-soundly zero sh n μ σ v W h = stopped tt
+puts-soundly (suc l) sh n μ σ v W h = after-plus 1 (put-node-sound sh (get l sh) (gets-soundly l sh) (put l sh) (puts-soundly l sh) μ σ v W h _)
+
+-- COMPLETE UP TO OUR LIMITS
+
+-- where W and the published writes have cells Y in common
+abbrev pub PutsAll : Sheet → Putter → Type 0
+PutsAll sh p = (n : ℕ) (μ : Env) (σ : List ℕ) (v : Value) (W : Cells) (ω : Writes) (Y : Cells) → Laid W σ μ → Put sh μ v (residual sh n) ω
+    → Later W Y → Seen ω σ Y → UpTo (Joined σ W ω) (p n μ σ v W)
+
+match-mkList : (a b u : Value) → Match pFront u (two a b) → mkList a b ≡ some u
+unfolding mkList asList
+match-mkList a b u m-front = refl
+
+match-mkPair : (a b u : Value) → Match pPair u (two a b) → mkPair a b ≡ some u
+unfolding mkPair
+match-mkPair a b u m-pair = refl
+
+scope-nil : {sh : Sheet} {μ : Env} {v : Value} {e : Expr} {ω : Writes} → Put sh (μ ++ []) v e (ω ++ []) → Put sh μ v e ω
+scope-nil {sh} {μ} {v} {e} {ω} d = rw (append-nil, append-nil) at d
+
+-- Q of each way to put into a case: the branch is kept, or switched
+abbrev Stays : Sheet → Env → Value → ℕ → Branch → Branch → Writes → Type 0 → Type 0
+Stays sh μ v s b₁ b₂ ω Q = (i : Bool) (v₀ : Value) (μᵢ : Env) → Get sh μ (residual sh s) v₀ → Match (pick i b₁ b₂ .pattern) v₀ μᵢ → Passes (pick i b₁ b₂ .exit) v
+    → Back sh μ v (pick i b₁ b₂ .pattern) (pick i b₁ b₂ .body) μᵢ s ω → Q
+
+abbrev Switches : Sheet → Env → Value → ℕ → Branch → Branch → Writes → Type 0 → Type 0
+Switches sh μ v s b₁ b₂ ω Q = (i : Bool) (v₀ u₀ : Value) (μᵢ μⱼ : Env) → Get sh μ (residual sh s) v₀ → Match (pick i b₁ b₂ .pattern) v₀ μᵢ
+    → ¬ Passes (pick i b₁ b₂ .exit) v → Passes (pick (not i) b₁ b₂ .exit) v → All2 (λ n w. Get sh [] (residual sh n) w) (pick (not i) b₁ b₂ .by) μⱼ
+    → Match (pick (not i) b₁ b₂ .pattern) u₀ μⱼ → Back sh μ v (pick (not i) b₁ b₂ .pattern) (pick (not i) b₁ b₂ .body) μⱼ s ω → Q
+
+by-case : {sh : Sheet} {μ : Env} {v : Value} {s : ℕ} {b₁ b₂ : Branch} {ω : Writes} {Q : Type 0} → Put sh μ v (case s b₁ b₂) ω
+    → Stays sh μ v s b₁ b₂ ω Q → Switches sh μ v s b₁ b₂ ω Q → Q
+by-case (p-case i ds mᵢ q d o oᵢ r d₀ m) f g =
+    f i _ _ ds mᵢ q (record { ω = _; ωᵢ = _; ω₀ = _; u = _; branch = d; over = o; overᵢ = oᵢ; rebuilt = r; subject = d₀; merged = m })
+by-case (p-case-switch i ds mᵢ q q′ dd mⱼ d o oⱼ r d₀ m) f g =
+    g i _ _ _ _ ds mᵢ q q′ dd mⱼ (record { ω = _; ωᵢ = _; ω₀ = _; u = _; branch = d; over = o; overᵢ = oⱼ; rebuilt = r; subject = d₀; merged = m })
+
+module _ (sh : Sheet) (g : Getter) (gets : GetsAll sh g) (p : Putter) (ih : PutsAll sh p) (μ : Env) (σ : List ℕ) (W : Cells) (laid : Laid W σ μ)
+    (Y : Cells) (later : Later W Y) where
+  constant-all : (v : Value) → UpTo (Joined σ W (blank μ)) (constant v v W)
+  unfolding constant
+  constant-all v = up-when _ _ refl λ _. reach (joined-blank laid)
+
+  write-all : (v : Value) (x c : ℕ) (m : Value) (o : Option Value) → getElem? μ x ≡ some m → getElem? σ x ≡ some c → getElem? W c ≡ some o → Seen (only μ x (some v)) σ Y
+      → UpTo (Joined σ W (only μ x (some v))) (write c v W o)
+  unfolding write
+  write-all v x c m none em ec eo s = reach (joined-new σ μ x c m em ec v laid eo)
+  write-all v x c m (some w) em ec eo s =
+      let (q, eq, h) = all2-at c later eo in let e : w ≡ v = cc (h w refl, seen-only σ μ x c m em ec (some v) s .has v refl) in
+      up-when _ _ e λ _. reach (joined-same σ μ x c m em ec v laid (rw e at eo))
+
+  both-all : (a b : ℕ) (x y : Value) (ω₁ ω₂ ω : Writes) → Put sh μ x (residual sh a) ω₁ → Put sh μ y (residual sh b) ω₂ → Merge ω₁ ω₂ ω → Seen ω σ Y
+      → UpTo (Joined σ W ω) (both p μ σ W a x b y)
+  unfolding both
+  both-all a b x y ω₁ ω₂ ω d₁ d₂ m s = up-bind _ (ih a μ σ x W ω₁ Y laid d₁ later (seen-left m s)) λ X j.
+      up-map (ih b μ σ y X ω₂ Y (laid-later laid (j .later)) d₂ (j .least Y later (seen-left m s)) (seen-right m s)) λ Z k. joined-merge j k m
+
+  under-all : (v : Value) (b s : ℕ) (mk : Value → Value → Option Value) (f r u : Value) (ω : Writes) (x y : Option Value) (ω₀ ω′ : Writes)
+      → Put sh (μ ++ two f r) v (residual sh b) (ω ++ two x y) → Over ω μ → mk (orOld x f) (orOld y r) ≡ some u → Put sh μ u (residual sh s) ω₀ → Merge ω ω₀ ω′ → Seen ω′ σ Y
+      → UpTo (Joined σ W ω′) (under p μ σ W b v s mk f r)
+  unfolding under
+  under-all v b s mk f r u ω x y ω₀ ω′ d over eu d₀ m h =
+      up-bind _ (ih b _ _ v _ (ω ++ two x y) (Y ++ two x y) (laid-wider W f r laid) d (wider-later W laid ω x y later) (wider-seen W laid ω x y later (seen-left m h))) λ X j.
+      let j₁ = joined-outside W laid ω x y over X j in let (cx, cy) = cells-inside W laid ω x y over X j in
+      up-given _ _ cx (up-given _ _ cy (up-given _ _ eu (up-size _ λ _.
+      up-map (ih s μ σ u _ ω₀ Y (laid-later laid (j₁ .later)) d₀ (j₁ .least Y later (seen-left m h)) (seen-right m h)) λ Z k. joined-merge j₁ k m)))
+
+  back-plain : {v : Value} {q : Pattern} {b s : ℕ} {u : Value} {ω′ : Writes} → Match q u [] → Back sh μ v q b [] s ω′ → Seen ω′ σ Y → UpTo (Joined σ W ω′) (both p μ σ W b v s u)
+  unfolding _◁_
+  back-plain {v} {q} {b} {s} {u} {ω′} m k h = go (k .branch) (k .overᵢ) (k .rebuilt)
+    where
+      go : {ωᵢ : Writes} → Put sh (μ ++ []) v (residual sh b) (k .ω ++ ωᵢ) → Over ωᵢ [] → Match q (k .u) (ωᵢ ◁ []) → UpTo (Joined σ W ω′) (both p μ σ W b v s u)
+      go d ends m′ = both-all b s v u (k .ω) (k .ω₀) ω′ (scope-nil d) (rw (match-value m′ m) at (k .subject)) (k .merged) h
+
+  back-open : {v : Value} {q : Pattern} {b s : ℕ} {f r : Value} {ω′ : Writes} (mk : Value → Value → Option Value) → ((x y u : Value) → Match q u (two x y) → mk x y ≡ some u)
+      → Back sh μ v q b (two f r) s ω′ → Seen ω′ σ Y → UpTo (Joined σ W ω′) (under p μ σ W b v s mk f r)
+  unfolding _◁_
+  back-open {v} {q} {b} {s} {f} {r} {ω′} mk inv k h = go (k .branch) (k .overᵢ) (k .rebuilt)
+    where
+      go : {ωᵢ : Writes} → Put sh (μ ++ two f r) v (residual sh b) (k .ω ++ ωᵢ) → Over ωᵢ (two f r) → Match q (k .u) (ωᵢ ◁ two f r) → UpTo (Joined σ W ω′) (under p μ σ W b v s mk f r)
+      go d (more {a = x} _ (more {a = y} _ ends)) m′ = under-all v b s mk f r (k .u) (k .ω) x y (k .ω₀) ω′ d (k .over) (inv _ _ _ m′) (k .subject) (k .merged) h
+
+  put-node-complete : (nd : Node) (v : Value) {ω : Writes} → Put sh μ v (expr nd) ω → Seen ω σ Y → UpTo (Joined σ W ω) (putNode g p sh nd μ σ v W)
+  unfolding putNode asList asFront asPair asTruth onList
+  put-node-complete (Var x) v (p-var em) h =
+      let (c, ec, _) = all2-at x (all2-flip laid) em in let (m, _, t) = all2-at x laid ec in
+      up-given _ _ ec (up-given _ _ (t .there) (write-all v x c _ (t .cell) em ec (t .there) h))
+  put-node-complete False v p-const h = constant-all _
+  put-node-complete True v p-const h = constant-all _
+  put-node-complete Empty v p-const h = constant-all _
+  put-node-complete (Number n) v p-const h = constant-all _
+  put-node-complete (Front a b) v (p-cons d₁ d₂ m) h = up-given _ _ refl (both-all a b _ _ _ _ _ d₁ d₂ m h)
+  put-node-complete (Pair a b) v (p-pair d₁ d₂ m) h = up-given _ _ refl (both-all a b _ _ _ _ _ d₁ d₂ m h)
+  put-node-complete (ListCase s e te n tn df dr) v {ω} rel h = by-case rel stay switch
+    where
+      stay : Stays sh μ v s (plain pEmpty e te) (opened n tn df dr) ω (UpTo (Joined σ W ω) (putNode g p sh (ListCase s e te n tn df dr) μ σ v W))
+      stay false v₀ μᵢ ds m-empty q b = comes-bind _ (gets s μ _ ds) (up-given _ _ refl (up-first _ _ _ q (back-plain m-empty b h)))
+      stay true v₀ μᵢ ds m-front q b = comes-bind _ (gets s μ _ ds) (up-given _ _ refl (up-first _ _ _ q (back-open mkList match-mkList b h)))
+
+      switch : Switches sh μ v s (plain pEmpty e te) (opened n tn df dr) ω (UpTo (Joined σ W ω) (putNode g p sh (ListCase s e te n tn df dr) μ σ v W))
+      switch false v₀ u₀ μᵢ μⱼ ds m-empty q q′ (more dF (more dR ends)) m-front b = comes-bind _ (gets s μ _ ds) (up-given _ _ refl (up-second _ _ _ q q′
+          (comes-bind _ (gets df [] _ dF) (comes-bind _ (gets dr [] _ dR) (up-given _ _ refl (back-open mkList match-mkList b h))))))
+      switch true v₀ u₀ μᵢ μⱼ ds m-front q q′ dd m-empty b = comes-bind _ (gets s μ _ ds) (up-given _ _ refl (up-second _ _ _ q q′ (back-plain m-empty b h)))
+  put-node-complete (TruthCase s f tf t t₁) v {ω} rel h = by-case rel stay switch
+    where
+      stay : Stays sh μ v s (plain pFalse f tf) (plain pTrue t t₁) ω (UpTo (Joined σ W ω) (putNode g p sh (TruthCase s f tf t t₁) μ σ v W))
+      stay false v₀ μᵢ ds m-false q b = comes-bind _ (gets s μ _ ds) (up-given _ _ refl (up-first _ _ _ q (back-plain m-false b h)))
+      stay true v₀ μᵢ ds m-true q b = comes-bind _ (gets s μ _ ds) (up-given _ _ refl (up-first _ _ _ q (back-plain m-true b h)))
+
+      switch : Switches sh μ v s (plain pFalse f tf) (plain pTrue t t₁) ω (UpTo (Joined σ W ω) (putNode g p sh (TruthCase s f tf t t₁) μ σ v W))
+      switch false v₀ u₀ μᵢ μⱼ ds m-false q q′ dd m-true b = comes-bind _ (gets s μ _ ds) (up-given _ _ refl (up-second _ _ _ q q′ (back-plain m-true b h)))
+      switch true v₀ u₀ μᵢ μⱼ ds m-true q q′ dd m-false b = comes-bind _ (gets s μ _ ds) (up-given _ _ refl (up-second _ _ _ q q′ (back-plain m-false b h)))
+  put-node-complete (Split s i) v (p-let ds m-pair d o oᵢ r d₀ m) h = comes-bind _ (gets s μ _ ds) (up-given _ _ refl (back-open mkPair match-mkPair
+      (record { ω = _; ωᵢ = _; ω₀ = _; u = _; branch = d; over = o; overᵢ = oᵢ; rebuilt = r; subject = d₀; merged = m }) h))
+  put-node-complete (Call sec x y) v (p-call {a = a} {b = b} ea eb d m) h =
+      let (c, ec, _) = all2-at x (all2-flip laid) ea in let (e, ee, _) = all2-at y (all2-flip laid) eb in
+      up-given _ _ ea (up-given _ _ ec (up-given _ _ eb (up-given _ _ ee
+      (up-map (ih _ _ _ v W _ Y (laid-section laid x y ea ec eb ee) d later (section-seen σ μ x c a ea ec y e b eb ee m h)) λ X j.
+      joined-section σ μ x c a ea ec y e b eb ee laid j m))))
+  put-node-complete (Add n k) v (p-add {m = m} z low d) h =
+      let (z′, e) = as-number m z in up-given _ _ e (up-when _ _ low λ _. ih n μ σ _ W _ Y laid d later h)
+
+pub puts-all : (l : ℕ) (sh : Sheet) → PutsAll sh (put l sh)
+unfolding put
+puts-all zero sh n μ σ v W ω Y laid d later h = limited deep
+puts-all (suc l) sh n μ σ v W ω Y laid d later h = up-plus 1 (put-node-complete sh (get l sh) (gets-all l sh) (put l sh) (puts-all l sh) μ σ W laid Y later _ v d h)
+
+-- ONE SET OF WRITES
+
+merge1-one : {o p q q′ : Option Value} → Merge1 o p q → Merge1 o p q′ → q ≡ q′
+merge1-one neither neither = refl
+merge1-one left left = refl
+merge1-one right right = refl
+merge1-one (same e) (same e′) = refl
+
+merge-one : {ω₁ ω₂ ω ω′ : Writes} → Merge ω₁ ω₂ ω → Merge ω₁ ω₂ ω′ → ω ≡ ω′
+merge-one mEnds mEnds = refl
+merge-one (mMore m ms) (mMore k ks) = let e = merge1-one m k in let es = merge-one ms ks in cc
+
+-- writes to a branch's scope have one part outside and one of its own
+over-one : {ω ω₁ : Writes} (ωᵢ ωⱼ : Writes) {μ : Env} → Over ω μ → Over ω₁ μ → ω ++ ωᵢ ≡ ω₁ ++ ωⱼ → (ω ≡ ω₁) × (ωᵢ ≡ ωⱼ)
+over-one ωᵢ ωⱼ ends ends e = (refl, e)
+over-one ωᵢ ωⱼ (more _ h) (more _ k) e = let (p, q) = over-one ωᵢ ωⱼ h k (cc) in (cc, q)
+
+const-one : {sh : Sheet} {μ : Env} {v c : Value} {ω : Writes} → Put sh μ v (const c) ω → ω ≡ blank μ
+const-one p-const = refl
+
+defaults-one : {sh : Sheet} {ns : List ℕ} {μ μ′ : Env} → All2 (λ n w. Get sh [] (residual sh n) w) ns μ → All2 (λ n w. Get sh [] (residual sh n) w) ns μ′ → μ ≡ μ′
+defaults-one ends ends = refl
+defaults-one {sh} (more {a = n} d ds) (more d′ ds′) = let e = get-one sh (fair (node sh n)) d d′ in let es = defaults-one ds ds′ in cc
+
+module _ (sh : Sheet) where
+  pub put-one : {μ : Env} {v : Value} {e : Expr} {ω ω′ : Writes} → Fair e → Put sh μ v e ω → Put sh μ v e ω′ → ω ≡ ω′
+  put-one f (p-var e) (p-var e′) = refl
+  put-one f p-const d = sym (const-one d)
+  put-one f (p-cons {a = a} {b = b} d₁ d₂ m) (p-cons d₁′ d₂′ m′) =
+      let e₁ = put-one (fair (node sh a)) d₁ d₁′ in let e₂ = put-one (fair (node sh b)) d₂ d₂′ in merge-one m (rw (← e₁, ← e₂) at m′)
+  put-one f (p-case {s = s} {b₁ = b₁} {b₂ = b₂} i ds m h d o oᵢ r d₀ mg) (p-case j ds′ m′ h′ d′ o′ oᵢ′ r′ d₀′ mg′) =
+      let es = get-one sh (fair (node sh s)) ds ds′ in let ei = f i j _ _ _ m (rw (← es) at m′) in let eμ = match-env m (rw (← es, ← ei) at m′) in
+      let ed = put-one (fair (node sh (pick i b₁ b₂ .body))) d (rw (← ei, ← eμ) at d′) in let (e₁, e₂) = over-one _ _ o o′ ed in
+      let eu = match-value r (rw (← ei, ← eμ, ← e₂) at r′) in let e₀ = put-one (fair (node sh s)) d₀ (rw (← eu) at d₀′) in
+      merge-one mg (rw (← e₁, ← e₀) at mg′)
+  put-one f (p-case {s = s} i ds m h d o oᵢ r d₀ mg) (p-case-switch j ds′ m′ h′ k′ dd′ n′ d′ o′ oᵢ′ r′ d₀′ mg′) =
+      let es = get-one sh (fair (node sh s)) ds ds′ in let ei = f i j _ _ _ m (rw (← es) at m′) in absurd (h′ (rw ei at h))
+  put-one f (p-case-switch {s = s} i ds m h k dd n d o oᵢ r d₀ mg) (p-case j ds′ m′ h′ d′ o′ oᵢ′ r′ d₀′ mg′) =
+      let es = get-one sh (fair (node sh s)) ds ds′ in let ei = f i j _ _ _ m (rw (← es) at m′) in absurd (h (rw (← ei) at h′))
+  put-one f (p-case-switch {s = s} {b₁ = b₁} {b₂ = b₂} i ds m h k dd n d o oᵢ r d₀ mg) (p-case-switch j ds′ m′ h′ k′ dd′ n′ d′ o′ oᵢ′ r′ d₀′ mg′) =
+      let es = get-one sh (fair (node sh s)) ds ds′ in let ei = f i j _ _ _ m (rw (← es) at m′) in let eμ = defaults-one dd (rw (← ei) at dd′) in
+      let ed = put-one (fair (node sh (pick (not i) b₁ b₂ .body))) d (rw (← ei, ← eμ) at d′) in let (e₁, e₂) = over-one _ _ o o′ ed in
+      let eu = match-value r (rw (← ei, ← eμ, ← e₂) at r′) in let e₀ = put-one (fair (node sh s)) d₀ (rw (← eu) at d₀′) in
+      merge-one mg (rw (← e₁, ← e₀) at mg′)
+  put-one f (p-let {s = s} {e = b} ds m d o oᵢ r d₀ mg) (p-let ds′ m′ d′ o′ oᵢ′ r′ d₀′ mg′) =
+      let es = get-one sh (fair (node sh s)) ds ds′ in let eμ = match-env m (rw (← es) at m′) in
+      let ed = put-one (fair (node sh b)) d (rw (← eμ) at d′) in let (e₁, e₂) = over-one _ _ o o′ ed in
+      let eu = match-value r (rw (← eμ, ← e₂) at r′) in let e₀ = put-one (fair (node sh s)) d₀ (rw (← eu) at d₀′) in
+      merge-one mg (rw (← e₁, ← e₀) at mg′)
+  put-one f (p-pair {a = a} {b = b} d₁ d₂ m) (p-pair d₁′ d₂′ m′) =
+      let e₁ = put-one (fair (node sh a)) d₁ d₁′ in let e₂ = put-one (fair (node sh b)) d₂ d₂′ in merge-one m (rw (← e₁, ← e₂) at m′)
+  put-one f (p-call {sec = sec} {a = a} {b = b} {o = o} {q = q} ea eb d m) (p-call {a = a′} {b = b′} {o = o′} {q = q′} ea′ eb′ d′ m′) =
+      let e₁ : a′ ≡ a = cc in let e₂ : b′ ≡ b = cc in let e = put-one (fair (node sh (getD (sh .sections) sec 0))) d (rw (e₁, e₂) at d′) in
+      let eo : o′ ≡ o = cc in let eq : q′ ≡ q = cc in merge-one m (rw (eo, eq) at m′)
+  put-one f (p-add {n = n} z low d) (p-add z′ low′ d′) = put-one (fair (node sh n)) d d′
+
+-- and they are of the variables in scope
+over-blank : (μ : Env) → Over (blank μ) μ
+unfolding blank
+over-blank [] = ends
+over-blank (v ∷ μ) = more tt (over-blank μ)
+
+over-only : (μ : Env) (x : ℕ) (o : Option Value) {m : Value} → getElem? μ x ≡ some m → Over (only μ x o) μ
+unfolding only
+over-only μ x o e = all2-set x o (over-blank μ) e tt
+
+over-merge : {ω₁ ω₂ ω : Writes} {μ : Env} → Merge ω₁ ω₂ ω → Over ω₁ μ → Over ω μ
+over-merge mEnds ends = ends
+over-merge (mMore m ms) (more _ h) = more tt (over-merge ms h)
+
+pub put-over : {sh : Sheet} {μ : Env} {v : Value} {e : Expr} {ω : Writes} → Put sh μ v e ω → Over ω μ
+put-over (p-var {μ = μ} {x = x} e) = over-only μ x _ e
+put-over (p-const {μ = μ}) = over-blank μ
+put-over (p-cons d₁ d₂ m) = over-merge m (put-over d₁)
+put-over (p-case i ds m h d o oᵢ r d₀ mg) = over-merge mg o
+put-over (p-case-switch i ds m h k dd n d o oᵢ r d₀ mg) = over-merge mg o
+put-over (p-let ds m d o oᵢ r d₀ mg) = over-merge mg o
+put-over (p-pair d₁ d₂ m) = over-merge m (put-over d₁)
+put-over (p-call {μ = μ} {x = x} ea eb d m) = over-merge m (over-only μ x _ ea)
+put-over (p-add z low d) = put-over d
+
+-- THE THEOREMS, for every sheet, node, environment, number of levels and allowance; σ says which cell each variable is, and W
+-- what was written before
+module _ (sh : Sheet) (n : ℕ) (μ : Env) (v : Value) (σ : List ℕ) (W : Cells) (laid : Laid W σ μ) where
+  -- where put succeeds, the published relation holds, and W was merged with its writes
+  pub put-sound : (l a s : ℕ) (X : Cells) → within a (put l sh n μ σ v W) ≡ done X s → Written sh μ v (residual sh n) σ W X
+  put-sound l a s X e = after-at (rw (within-done a (put l sh n μ σ v W) e .0) at (puts-soundly l sh n μ σ v W laid))
+
+  -- where the published relation holds and X is W merged with its writes, put gives X or is refused with 40, 41 or 44
+  pub put-complete : (l a : ℕ) (ω : Writes) (X : Cells) → Put sh μ v (residual sh n) ω → Joined σ W ω X → Comes X (within a (put l sh n μ σ v W))
+  put-complete l a ω X d j = up-within a (up-map (puts-all l sh n μ σ v W ω X laid d (j .later) (j .seen)) λ Z k. joined-one k j)
+
+-- one set of writes
+pub put-functional : (sh : Sheet) (n : ℕ) (μ : Env) (v : Value) (ω ω′ : Writes) → Put sh μ v (residual sh n) ω → Put sh μ v (residual sh n) ω′ → ω ≡ ω′
+put-functional sh n μ v ω ω′ d d′ = put-one sh (fair (node sh n)) d d′
