@@ -1,5 +1,6 @@
 //! Random jobs with buffer sizes, each from its number alone.
 
+use crate::edges::edge;
 use crate::random::Random;
 use crate::sheets::{by_record, by_type};
 use crate::values::{damage, Type, Value};
@@ -18,6 +19,48 @@ pub const MORE: usize = 64;
 /// Case `number`. `scratch` is lent to the reference, which tells what the plan's list is.
 pub fn case(number: u64, scratch: &mut [u8]) -> Case {
     let random = &mut Random::new(number);
+    let mut job = if random.percent(10) { edge_job(random, scratch) } else { job(random, scratch) };
+    if random.percent(6) {
+        damage(&mut job.plan, random);
+    }
+    if random.percent(6) {
+        if let Some(view) = &mut job.view {
+            damage(view, random);
+        }
+    }
+    if random.percent(1) {
+        return small(random, job);
+    }
+    let out_len = size(random, job.out_size());
+    Case { job, out_len, scratch_len: size(random, SCRATCH) }
+}
+
+/// A case that one or more of the first three refusals meet.
+fn small(random: &mut Random, mut job: Job) -> Case {
+    let mut less = |asked: usize| match random.below(4) {
+        0 => asked - 1,
+        1 => random.below(asked),
+        _ => asked,
+    };
+    let (out_len, scratch_len) = (less(job.out_size()), less(SCRATCH));
+    if random.percent(50) {
+        job.allowance = random.pick(&[0, ALLOWANCE + 1]);
+    }
+    Case { job, out_len, scratch_len }
+}
+
+fn edge_job(random: &mut Random, scratch: &mut [u8]) -> Job {
+    let mut job = edge(random);
+    if job.view.is_none() && random.percent(50) {
+        let allowance = std::mem::replace(&mut job.allowance, 1000);
+        let (list, _) = answer(&job, scratch);
+        job.view = Some(view(random, list, None));
+        job.allowance = if random.percent(50) { allowance } else { 2 * allowance };
+    }
+    job
+}
+
+fn job(random: &mut Random, scratch: &mut [u8]) -> Job {
     let source = source(random);
     let mut job = Job { sheet: source.sheet, plan: source.plan, view: None, allowance: 1000 };
     let (list, get_steps) = answer(&job, scratch);
@@ -27,16 +70,7 @@ pub fn case(number: u64, scratch: &mut [u8]) -> Case {
         job.view = Some(view(random, start, source.view));
     }
     job.allowance = allowance(random, &job, get_steps, scratch);
-    if random.percent(6) {
-        damage(&mut job.plan, random);
-    }
-    if random.percent(6) {
-        if let Some(view) = &mut job.view {
-            damage(view, random);
-        }
-    }
-    let out_len = size(random, job.out_size());
-    Case { job, out_len, scratch_len: size(random, SCRATCH) }
+    job
 }
 
 struct Source {

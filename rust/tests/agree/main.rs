@@ -3,6 +3,7 @@
 //! Each case is made from its number. `LENS_CASES` says how many there are (200,000), `LENS_FIRST` which is the first (0).
 
 mod cases;
+mod edges;
 mod random;
 mod sheets;
 mod values;
