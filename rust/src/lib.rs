@@ -4,8 +4,8 @@
 //! The work is done by an archive that is proved to read sheets exactly as document 01 says; this crate lends it its buffers and
 //! turns its answers into Rust. Two laws are proved of those answers:
 //!
-//! - after a [`put`](Sheet::put) that succeeds, the [`get`](Sheet::get) of the new plan, under the same allowance, gives exactly the list, in no more
-//!   steps;
+//! - after a [`put`](Sheet::put) that succeeds, the [`get`](Sheet::get) of the new plan, under the same allowance, gives exactly the
+//!   list, in no more steps;
 //! - after a get of n steps, the put of its list under an allowance of 48 × n or more (up to 1,000,000) gives the old plan.
 //!
 //! A sheet that joins two lists, the edit of a joined list, and the new plan:
@@ -78,7 +78,7 @@ pub struct Put {
 }
 
 impl<'a> Sheet<'a> {
-    pub fn new(bytes: &'a [u8]) -> Sheet<'a> {
+    pub const fn new(bytes: &'a [u8]) -> Sheet<'a> {
         Sheet { bytes }
     }
 

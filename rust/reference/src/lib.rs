@@ -71,13 +71,7 @@ fn door(room: bool, allowance: u32) -> Result<(), Refusal> {
     Ok(())
 }
 
-fn get_past_door(
-    sheet: &[u8],
-    plan: &[u8],
-    allowance: u32,
-    out: &mut [u8],
-    arena: &mut [u8; SCRATCH],
-) -> Result<Success, Refusal> {
+fn get_past_door(sheet: &[u8], plan: &[u8], allowance: u32, out: &mut [u8], arena: &mut [u8; SCRATCH]) -> Result<Success, Refusal> {
     let sheet = Sheet::read(sheet)?;
     let mut walk = Walk::new(&sheet, arena, allowance);
     read_plan(&mut walk, sheet.k, plan)?;

@@ -76,7 +76,12 @@ impl Sheet {
                 0x1A | 0x1B => 3,
                 _ => return Err(10),
             };
-            if kind == 0x20 && self.section_count == MOST_SECTIONS || kind >= 0x10 && kind < 0x20 && self.node_count == MOST_NODES {
+            let full = match kind {
+                0x01 => false,
+                0x20 => self.section_count == MOST_SECTIONS,
+                _ => self.node_count == MOST_NODES,
+            };
+            if full {
                 return Err(12);
             }
             let Some(body) = bytes.get(at + 1..at + 1 + length) else {

@@ -16,12 +16,8 @@ fn list(numbers: &[u16]) -> String {
 }
 
 fn run(sheet: &str, plan: &str, view: Option<&str>, allowance: u32) -> String {
-    let job = Job {
-        sheet: unhex(sheet).unwrap(),
-        plan: unhex(plan).unwrap(),
-        view: view.map(|view| unhex(view).unwrap()),
-        allowance,
-    };
+    let job =
+        Job { sheet: unhex(sheet).unwrap(), plan: unhex(plan).unwrap(), view: view.map(|view| unhex(view).unwrap()), allowance };
     printed(&job.to_input().unwrap(), Job::run)
 }
 

@@ -6,15 +6,16 @@ use reference::job::Job;
 
 /// Document 01's sheet J, which joins two lists.
 pub const JOIN: [u8; 32] = [
-    0x01, 0x02, 0x00, 0x20, 0x01, 0x1A, 0x00, 0x00, 0x01, 0x17, 0x02, 0x03, 0x00, 0x04, 0x02, 0x07, 0x08, 0x10, 0x00, 0x10, 0x01, 0x15,
-    0x05, 0x06, 0x10, 0x02, 0x1A, 0x00, 0x03, 0x01, 0x11, 0x13,
+    0x01, 0x02, 0x00, 0x20, 0x01, 0x1A, 0x00, 0x00, 0x01, 0x17, 0x02, 0x03, 0x00, 0x04, 0x02, 0x07, 0x08, 0x10, 0x00, 0x10, 0x01,
+    0x15, 0x05, 0x06, 0x10, 0x02, 0x1A, 0x00, 0x03, 0x01, 0x11, 0x13,
 ];
 
 pub fn edge(random: &mut Random) -> Job {
-    match random.below(5) {
+    match random.below(8) {
         0 | 1 => chain(random),
         2 => join(random),
         3 => long(random),
+        4..=6 => switch(random),
         _ => full(random),
     }
 }
@@ -58,6 +59,43 @@ fn join(random: &mut Random) -> Job {
     let mut plan = numbers(random, 10, 19);
     plan.extend(numbers(random, 0, 4));
     Job { sheet: JOIN.to_vec(), plan, view: None, allowance: random.pick(&[60, 70, 80, 90, 100, 1000]) + random.below(10) as u32 }
+}
+
+/// A list case that a put may switch either way; what the view does not say comes from the defaults.
+fn switch(random: &mut Random) -> Job {
+    // Behind the case: its subject, the branches, the defaults, and what these are made of.
+    let mut sheet = vec![0x01, 0x02, 0x00, 0x20, 0x00];
+    let tests = random.pick(&[[1, 2], [1, 2], [1, 5], [1, 6], [3, 2], [4, 0], [0, 2]]);
+    let first = random.pick(&[4, 4, 4, 5, 6]);
+    let rest = random.pick(&[7, 7, 7, 8, 4, 6]);
+    sheet.extend([0x17, 1, 2, tests[0], 3, tests[1], first, rest]);
+    sheet.extend([0x10, 0]);
+    sheet.extend(match tests[0] {
+        1 => [0x13].as_slice(),
+        3 => &[0x11],
+        4 => &[0x12],
+        _ => &[0x10, 1],
+    });
+    // In the branch variables 2 and 3 are first and rest.
+    sheet.extend(random.pick(&[
+        [0x15, 9, 12], // first alone
+        [0x15, 10, 12],
+        [0x15, 11, 14], // rest alone, behind variable 1
+        [0x15, 9, 14],
+        [0x15, 9, 13], // both, the rest through the section
+    ]));
+    sheet.extend([0x14, 0, 9, 0x10, random.byte() % 3, 0x12]);
+    sheet.extend([0x15, 10, 12, 0x13]);
+    sheet.extend([0x10, 2, 0x14, 0, 5, 0x10, 1, 0x13, 0x1A, 0, 3, 1, 0x10, 3]);
+    let mut plan = numbers(random, 0, 3);
+    plan.extend(if random.percent(70) { Value::Number(number(random)).bytes() } else { numbers(random, 0, 3) });
+    let view = match random.below(8) {
+        0 => vec![0x02],
+        1 => vec![random.byte() % 2],
+        2 => [vec![0x03, 0x04, 0, 5], numbers(random, 0, 2)].concat(),
+        _ => numbers(random, 0, 4),
+    };
+    Job { sheet, plan, view: Some(view), allowance: 1000 }
 }
 
 fn numbers(random: &mut Random, least: usize, most: usize) -> Vec<u8> {

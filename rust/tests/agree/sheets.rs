@@ -252,15 +252,15 @@ impl Builder<'_> {
         subject: u8,
         member: &Type,
         ty: &Type,
-        scope: &mut Vec<Variable>,
+        scope: &[Variable],
         fuel: usize,
         recursion: &mut Recursion,
     ) {
         let fuel = fuel.max(1) - 1;
         let list = Type::List(Box::new(member.clone()));
-        let empty = self.node(ty, &mut scope.clone(), fuel, &mut None);
+        let empty = self.node(ty, &mut scope.to_vec(), fuel, &mut None);
         let empty_test = self.test(empty, ty);
-        let mut inner = scope.clone();
+        let mut inner = scope.to_vec();
         inner.push(Variable { ty: member.clone(), uses: 0 });
         inner.push(Variable { ty: list.clone(), uses: 0 });
         let front = self.node(ty, &mut inner, fuel, recursion);
@@ -382,15 +382,7 @@ fn record(random: &mut Random, bytes: &mut Vec<u8>, own: usize, nodes: usize, se
         0x10 => bytes.push(variable(random)),
         0x14 => bytes.extend(number(random).to_be_bytes()),
         0x15 | 0x16 | 0x19 => bytes.extend([node(random), node(random)]),
-        0x17 => bytes.extend([
-            node(random),
-            node(random),
-            test(random),
-            node(random),
-            test(random),
-            node(random),
-            node(random),
-        ]),
+        0x17 => bytes.extend([node(random), node(random), test(random), node(random), test(random), node(random), node(random)]),
         0x18 => bytes.extend([node(random), node(random), test(random), node(random), test(random)]),
         0x1A => bytes.extend([random.below(sections) as u8, variable(random), variable(random)]),
         0x1B => {
