@@ -101,7 +101,7 @@ impl Builder<'_> {
     }
 
     /// A list case on the section's first list, whose other branch may call the section on the rest.
-    fn recursive(&mut self, section: usize, member: &Type, result: &Type, scope: &mut Vec<Variable>, fuel: usize) -> u8 {
+    fn recursive(&mut self, section: usize, member: &Type, result: &Type, scope: &mut [Variable], fuel: usize) -> u8 {
         let own = self.reserve();
         let subject = self.leaf(&[0x10, 0]);
         scope[0].uses += 1;
