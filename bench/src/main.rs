@@ -12,9 +12,9 @@ use std::io::{IsTerminal, Write};
 use std::time::{Duration, Instant};
 
 /// Batches of each side; the table has their medians.
-const BATCHES: usize = 41;
+const BATCHES: usize = 101;
 /// About how long a batch takes.
-const BATCH: Duration = Duration::from_millis(3);
+const BATCH: Duration = Duration::from_millis(1);
 
 const LIMIT: f64 = 1.5;
 const WALKING_LIMIT: f64 = 2.0;
@@ -47,8 +47,8 @@ fn time(calls: u32, mut call: impl FnMut()) -> f64 {
     start.elapsed().as_nanos() as f64 / f64::from(calls)
 }
 
-/// The medians of several sides, measured in turn.
-fn medians<const N: usize>(mut sides: [&mut dyn FnMut(); N]) -> [f64; N] {
+/// The times of several sides, measured in turn.
+fn times<const N: usize>(mut sides: [&mut dyn FnMut(); N]) -> [Vec<f64>; N] {
     let mut times: [Vec<f64>; N] = std::array::from_fn(|_| Vec::new());
     let calls: Vec<u32> = sides
         .iter_mut()
@@ -62,18 +62,29 @@ fn medians<const N: usize>(mut sides: [&mut dyn FnMut(); N]) -> [f64; N] {
             times[side].push(time(calls[side], &mut *call));
         }
     }
-    times.map(|mut times| {
-        times.sort_by(f64::total_cmp);
-        times[times.len() / 2]
-    })
+    times
 }
 
-fn measure(job: &Job, buffers: &mut [Buffers; 2]) -> [f64; 2] {
+fn median(mut times: Vec<f64>) -> f64 {
+    times.sort_by(f64::total_cmp);
+    times[times.len() / 2]
+}
+
+struct Measured {
+    ours: f64,
+    theirs: f64,
+    /// The median of the ratios of batches that follow one another: a machine that is busy for a while slows both.
+    ratio: f64,
+}
+
+fn measure(job: &Job, buffers: &mut [Buffers; 2]) -> Measured {
     let [ours, theirs] = buffers;
     let side = |run: Run, buffers: &mut Buffers| {
         black_box(run(black_box(job), buffers));
     };
-    medians([&mut || side(run_archive, ours), &mut || side(run_reference, theirs)])
+    let [ours, theirs] = times([&mut || side(run_archive, ours), &mut || side(run_reference, theirs)]);
+    let ratio = median(ours.iter().zip(&theirs).map(|(ours, theirs)| ours / theirs).collect());
+    Measured { ours: median(ours), theirs: median(theirs), ratio }
 }
 
 fn same_answers(row: &Row, buffers: &mut [Buffers; 2]) -> Result<u32, String> {
@@ -97,9 +108,9 @@ fn main() {
 
     progress("zeroing alone");
     let mut scratch = vec![1u8; SCRATCH];
-    let [zeroing] = medians([&mut || black_box(&mut scratch).fill(0)]);
+    let [zeroing] = times([&mut || black_box(&mut scratch).fill(0)]).map(median);
     let only_clears = Job { sheet: Vec::new(), plan: Vec::new(), view: None, allowance: 1 };
-    let [clearing, _] = measure(&only_clears, &mut buffers);
+    let clearing = measure(&only_clears, &mut buffers).ours;
 
     let mut lines = Vec::new();
     let mut within = 0;
@@ -109,9 +120,8 @@ fn main() {
             eprintln!("\n{fault}");
             std::process::exit(1);
         });
-        let [ours, theirs] = measure(&row.job, &mut buffers);
+        let Measured { ours, theirs, ratio } = measure(&row.job, &mut buffers);
         let limit = if row.walking { WALKING_LIMIT } else { LIMIT };
-        let ratio = ours / theirs;
         within += usize::from(ratio <= limit);
         let a_step = |ns: f64| if steps == 0 { "-".to_string() } else { format!("{:.1}", ns / f64::from(steps)) };
         lines.push(format!(
@@ -126,7 +136,7 @@ fn main() {
     progress("");
 
     println!("{}", machine());
-    println!("Median of {BATCHES} batches, in nanoseconds; scratch is cleared in every call, on both sides.");
+    println!("Nanoseconds, the median of {BATCHES} batches; the ratio is the median of theirs. Scratch is cleared in every call, on both sides.");
     println!("Zeroing 65,536 bytes alone takes {zeroing:.0}; the archive's call that does nothing else, {clearing:.0}.");
     println!();
     println!(
