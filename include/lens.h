@@ -1,0 +1,99 @@
+/* Gabqweshi's archive (rt staticlib lens): one sheet of rules, read both ways.
+ *
+ *   lens_get   a plan to its list (the "view")
+ *   lens_put   the old plan and an edited list to the new plan
+ *
+ * Bytes of sheets, plans and lists, and what each refusal means, are those of document 01 (house sheets, plans and venue lists).
+ *
+ * Neither function allocates, keeps a pointer, or touches anything but the output and scratch that it is lent, so threads may call
+ * both at once with buffers of their own. Every pointer must be good for the length behind it and must not be NULL, also where the
+ * length is 0. Output and scratch must overlap neither each other nor any input. No byte of an input is ever changed.
+ */
+#ifndef LENS_H
+#define LENS_H
+
+#include <stddef.h>
+#include <stdint.h>
+
+#ifdef __cplusplus
+extern "C" {
+#endif
+
+/* What a caller lends. Smaller buffers and other allowances are refused; larger buffers are fine. */
+#define LENS_GET_OUT 256u         /* bytes of output for lens_get */
+#define LENS_PUT_OUT 4096u        /* bytes of output for lens_put */
+#define LENS_SCRATCH 65536u       /* bytes of scratch for either */
+#define LENS_ALLOWANCE_MAX 1000000u /* the most steps that may be allowed; the least is 1 */
+
+/* The list that the sheet makes of the plan, in at most `allowance` steps. */
+uint64_t lens_get(const uint8_t *sheet, size_t sheet_len, const uint8_t *plan, size_t plan_len, uint32_t allowance,
+                  uint8_t *out, size_t out_len, uint8_t *scratch, size_t scratch_len);
+
+/* The plan that the edited list `view` makes of the old plan, in at most `allowance` steps. */
+uint64_t lens_put(const uint8_t *sheet, size_t sheet_len, const uint8_t *plan, size_t plan_len, const uint8_t *view,
+                  size_t view_len, uint32_t allowance, uint8_t *out, size_t out_len, uint8_t *scratch, size_t scratch_len);
+
+/* The answer taken apart: the refusal's number in the low 8 bits (LENS_OK: success), the length in the next 24, the steps in the
+ * upper 32. Length and steps are 0 with a refusal. */
+#define LENS_NUMBER(answer) ((unsigned)((answer) & 0xFFu))
+#define LENS_LENGTH(answer) ((size_t)(((answer) >> 8) & 0xFFFFFFu))
+#define LENS_STEPS(answer) ((uint32_t)((answer) >> 32))
+
+/* What the buffers hold afterwards:
+ *
+ *               success                                  refusals 1 to 3    every other refusal
+ *   output      LENS_LENGTH bytes of the list or plan     as before          as before
+ *               at its front, those behind as before
+ *   scratch     its first LENS_SCRATCH bytes are 0,       as before          its first LENS_SCRATCH bytes are 0,
+ *               others as before                                            others as before
+ *
+ * After a put that succeeds, the get of the new plan under the same sheet and allowance succeeds, gives exactly the list, and
+ * takes no more steps. After a get of n steps with 48 n <= LENS_ALLOWANCE_MAX, the put of its list under every allowance from 48 n
+ * to LENS_ALLOWANCE_MAX succeeds and gives the old plan byte for byte. */
+
+/* Refusal numbers. The first that is met ends the call. */
+#define LENS_OK 0u
+
+/* the call */
+#define LENS_OUTPUT_SMALL 1u      /* output under LENS_GET_OUT or LENS_PUT_OUT bytes */
+#define LENS_SCRATCH_SMALL 2u     /* scratch under LENS_SCRATCH bytes */
+#define LENS_ALLOWANCE_RANGE 3u   /* allowance 0 or over LENS_ALLOWANCE_MAX */
+
+/* the sheet */
+#define LENS_SHEET_KIND 10u       /* a record's kind is unknown or out of its place */
+#define LENS_SHEET_CUT 11u        /* a record is cut */
+#define LENS_SHEET_FULL 12u       /* a 9th section or 201st node */
+#define LENS_SHEET_RANGE 13u      /* k, a node, a section or a test is out of range */
+#define LENS_SHEET_EMPTY 14u      /* no byte or no node */
+
+/* the plan */
+#define LENS_PLAN_MALFORMED 20u   /* a value is malformed */
+#define LENS_PLAN_LONG 21u        /* a value is over 256 bytes */
+#define LENS_PLAN_COUNT 22u       /* fewer than k values, or bytes behind them */
+
+/* the list sent back */
+#define LENS_VIEW_MALFORMED 30u   /* malformed */
+#define LENS_VIEW_LONG 31u        /* over 256 bytes */
+#define LENS_VIEW_COUNT 32u       /* no value, or bytes behind it */
+
+/* walking the sheet */
+#define LENS_DEPTH 40u            /* deeper than 48 nodes */
+#define LENS_SPENT 41u            /* the allowance is spent */
+#define LENS_SCOPE 42u            /* a variable is not in scope */
+#define LENS_VALUE_KIND 43u       /* a subject, added-to value or rest is of the wrong kind */
+#define LENS_VALUE_LONG 44u       /* a built value is over 256 bytes */
+#define LENS_SUM 45u              /* a sum is over 65,535 */
+#define LENS_TEST 46u             /* a branch's test says no to what the branch gave */
+
+/* putting the list back */
+#define LENS_CONSTANT 50u         /* the list differs from a constant of the sheet */
+#define LENS_VIEW_KIND 51u        /* a part of the list is of the wrong kind */
+#define LENS_VIEW_BELOW 52u       /* a number of the list is below the amount that the sheet adds */
+#define LENS_NO_BRANCH 53u        /* neither test of a case says yes */
+#define LENS_CLASH 54u            /* a variable would be written with two values */
+
+#ifdef __cplusplus
+}
+#endif
+
+#endif

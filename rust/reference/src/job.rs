@@ -1,0 +1,125 @@
+//! Jobs: the input of document 01's program, and what it prints.
+
+use crate::{GET_OUT, PUT_OUT, SCRATCH};
+
+/// One call.
+#[derive(Clone, Debug, PartialEq, Eq)]
+pub struct Job {
+    pub sheet: Vec<u8>,
+    pub plan: Vec<u8>,
+    /// The edited list of a put; none for a get.
+    pub view: Option<Vec<u8>>,
+    pub allowance: u32,
+}
+
+/// The most bytes of a program's input.
+const LONGEST_INPUT: usize = 8192;
+
+impl Job {
+    /// A program's input taken apart, or the refusal 60 or 61.
+    pub fn from_input(input: &[u8]) -> Result<Job, u8> {
+        if input.len() > LONGEST_INPUT {
+            return Err(61);
+        }
+        Job::take_apart(input).ok_or(60)
+    }
+
+    fn take_apart(input: &[u8]) -> Option<Job> {
+        let (&kind, rest) = input.split_first()?;
+        let (&[a, b, c], rest) = rest.split_first_chunk()?;
+        let (sheet, rest) = counted(rest)?;
+        let (plan, rest) = counted(rest)?;
+        let view = match kind {
+            0x47 if rest.is_empty() => None,
+            0x50 => Some(rest.to_vec()),
+            _ => return None,
+        };
+        Some(Job { sheet: sheet.to_vec(), plan: plan.to_vec(), view, allowance: u32::from_be_bytes([0, a, b, c]) })
+    }
+
+    /// The program's input for this job: none where the allowance or a length does not fit its field.
+    pub fn to_input(&self) -> Option<Vec<u8>> {
+        let [over, a, b, c] = self.allowance.to_be_bytes();
+        if over > 0 {
+            return None;
+        }
+        let mut input = vec![if self.view.is_some() { 0x50 } else { 0x47 }, a, b, c];
+        for part in [&self.sheet, &self.plan] {
+            input.extend(u16::try_from(part.len()).ok()?.to_be_bytes());
+            input.extend(part);
+        }
+        input.extend(self.view.iter().flatten());
+        Some(input)
+    }
+
+    /// Runs the job on the reference.
+    pub fn run(&self, out: &mut [u8], scratch: &mut [u8]) -> u64 {
+        match &self.view {
+            None => crate::get(&self.sheet, &self.plan, self.allowance, out, scratch),
+            Some(view) => crate::put(&self.sheet, &self.plan, view, self.allowance, out, scratch),
+        }
+    }
+
+    /// The least output that the job asks for.
+    pub fn out_size(&self) -> usize {
+        if self.view.is_some() {
+            PUT_OUT
+        } else {
+            GET_OUT
+        }
+    }
+}
+
+fn counted(bytes: &[u8]) -> Option<(&[u8], &[u8])> {
+    let (&length, rest) = bytes.split_first_chunk()?;
+    rest.split_at_checked(usize::from(u16::from_be_bytes(length)))
+}
+
+/// What the program prints for an input, without the line feed, where `run` does the job.
+pub fn printed(input: &[u8], run: impl Fn(&Job, &mut [u8], &mut [u8]) -> u64) -> String {
+    let job = match Job::from_input(input) {
+        Ok(job) => job,
+        Err(refusal) => return format!("no {refusal}"),
+    };
+    let mut out = vec![0; job.out_size()];
+    let answer = run(&job, &mut out, &mut vec![0; SCRATCH]);
+    match answer & 0xFF {
+        0 => format!("ok {} {}", answer >> 32, hex(&out[..(answer >> 8 & 0xFF_FFFF) as usize])),
+        refusal => format!("no {refusal}"),
+    }
+}
+
+/// Bytes in upper-case hexadecimal.
+pub fn hex(bytes: &[u8]) -> String {
+    bytes.iter().map(|byte| format!("{byte:02X}")).collect()
+}
+
+/// Bytes from hexadecimal, spaces left out.
+pub fn unhex(text: &str) -> Option<Vec<u8>> {
+    let digits: Vec<u8> =
+        text.chars().filter(|c| !c.is_whitespace()).map(|c| c.to_digit(16).map(|d| d as u8)).collect::<Option<_>>()?;
+    if digits.len() % 2 == 1 {
+        return None;
+    }
+    Some(digits.chunks(2).map(|pair| pair[0] << 4 | pair[1]).collect())
+}
+
+/// The lines of a file of jobs that `run` answers otherwise: each has an input in hexadecimal (`-` for no byte), a space, and what
+/// the program prints. Also how many lines there were.
+pub fn wrong_lines(file: &str, run: impl Fn(&Job, &mut [u8], &mut [u8]) -> u64) -> (usize, Vec<String>) {
+    let mut wrong = Vec::new();
+    let mut count = 0;
+    for line in file.lines() {
+        let Some((input, wanted)) = line.split_once(' ') else {
+            wrong.push(format!("{line}: no such line"));
+            continue;
+        };
+        count += 1;
+        let bytes = if input == "-" { Some(Vec::new()) } else { unhex(input) };
+        let got = bytes.map_or("no hexadecimal".to_string(), |bytes| printed(&bytes, &run));
+        if got != wanted {
+            wrong.push(format!("{input}: expected {wanted}, got {got}"));
+        }
+    }
+    (count, wrong)
+}

@@ -1,0 +1,181 @@
+//! One sheet of rules for a venue, read both ways: forwards it gives the list from the plan, backwards the new plan from the old plan
+//! and the edited list.
+//!
+//! The work is done by an archive that is proved to read sheets exactly as document 01 says; this crate lends it its buffers and
+//! turns its answers into Rust. Two laws are proved of those answers:
+//!
+//! - after a [`put`](Sheet::put) that succeeds, the [`get`](Sheet::get) of the new plan, under the same allowance, gives exactly the
+//!   list, in no more steps;
+//! - after a get of n steps, the put of its list under an allowance of 48 × n or more (up to 1,000,000) gives the old plan.
+//!
+//! A sheet that joins two lists, the edit of a joined list, and the new plan:
+//!
+//! ```
+//! use lens::Sheet;
+//!
+//! let join = Sheet::new(&[
+//!     0x01, 0x02, 0x00, // two variables, root node 0
+//!     0x20, 0x01, // section 0 has root node 1
+//!     0x1A, 0x00, 0x00, 0x01, // node 0: call section 0 on variables 0 and 1
+//!     0x17, 0x02, 0x03, 0x00, 0x04, 0x02, 0x07, 0x08, // node 1: is the first list empty?
+//!     0x10, 0x00, // node 2: the first list
+//!     0x10, 0x01, // node 3: the second list
+//!     0x15, 0x05, 0x06, // node 4: the first member, in front of
+//!     0x10, 0x02, // node 5
+//!     0x1A, 0x00, 0x03, 0x01, // node 6: the rest joined with the second list
+//!     0x11, // node 7: default first member
+//!     0x13, // node 8: default rest
+//! ]);
+//! let old = [0x03, 0x04, 0, 1, 0x02, /* [1] */ 0x03, 0x04, 0, 2, 0x02 /* [2] */];
+//! let got = join.get(&old, 1000)?;
+//! assert_eq!(got.view, [0x03, 0x04, 0, 1, 0x03, 0x04, 0, 2, 0x02]); // [1, 2]
+//!
+//! let edited = [0x03, 0x04, 0, 8, 0x03, 0x04, 0, 9, 0x02]; // [8, 9]
+//! let new = join.put(&old, &edited, 1000)?;
+//! assert_eq!(new.plan, [0x03, 0x04, 0, 8, 0x02, 0x03, 0x04, 0, 9, 0x02]); // [8] [9]
+//!
+//! assert_eq!(join.get(&new.plan, 1000)?.view, edited);
+//! assert_eq!(join.put(&old, &got.view, 48 * got.steps)?.plan, old);
+//! # Ok::<(), lens::Refusal>(())
+//! ```
+
+pub mod raw;
+mod refusal;
+
+pub use refusal::Refusal;
+
+/// The largest allowance; the least is 1.
+pub const ALLOWANCE_MAX: u32 = 1_000_000;
+
+/// A sheet's bytes. They are judged with each call.
+///
+/// ```
+/// use lens::{Refusal, Sheet};
+///
+/// assert_eq!(Sheet::new(&[]).get(&[0x00], 1000), Err(Refusal::SHEET_EMPTY));
+/// ```
+#[derive(Clone, Copy, Debug, PartialEq, Eq)]
+pub struct Sheet<'a> {
+    bytes: &'a [u8],
+}
+
+/// A list read out of a plan.
+#[derive(Clone, Debug, PartialEq, Eq)]
+pub struct Got {
+    /// The list, one value.
+    pub view: Vec<u8>,
+    /// The nodes entered.
+    pub steps: u32,
+}
+
+/// A plan with a list read back into it.
+#[derive(Clone, Debug, PartialEq, Eq)]
+pub struct Put {
+    /// The new plan, as many values as the old one.
+    pub plan: Vec<u8>,
+    /// The nodes entered.
+    pub steps: u32,
+}
+
+impl<'a> Sheet<'a> {
+    pub const fn new(bytes: &'a [u8]) -> Sheet<'a> {
+        Sheet { bytes }
+    }
+
+    pub fn bytes(self) -> &'a [u8] {
+        self.bytes
+    }
+
+    /// The list that the sheet makes of `plan`, in at most `allowance` steps.
+    ///
+    /// ```
+    /// // The sheet puts its one variable into a list of one member.
+    /// let sheet = lens::Sheet::new(&[0x01, 0x01, 0x00, 0x15, 0x01, 0x02, 0x10, 0x00, 0x13]);
+    /// let got = sheet.get(&[0x04, 0x00, 0x07], 1000)?;
+    /// assert_eq!(got.view, [0x03, 0x04, 0x00, 0x07, 0x02]);
+    /// assert_eq!(got.steps, 3);
+    /// # Ok::<(), lens::Refusal>(())
+    /// ```
+    pub fn get(self, plan: &[u8], allowance: u32) -> Result<Got, Refusal> {
+        let mut buffers = Buffers::new();
+        let done = buffers.get(self, plan, allowance)?;
+        Ok(Got { view: done.bytes.to_vec(), steps: done.steps })
+    }
+
+    /// The plan that the edited list `view` makes of the old `plan`, in at most `allowance` steps.
+    ///
+    /// ```
+    /// use lens::{Refusal, Sheet};
+    ///
+    /// let sheet = Sheet::new(&[0x01, 0x01, 0x00, 0x15, 0x01, 0x02, 0x10, 0x00, 0x13]);
+    /// let old = [0x04, 0x00, 0x07];
+    /// assert_eq!(sheet.put(&old, &[0x03, 0x01, 0x02], 1000)?.plan, [0x01]);
+    /// assert_eq!(sheet.put(&old, &[0x03, 0x01, 0x03, 0x01, 0x02], 1000), Err(Refusal::CONSTANT));
+    /// # Ok::<(), lens::Refusal>(())
+    /// ```
+    pub fn put(self, plan: &[u8], view: &[u8], allowance: u32) -> Result<Put, Refusal> {
+        let mut buffers = Buffers::new();
+        let done = buffers.put(self, plan, view, allowance)?;
+        Ok(Put { plan: done.bytes.to_vec(), steps: done.steps })
+    }
+}
+
+/// Output and scratch, to lend to one call after another without allocating anew.
+///
+/// ```
+/// use lens::{Buffers, Sheet};
+///
+/// let sheet = Sheet::new(&[0x01, 0x01, 0x00, 0x1B, 0x01, 0x00, 0x64, 0x10, 0x00]); // adds 100
+/// let mut buffers = Buffers::new();
+/// for number in 0..10 {
+///     let done = buffers.get(sheet, &[0x04, 0x00, number], 1000)?;
+///     assert_eq!(done.bytes, [0x04, 0x00, number + 100]);
+///     let done = buffers.put(sheet, &[0x04, 0x00, number], &[0x04, 0x00, 100], 1000)?;
+///     assert_eq!(done.bytes, [0x04, 0x00, 0x00]);
+/// }
+/// # Ok::<(), lens::Refusal>(())
+/// ```
+pub struct Buffers {
+    out: Box<[u8]>,
+    scratch: Box<[u8]>,
+}
+
+/// What a call gave, within the buffers lent to it.
+#[derive(Clone, Copy, Debug, PartialEq, Eq)]
+pub struct Done<'b> {
+    /// The list of a get, or the new plan of a put.
+    pub bytes: &'b [u8],
+    /// The nodes entered.
+    pub steps: u32,
+}
+
+impl Buffers {
+    pub fn new() -> Buffers {
+        Buffers { out: vec![0; raw::PUT_OUT].into(), scratch: vec![0; raw::SCRATCH].into() }
+    }
+
+    /// [`Sheet::get`] in these buffers.
+    pub fn get(&mut self, sheet: Sheet, plan: &[u8], allowance: u32) -> Result<Done<'_>, Refusal> {
+        let answer = raw::get(sheet.bytes, plan, allowance, &mut self.out, &mut self.scratch);
+        self.done(answer)
+    }
+
+    /// [`Sheet::put`] in these buffers.
+    pub fn put(&mut self, sheet: Sheet, plan: &[u8], view: &[u8], allowance: u32) -> Result<Done<'_>, Refusal> {
+        let answer = raw::put(sheet.bytes, plan, view, allowance, &mut self.out, &mut self.scratch);
+        self.done(answer)
+    }
+
+    fn done(&self, answer: raw::Answer) -> Result<Done<'_>, Refusal> {
+        match Refusal::from_number(answer.number()) {
+            None => Ok(Done { bytes: &self.out[..answer.length()], steps: answer.steps() }),
+            Some(refusal) => Err(refusal),
+        }
+    }
+}
+
+impl Default for Buffers {
+    fn default() -> Buffers {
+        Buffers::new()
+    }
+}

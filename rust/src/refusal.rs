@@ -1,0 +1,105 @@
+//! Refusals.
+
+use std::error::Error;
+use std::fmt;
+
+/// Why a call gave nothing: one number of document 01's table.
+///
+/// Its [`name`](Refusal::name) is that of the constant here (and, behind `LENS_`, in `include/lens.h`); as text it is a sentence that
+/// says what to do.
+///
+/// ```
+/// use lens::{Refusal, Sheet};
+///
+/// let sheet = Sheet::new(&[0x01, 0x01, 0x00, 0x15, 0x01, 0x02, 0x10, 0x00, 0x13]);
+/// let refusal = sheet.get(&[0x04, 0x00, 0x07], 2).unwrap_err();
+/// assert_eq!(refusal, Refusal::SPENT);
+/// assert_eq!(refusal.number(), 41);
+/// assert_eq!(refusal.name(), "SPENT");
+/// assert_eq!(refusal.to_string(), "the allowance is spent before the walk ends: allow more steps (refusal 41)");
+/// ```
+#[derive(Clone, Copy, PartialEq, Eq, Hash, PartialOrd, Ord)]
+pub struct Refusal {
+    number: u8,
+}
+
+macro_rules! refusals {
+    ($($number:literal $name:ident $sentence:literal)*) => {
+        impl Refusal {
+            $(#[doc = concat!($sentence, ".")] pub const $name: Refusal = Refusal { number: $number };)*
+
+            /// Every refusal, by number.
+            pub const ALL: &'static [Refusal] = &[$(Refusal::$name),*];
+
+            /// The refusal's name.
+            pub fn name(self) -> &'static str {
+                match self.number {
+                    $($number => stringify!($name),)*
+                    _ => "UNKNOWN",
+                }
+            }
+
+            fn sentence(self) -> &'static str {
+                match self.number {
+                    $($number => $sentence,)*
+                    _ => "the archive gives a refusal that this crate does not know: build both from one version",
+                }
+            }
+        }
+    };
+}
+
+refusals! {
+    1 OUTPUT_SMALL "the output lent is too small: lend 256 bytes to a get and 4,096 to a put"
+    2 SCRATCH_SMALL "the scratch lent is too small: lend 65,536 bytes"
+    3 ALLOWANCE_RANGE "the allowance is out of range: allow 1 to 1,000,000 steps"
+    10 SHEET_KIND "a record of the sheet has an unknown kind or stands out of its place: a sheet is one 01, then records 20, then nodes"
+    11 SHEET_CUT "the sheet ends within a record: send it whole"
+    12 SHEET_FULL "the sheet has too much: at most 8 sections and 200 nodes"
+    13 SHEET_RANGE "a number in the sheet is out of range: k is 1 to 16, tests 0 to 6, sections and nodes exist, and a node names only later ones"
+    14 SHEET_EMPTY "the sheet has no node: send at least one"
+    20 PLAN_MALFORMED "a value of the plan is malformed: correct its kinds, and let every rest be a list"
+    21 PLAN_LONG "a value of the plan is too long: at most 256 bytes each"
+    22 PLAN_COUNT "the plan has too few values or bytes behind them: send exactly as many values as the sheet's k"
+    30 VIEW_MALFORMED "the list sent back is malformed: correct its kinds, and let every rest be a list"
+    31 VIEW_LONG "the list sent back is too long: at most 256 bytes"
+    32 VIEW_COUNT "the list sent back is no single value: send one, with nothing behind it"
+    40 DEPTH "the walk goes deeper than 48 nodes: shorten the list, or nest the sheet less"
+    41 SPENT "the allowance is spent before the walk ends: allow more steps"
+    42 SCOPE "the sheet names a variable that is not in scope: correct the sheet"
+    43 VALUE_KIND "the sheet takes apart, adds to or prolongs a value of another kind: check the plan's values against the sheet"
+    44 VALUE_LONG "a value made on the way is too long: shorten the plan's or the list's values, so that each stays within 256 bytes"
+    45 SUM "a sum is over 65,535: lower the number in the plan"
+    46 TEST "a branch gives what its own test refuses: correct the test in the sheet, or the plan"
+    50 CONSTANT "the list changes what the sheet fixes: put the fixed part back as it was"
+    51 VIEW_KIND "a part of the list is of another kind than the sheet gives: keep the kinds as they were read out"
+    52 VIEW_BELOW "a number of the list is below the amount that the sheet adds: raise it"
+    53 NO_BRANCH "no branch of the sheet gives such a list: undo the edit, or give the sheet a test that allows it"
+    54 CLASH "two places of the list that come from one variable now differ: edit both alike"
+}
+
+impl Refusal {
+    /// The refusal that an answer names; none for 0, which is success.
+    pub(crate) fn from_number(number: u8) -> Option<Refusal> {
+        (number > 0).then_some(Refusal { number })
+    }
+
+    /// The refusal's number in document 01.
+    pub fn number(self) -> u8 {
+        self.number
+    }
+}
+
+impl fmt::Display for Refusal {
+    fn fmt(&self, f: &mut fmt::Formatter) -> fmt::Result {
+        write!(f, "{} (refusal {})", self.sentence(), self.number)
+    }
+}
+
+impl fmt::Debug for Refusal {
+    fn fmt(&self, f: &mut fmt::Formatter) -> fmt::Result {
+        write!(f, "Refusal {} {}", self.number, self.name())
+    }
+}
+
+impl Error for Refusal {}

@@ -1,0 +1,178 @@
+//! Jobs at the limits of document 01, which random ones seldom meet: the 48th level, the 256th byte, the last section and node.
+
+use crate::random::Random;
+use crate::values::{damage, number, Value};
+use reference::job::Job;
+
+/// Document 01's sheet J, which joins two lists.
+pub const JOIN: [u8; 32] = [
+    0x01, 0x02, 0x00, 0x20, 0x01, 0x1A, 0x00, 0x00, 0x01, 0x17, 0x02, 0x03, 0x00, 0x04, 0x02, 0x07, 0x08, 0x10, 0x00, 0x10, 0x01,
+    0x15, 0x05, 0x06, 0x10, 0x02, 0x1A, 0x00, 0x03, 0x01, 0x11, 0x13,
+];
+
+pub fn edge(random: &mut Random) -> Job {
+    match random.below(8) {
+        0 | 1 => chain(random),
+        2 => join(random),
+        3 => long(random),
+        4..=6 => switch(random),
+        _ => full(random),
+    }
+}
+
+/// A chain of nodes down to about the 48th level.
+fn chain(random: &mut Random) -> Job {
+    let length = random.of(42..52);
+    let mut sheet = vec![0x01, 0x01, 0x00];
+    let kind = random.pick(&[0x15, 0x16, 0x17, 0x18, 0x19, 0x1B, 0x00]);
+    let end = length as u8;
+    for own in 0..length {
+        let next = own as u8 + 1;
+        // The leaves behind the chain: end the variable, then False, True, an empty list, a number, a pair.
+        let record: &[u8] = match if kind == 0 { random.pick(&[0x15, 0x16, 0x18, 0x19, 0x1B]) } else { kind } {
+            0x15 if random.percent(50) => &[0x15, next, end + 3],
+            0x15 => &[0x15, end + 1, next],
+            0x16 if random.percent(50) => &[0x16, next, end + 1],
+            0x16 => &[0x16, end + 4, next],
+            0x17 if random.percent(50) => &[0x17, next, end + 3, 0, end + 3, 0, end + 1, end + 3],
+            0x17 => &[0x17, end + 3, next, 0, end + 3, 0, end + 1, end + 3],
+            0x18 if random.percent(30) => &[0x18, next, end + 1, 0, end + 2, 0],
+            0x18 => &[0x18, end + 2, end + 1, 0, next, 0],
+            0x19 => &[0x19, end + 5, next],
+            _ => &[0x1B, next, 0, 1],
+        };
+        sheet.extend(record);
+    }
+    // The variable is one of the plan, or the last that a chain of splits adds.
+    let variable = if kind == 0x19 && random.percent(70) { 2 * length - random.below(3) } else { 0 };
+    sheet.extend([0x10, variable as u8, 0x11, 0x12, 0x13, 0x14, 0, 7, 0x16, end + 6, end + 6, 0x11]);
+    let plan = match random.below(4) {
+        0 => vec![0x00],
+        1 => vec![0x02],
+        2 => vec![0x01],
+        _ => vec![0x04, 0, random.byte()],
+    };
+    Job { sheet, plan, view: None, allowance: random.of(length - 3..2 * length + 8) as u32 }
+}
+
+fn join(random: &mut Random) -> Job {
+    let mut plan = numbers(random, 10, 19);
+    plan.extend(numbers(random, 0, 4));
+    Job { sheet: JOIN.to_vec(), plan, view: None, allowance: random.pick(&[60, 70, 80, 90, 100, 1000]) + random.below(10) as u32 }
+}
+
+/// A list case that a put may switch either way; what the view does not say comes from the defaults.
+fn switch(random: &mut Random) -> Job {
+    // Behind the case: its subject, the branches, the defaults, and what these are made of.
+    let mut sheet = vec![0x01, 0x02, 0x00, 0x20, 0x00];
+    let tests = random.pick(&[[1, 2], [1, 2], [1, 5], [1, 6], [3, 2], [4, 0], [0, 2]]);
+    let first = random.pick(&[4, 4, 4, 5, 6]);
+    let rest = random.pick(&[7, 7, 7, 8, 4, 6]);
+    sheet.extend([0x17, 1, 2, tests[0], 3, tests[1], first, rest]);
+    sheet.extend([0x10, 0]);
+    sheet.extend(match tests[0] {
+        1 => [0x13].as_slice(),
+        3 => &[0x11],
+        4 => &[0x12],
+        _ => &[0x10, 1],
+    });
+    // In the branch variables 2 and 3 are first and rest.
+    sheet.extend(random.pick(&[
+        [0x15, 9, 12], // first alone
+        [0x15, 10, 12],
+        [0x15, 11, 14], // rest alone, behind variable 1
+        [0x15, 9, 14],
+        [0x15, 9, 13], // both, the rest through the section
+    ]));
+    sheet.extend([0x14, 0, 9, 0x10, random.byte() % 3, 0x12]);
+    sheet.extend([0x15, 10, 12, 0x13]);
+    sheet.extend([0x10, 2, 0x14, 0, 5, 0x10, 1, 0x13, 0x1A, 0, 3, 1, 0x10, 3]);
+    let mut plan = numbers(random, 0, 3);
+    plan.extend(if random.percent(70) { Value::Number(number(random)).bytes() } else { numbers(random, 0, 3) });
+    let view = match random.below(8) {
+        0 => vec![0x02],
+        1 => vec![random.byte() % 2],
+        2 => [vec![0x03, 0x04, 0, 5], numbers(random, 0, 2)].concat(),
+        _ => numbers(random, 0, 4),
+    };
+    Job { sheet, plan, view: Some(view), allowance: 1000 }
+}
+
+fn numbers(random: &mut Random, least: usize, most: usize) -> Vec<u8> {
+    let length = random.of(least..most);
+    Value::List((0..length).map(|_| Value::Number(number(random))).collect()).bytes()
+}
+
+/// Values of 251 to 261 bytes, now and then cut, put in front of one another.
+fn long(random: &mut Random) -> Job {
+    let sheet = random.pick(&[
+        &[0x01u8, 0x01, 0x00, 0x10, 0x00][..],
+        &[0x01, 0x02, 0x00, 0x15, 0x01, 0x02, 0x10, 0x00, 0x10, 0x01],
+        &[0x01, 0x02, 0x00, 0x16, 0x01, 0x02, 0x10, 0x00, 0x10, 0x01],
+        &[0x01, 0x01, 0x00, 0x19, 0x01, 0x02, 0x10, 0x00, 0x10, 0x01],
+        &[0x01, 0x01, 0x00, 0x17, 0x01, 0x02, 0x00, 0x03, 0x00, 0x02, 0x02, 0x10, 0x00, 0x13, 0x10, 0x01],
+    ]);
+    let mut plan = Vec::new();
+    for _ in 0..sheet[1] {
+        let length = if random.percent(50) { random.of(120..135) } else { random.of(251..262) };
+        plan.extend(sized(random, length));
+    }
+    if random.percent(40) {
+        plan.truncate(plan.len().min(random.of(253..260)));
+    }
+    let mut view = None;
+    if random.percent(50) {
+        let length = random.of(200..262);
+        let mut bytes = sized(random, length);
+        if random.percent(40) {
+            bytes.truncate(random.of(253..260));
+        }
+        view = Some(bytes);
+    }
+    Job { sheet: sheet.to_vec(), plan, view, allowance: 1000 }
+}
+
+/// A value of this length, or of one more (the length of a value is odd).
+fn sized(random: &mut Random, length: usize) -> Vec<u8> {
+    let mut bytes = Vec::new();
+    let in_front: [u8; 2] = random.pick(&[[0x03, 0x01], [0x05, 0x00], [0x03, 0x02]]);
+    let number = random.percent(50);
+    while bytes.len() + 3 <= length {
+        bytes.extend(in_front);
+        if number && bytes.len() + 5 <= length {
+            bytes.extend([in_front[0], 0x04, 0x00, random.byte()]);
+        }
+    }
+    bytes.push(0x02);
+    bytes
+}
+
+/// About as many sections and nodes as a sheet may have, and a last record that may be cut.
+fn full(random: &mut Random) -> Job {
+    let many_nodes = random.percent(50);
+    let sections = if many_nodes { 1 } else { random.of(7..11) };
+    let nodes = if many_nodes { random.of(198..204) } else { random.below(3) };
+    let mut sheet = vec![0x01, random.of(15..18) as u8, 0];
+    for _ in 0..sections {
+        sheet.extend([0x20, 0]);
+    }
+    for own in 0..nodes {
+        let next = (own + 1) as u8;
+        let record: &[u8] = match random.below(4) {
+            0 if own + 1 < nodes => &[0x1B, next, 0, 0],
+            1 if own + 1 < nodes => &[0x16, next, next],
+            2 => &[0x1A, 0, 1, 0],
+            _ => &[0x10, 15],
+        };
+        sheet.extend(record);
+    }
+    if random.percent(60) {
+        let cut: &[u8] = random.pick(&[&[0x10][..], &[0x20], &[0x17, 1, 2], &[0x1B, 0, 0], &[0x21], &[0x0F]]);
+        sheet.extend(cut);
+    }
+    let mut plan = vec![0x01; usize::from(sheet[1])];
+    if random.percent(10) {
+        damage(&mut plan, random);
+    }
+    Job { sheet, plan, view: None, allowance: 1000 }
+}

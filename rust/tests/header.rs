@@ -1,0 +1,35 @@
+//! `include/lens.h` and this crate have the same numbers.
+
+use lens::{raw, Refusal, ALLOWANCE_MAX};
+use std::collections::BTreeMap;
+
+/// The header's constants, without `LENS_`.
+fn constants() -> BTreeMap<String, u64> {
+    let path = concat!(env!("CARGO_MANIFEST_DIR"), "/../include/lens.h");
+    let header = std::fs::read_to_string(path).unwrap();
+    let mut constants = BTreeMap::new();
+    for line in header.lines() {
+        let Some(definition) = line.strip_prefix("#define LENS_") else { continue };
+        let mut words = definition.split_whitespace();
+        if let (Some(name), Some(Ok(number))) = (words.next(), words.next().map(|word| word.trim_end_matches('u').parse())) {
+            constants.insert(name.to_string(), number);
+        }
+    }
+    constants
+}
+
+#[test]
+fn the_header_has_the_same_numbers() {
+    let mut wanted: BTreeMap<String, u64> =
+        Refusal::ALL.iter().map(|refusal| (refusal.name().to_string(), u64::from(refusal.number()))).collect();
+    assert_eq!(wanted.len(), 26);
+    let sizes = [
+        ("GET_OUT", raw::GET_OUT),
+        ("PUT_OUT", raw::PUT_OUT),
+        ("SCRATCH", raw::SCRATCH),
+        ("ALLOWANCE_MAX", ALLOWANCE_MAX as usize),
+    ];
+    wanted.extend(sizes.map(|(name, size)| (name.to_string(), size as u64)));
+    wanted.insert("OK".to_string(), 0);
+    assert_eq!(constants(), wanted);
+}
