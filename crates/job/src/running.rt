@@ -12,18 +12,40 @@ fn run_get(sheet: &[u8], plan: &[u8], allowance: u32) {
     }
 }
 
-/// Runs a job and prints the line of its answer; 60 where it is no job. Put is not there yet: its jobs are 60 too.
+fn run_put(sheet: &[u8], plan: &[u8], view: &[u8], allowance: u32) {
+    let mut out = io::buffer();
+    let mut scratch = io::large_buffer();
+    match lens::put(sheet, plan, view, allowance, &mut out, &mut scratch) {
+        Reply::Refused(c) => report::refusal(c),
+        Reply::Done { len, steps } => report::success(steps, &out[..len]),
+    }
+}
+
+/// Runs a job and prints the line of its answer; 60 where it is no job.
 pub fn run(input: &[u8]) {
-    let Job::Get {
-        allowance,
-        sheet,
-        plan,
-    } = parse(input)
-    else {
-        report::refusal(60);
-        return;
-    };
-    let end = 6 + sheet;
-    let start = 8 + sheet;
-    run_get(&input[6..end], &input[start..start + plan], allowance);
+    match parse(input) {
+        Job::Get {
+            allowance,
+            sheet,
+            plan,
+        } => {
+            let start = 8 + sheet;
+            run_get(&input[6..6 + sheet], &input[start..start + plan], allowance);
+        }
+        Job::Put {
+            allowance,
+            sheet,
+            plan,
+        } => {
+            let start = 8 + sheet;
+            let end = start + plan;
+            run_put(
+                &input[6..6 + sheet],
+                &input[start..end],
+                &input[end..],
+                allowance,
+            );
+        }
+        Job::Other => report::refusal(60),
+    }
 }

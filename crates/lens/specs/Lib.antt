@@ -4,3 +4,4 @@ pub mod CallLaws
 pub mod Trips
 pub mod WalkCalls
 pub mod RoundTrips
+pub mod Packing

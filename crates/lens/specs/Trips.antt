@@ -45,3 +45,12 @@ pub get-unmoved : (sheet plan : List ℕ) (allowance output scratch : ℕ) {r : 
 get-unmoved sheet plan allowance output scratch {o′ = o′} w = record {
   unmoved = λ len n e b output′ scratch′ hn hb ho hs. acceptability sheet plan allowance output scratch (take len o′) n (success-of w e) b output′ scratch′ hn hb ho hs;
 }
+
+-- both clauses of a call's contract
+pub with-unmoved : (sheet plan : List ℕ) (allowance output scratch : ℕ) {r : Reply} {o o′ s s′ : List ℕ}
+    → Answered (getAnswer sheet plan allowance output scratch) r o o′ s s′ → Answered (getAnswer sheet plan allowance output scratch) r o o′ s s′ × Unmoved sheet plan r o′
+with-unmoved sheet plan allowance output scratch w = (w, get-unmoved sheet plan allowance output scratch w)
+
+pub with-stands : (sheet plan view : List ℕ) (allowance output scratch : ℕ) {r : Reply} {o o′ s s′ : List ℕ}
+    → Answered (putAnswer sheet plan view allowance output scratch) r o o′ s s′ → Answered (putAnswer sheet plan view allowance output scratch) r o o′ s s′ × Stands sheet view allowance r o′
+with-stands sheet plan view allowance output scratch w = (w, put-stands sheet plan view allowance output scratch w)

@@ -8,9 +8,12 @@ ghost use Rattle.lens.specs.Calls.{Answered};
 ghost use Rattle.lens.specs.Trips.{Stands, Unmoved};
 
 mod buffers;
+mod exports;
 
 use crate::buffers::clear;
 use crate::buffers::copy_out;
+pub use exports::lens_get;
+pub use exports::lens_put;
 use walk::Walked;
 
 /// What a call answers: the length of the output and the steps taken, or a refusal's number in document 01's table.

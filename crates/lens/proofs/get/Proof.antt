@@ -1,0 +1,72 @@
+-- `get` meets its contract: each return is a case of the door, of the walk refused, or of the walk done. Assumes nothing.
+use native.Mathlib.Omega.{arith}
+use Rattle.lens.specs.Trips.{with-unmoved}
+use Rattle.lens.specs.WalkCalls.{get-output, get-scratch, get-none, get-over, get-refused, get-done, get-fits}
+use borrow.Author.Needs.{needs}
+use Rattle.lens.proofs.get.Statement.{statement}
+use Rattle.lens.proofs.get.Tie as tie
+
+returns : tie.Need-returns
+returns c = with-unmoved _ _ _ _ _ (get-output _ _ _ _ _ (omega arith))
+
+returns-2 : tie.Need-returns-2
+returns-2 c = with-unmoved _ _ _ _ _ (get-scratch _ _ _ _ _ (omega arith) (omega arith))
+
+returns-3 : tie.Need-returns-3
+returns-3 c = with-unmoved _ _ _ _ _ (get-none _ _ _ _ _ (omega arith) (omega arith) (omega arith))
+
+returns-4 : tie.Need-returns-4
+returns-4 c = with-unmoved _ _ _ _ _ (get-over _ _ _ _ _ (omega arith) (omega arith) (omega arith))
+
+get-requires : tie.Need-get-requires
+get-requires c κs = search needs
+
+enum-known-c : tie.Need-enum-known-c
+enum-known-c c = search needs
+
+refused-requires : tie.Need-refused-requires
+refused-requires c κs = search needs
+
+enum-known-len : tie.Need-enum-known-len
+enum-known-len c = search needs
+
+copy-out-requires : tie.Need-copy-out-requires
+copy-out-requires c κs = get-fits (c .before .before .before .before .before .before .before .before .before .before .before .before .before .before .before .before .before .args .sheet .now) (c .before .before .before .before .before .before .before .before .before .before .before .before .before .before .before .before .before .args .plan .now) (c .before .before .before .before .before .before .before .before .before .before .before .before .before .before .before .before .before .args .allowance) (c .before .before .before .before .before .before .before .before .before .before .before .before .before .before .before .before .before .args .out .now) (c .before .before .before .before .before .before .before .before .before .before .before .before .before .before .before .before .before .args .scratch .now) (record { output-long = omega arith; scratch-long = omega arith; some-steps = omega arith; few-steps = omega arith }) (c .before .before .before .before .before .before .before .get .ensures) (c .before .before .before .len .given .1)
+
+clear-requires : tie.Need-clear-requires
+clear-requires c κs = search needs
+
+returns-5 : tie.Need-returns-5
+returns-5 c = rw (c .before .before .refused .ensures .0) (with-unmoved _ _ _ _ _ (get-refused _ _ _ _ _ (record { output-long = omega arith; scratch-long = omega arith; some-steps = omega arith; few-steps = omega arith }) (c .before .before .before .before .before .before .before .before .before .get .ensures) (c .before .before .before .before .before .c .given .1) (c .before .before .refused .ensures .1)))
+
+same-length : tie.Need-same-length
+same-length c = search needs
+
+returns-6 : tie.Need-returns-6
+returns-6 c = with-unmoved _ _ _ _ _ (get-done _ _ _ _ _ (record { output-long = omega arith; scratch-long = omega arith; some-steps = omega arith; few-steps = omega arith }) (c .before .before .before .before .before .before .before .before .before .before .before .before .before .before .get .ensures) (c .before .before .before .before .before .before .before .before .before .before .len .given .1) (c .before .before .before .before .before .before .copy-out .ensures) (c .before .before .clear .ensures))
+
+same-length-3 : tie.Need-same-length-3
+same-length-3 c = search needs
+
+same-length-2 : tie.Need-same-length-2
+same-length-2 c = search needs
+
+pub get-spec : {M : Type 1} → statement M
+get-spec =
+    tie.close
+    (tie.spec
+    returns
+    returns-2
+    returns-3
+    returns-4
+    get-requires
+    enum-known-c
+    refused-requires
+    enum-known-len
+    copy-out-requires
+    clear-requires
+    same-length
+    returns-5
+    same-length-2
+    same-length-3
+    returns-6)

@@ -1,0 +1,69 @@
+-- One number for an answer: the low 8 bits the refusal (0: success), the next 24 the length, the upper 32 the steps.
+use mathlib.Core.Path.{_≡_, refl, sym, ap, _∙_}
+use mathlib.Core.List.{List}
+use Prim.Native.Nat.{ℕ, _+_, _*_, _≤_, _<_}
+use native.Mathlib.Omega.{arith}
+use native.Mathlib.Nat.{le-trans}
+use lib.ListN.{length, take}
+use Rattle.rules.specs.Answer.{Answer, refusal, success, getAnswer, putAnswer}
+use Rattle.rules.specs.AnswerLaws.{get-shows, put-shows, get-steps, put-steps}
+use Rattle.rules.specs.Trips.{get-short, put-short}
+use Rattle.lens.specs.declared.Reply.{Reply}
+use Rattle.lens.specs.declared.Reply.the-variants.{Done, Refused}
+use Rattle.lens.specs.Calls.{reply, written, cleared, Answered}
+
+unfoldable pub packed : Answer → ℕ
+packed (refusal c) = c
+packed (success bs n) = 256 * length bs + 4294967296 * n
+
+unfoldable pub packedReply : Reply → ℕ
+packedReply (Refused c) = c
+packedReply (Done len n) = 256 * len + 4294967296 * n
+
+-- a reply whose parts fit their bits
+abbrev pub Small : Reply → Type 0
+Small (Refused c) = Unit {0}
+Small (Done len n) = (len ≤ 4096) × (n ≤ 1000000)
+
+-- the call's answer is a: the number r says so, and output and scratch hold what document 01 says
+pub record Packed (a : Answer) (r : ℕ) (o o′ s s′ : List ℕ) : Type 0 where
+  pub answer : r ≡ packed a
+  pub output : o′ ≡ written a o
+  pub scratch : s′ ≡ cleared a s
+
+reply-packed : (a : Answer) → packedReply (reply a) ≡ packed a
+unfolding packedReply packed reply
+reply-packed (refusal c) = refl
+reply-packed (success bs n) = refl
+
+pub pack-answered : {a : Answer} {q : Reply} {r : ℕ} {o o′ s s′ : List ℕ} → Answered a q o o′ s s′ → r ≡ packedReply q → Packed a r o o′ s s′
+pack-answered {a} w e = record { answer = e ∙ ap packedReply (w .answer) ∙ reply-packed a; output = w .output; scratch = w .scratch }
+
+small-reply : (a : Answer) → ((bs : List ℕ) (n : ℕ) → a ≡ success bs n → (length bs ≤ 4096) × (n ≤ 1000000)) → Small (reply a)
+unfolding reply
+small-reply (refusal c) h = tt
+small-reply (success bs n) h = h bs n refl
+
+pub small-get : (sheet plan : List ℕ) (allowance output scratch : ℕ) {q : Reply} {o o′ s s′ : List ℕ} → Answered (getAnswer sheet plan allowance output scratch) q o o′ s s′ → Small q
+small-get sheet plan allowance output scratch w = rw (w .answer) (small-reply (getAnswer sheet plan allowance output scratch) λ bs n e. (
+  omega (arith, get-short sheet plan allowance output scratch bs n e),
+  le-trans (get-steps sheet plan allowance output scratch bs n e) (get-shows e .0 .few-steps),
+))
+
+pub small-put : (sheet plan view : List ℕ) (allowance output scratch : ℕ) {q : Reply} {o o′ s s′ : List ℕ} → Answered (putAnswer sheet plan view allowance output scratch) q o o′ s s′ → Small q
+small-put sheet plan view allowance output scratch w = rw (w .answer) (small-reply (putAnswer sheet plan view allowance output scratch) λ bs n e. (
+  put-short sheet plan view allowance output scratch bs n e,
+  le-trans (put-steps sheet plan allowance output scratch bs n view e) (put-shows e .0 .few-steps),
+))
+
+-- a reply, case by case
+pub small-done : {q : Reply} {len n : ℕ} → Small q → q ≡ Done len n → (len ≤ 4096) × (n ≤ 1000000)
+small-done {q} h e = rw e at h
+
+pub packed-refused : {q : Reply} {c : ℕ} → q ≡ Refused c → c ≡ packedReply q
+unfolding packedReply
+packed-refused e = rw e refl
+
+pub packed-done : {q : Reply} {len n : ℕ} → q ≡ Done len n → 256 * len + 4294967296 * n ≡ packedReply q
+unfolding packedReply
+packed-done e = rw e refl
