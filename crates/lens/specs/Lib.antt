@@ -5,3 +5,4 @@ pub mod Trips
 pub mod WalkCalls
 pub mod RoundTrips
 pub mod Packing
+pub mod TripCalls
