@@ -8,6 +8,9 @@ ghost use Rattle.lens.specs.Calls.{Answered};
 ghost use Rattle.lens.specs.Trips.{Stands, Unmoved};
 
 mod buffers;
+mod trips;
+pub use trips::get_then_put;
+pub use trips::put_then_get;
 mod exports;
 
 use crate::buffers::clear;
