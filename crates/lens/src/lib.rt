@@ -8,15 +8,15 @@ ghost use Rattle.lens.specs.Calls.{Answered};
 ghost use Rattle.lens.specs.Trips.{Stands, Unmoved};
 
 mod buffers;
-mod trips;
-pub use trips::get_then_put;
-pub use trips::put_then_get;
 mod exports;
+mod trips;
 
 use crate::buffers::clear;
 use crate::buffers::copy_out;
 pub use exports::lens_get;
 pub use exports::lens_put;
+pub use trips::get_then_put;
+pub use trips::put_then_get;
 use walk::Walked;
 
 /// What a call answers: the length of the output and the steps taken, or a refusal's number in document 01's table.
