@@ -97,7 +97,7 @@ pub fn put(
         return Reply::Refused(3);
     }
     match walk::put(sheet, plan, view, steps_allowed, scratch) {
-        Walked::Refused(c) => refused(c, scratch),
+        Walked::Refused(code) => refused(code, scratch),
         Walked::Done { len, steps } => {
             copy_out(scratch, 32256, len, out, 0);
             clear(scratch);

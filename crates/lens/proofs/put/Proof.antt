@@ -21,8 +21,8 @@ returns-4 c = with-stands _ _ _ _ _ _ (put-over _ _ _ _ _ _ (omega arith) (omega
 put-requires : tie.Need-put-requires
 put-requires c κs = search needs
 
-enum-known-c : tie.Need-enum-known-c
-enum-known-c c = search needs
+enum-known-code : tie.Need-enum-known-code
+enum-known-code c = search needs
 
 refused-requires : tie.Need-refused-requires
 refused-requires c κs = search needs
@@ -37,7 +37,7 @@ clear-requires : tie.Need-clear-requires
 clear-requires c κs = search needs
 
 returns-5 : tie.Need-returns-5
-returns-5 c = rw (c .before .before .refused .ensures .0) (with-stands _ _ _ _ _ _ (put-refused _ _ _ _ _ _ (record { output-long = omega arith; scratch-long = omega arith; some-steps = omega arith; few-steps = omega arith }) (c .before .before .before .before .before .before .before .before .before .put .ensures) (c .before .before .before .before .before .c .given .1) (c .before .before .refused .ensures .1)))
+returns-5 c = rw (c .before .before .refused .ensures .0) (with-stands _ _ _ _ _ _ (put-refused _ _ _ _ _ _ (record { output-long = omega arith; scratch-long = omega arith; some-steps = omega arith; few-steps = omega arith }) (c .before .before .before .before .before .before .before .before .before .put .ensures) (c .before .before .before .before .before .code .given .1) (c .before .before .refused .ensures .1)))
 
 same-length : tie.Need-same-length
 same-length c = search needs
@@ -60,7 +60,7 @@ put-spec =
     returns-3
     returns-4
     put-requires
-    enum-known-c
+    enum-known-code
     refused-requires
     enum-known-len
     copy-out-requires
