@@ -9,8 +9,9 @@ use lib.ListN.{length, getD, set, length-append, length-set, List·getD-append}
 use lib.Seq.{getD-set-same, getD-set-other, getD-append-seam}
 use Rattle.value.specs.Value.{Value, vfalse, encode, size}
 use Rattle.value.specs.Laws.{Readable}
-use Rattle.walk.specs.declared.scope.Scope.{Scope}
-use Rattle.walk.specs.Scope.{pushed, picked}
+use Rattle.step.specs.declared.Scope.{Scope}
+use Rattle.step.specs.Step.{picked}
+use Rattle.walk.specs.Scope.{pushed}
 use Rattle.walk.specs.Parts.{part, Kept, part-kept}
 
 -- bytes that a walk at `top` leaves alone: in the plan, or on the stack below `top`

@@ -13,7 +13,7 @@ use Rattle.value.specs.Value.{Value, encode, size}
 use Rattle.value.specs.Encoding.{size-encode}
 use Rattle.value.specs.Laws.{Readable}
 use Rattle.rules.specs.Rules.{Cells, two}
-use Rattle.walk.specs.declared.putter.Cells.{Cells as Owners}
+use Rattle.step.specs.declared.Cells.{Cells as Owners}
 use Rattle.walk.specs.Parts.{part, Kept, part-kept, kept-below, part-length}
 use Rattle.walk.specs.Cells.{Frame, Slot, blank, full, Written, Named, Shown}
 

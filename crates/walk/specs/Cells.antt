@@ -14,11 +14,11 @@ use Rattle.value.specs.Laws.{Readable}
 use Rattle.rules.specs.Rules.{Cells}
 use Rattle.walk.specs.Parts.{part, Kept, part-kept, take-drop}
 use Rattle.walk.specs.Arena.{Below, inPlan, onStack, Held, Env, below-later}
-use Rattle.walk.specs.declared.scope.Scope.{Scope}
-use Rattle.walk.specs.declared.bytes.Span.{Span}
-use Rattle.walk.specs.declared.putter.Cells.{Cells as Owners}
-use Rattle.walk.specs.declared.putter.Put.{Put}
-use Rattle.walk.specs.declared.putter.Put.the-variants.{Done, Refused}
+use Rattle.step.specs.declared.Scope.{Scope}
+use Rattle.step.specs.declared.Span.{Span}
+use Rattle.step.specs.declared.Cells.{Cells as Owners}
+use Rattle.step.specs.declared.Put.{Put}
+use Rattle.step.specs.declared.Put.the-variants.{Done, Refused}
 
 -- the bytes of the plan and of the stack below `top` are left alone
 pub record Frame (top : ℕ) (b a : List ℕ) : Type 0 where
@@ -51,28 +51,6 @@ pub record Shown (view : List ℕ) (v : Value) : Type 0 where
 
 -- THE CODE'S STEPS
 
--- two cells more, for the variables `at` and `at + 1`
-abbrev pub addedTwo : Owners → ℕ → Owners
-addedTwo c at = record { count = c .count + 2; of = set (set (c .of) at (c .count)) (at + 1) (c .count + 1) }
-
--- the cells of the two variables x and y alone
-abbrev pub pickedCells : Owners → ℕ → ℕ → Owners
-pickedCells c x y = record { count = c .count; of = set (set (c .of) 0 (getD (c .of) x 0)) 1 (getD (c .of) y 0) }
-
--- where a variable's value stands: in the slot of its cell where it was written, or else where it stood
-unfoldable pub placeOf : (written cell start len : ℕ) → Span
-placeOf zero cell start len = record { start = start; len = len }
-placeOf (suc w) cell start len = record { start = 4096 + 256 * cell; len = suc w }
-
 -- a kind byte and two parts of the arena behind it, in 256 bytes
 unfoldable pub rebuiltBytes : (a : List ℕ) (kind f fl r rl : ℕ) → List ℕ
 rebuiltBytes a kind f fl r rl = paste (paste (set (replicate 256 0) 0 kind) 1 (drop f a) fl) (1 + fl) (drop r a) rl
-
--- one step taken, or a refusal
-unfoldable pub judged : ℕ → Bool → Put
-judged c true = Done 1
-judged c false = Refused c
-
--- the rest of a list (kind 3) is no list
-unfoldable pub unfitRest : ℕ → ℕ → Bool
-unfitRest kind rest = eqb kind 3 && (ltb rest 2 || ltb 3 rest)

@@ -19,7 +19,7 @@ use Rattle.sheet.specs.Laws.{sheet-ranges, table-ok, table-refused}
 use Rattle.rules.specs.Outcome.{Out, done, refused, mapOut, reading}
 use Rattle.rules.specs.Rules.{get}
 use Rattle.rules.specs.Answer.{getWalk, getBytes}
-use Rattle.walk.specs.declared.scope.Scope.{Scope}
+use Rattle.step.specs.declared.Scope.{Scope}
 use Rattle.walk.specs.declared.Walked.{Walked}
 use Rattle.walk.specs.declared.Walked.the-variants.{Done, Refused}
 use Rattle.walk.specs.Parts.{part, CopiedIn}

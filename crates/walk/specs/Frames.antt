@@ -10,7 +10,7 @@ use lib.Seq.{take-take, drop-drop}
 use Rattle.value.specs.Value.{Value, size}
 use Rattle.value.specs.Laws.{Readable}
 use Rattle.rules.specs.Rules.{Env as Values, Cells}
-use Rattle.walk.specs.declared.scope.Scope.{Scope}
+use Rattle.step.specs.declared.Scope.{Scope}
 use Rattle.walk.specs.Parts.{part, Kept, part-kept, kept-below, take-drop}
 use Rattle.walk.specs.Arena.{Below, inPlan, onStack, Held, Env, below-later}
 use Rattle.walk.specs.Cells.{Frame, Slot, blank, full, Written}

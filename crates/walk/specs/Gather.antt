@@ -9,11 +9,11 @@ use native.Mathlib.Omega.{arith}
 use lib.ListN.{length, take, getD, set, replicate, length-set}
 use lib.Seq.{take-suc, getD-set-same, getD-set-other}
 use Rattle.value.specs.Value.{Value, vfalse, encode, flat}
-use Rattle.walk.specs.declared.scope.Scope.{Scope}
-use Rattle.walk.specs.declared.bytes.Span.{Span}
-use Rattle.walk.specs.declared.putter.Cells.{Cells as Owners}
+use Rattle.step.specs.declared.Scope.{Scope}
+use Rattle.step.specs.declared.Span.{Span}
+use Rattle.step.specs.declared.Cells.{Cells as Owners}
 use Rattle.walk.specs.Parts.{part, Kept, Apart, up, Copied, part-kept, part-join, part-length, kept-refl, kept-then}
-use Rattle.walk.specs.Cells.{placeOf}
+use Rattle.step.specs.Step.{placeOf}
 
 -- the bytes of v, below the stack
 pub record Rests (a : List ℕ) (p : Span) (v : Value) : Type 0 where

@@ -15,7 +15,7 @@ use Rattle.value.specs.declared.Shape.the-variants as shapes
 use Rattle.sheet.specs.declared.Node.the-variants.{Add}
 use Rattle.rules.specs.Rules.{getNode, get}
 use Rattle.rules.specs.Readable.{number-readable}
-use Rattle.walk.specs.declared.scope.Scope.{Scope}
+use Rattle.step.specs.declared.Scope.{Scope}
 use Rattle.walk.specs.declared.Walked.{Walked}
 use Rattle.walk.specs.declared.Walked.the-variants.{Done, Refused}
 use Rattle.walk.specs.Parts.{part, kept-then, kept-set}

@@ -8,7 +8,7 @@ use native.Mathlib.Omega.{arith}
 use Rattle.value.specs.Tests.{passes, holds}
 use Rattle.value.specs.Parts.{passesBytes}
 use Rattle.rules.specs.Rules.{tested}
-use Rattle.walk.specs.declared.scope.Scope.{Scope}
+use Rattle.step.specs.declared.Scope.{Scope}
 use Rattle.walk.specs.declared.Walked.{Walked}
 use Rattle.walk.specs.declared.Walked.the-variants.{Done, Refused}
 use Rattle.walk.specs.Parts.{part, kept-below, kept-then, down, Copied}

@@ -12,11 +12,11 @@ use Rattle.sheet.specs.Sheet.{Sheet, readSheet}
 use Rattle.sheet.specs.Table.{sectionAt}
 use Rattle.sheet.specs.Laws.{sheet-ranges, section-read}
 use Rattle.rules.specs.Rules.{Env as Values, two, getNode, get}
-use Rattle.walk.specs.declared.scope.Scope.{Scope}
+use Rattle.step.specs.declared.Scope.{Scope}
 use Rattle.walk.specs.declared.Walked.{Walked}
 use Rattle.walk.specs.declared.Walked.the-variants.{Done, Refused}
 use Rattle.walk.specs.Parts.{kept-refl}
-use Rattle.walk.specs.Scope.{picked}
+use Rattle.step.specs.Step.{picked}
 use Rattle.walk.specs.Arena.{Env, env-pick}
 use Rattle.walk.specs.Seen.{elem-at, elem-none}
 use Rattle.walk.specs.Answers.{give, give-none, as-done, as-refused}

@@ -16,7 +16,7 @@ use Rattle.value.specs.declared.Shape.the-variants as shapes
 use Rattle.sheet.specs.declared.Node.the-variants.{ListCase, TruthCase, Split}
 use Rattle.rules.specs.Outcome.{Out, done, refused, plus, when, _>>=_, given}
 use Rattle.rules.specs.Rules.{Env as Values, two, getNode, get, tested, onList}
-use Rattle.walk.specs.declared.scope.Scope.{Scope}
+use Rattle.step.specs.declared.Scope.{Scope}
 use Rattle.walk.specs.declared.Walked.{Walked}
 use Rattle.walk.specs.declared.Walked.the-variants.{Done, Refused}
 use Rattle.walk.specs.Parts.{part, kept-then}

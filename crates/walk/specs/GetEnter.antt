@@ -12,7 +12,7 @@ use Rattle.sheet.specs.Sheet.{Sheet, readSheet}
 use Rattle.sheet.specs.Table.{width, offsets, tableOf, nodeAt}
 use Rattle.sheet.specs.Laws.{Ranged, sheet-ranges, node-read, table-start}
 use Rattle.rules.specs.Rules.{get}
-use Rattle.walk.specs.declared.scope.Scope.{Scope}
+use Rattle.step.specs.declared.Scope.{Scope}
 use Rattle.walk.specs.declared.Walked.{Walked}
 use Rattle.walk.specs.declared.Walked.the-variants.{Refused}
 use Rattle.walk.specs.Parts.{kept-refl}

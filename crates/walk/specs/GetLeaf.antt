@@ -12,7 +12,7 @@ use Rattle.value.specs.Laws.{Readable}
 use Rattle.sheet.specs.declared.Node.the-variants.{Var, False, True, Empty, Number}
 use Rattle.rules.specs.Rules.{getNode}
 use Rattle.rules.specs.Readable.{nil-readable, truth-readable, number-readable}
-use Rattle.walk.specs.declared.scope.Scope.{Scope}
+use Rattle.step.specs.declared.Scope.{Scope}
 use Rattle.walk.specs.declared.Walked.{Walked}
 use Rattle.walk.specs.declared.Walked.the-variants.{Done, Refused}
 use Rattle.walk.specs.Parts.{part, kept-refl, kept-then, kept-set, part-one, part-cons, Marked, marked-kept, marked-part, Apart, up, Copied}

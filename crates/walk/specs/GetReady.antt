@@ -8,7 +8,7 @@ use Rattle.sheet.specs.Sheet.{Sheet}
 use Rattle.rules.specs.Outcome.{done, refused}
 use Rattle.rules.specs.AllowanceLaws.{within-done}
 use Rattle.rules.specs.Rules.{Env as Values, get}
-use Rattle.walk.specs.declared.scope.Scope.{Scope}
+use Rattle.step.specs.declared.Scope.{Scope}
 use Rattle.walk.specs.declared.Walked.{Walked}
 use Rattle.walk.specs.declared.Walked.the-variants.{Done}
 use Rattle.walk.specs.Parts.{Kept}

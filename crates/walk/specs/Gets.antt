@@ -13,7 +13,7 @@ use Rattle.sheet.specs.Laws.{Ranged}
 use Rattle.rules.specs.Outcome.{Out, done, refused}
 use Rattle.rules.specs.Allowance.{within}
 use Rattle.rules.specs.Rules.{Env as Values, getNode, get, tested}
-use Rattle.walk.specs.declared.scope.Scope.{Scope}
+use Rattle.step.specs.declared.Scope.{Scope}
 use Rattle.walk.specs.declared.Walked.{Walked}
 use Rattle.walk.specs.declared.Walked.the-variants.{Done, Refused}
 use Rattle.walk.specs.Parts.{Kept}

@@ -23,17 +23,18 @@ use Rattle.rules.specs.Outcome.{Out, done, refused, mapOut, reading}
 use Rattle.rules.specs.Allowance.{within}
 use Rattle.rules.specs.Rules.{Env as Values, Cells, orOld, put}
 use Rattle.rules.specs.Answer.{count, newPlan, putWalk, putBytes}
-use Rattle.walk.specs.declared.scope.Scope.{Scope}
+use Rattle.step.specs.declared.Scope.{Scope}
 use Rattle.walk.specs.declared.Walked.{Walked}
 use Rattle.walk.specs.declared.Walked.the-variants as walked
-use Rattle.walk.specs.declared.putter.Put.{Put}
-use Rattle.walk.specs.declared.putter.Put.the-variants.{Done, Refused}
-use Rattle.walk.specs.declared.putter.Cells.{Cells as Owners}
+use Rattle.step.specs.declared.Put.{Put}
+use Rattle.step.specs.declared.Put.the-variants.{Done, Refused}
+use Rattle.step.specs.declared.Cells.{Cells as Owners}
 use Rattle.walk.specs.Parts.{part, part-length, CopiedIn}
 use Rattle.walk.specs.Arena.{Held, Env, below-ends}
 use Rattle.walk.specs.Seen.{held-short}
-use Rattle.walk.specs.Cells.{Slot, blank, full, Written, Named, Shown, placeOf}
-use Rattle.walk.specs.Storing.{was-written}
+use Rattle.step.specs.Step.{placeOf}
+use Rattle.walk.specs.Cells.{Slot, blank, full, Written, Named, Shown}
+use Rattle.step.specs.StepLaws.{was-written}
 use Rattle.walk.specs.Frames.{env-framed}
 use Rattle.walk.specs.PutRules.{PutDone, did, not-did}
 use Rattle.walk.specs.Puts.{enter, run, Given, Ready, Gives}

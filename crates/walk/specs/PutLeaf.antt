@@ -16,14 +16,15 @@ use Rattle.sheet.specs.declared.Node.{Node}
 use Rattle.sheet.specs.declared.Node.the-variants.{Var, False, True, Empty, Number}
 use Rattle.sheet.specs.Sheet.{Sheet}
 use Rattle.rules.specs.Rules.{Env as Values, Cells, putNode, constant, write}
-use Rattle.walk.specs.declared.scope.Scope.{Scope}
-use Rattle.walk.specs.declared.putter.Put.{Put}
-use Rattle.walk.specs.declared.putter.Put.the-variants.{Done, Refused}
-use Rattle.walk.specs.declared.putter.Cells.{Cells as Owners}
+use Rattle.step.specs.declared.Scope.{Scope}
+use Rattle.step.specs.declared.Put.{Put}
+use Rattle.step.specs.declared.Put.the-variants.{Done, Refused}
+use Rattle.step.specs.declared.Cells.{Cells as Owners}
 use Rattle.walk.specs.Parts.{part}
 use Rattle.walk.specs.Seen.{elem-at, elem-none}
 use Rattle.walk.specs.Answers.{Answers, answer-by, finish, give, give-none, give-yes, give-no}
-use Rattle.walk.specs.Cells.{Slot, blank, full, Written, Named, Shown, judged}
+use Rattle.step.specs.Step.{judged}
+use Rattle.walk.specs.Cells.{Slot, blank, full, Written, Named, Shown}
 use Rattle.walk.specs.Frames.{frame-refl}
 use Rattle.walk.specs.CellLaws.{filled, filled-frame, written-set}
 use Rattle.walk.specs.Puts.{body, run, Given, Ready, Served, Denied, Gives}
@@ -198,3 +199,12 @@ module _ {b lens view : List ℕ} {sc : Scope} {cells : Owners} {x : ℕ} where
             give 42 _ (q .named) (give 42 _ (q .there ∙ ap some (f .is))
             (give-no 54 _ _ (other-values (f .value) v (sym (compared b view (getD (cells .of) x 0) (getD lens (getD (cells .of) x 0) 0) (f .value) v e (f .bytes) (w .shown)) ∙ t)) (record { is = refl })));
       }
+
+      pub var-again : {s : List ℕ} {top left l : ℕ} {r : Put} → r ≡ judged 54 p → Gives b b lens lens s (Shown view) sc cells (cells .count) top left 1 r l (body (Var x))
+      unfolding judged
+      var-again {s} {top} {left} {l} {r} j = by p refl
+        where
+          by : (q : Bool) → p ≡ q → Gives b b lens lens s (Shown view) sc cells (cells .count) top left 1 r l (body (Var x))
+          by true t = let z : r ≡ Done 1 = j ∙ ap (judged 54) t in rw z (var-same t)
+          by false t = let z : r ≡ Refused 54 = j ∙ ap (judged 54) t in rw z (var-54 t)
+

@@ -16,15 +16,16 @@ use Rattle.sheet.specs.Sheet.{Sheet}
 use Rattle.sheet.specs.Table.{sectionAt}
 use Rattle.sheet.specs.Laws.{section-read, sheet-ranges}
 use Rattle.rules.specs.Rules.{Env as Values, Cells, two, putNode}
-use Rattle.walk.specs.declared.scope.Scope.{Scope}
-use Rattle.walk.specs.declared.putter.Put.{Put}
-use Rattle.walk.specs.declared.putter.Put.the-variants.{Done, Refused}
-use Rattle.walk.specs.declared.putter.Cells.{Cells as Owners}
-use Rattle.walk.specs.Scope.{picked}
+use Rattle.step.specs.declared.Scope.{Scope}
+use Rattle.step.specs.declared.Put.{Put}
+use Rattle.step.specs.declared.Put.the-variants.{Done, Refused}
+use Rattle.step.specs.declared.Cells.{Cells as Owners}
+use Rattle.step.specs.Step.{picked}
 use Rattle.walk.specs.Arena.{env-pick}
 use Rattle.walk.specs.Seen.{elem-at, elem-none}
 use Rattle.walk.specs.Answers.{Answers, give, give-none, give-yes, give-no}
-use Rattle.walk.specs.Cells.{Shown, pickedCells}
+use Rattle.step.specs.Step.{pickedCells}
+use Rattle.walk.specs.Cells.{Shown}
 use Rattle.walk.specs.Frames.{frame-refl}
 use Rattle.walk.specs.CellLaws.{named-pick, written-at}
 use Rattle.walk.specs.Shapes.{NumberOf, number-of, no-number}

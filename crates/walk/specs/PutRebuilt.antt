@@ -17,19 +17,20 @@ use Rattle.value.specs.Views.{asList}
 use Rattle.value.specs.Laws.{Readable, encodable-front}
 use Rattle.sheet.specs.Sheet.{Sheet}
 use Rattle.rules.specs.Rules.{Env as Values, Cells, orOld, mkList, mkPair}
-use Rattle.walk.specs.declared.scope.Scope.{Scope}
-use Rattle.walk.specs.declared.bytes.Span.{Span}
-use Rattle.walk.specs.declared.putter.Put.{Put}
-use Rattle.walk.specs.declared.putter.Put.the-variants.{Done, Refused}
-use Rattle.walk.specs.declared.putter.Cells.{Cells as Owners}
+use Rattle.step.specs.declared.Scope.{Scope}
+use Rattle.step.specs.declared.Span.{Span}
+use Rattle.step.specs.declared.Put.{Put}
+use Rattle.step.specs.declared.Put.the-variants.{Done, Refused}
+use Rattle.step.specs.declared.Cells.{Cells as Owners}
 use Rattle.walk.specs.Parts.{part}
 use Rattle.walk.specs.Arena.{Held, below-ends}
 use Rattle.walk.specs.Seen.{elem-at}
 use Rattle.walk.specs.Answers.{Answers, give, give-none, give-yes, give-no}
-use Rattle.walk.specs.Cells.{Slot, blank, full, Written, Shown, placeOf, rebuiltBytes, unfitRest}
+use Rattle.step.specs.Step.{placeOf, unfitRest}
+use Rattle.walk.specs.Cells.{Slot, blank, full, Written, Shown, rebuiltBytes}
 use Rattle.walk.specs.Frames.{frame-refl}
 use Rattle.walk.specs.CellLaws.{written-less}
-use Rattle.walk.specs.Storing.{was-written}
+use Rattle.step.specs.StepLaws.{was-written}
 use Rattle.walk.specs.PutRules.{last-done, last-refused, did, not-did, did-few, given-after}
 use Rattle.walk.specs.PutTwo.{ready-for}
 use Rattle.walk.specs.Puts.{Task, enter, rebuilt, rebuild, maker, Made, aList, aPair, run, Any, Spans, SomeSpans, Given, Ready, Gives}

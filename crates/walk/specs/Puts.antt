@@ -15,10 +15,10 @@ use Rattle.sheet.specs.Sheet.{Sheet, readSheet}
 use Rattle.sheet.specs.Laws.{Ranged}
 use Rattle.rules.specs.Outcome.{Out, done, refused, when, _>>=_, given}
 use Rattle.rules.specs.Rules.{Env as Values, Cells, get, putNode, put, orOld, both, under, mkList, mkPair}
-use Rattle.walk.specs.declared.scope.Scope.{Scope}
-use Rattle.walk.specs.declared.putter.Put.{Put}
-use Rattle.walk.specs.declared.putter.Put.the-variants.{Done, Refused}
-use Rattle.walk.specs.declared.putter.Cells.{Cells as Owners}
+use Rattle.step.specs.declared.Scope.{Scope}
+use Rattle.step.specs.declared.Put.{Put}
+use Rattle.step.specs.declared.Put.the-variants.{Done, Refused}
+use Rattle.step.specs.declared.Cells.{Cells as Owners}
 use Rattle.walk.specs.Arena.{Env, Held}
 use Rattle.walk.specs.Answers.{Answers}
 use Rattle.walk.specs.Gets.{Lent}

@@ -4,7 +4,7 @@ ghost use Prim.Native.Nat.{_+_, _≤_, _<_};
 ghost use lib.ListN.{length, drop};
 ghost use lib.Seq.{paste};
 ghost use Rattle.walk.specs.Parts.{Apart, Copied, CopiedIn};
-ghost use Rattle.walk.specs.Cells.{placeOf, rebuiltBytes};
+ghost use Rattle.walk.specs.Cells.{rebuiltBytes};
 
 /// Copies n bytes of the arena from one place to another, forwards.
 pub fn copy(arena: &mut [u8], from: usize, to: usize, n: usize)
@@ -40,26 +40,6 @@ pub fn store(arena: &mut [u8], at: usize, from: &[u8])
     while i < from.len() {
         arena[at + i] = from[i];
         i += 1;
-    }
-}
-
-/// Where a value stands.
-pub struct Span {
-    pub start: usize,
-    pub len: usize,
-}
-
-/// Where a variable's value stands: in the slot of its cell where it was written, or else where it stood.
-pub fn place_of(written: u16, cell: usize, start: usize, len: usize) -> Span
-    requires { ⌜ cell < 110 ⌝ }
-    ensures { λ r. ⌜ r ≡ placeOf written cell start len ⌝ }
-{
-    if written == 0 {
-        return Span { start, len };
-    }
-    Span {
-        start: 4096 + 256 * cell,
-        len: written as usize,
     }
 }
 

@@ -6,10 +6,9 @@ ghost use lib.ListN.{length, set};
 ghost use Rattle.walk.specs.Gets.{Room, Ready, Gives, enter, body, branch};
 use crate::Walked;
 use crate::bytes::copy;
-use crate::scope::Scope;
-use crate::scope::pick_two;
 use crate::scope::push_two;
 use sheet::Node;
+use step::Scope;
 use value::Shape;
 
 /// Where a walk is: the levels and the steps that are left, and the top of the stack.
@@ -496,7 +495,7 @@ fn get_call(
         return Walked::Refused(42);
     }
     let root = sheet::section_root(sheet, section);
-    match get_node(sheet, starts, arena, pick_two(scope, x, y), root, at) {
+    match get_node(sheet, starts, arena, step::pick_two(scope, x, y), root, at) {
         Walked::Refused(c) => Walked::Refused(c),
         Walked::Done { len, steps } => Walked::Done {
             len,

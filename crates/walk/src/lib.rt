@@ -14,15 +14,14 @@ mod scope;
 
 use crate::bytes::copy;
 use crate::bytes::copy_in;
-use crate::bytes::place_of;
 use crate::getter::At;
 use crate::getter::get_node;
-use crate::putter::Put;
 use crate::putter::first_cells;
 use crate::putter::put_node;
-use crate::scope::Scope;
 use crate::scope::of_spans;
 use sheet::Table;
+use step::Put;
+use step::Scope;
 
 /// What a walk gives: `len` bytes at the top of the stack and the steps taken, or a refusal.
 pub enum Walked {
@@ -87,7 +86,7 @@ fn gather(arena: &mut [u8], lens: &[u16; 110], scope: Scope) -> usize
     let mut len = 0;
     let mut i = 0;
     while i < scope.count {
-        let from = place_of(lens[i], i, scope.starts[i] as usize, scope.lens[i] as usize);
+        let from = step::place_of(lens[i], i, scope.starts[i] as usize, scope.lens[i] as usize);
         copy(arena, from.start, 32256 + len, from.len);
         len += from.len;
         i += 1;

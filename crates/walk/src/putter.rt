@@ -3,35 +3,23 @@ ghost use mathlib.Core.Path.{_≡_};
 ghost use mathlib.Core.List.{List, [], _∷_};
 ghost use Prim.Native.Nat.{ℕ, suc, _+_, _*_, _/_, _%_, _≤_, _<_};
 ghost use Rattle.value.specs.Value.{Value, vfalse};
-ghost use Rattle.value.specs.Parts.{sameBytes};
-ghost use Rattle.walk.specs.Cells.{Shown, addedTwo, pickedCells, judged, unfitRest};
+ghost use Rattle.walk.specs.Cells.{Shown};
 ghost use Rattle.walk.specs.Puts.{Ready, Inner, Gives, Any, Spans, SomeSpans, SomeView, enter, body, pair, inside, rebuilt, switch};
 ghost use Rattle.walk.specs.PutLeaf.{Leaf};
 ghost use Rattle.walk.specs.Gather.{Counted};
 use crate::Walked;
-use crate::bytes::place_of;
 use crate::bytes::rebuild;
 use crate::bytes::store;
 use crate::getter::At;
 use crate::getter::get_node;
-use crate::scope::Scope;
 use crate::scope::empty;
-use crate::scope::pick_two;
 use crate::scope::push_two;
 use sheet::Node;
+use step::Branch;
+use step::Cells;
+use step::Put;
+use step::Scope;
 use value::Shape;
-
-/// What a put gives: the steps taken, or a refusal.
-pub enum Put {
-    Done(usize),
-    Refused(u8),
-}
-
-/// The cells so far, and the cell of each variable in scope.
-pub struct Cells {
-    pub count: usize,
-    pub of: [u8; 110],
-}
 
 /// The cells of the k variables of a plan: cell i for variable i.
 pub fn first_cells(k: usize) -> Cells
@@ -45,32 +33,6 @@ pub fn first_cells(k: usize) -> Cells
         i += 1;
     }
     Cells { count: k, of }
-}
-
-// The next two variables, from number `at` on, are two new cells.
-fn add_two(cells: Cells, at: usize) -> Cells
-    requires { ⌜ (cells .count + 2 ≤ 110) × (at + 2 ≤ 110) ⌝ }
-    ensures { λ r. ⌜ r ≡ addedTwo cells at ⌝ }
-{
-    let mut c = cells;
-    let n = c.count;
-    c.of[at] = n as u8;
-    c.of[at + 1] = (n + 1) as u8;
-    c.count = n + 2;
-    c
-}
-
-// The cells of the two variables x and y alone.
-fn pick_cells(cells: Cells, x: usize, y: usize) -> Cells
-    requires { ⌜ (x < 110) × (y < 110) ⌝ }
-    ensures { λ r. ⌜ r ≡ pickedCells cells x y ⌝ }
-{
-    let x_cell = cells.of[x];
-    let y_cell = cells.of[y];
-    let mut c = cells;
-    c.of[0] = x_cell;
-    c.of[1] = y_cell;
-    c
 }
 
 fn put_var(
@@ -96,31 +58,7 @@ fn put_var(
         return Put::Done(1);
     }
     let end = slot + len;
-    if value::same(&arena[slot..end], view) {
-        return Put::Done(1);
-    }
-    Put::Refused(54)
-}
-
-// A constant of one byte, its kind.
-fn put_constant(kind: u8, view: &[u8]) -> Put
-    ensures { λ r. ⌜ r ≡ judged 50 (sameBytes (now (view .entry)) (kind ∷ [])) ⌝ }
-{
-    let constant = [kind];
-    if value::same(view, &constant) {
-        return Put::Done(1);
-    }
-    Put::Refused(50)
-}
-
-fn put_number(n: u16, view: &[u8]) -> Put
-    ensures { λ r. ⌜ r ≡ judged 50 (sameBytes (now (view .entry)) (4 ∷ n / 256 ∷ n % 256 ∷ [])) ⌝ }
-{
-    let constant = [4, value::high(n), value::low(n)];
-    if value::same(view, &constant) {
-        return Put::Done(1);
-    }
-    Put::Refused(50)
+    step::put_again(&arena[slot..end], view)
 }
 
 /// A view put back into a node: its depth is judged, then the allowance.
@@ -153,10 +91,10 @@ pub fn put_node(
     };
     match sheet::node_at(sheet, start) {
         Node::Var(x) => put_var(arena, lens, scope, cells, x, view),
-        Node::False => put_constant(0, view),
-        Node::True => put_constant(1, view),
-        Node::Empty => put_constant(2, view),
-        Node::Number(n) => put_number(n, view),
+        Node::False => step::put_constant(0, view),
+        Node::True => step::put_constant(1, view),
+        Node::Empty => step::put_constant(2, view),
+        Node::Number(n) => step::put_number(n, view),
         Node::Front { first, rest } => put_front(
             sheet,
             starts,
@@ -406,7 +344,7 @@ fn put_under(
     lens[n] = 0;
     lens[n + 1] = 0;
     let more = push_two(scope, start, first, second);
-    let inner = add_two(cells, scope.count);
+    let inner = step::add_two(cells, scope.count);
     match put_node(sheet, starts, arena, lens, more, inner, branch, view, at) {
         Put::Refused(c) => Put::Refused(c),
         Put::Done(s) => {
@@ -434,19 +372,6 @@ fn put_under(
     }
 }
 
-// The rest of a list (kind 3) is no list.
-fn unfit(kind: u8, rest: u8) -> bool
-    ensures { λ r. ⌜ r ≡ unfitRest kind rest ⌝ }
-{
-    if kind != 3 {
-        return false;
-    }
-    if rest < 2 {
-        return true;
-    }
-    3 < rest
-}
-
 // The subject, rebuilt of what the two variables of its branch stand for, into its node. Their cells are the next two.
 fn put_rebuilt(
     sheet: &[u8],
@@ -468,11 +393,11 @@ fn put_rebuilt(
     ensures { λ r. ⌜ ((f u : Value) → Spans (now (arena .entry)) (at .top) start first second f u → Gives (now (arena .entry)) (now (arena .exit)) (now (lens .entry)) (now (lens .exit)) (now (sheet .entry)) Any scope cells (cells .count + 2) (at .top) (at .left) spent r (at .levels) (rebuilt kind subject f u)) ⌝ }
 {
     let n = cells.count;
-    let f = place_of(lens[n], n, start, first);
-    let r = place_of(lens[n + 1], n + 1, start + first, second);
+    let f = step::place_of(lens[n], n, start, first);
+    let r = step::place_of(lens[n + 1], n + 1, start + first, second);
     let r_start = r.start;
     let rest_kind = arena[r_start];
-    if unfit(kind, rest_kind) {
+    if step::unfit(kind, rest_kind) {
         return Put::Refused(43);
     }
     let size = 1 + f.len + r.len;
@@ -538,80 +463,72 @@ fn put_list_case(
                 top: end,
             };
             match value::shape_of(&arena[top..end]) {
-                Shape::Empty => {
-                    if value::passes(empty_test, view) {
-                        return put_both(
-                            sheet,
-                            starts,
-                            arena,
-                            lens,
-                            scope,
-                            cells,
-                            empty,
-                            view,
-                            subject,
-                            &[2],
-                            1 + steps,
-                            then,
-                        );
-                    }
-                    if value::passes(front_test, view) {
-                        return put_switch(
-                            sheet,
-                            starts,
-                            arena,
-                            lens,
-                            scope,
-                            cells,
-                            front,
-                            subject,
-                            first,
-                            rest,
-                            view,
-                            1 + steps,
-                            then,
-                        );
-                    }
-                    Put::Refused(53)
-                }
-                Shape::Front(mid) => {
-                    if value::passes(front_test, view) {
-                        return put_under(
-                            sheet,
-                            starts,
-                            arena,
-                            lens,
-                            scope,
-                            cells,
-                            front,
-                            subject,
-                            3,
-                            top + 1,
-                            mid - 1,
-                            len - mid,
-                            view,
-                            1 + steps,
-                            then,
-                        );
-                    }
-                    if value::passes(empty_test, view) {
-                        return put_both(
-                            sheet,
-                            starts,
-                            arena,
-                            lens,
-                            scope,
-                            cells,
-                            empty,
-                            view,
-                            subject,
-                            &[2],
-                            1 + steps,
-                            then,
-                        );
-                    }
-                    Put::Refused(53)
-                }
+                Shape::Empty => match step::choose(false, empty_test, front_test, view) {
+                    Branch::First => put_both(
+                        sheet,
+                        starts,
+                        arena,
+                        lens,
+                        scope,
+                        cells,
+                        empty,
+                        view,
+                        subject,
+                        &[2],
+                        1 + steps,
+                        then,
+                    ),
+                    Branch::Second => put_switch(
+                        sheet,
+                        starts,
+                        arena,
+                        lens,
+                        scope,
+                        cells,
+                        front,
+                        subject,
+                        first,
+                        rest,
+                        view,
+                        1 + steps,
+                        then,
+                    ),
+                    Branch::Neither => Put::Refused(53),
+                },
+                Shape::Front(mid) => match step::choose(true, empty_test, front_test, view) {
+                    Branch::First => put_both(
+                        sheet,
+                        starts,
+                        arena,
+                        lens,
+                        scope,
+                        cells,
+                        empty,
+                        view,
+                        subject,
+                        &[2],
+                        1 + steps,
+                        then,
+                    ),
+                    Branch::Second => put_under(
+                        sheet,
+                        starts,
+                        arena,
+                        lens,
+                        scope,
+                        cells,
+                        front,
+                        subject,
+                        3,
+                        top + 1,
+                        mid - 1,
+                        len - mid,
+                        view,
+                        1 + steps,
+                        then,
+                    ),
+                    Branch::Neither => Put::Refused(53),
+                },
                 _ => Put::Refused(43),
             }
         }
@@ -734,76 +651,68 @@ fn put_truth_case(
                 top: end,
             };
             match value::shape_of(&arena[top..end]) {
-                Shape::False => {
-                    if value::passes(no_test, view) {
-                        return put_both(
-                            sheet,
-                            starts,
-                            arena,
-                            lens,
-                            scope,
-                            cells,
-                            no,
-                            view,
-                            subject,
-                            &[0],
-                            1 + steps,
-                            then,
-                        );
-                    }
-                    if value::passes(yes_test, view) {
-                        return put_both(
-                            sheet,
-                            starts,
-                            arena,
-                            lens,
-                            scope,
-                            cells,
-                            yes,
-                            view,
-                            subject,
-                            &[1],
-                            1 + steps,
-                            then,
-                        );
-                    }
-                    Put::Refused(53)
-                }
-                Shape::True => {
-                    if value::passes(yes_test, view) {
-                        return put_both(
-                            sheet,
-                            starts,
-                            arena,
-                            lens,
-                            scope,
-                            cells,
-                            yes,
-                            view,
-                            subject,
-                            &[1],
-                            1 + steps,
-                            then,
-                        );
-                    }
-                    if value::passes(no_test, view) {
-                        return put_both(
-                            sheet,
-                            starts,
-                            arena,
-                            lens,
-                            scope,
-                            cells,
-                            no,
-                            view,
-                            subject,
-                            &[0],
-                            1 + steps,
-                            then,
-                        );
-                    }
-                    Put::Refused(53)
-                }
+                Shape::False => match step::choose(false, no_test, yes_test, view) {
+                    Branch::First => put_both(
+                        sheet,
+                        starts,
+                        arena,
+                        lens,
+                        scope,
+                        cells,
+                        no,
+                        view,
+                        subject,
+                        &[0],
+                        1 + steps,
+                        then,
+                    ),
+                    Branch::Second => put_both(
+                        sheet,
+                        starts,
+                        arena,
+                        lens,
+                        scope,
+                        cells,
+                        yes,
+                        view,
+                        subject,
+                        &[1],
+                        1 + steps,
+                        then,
+                    ),
+                    Branch::Neither => Put::Refused(53),
+                },
+                Shape::True => match step::choose(true, no_test, yes_test, view) {
+                    Branch::First => put_both(
+                        sheet,
+                        starts,
+                        arena,
+                        lens,
+                        scope,
+                        cells,
+                        no,
+                        view,
+                        subject,
+                        &[0],
+                        1 + steps,
+                        then,
+                    ),
+                    Branch::Second => put_both(
+                        sheet,
+                        starts,
+                        arena,
+                        lens,
+                        scope,
+                        cells,
+                        yes,
+                        view,
+                        subject,
+                        &[1],
+                        1 + steps,
+                        then,
+                    ),
+                    Branch::Neither => Put::Refused(53),
+                },
                 _ => Put::Refused(43),
             }
         }
@@ -898,8 +807,8 @@ fn put_call(
         starts,
         arena,
         lens,
-        pick_two(scope, x, y),
-        pick_cells(cells, x, y),
+        step::pick_two(scope, x, y),
+        step::pick_cells(cells, x, y),
         root,
         view,
         at,

@@ -1,15 +1,9 @@
 //! The scope: where the variables' values stand in the arena.
 ghost use mathlib.Core.Path.{_≡_};
 ghost use Prim.Native.Nat.{_+_, _<_, _≤_};
-ghost use Rattle.walk.specs.Scope.{noVariable, pushed, picked, Spanned};
+ghost use Rattle.walk.specs.Scope.{noVariable, pushed, Spanned};
+use step::Scope;
 use value::Spans;
-
-/// The variables in scope, at most 110: where each one's bytes start and how many they are.
-pub struct Scope {
-    pub count: usize,
-    pub starts: [u16; 110],
-    pub lens: [u16; 110],
-}
 
 /// No variable.
 pub fn empty() -> Scope
@@ -41,24 +35,6 @@ pub fn push_two(scope: Scope, start: usize, first: usize, second: usize) -> Scop
     ensures { λ r. ⌜ r ≡ pushed (pushed scope start first) (start + first) second ⌝ }
 {
     push(push(scope, start, first), start + first, second)
-}
-
-/// The two variables x and y alone.
-pub fn pick_two(scope: Scope, x: usize, y: usize) -> Scope
-    requires { ⌜ (x < 110) × (y < 110) ⌝ }
-    ensures { λ r. ⌜ r ≡ picked scope x y ⌝ }
-{
-    let x_start = scope.starts[x];
-    let x_len = scope.lens[x];
-    let y_start = scope.starts[y];
-    let y_len = scope.lens[y];
-    let mut s = scope;
-    s.starts[0] = x_start;
-    s.lens[0] = x_len;
-    s.starts[1] = y_start;
-    s.lens[1] = y_len;
-    s.count = 2;
-    s
 }
 
 /// The k variables of a plan, whose values stand at its spans.

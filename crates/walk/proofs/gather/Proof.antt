@@ -9,7 +9,7 @@ use Rattle.walk.proofs.gather.Tie as tie
 use Rattle.walk.proofs.gather.Reads as reads
 use Rattle.walk.proofs.gather.Lts as lts
 use Rattle.walk.proofs.bytes.copy.Reads as copy-reads
-use Rattle.walk.proofs.bytes.place_of.Reads as place-of-reads
+use Rattle.step.proofs.place_of.Reads as place-of-reads
 
 abbrev Inv-loop : tie.InvT-loop
 Inv-loop arena₀ lens scope len₀ i₀ arena len i = (i ≤ scope .count) × Gathered i lens scope arena₀ arena len
@@ -55,7 +55,7 @@ cast-place-of-2 c = search needs
 
 -- src/lib.rt:90:13
 place-of-requires : tie.Need-place-of-requires Inv-loop μ-loop
-place-of-requires c κs = (omega (arith, c .before .before .before .before .before .before .pre .placed .few, c .before .before .before .before .before .before .pre .placed .count, c .before .before .before .loop-test .taken))
+place-of-requires c κs = search needs
 
 -- src/lib.rt:91:33
 add-copy : tie.Need-add-copy Inv-loop μ-loop
@@ -63,11 +63,11 @@ add-copy c = omega (arith, c .before .before .before .before .before .before .be
 
 -- src/lib.rt:91:9
 copy-requires : tie.Need-copy-requires Inv-loop μ-loop
-copy-requires c κs = (gather-fits (c .before .before .before .before .before .before .loop .inv .1) (c .before .before .before .before .before .before .before .before .pre) (c .before .before .before .before .before .loop-test .taken) (c .before .place-of .ensures), gather-apart (c .before .before .before .before .before .before .loop .inv .1) (c .before .before .before .before .before .before .before .before .pre) (c .before .before .before .before .before .loop-test .taken) (c .before .place-of .ensures))
+copy-requires c κs = (gather-fits (c .before .before .before .before .before .before .loop .inv .1) (c .before .before .before .before .before .before .before .before .pre) (c .before .before .before .before .before .loop-test .taken) (c .before .place-of .ensures .inside (omega (arith, c .before .before .before .before .before .before .before .before .pre .placed .few, c .before .before .before .before .before .before .before .before .pre .placed .count, c .before .before .before .before .before .loop-test .taken))), gather-apart (c .before .before .before .before .before .before .loop .inv .1) (c .before .before .before .before .before .before .before .before .pre) (c .before .before .before .before .before .loop-test .taken) (c .before .place-of .ensures .inside (omega (arith, c .before .before .before .before .before .before .before .before .pre .placed .few, c .before .before .before .before .before .before .before .before .pre .placed .count, c .before .before .before .before .before .loop-test .taken))))
 
 -- src/lib.rt:92:9
 add-len : tie.Need-add-len Inv-loop μ-loop
-add-len c = let f = gather-fits (c .before .before .before .before .before .before .before .before .before .before .loop .inv .1) (c .before .before .before .before .before .before .before .before .before .before .before .before .pre) (c .before .before .before .before .before .before .before .before .before .loop-test .taken) (c .before .before .before .before .before .place-of .ensures) in omega (arith, f .1, c .before .before .before .before .before .before .before .before .before .before .loop .inv .1 .kept .long, c .before .before .before .before .before .before .before .before .before .before .before .before .pre .placed .long)
+add-len c = let f = gather-fits (c .before .before .before .before .before .before .before .before .before .before .loop .inv .1) (c .before .before .before .before .before .before .before .before .before .before .before .before .pre) (c .before .before .before .before .before .before .before .before .before .loop-test .taken) (c .before .before .before .before .before .place-of .ensures .inside (omega (arith, c .before .before .before .before .before .before .before .before .before .before .before .before .pre .placed .few, c .before .before .before .before .before .before .before .before .before .before .before .before .pre .placed .count, c .before .before .before .before .before .before .before .before .before .loop-test .taken))) in omega (arith, f .1, c .before .before .before .before .before .before .before .before .before .before .loop .inv .1 .kept .long, c .before .before .before .before .before .before .before .before .before .before .before .before .pre .placed .long)
 
 -- src/lib.rt:93:9
 add-i : tie.Need-add-i Inv-loop μ-loop
@@ -79,7 +79,7 @@ loop-less c = omega (arith, c .before .before .before .before .before .before .b
 
 -- src/lib.rt:89:5
 loop-again : tie.Need-loop-again Inv-loop μ-loop
-loop-again c = (omega (arith, c .before .before .before .before .before .before .before .before .before .loop-test .taken), gathered-more (c .before .before .before .before .before .before .before .before .before .before .loop .inv .1) (c .before .before .before .before .before .before .before .before .before .before .before .before .pre) (c .before .before .before .before .before .before .before .before .before .loop-test .taken) (c .before .before .before .before .before .place-of .ensures) (c .before .before .before .copy .ensures))
+loop-again c = (omega (arith, c .before .before .before .before .before .before .before .before .before .loop-test .taken), gathered-more (c .before .before .before .before .before .before .before .before .before .before .loop .inv .1) (c .before .before .before .before .before .before .before .before .before .before .before .before .pre) (c .before .before .before .before .before .before .before .before .before .loop-test .taken) (c .before .before .before .before .before .place-of .ensures .inside (omega (arith, c .before .before .before .before .before .before .before .before .before .before .before .before .pre .placed .few, c .before .before .before .before .before .before .before .before .before .before .before .before .pre .placed .count, c .before .before .before .before .before .before .before .before .before .loop-test .taken))) (c .before .before .before .copy .ensures))
 
 -- src/lib.rt:83:1
 same-length : tie.Need-same-length Inv-loop μ-loop

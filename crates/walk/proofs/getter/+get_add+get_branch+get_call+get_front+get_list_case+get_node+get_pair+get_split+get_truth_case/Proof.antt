@@ -54,7 +54,7 @@ use Rattle.walk.proofs.bytes.copy.Reads as copy-reads
 use Rattle.walk.proofs.getter.get_constant.Reads as get-constant-reads
 use Rattle.walk.proofs.getter.get_number.Reads as get-number-reads
 use Rattle.walk.proofs.getter.get_var.Reads as get-var-reads
-use Rattle.walk.proofs.scope.pick_two.Reads as pick-two-reads
+use Rattle.step.proofs.pick_two.Reads as pick-two-reads
 use Rattle.walk.proofs.scope.push_two.Reads as push-two-reads
 use Rattle.walk.proofs.getter.+get_add+get_branch+get_call+get_front+get_list_case+get_node+get_pair+get_split+get_truth_case.{
   statement,
@@ -380,7 +380,7 @@ get-call-pick-two-requires t c κs = search needs
 
 -- src/getter.rt:504:11
 get-call-get-node-requires : (t : ℕ) → get-call-lts.Need-get-node-requires (get-call-claims t) (get-call-at t) get-call.Post
-get-call-get-node-requires t c κs = (omega (arith, c .before .before .before .before .before .before .before .before .before .pre .0), call-ready (c .before .before .before .before .before .before .before .before .before .pre .1) (omega (arith, c .before .before .before .before .before .if1 .left)) (omega (arith, c .before .before .before .if2 .left)) (c .before .before .section-root .ensures) (c .pick-two .ensures))
+get-call-get-node-requires t c κs = (omega (arith, c .before .before .before .before .before .before .before .before .before .pre .0), call-ready (c .before .before .before .before .before .before .before .before .before .pre .1) (omega (arith, c .before .before .before .before .before .if1 .left)) (omega (arith, c .before .before .before .if2 .left)) (c .before .before .section-root .ensures) (c .pick-two .ensures .inside (omega (arith, c .before .before .before .before .before .if1 .left, c .before .before .before .before .before .before .before .before .before .pre .1 .slots), omega (arith, c .before .before .before .if2 .left, c .before .before .before .before .before .before .before .before .before .pre .1 .slots))))
 
 -- src/getter.rt:505:25
 get-call-enum-known-c : (t : ℕ) → get-call-lts.Need-enum-known-c (get-call-claims t) (get-call-at t) get-call.Post
@@ -392,11 +392,11 @@ get-call-enum-known-len t c = search needs
 
 -- src/getter.rt:508:20
 get-call-add-t19 : (t : ℕ) → get-call-lts.Need-add-t19 (get-call-claims t) (get-call-at t) get-call.Post
-get-call-add-t19 t c = record { fits = omega (arith, (c .before .before .before .before .before .before .before .before .before .before .before .before .before .before .before .pre .1) .few, sizes (call-ready (c .before .before .before .before .before .before .before .before .before .before .before .before .before .before .before .pre .1) (omega (arith, c .before .before .before .before .before .before .before .before .before .before .before .if1 .left)) (omega (arith, c .before .before .before .before .before .before .before .before .before .if2 .left)) (c .before .before .before .before .before .before .before .before .section-root .ensures) (c .before .before .before .before .before .before .pick-two .ensures)) (c .before .before .before .before .before .get-node .ensures) (c .before .len .given .1) .steps) }
+get-call-add-t19 t c = record { fits = omega (arith, (c .before .before .before .before .before .before .before .before .before .before .before .before .before .before .before .pre .1) .few, sizes (call-ready (c .before .before .before .before .before .before .before .before .before .before .before .before .before .before .before .pre .1) (omega (arith, c .before .before .before .before .before .before .before .before .before .before .before .if1 .left)) (omega (arith, c .before .before .before .before .before .before .before .before .before .if2 .left)) (c .before .before .before .before .before .before .before .before .section-root .ensures) (c .before .before .before .before .before .before .pick-two .ensures .inside (omega (arith, c .before .before .before .before .before .before .before .before .before .before .before .if1 .left, c .before .before .before .before .before .before .before .before .before .before .before .before .before .before .before .pre .1 .slots), omega (arith, c .before .before .before .before .before .before .before .before .before .if2 .left, c .before .before .before .before .before .before .before .before .before .before .before .before .before .before .before .pre .1 .slots)))) (c .before .before .before .before .before .get-node .ensures) (c .before .len .given .1) .steps) }
 
 -- src/getter.rt:484:1
 get-call-returns-3 : (t : ℕ) → get-call-lts.Need-returns-3 (get-call-claims t) (get-call-at t) get-call.Post
-get-call-returns-3 t c = call-refused (c .before .before .before .before .before .before .before .before .before .before .before .before .before .before .before .pre .1) (omega (arith, c .before .before .before .before .before .before .before .before .before .before .before .if1 .left)) (omega (arith, c .before .before .before .before .before .before .before .before .before .if2 .left)) (c .before .before .before .before .before .before .before .before .section-root .ensures) (c .before .before .before .before .before .before .pick-two .ensures) (c .before .before .before .before .before .get-node .ensures) (c .before .c .given .1)
+get-call-returns-3 t c = call-refused (c .before .before .before .before .before .before .before .before .before .before .before .before .before .before .before .pre .1) (omega (arith, c .before .before .before .before .before .before .before .before .before .before .before .if1 .left)) (omega (arith, c .before .before .before .before .before .before .before .before .before .if2 .left)) (c .before .before .before .before .before .before .before .before .section-root .ensures) (c .before .before .before .before .before .before .pick-two .ensures .inside (omega (arith, c .before .before .before .before .before .before .before .before .before .before .before .if1 .left, c .before .before .before .before .before .before .before .before .before .before .before .before .before .before .before .pre .1 .slots), omega (arith, c .before .before .before .before .before .before .before .before .before .if2 .left, c .before .before .before .before .before .before .before .before .before .before .before .before .before .before .before .pre .1 .slots))) (c .before .before .before .before .before .get-node .ensures) (c .before .c .given .1)
 
 -- src/getter.rt:484:1
 get-call-same-length : (t : ℕ) → get-call-lts.Need-same-length (get-call-claims t) (get-call-at t) get-call.Post
@@ -404,7 +404,7 @@ get-call-same-length t c = get-call-returns-3 t c .kept .long
 
 -- src/getter.rt:484:1
 get-call-returns-4 : (t : ℕ) → get-call-lts.Need-returns-4 (get-call-claims t) (get-call-at t) get-call.Post
-get-call-returns-4 t c = call-done (c .before .before .before .before .before .before .before .before .before .before .before .before .before .before .before .pre .1) (omega (arith, c .before .before .before .before .before .before .before .before .before .before .before .if1 .left)) (omega (arith, c .before .before .before .before .before .before .before .before .before .if2 .left)) (c .before .before .before .before .before .before .before .before .section-root .ensures) (c .before .before .before .before .before .before .pick-two .ensures) (c .before .before .before .before .before .get-node .ensures) (c .before .len .given .1)
+get-call-returns-4 t c = call-done (c .before .before .before .before .before .before .before .before .before .before .before .before .before .before .before .pre .1) (omega (arith, c .before .before .before .before .before .before .before .before .before .before .before .if1 .left)) (omega (arith, c .before .before .before .before .before .before .before .before .before .if2 .left)) (c .before .before .before .before .before .before .before .before .section-root .ensures) (c .before .before .before .before .before .before .pick-two .ensures .inside (omega (arith, c .before .before .before .before .before .before .before .before .before .before .before .if1 .left, c .before .before .before .before .before .before .before .before .before .before .before .before .before .before .before .pre .1 .slots), omega (arith, c .before .before .before .before .before .before .before .before .before .if2 .left, c .before .before .before .before .before .before .before .before .before .before .before .before .before .before .before .pre .1 .slots))) (c .before .before .before .before .before .get-node .ensures) (c .before .len .given .1)
 
 -- src/getter.rt:484:1
 get-call-same-length-2 : (t : ℕ) → get-call-lts.Need-same-length-2 (get-call-claims t) (get-call-at t) get-call.Post

@@ -17,6 +17,7 @@ use Rattle.walk.specs.PutCase.{view-nil, view-false, view-true, subject-
 use Rattle.walk.specs.PutList as lists
 use Rattle.walk.specs.PutTruth.{truth-43, false-no, false-yes, false-53, true-yes, true-no, true-53, split-43, split-under}
 use Rattle.walk.specs.PutSwitch.{default-ready, switch-few₁, switch-few₂, switch-refused₁, switch-refused₂, switch-43, switch-spans, switch-ready, switch-under}
+use Rattle.step.specs.StepLaws.{first-kept, first-left, second-kept, second-left, none-says}
 use Rattle.walk.proofs.PutTags as tags
 use Prim.Native.Nat.{ℕ, _<_, _+_, _*_}
 use borrow.Fn.Kinds.{In}
@@ -62,20 +63,20 @@ use Rattle.sheet.proofs.section_root.Reads as section-root-reads
 use Rattle.value.proofs.first_part.Reads as first-part-reads
 use Rattle.value.proofs.high.Reads as high-reads
 use Rattle.value.proofs.low.Reads as low-reads
-use Rattle.value.proofs.passes.Reads as passes-reads
 use Rattle.value.proofs.second_part.Reads as second-part-reads
 use Rattle.value.proofs.shape_of.Reads as shape-of-reads
-use Rattle.walk.proofs.bytes.place_of.Reads as place-of-reads
+use Rattle.step.proofs.place_of.Reads as place-of-reads
 use Rattle.walk.proofs.bytes.rebuild.Reads as rebuild-reads
 use Rattle.walk.proofs.getter.get_node.Reads as get-node-reads
-use Rattle.walk.proofs.putter.add_two.Reads as add-two-reads
-use Rattle.walk.proofs.putter.pick_cells.Reads as pick-cells-reads
-use Rattle.walk.proofs.putter.put_constant.Reads as put-constant-reads
-use Rattle.walk.proofs.putter.put_number.Reads as put-number-reads
+use Rattle.step.proofs.choose.Reads as choose-reads
+use Rattle.step.proofs.add_two.Reads as add-two-reads
+use Rattle.step.proofs.pick_cells.Reads as pick-cells-reads
+use Rattle.step.proofs.put_constant.Reads as put-constant-reads
+use Rattle.step.proofs.put_number.Reads as put-number-reads
 use Rattle.walk.proofs.putter.put_var.Reads as put-var-reads
-use Rattle.walk.proofs.putter.unfit.Reads as unfit-reads
+use Rattle.step.proofs.unfit.Reads as unfit-reads
 use Rattle.walk.proofs.scope.empty.Reads as empty-reads
-use Rattle.walk.proofs.scope.pick_two.Reads as pick-two-reads
+use Rattle.step.proofs.pick_two.Reads as pick-two-reads
 use Rattle.walk.proofs.scope.push_two.Reads as push-two-reads
 use Rattle.walk.proofs.putter.+put_add+put_both+put_call+put_front+put_list_case+put_node+put_pair+put_rebuilt+put_split+put_switch+put_truth_case+put_under.{
   statement,
@@ -232,7 +233,7 @@ abbrev put-front-claims : ℕ → put-front-lts.Claims
 put-front-claims t = (shape-of-reads.Asked, shape-of-reads.Learnt, first-part-reads.Asked, first-part-reads.Learnt, second-part-reads.Asked, second-part-reads.Learnt, put-both-below t, put-both.Post)
 
 abbrev put-list-case-claims : ℕ → put-list-case-lts.Claims
-put-list-case-claims t = (get-node-reads.Asked, get-node-reads.Learnt, shape-of-reads.Asked, shape-of-reads.Learnt, passes-reads.Asked, passes-reads.Learnt, put-both-below t, put-both.Post, put-switch-below t, put-switch.Post, put-under-below t, put-under.Post)
+put-list-case-claims t = (get-node-reads.Asked, get-node-reads.Learnt, shape-of-reads.Asked, shape-of-reads.Learnt, choose-reads.Asked, choose-reads.Learnt, put-both-below t, put-both.Post, put-switch-below t, put-switch.Post, put-under-below t, put-under.Post)
 
 abbrev put-node-claims : ℕ → put-node-lts.Claims
 put-node-claims t = (node-at-reads.Asked, node-at-reads.Learnt, put-var-reads.Asked, put-var-reads.Learnt, put-constant-reads.Asked, put-constant-reads.Learnt, put-number-reads.Asked, put-number-reads.Learnt, put-front-below t, put-front.Post, put-pair-below t, put-pair.Post, put-list-case-below t, put-list-case.Post, put-truth-case-below t, put-truth-case.Post, put-split-below t, put-split.Post, put-call-below t, put-call.Post, put-add-below t, put-add.Post)
@@ -250,7 +251,7 @@ abbrev put-switch-claims : ℕ → put-switch-lts.Claims
 put-switch-claims t = (empty-reads.Asked, empty-reads.Learnt, get-node-reads.Asked, get-node-reads.Learnt, put-under-below t, put-under.Post)
 
 abbrev put-truth-case-claims : ℕ → put-truth-case-lts.Claims
-put-truth-case-claims t = (get-node-reads.Asked, get-node-reads.Learnt, shape-of-reads.Asked, shape-of-reads.Learnt, passes-reads.Asked, passes-reads.Learnt, put-both-below t, put-both.Post)
+put-truth-case-claims t = (get-node-reads.Asked, get-node-reads.Learnt, shape-of-reads.Asked, shape-of-reads.Learnt, choose-reads.Asked, choose-reads.Learnt, put-both-below t, put-both.Post)
 
 abbrev put-under-claims : ℕ → put-under-lts.Claims
 put-under-claims t = (push-two-reads.Asked, push-two-reads.Learnt, add-two-reads.Asked, add-two-reads.Learnt, put-node-below t, put-node.Post, put-rebuilt-below t, put-rebuilt.Post)
@@ -375,13 +376,13 @@ put-call-section-root-requires : (t : ℕ) → put-call-lts.Need-section-root-re
 put-call-section-root-requires t c κs = search needs
 
 put-call-pick-two-requires : (t : ℕ) → put-call-lts.Need-pick-two-requires (put-call-claims t) (put-call-at t) put-call.Post
-put-call-pick-two-requires t c κs = (omega (arith, c .before .before .before .before .before .before .before .before .before .before .pre .1 .slots), omega (arith, c .before .before .before .before .before .before .before .before .before .before .pre .1 .slots))
+put-call-pick-two-requires t c κs = search needs
 
 put-call-pick-cells-requires : (t : ℕ) → put-call-lts.Need-pick-cells-requires (put-call-claims t) (put-call-at t) put-call.Post
-put-call-pick-cells-requires t c κs = (omega (arith, c .before .before .before .before .before .before .before .before .before .before .before .pre .1 .slots), omega (arith, c .before .before .before .before .before .before .before .before .before .before .before .pre .1 .slots))
+put-call-pick-cells-requires t c κs = search needs
 
 put-call-put-node-requires : (t : ℕ) → put-call-lts.Need-put-node-requires (put-call-claims t) (put-call-at t) put-call.Post
-put-call-put-node-requires t c κs = (omega (arith, c .before .before .before .before .before .before .before .before .before .before .before .before .pre .0), call-ready (c .before .before .before .before .before .before .before .if1 .left) (c .before .before .before .before .before .if2 .left) (c .before .pick-two .ensures) (c .pick-cells .ensures) (c .before .before .before .before .before .before .before .before .before .before .before .before .pre .1) (c .before .before .before .before .section-root .ensures))
+put-call-put-node-requires t c κs = (omega (arith, c .before .before .before .before .before .before .before .before .before .before .before .before .pre .0), call-ready (c .before .before .before .before .before .before .before .if1 .left) (c .before .before .before .before .before .if2 .left) (c .before .pick-two .ensures .inside (omega (arith, c .before .before .before .before .before .before .before .if1 .left, c .before .before .before .before .before .before .before .before .before .before .before .before .pre .1 .slots), omega (arith, c .before .before .before .before .before .if2 .left, c .before .before .before .before .before .before .before .before .before .before .before .before .pre .1 .slots))) (c .pick-cells .ensures .inside (omega (arith, c .before .before .before .before .before .before .before .if1 .left, c .before .before .before .before .before .before .before .before .before .before .before .before .pre .1 .slots), omega (arith, c .before .before .before .before .before .if2 .left, c .before .before .before .before .before .before .before .before .before .before .before .before .pre .1 .slots))) (c .before .before .before .before .before .before .before .before .before .before .before .before .pre .1) (c .before .before .before .before .section-root .ensures))
 
 put-call-enum-known-c : (t : ℕ) → put-call-lts.Need-enum-known-c (put-call-claims t) (put-call-at t) put-call.Post
 put-call-enum-known-c t c = search needs
@@ -390,16 +391,16 @@ put-call-enum-known-s : (t : ℕ) → put-call-lts.Need-enum-known-s (put-call-c
 put-call-enum-known-s t c = search needs
 
 put-call-add-t23 : (t : ℕ) → put-call-lts.Need-add-t23 (put-call-claims t) (put-call-at t) put-call.Post
-put-call-add-t23 t c = omega (arith, call-few (c .before .before .before .before .before .before .before .before .before .before .before .before .before .if1 .left) (c .before .before .before .before .before .before .before .before .before .before .before .if2 .left) (c .before .before .before .before .before .before .before .pick-two .ensures) (c .before .before .before .before .before .before .pick-cells .ensures) (c .before .before .before .before .before .put-node .ensures) (c .before .before .before .before .before .before .before .before .before .before .before .before .before .before .before .before .before .before .pre .1) (c .before .before .before .before .before .before .before .before .before .before .section-root .ensures) (c .before .s .given .1), c .before .before .before .before .before .before .before .before .before .before .before .before .before .before .before .before .before .before .pre .1 .few)
+put-call-add-t23 t c = omega (arith, call-few (c .before .before .before .before .before .before .before .before .before .before .before .before .before .if1 .left) (c .before .before .before .before .before .before .before .before .before .before .before .if2 .left) (c .before .before .before .before .before .before .before .pick-two .ensures .inside (omega (arith, c .before .before .before .before .before .before .before .before .before .before .before .before .before .if1 .left, c .before .before .before .before .before .before .before .before .before .before .before .before .before .before .before .before .before .before .pre .1 .slots), omega (arith, c .before .before .before .before .before .before .before .before .before .before .before .if2 .left, c .before .before .before .before .before .before .before .before .before .before .before .before .before .before .before .before .before .before .pre .1 .slots))) (c .before .before .before .before .before .before .pick-cells .ensures .inside (omega (arith, c .before .before .before .before .before .before .before .before .before .before .before .before .before .if1 .left, c .before .before .before .before .before .before .before .before .before .before .before .before .before .before .before .before .before .before .pre .1 .slots), omega (arith, c .before .before .before .before .before .before .before .before .before .before .before .if2 .left, c .before .before .before .before .before .before .before .before .before .before .before .before .before .before .before .before .before .before .pre .1 .slots))) (c .before .before .before .before .before .put-node .ensures) (c .before .before .before .before .before .before .before .before .before .before .before .before .before .before .before .before .before .before .pre .1) (c .before .before .before .before .before .before .before .before .before .before .section-root .ensures) (c .before .s .given .1), c .before .before .before .before .before .before .before .before .before .before .before .before .before .before .before .before .before .before .pre .1 .few)
 
 put-call-returns-3 : (t : ℕ) → put-call-lts.Need-returns-3 (put-call-claims t) (put-call-at t) put-call.Post
-put-call-returns-3 t c = call-refused (c .before .before .before .before .before .before .before .before .before .before .before .before .before .if1 .left) (c .before .before .before .before .before .before .before .before .before .before .before .if2 .left) (c .before .before .before .before .before .before .before .pick-two .ensures) (c .before .before .before .before .before .before .pick-cells .ensures) (c .before .before .before .before .before .put-node .ensures) (c .before .before .before .before .before .before .before .before .before .before .before .before .before .before .before .before .before .before .pre .1) (c .before .before .before .before .before .before .before .before .before .before .section-root .ensures) (c .before .c .given .1)
+put-call-returns-3 t c = call-refused (c .before .before .before .before .before .before .before .before .before .before .before .before .before .if1 .left) (c .before .before .before .before .before .before .before .before .before .before .before .if2 .left) (c .before .before .before .before .before .before .before .pick-two .ensures .inside (omega (arith, c .before .before .before .before .before .before .before .before .before .before .before .before .before .if1 .left, c .before .before .before .before .before .before .before .before .before .before .before .before .before .before .before .before .before .before .pre .1 .slots), omega (arith, c .before .before .before .before .before .before .before .before .before .before .before .if2 .left, c .before .before .before .before .before .before .before .before .before .before .before .before .before .before .before .before .before .before .pre .1 .slots))) (c .before .before .before .before .before .before .pick-cells .ensures .inside (omega (arith, c .before .before .before .before .before .before .before .before .before .before .before .before .before .if1 .left, c .before .before .before .before .before .before .before .before .before .before .before .before .before .before .before .before .before .before .pre .1 .slots), omega (arith, c .before .before .before .before .before .before .before .before .before .before .before .if2 .left, c .before .before .before .before .before .before .before .before .before .before .before .before .before .before .before .before .before .before .pre .1 .slots))) (c .before .before .before .before .before .put-node .ensures) (c .before .before .before .before .before .before .before .before .before .before .before .before .before .before .before .before .before .before .pre .1) (c .before .before .before .before .before .before .before .before .before .before .section-root .ensures) (c .before .c .given .1)
 
 put-call-same-length : (t : ℕ) → put-call-lts.Need-same-length (put-call-claims t) (put-call-at t) put-call.Post
 put-call-same-length t c = put-call-returns-3 t c .frame .long
 
 put-call-returns-4 : (t : ℕ) → put-call-lts.Need-returns-4 (put-call-claims t) (put-call-at t) put-call.Post
-put-call-returns-4 t c = call-done (c .before .before .before .before .before .before .before .before .before .before .before .before .before .if1 .left) (c .before .before .before .before .before .before .before .before .before .before .before .if2 .left) (c .before .before .before .before .before .before .before .pick-two .ensures) (c .before .before .before .before .before .before .pick-cells .ensures) (c .before .before .before .before .before .put-node .ensures) (c .before .before .before .before .before .before .before .before .before .before .before .before .before .before .before .before .before .before .pre .1) (c .before .before .before .before .before .before .before .before .before .before .section-root .ensures) (c .before .s .given .1)
+put-call-returns-4 t c = call-done (c .before .before .before .before .before .before .before .before .before .before .before .before .before .if1 .left) (c .before .before .before .before .before .before .before .before .before .before .before .if2 .left) (c .before .before .before .before .before .before .before .pick-two .ensures .inside (omega (arith, c .before .before .before .before .before .before .before .before .before .before .before .before .before .if1 .left, c .before .before .before .before .before .before .before .before .before .before .before .before .before .before .before .before .before .before .pre .1 .slots), omega (arith, c .before .before .before .before .before .before .before .before .before .before .before .if2 .left, c .before .before .before .before .before .before .before .before .before .before .before .before .before .before .before .before .before .before .pre .1 .slots))) (c .before .before .before .before .before .before .pick-cells .ensures .inside (omega (arith, c .before .before .before .before .before .before .before .before .before .before .before .before .before .if1 .left, c .before .before .before .before .before .before .before .before .before .before .before .before .before .before .before .before .before .before .pre .1 .slots), omega (arith, c .before .before .before .before .before .before .before .before .before .before .before .if2 .left, c .before .before .before .before .before .before .before .before .before .before .before .before .before .before .before .before .before .before .pre .1 .slots))) (c .before .before .before .before .before .put-node .ensures) (c .before .before .before .before .before .before .before .before .before .before .before .before .before .before .before .before .before .before .pre .1) (c .before .before .before .before .before .before .before .before .before .before .section-root .ensures) (c .before .s .given .1)
 
 put-call-same-length-2 : (t : ℕ) → put-call-lts.Need-same-length-2 (put-call-claims t) (put-call-at t) put-call.Post
 put-call-same-length-2 t c = put-call-returns-4 t c .frame .long
@@ -458,104 +459,116 @@ put-list-case-shape-of-requires t c κs = search needs
 put-list-case-enum-told : (t : ℕ) → put-list-case-lts.Need-enum-told (put-list-case-claims t) (put-list-case-at t) put-list-case.Post
 put-list-case-enum-told t c = search needs
 
-put-list-case-passes-requires : (t : ℕ) → put-list-case-lts.Need-passes-requires (put-list-case-claims t) (put-list-case-at t) put-list-case.Post
-put-list-case-passes-requires t c κs = search needs
+put-list-case-choose-requires : (t : ℕ) → put-list-case-lts.Need-choose-requires (put-list-case-claims t) (put-list-case-at t) put-list-case.Post
+put-list-case-choose-requires t c κs = search needs
+
+put-list-case-enum-told-2 : (t : ℕ) → put-list-case-lts.Need-enum-told-2 (put-list-case-claims t) (put-list-case-at t) put-list-case.Post
+put-list-case-enum-told-2 t c = search needs
 
 put-list-case-slice-aggregate-put-both : (t : ℕ) → put-list-case-lts.Need-slice-aggregate-put-both (put-list-case-claims t) (put-list-case-at t) put-list-case.Post
 put-list-case-slice-aggregate-put-both t c = search needs
 
 put-list-case-add-put-both : (t : ℕ) → put-list-case-lts.Need-add-put-both (put-list-case-claims t) (put-list-case-at t) put-list-case.Post
-put-list-case-add-put-both t c = omega (arith, subject-few (c .before .before .before .before .before .before .before .before .before .before .before .before .before .before .before .before .before .before .before .before .before .pre .1 .base) (c .before .before .before .before .before .before .before .before .before .before .before .before .before .before .before .before .get-node .ensures) (c .before .before .before .before .before .before .before .before .before .before .before .before .len .given .1) (c .before .before .before .before .before .before .before .before .before .before .before .before .before .before .before .before .before .before .before .before .before .pre .1), c .before .before .before .before .before .before .before .before .before .before .before .before .before .before .before .before .before .before .before .before .before .pre .1 .few)
+put-list-case-add-put-both t c = omega (arith, subject-few (c .before .before .before .before .before .before .before .before .before .before .before .before .before .before .before .before .before .before .before .before .before .before .pre .1 .base) (c .before .before .before .before .before .before .before .before .before .before .before .before .before .before .before .before .before .get-node .ensures) (c .before .before .before .before .before .before .before .before .before .before .before .before .before .len .given .1) (c .before .before .before .before .before .before .before .before .before .before .before .before .before .before .before .before .before .before .before .before .before .before .pre .1), c .before .before .before .before .before .before .before .before .before .before .before .before .before .before .before .before .before .before .before .before .before .before .pre .1 .few)
 
 put-list-case-put-both-requires : (t : ℕ) → put-list-case-lts.Need-put-both-requires (put-list-case-claims t) (put-list-case-at t) put-list-case.Post
-put-list-case-put-both-requires t c κs = (omega (arith, c .before .before .before .before .before .before .before .before .before .before .before .before .before .before .before .before .before .before .before .before .before .pre .0), (after-subject (c .before .before .before .before .before .before .before .before .before .before .before .before .before .before .before .before .before .before .before .before .before .pre .1 .base) (c .before .before .before .before .before .before .before .before .before .before .before .before .before .before .before .before .get-node .ensures) (c .before .before .before .before .before .before .before .before .before .before .before .before .len .given .1) (c .before .before .before .before .before .before .before .before .before .before .before .before .before .before .before .before .before .before .before .before .before .pre .1) (c .before .before .before .before .before .before .before .before .before .before .before .before .before .before .before .before .before .before .before .before .before .pre .1 .known .1 .empty .inside, c .before .before .before .before .before .before .before .before .before .before .before .before .before .before .before .before .before .before .before .before .before .pre .1 .known .1 .subject .inside) (omega (arith, subject-few (c .before .before .before .before .before .before .before .before .before .before .before .before .before .before .before .before .before .before .before .before .before .pre .1 .base) (c .before .before .before .before .before .before .before .before .before .before .before .before .before .before .before .before .get-node .ensures) (c .before .before .before .before .before .before .before .before .before .before .before .before .len .given .1) (c .before .before .before .before .before .before .before .before .before .before .before .before .before .before .before .before .before .before .before .before .before .pre .1))), view-nil))
+put-list-case-put-both-requires t c κs = (omega (arith, c .before .before .before .before .before .before .before .before .before .before .before .before .before .before .before .before .before .before .before .before .before .before .pre .0), (after-subject (c .before .before .before .before .before .before .before .before .before .before .before .before .before .before .before .before .before .before .before .before .before .before .pre .1 .base) (c .before .before .before .before .before .before .before .before .before .before .before .before .before .before .before .before .before .get-node .ensures) (c .before .before .before .before .before .before .before .before .before .before .before .before .before .len .given .1) (c .before .before .before .before .before .before .before .before .before .before .before .before .before .before .before .before .before .before .before .before .before .before .pre .1) (c .before .before .before .before .before .before .before .before .before .before .before .before .before .before .before .before .before .before .before .before .before .before .pre .1 .known .1 .empty .inside, c .before .before .before .before .before .before .before .before .before .before .before .before .before .before .before .before .before .before .before .before .before .before .pre .1 .known .1 .subject .inside) (omega (arith, subject-few (c .before .before .before .before .before .before .before .before .before .before .before .before .before .before .before .before .before .before .before .before .before .before .pre .1 .base) (c .before .before .before .before .before .before .before .before .before .before .before .before .before .before .before .before .before .get-node .ensures) (c .before .before .before .before .before .before .before .before .before .before .before .before .before .len .given .1) (c .before .before .before .before .before .before .before .before .before .before .before .before .before .before .before .before .before .before .before .before .before .before .pre .1))), view-nil))
 
-put-list-case-returns : (t : ℕ) → put-list-case-lts.Need-returns (put-list-case-claims t) (put-list-case-at t) put-list-case.Post
-put-list-case-returns t c = lists.empty-both (c .before .before .before .before .before .before .before .before .before .before .before .before .before .before .before .before .before .before .before .before .before .before .before .before .pre .1 .base) (c .before .before .before .before .before .before .before .before .before .before .before .before .before .before .before .before .before .before .before .get-node .ensures) (c .before .before .before .before .before .before .before .before .before .before .before .before .before .before .before .len .given .1) (c .before .before .before .before .before .before .before .before .before .before .shape-of .ensures) (c .before .before .before .before .before .before .before .before .enum-told .given .1) (c .before .before .before .before .before .before .before .passes .ensures) (c .before .before .before .before .before .before .if1 .taken) (c .before .before .put-both .ensures)
-
-put-list-case-same-length : (t : ℕ) → put-list-case-lts.Need-same-length (put-list-case-claims t) (put-list-case-at t) put-list-case.Post
-put-list-case-same-length t c = put-list-case-returns t c .frame .long
-
-put-list-case-passes-requires-2 : (t : ℕ) → put-list-case-lts.Need-passes-requires-2 (put-list-case-claims t) (put-list-case-at t) put-list-case.Post
-put-list-case-passes-requires-2 t c κs = search needs
+put-list-case-enum-told-3 : (t : ℕ) → put-list-case-lts.Need-enum-told-3 (put-list-case-claims t) (put-list-case-at t) put-list-case.Post
+put-list-case-enum-told-3 t c = search needs
 
 put-list-case-add-put-switch : (t : ℕ) → put-list-case-lts.Need-add-put-switch (put-list-case-claims t) (put-list-case-at t) put-list-case.Post
-put-list-case-add-put-switch t c = omega (arith, subject-few (c .before .before .before .before .before .before .before .before .before .before .before .before .before .before .before .before .before .before .before .before .before .before .pre .1 .base) (c .before .before .before .before .before .before .before .before .before .before .before .before .before .before .before .before .before .get-node .ensures) (c .before .before .before .before .before .before .before .before .before .before .before .before .before .len .given .1) (c .before .before .before .before .before .before .before .before .before .before .before .before .before .before .before .before .before .before .before .before .before .before .pre .1), c .before .before .before .before .before .before .before .before .before .before .before .before .before .before .before .before .before .before .before .before .before .before .pre .1 .few)
+put-list-case-add-put-switch t c = omega (arith, subject-few (c .before .before .before .before .before .before .before .before .before .before .before .before .before .before .before .before .before .before .before .before .before .pre .1 .base) (c .before .before .before .before .before .before .before .before .before .before .before .before .before .before .before .before .get-node .ensures) (c .before .before .before .before .before .before .before .before .before .before .before .before .len .given .1) (c .before .before .before .before .before .before .before .before .before .before .before .before .before .before .before .before .before .before .before .before .before .pre .1), c .before .before .before .before .before .before .before .before .before .before .before .before .before .before .before .before .before .before .before .before .before .pre .1 .few)
 
 put-list-case-put-switch-requires : (t : ℕ) → put-list-case-lts.Need-put-switch-requires (put-list-case-claims t) (put-list-case-at t) put-list-case.Post
-put-list-case-put-switch-requires t c κs = (omega (arith, c .before .before .before .before .before .before .before .before .before .before .before .before .before .before .before .before .before .before .before .before .before .before .pre .0), (after-subject (c .before .before .before .before .before .before .before .before .before .before .before .before .before .before .before .before .before .before .before .before .before .before .pre .1 .base) (c .before .before .before .before .before .before .before .before .before .before .before .before .before .before .before .before .before .get-node .ensures) (c .before .before .before .before .before .before .before .before .before .before .before .before .before .len .given .1) (c .before .before .before .before .before .before .before .before .before .before .before .before .before .before .before .before .before .before .before .before .before .before .pre .1) ((c .before .before .before .before .before .before .before .before .before .before .before .before .before .before .before .before .before .before .before .before .before .before .pre .1 .known .1 .front .inside, c .before .before .before .before .before .before .before .before .before .before .before .before .before .before .before .before .before .before .before .before .before .before .pre .1 .known .1 .subject .inside), (c .before .before .before .before .before .before .before .before .before .before .before .before .before .before .before .before .before .before .before .before .before .before .pre .1 .known .1 .first .inside, c .before .before .before .before .before .before .before .before .before .before .before .before .before .before .before .before .before .before .before .before .before .before .pre .1 .known .1 .rest .inside)) (omega (arith, subject-few (c .before .before .before .before .before .before .before .before .before .before .before .before .before .before .before .before .before .before .before .before .before .before .pre .1 .base) (c .before .before .before .before .before .before .before .before .before .before .before .before .before .before .before .before .before .get-node .ensures) (c .before .before .before .before .before .before .before .before .before .before .before .before .before .len .given .1) (c .before .before .before .before .before .before .before .before .before .before .before .before .before .before .before .before .before .before .before .before .before .before .pre .1))), (inner (c .before .before .before .before .before .before .before .before .before .before .before .before .before .before .before .before .before .before .before .before .before .before .pre .1 .base) (c .before .before .before .before .before .before .before .before .before .before .before .before .before .before .before .before .before .get-node .ensures) (c .before .before .before .before .before .before .before .before .before .before .before .before .before .len .given .1) (c .before .before .before .before .before .before .before .before .before .before .before .before .before .before .before .before .before .before .before .before .before .before .pre .1), switch-room (c .before .before .before .before .before .before .before .before .before .before .before .before .before .before .before .before .before .before .before .before .before .before .pre .1 .base) (c .before .before .before .before .before .before .before .before .before .before .before .before .before .before .before .before .before .get-node .ensures) (c .before .before .before .before .before .before .before .before .before .before .before .before .before .len .given .1) (c .before .before .before .before .before .before .before .before .shape-of .ensures) (c .before .before .before .before .before .before .before .before .before .before .before .before .before .before .before .before .before .before .before .before .before .before .pre .1) (c .before .before .before .before .before .before .enum-told .given .1))))
+put-list-case-put-switch-requires t c κs = (omega (arith, c .before .before .before .before .before .before .before .before .before .before .before .before .before .before .before .before .before .before .before .before .before .pre .0), (after-subject (c .before .before .before .before .before .before .before .before .before .before .before .before .before .before .before .before .before .before .before .before .before .pre .1 .base) (c .before .before .before .before .before .before .before .before .before .before .before .before .before .before .before .before .get-node .ensures) (c .before .before .before .before .before .before .before .before .before .before .before .before .len .given .1) (c .before .before .before .before .before .before .before .before .before .before .before .before .before .before .before .before .before .before .before .before .before .pre .1) ((c .before .before .before .before .before .before .before .before .before .before .before .before .before .before .before .before .before .before .before .before .before .pre .1 .known .1 .front .inside, c .before .before .before .before .before .before .before .before .before .before .before .before .before .before .before .before .before .before .before .before .before .pre .1 .known .1 .subject .inside), (c .before .before .before .before .before .before .before .before .before .before .before .before .before .before .before .before .before .before .before .before .before .pre .1 .known .1 .first .inside, c .before .before .before .before .before .before .before .before .before .before .before .before .before .before .before .before .before .before .before .before .before .pre .1 .known .1 .rest .inside)) (omega (arith, subject-few (c .before .before .before .before .before .before .before .before .before .before .before .before .before .before .before .before .before .before .before .before .before .pre .1 .base) (c .before .before .before .before .before .before .before .before .before .before .before .before .before .before .before .before .get-node .ensures) (c .before .before .before .before .before .before .before .before .before .before .before .before .len .given .1) (c .before .before .before .before .before .before .before .before .before .before .before .before .before .before .before .before .before .before .before .before .before .pre .1))), (inner (c .before .before .before .before .before .before .before .before .before .before .before .before .before .before .before .before .before .before .before .before .before .pre .1 .base) (c .before .before .before .before .before .before .before .before .before .before .before .before .before .before .before .before .get-node .ensures) (c .before .before .before .before .before .before .before .before .before .before .before .before .len .given .1) (c .before .before .before .before .before .before .before .before .before .before .before .before .before .before .before .before .before .before .before .before .before .pre .1), switch-room (c .before .before .before .before .before .before .before .before .before .before .before .before .before .before .before .before .before .before .before .before .before .pre .1 .base) (c .before .before .before .before .before .before .before .before .before .before .before .before .before .before .before .before .get-node .ensures) (c .before .before .before .before .before .before .before .before .before .before .before .before .len .given .1) (c .before .before .before .before .before .before .before .shape-of .ensures) (c .before .before .before .before .before .before .before .before .before .before .before .before .before .before .before .before .before .before .before .before .before .pre .1) (c .before .before .before .before .before .enum-told .given .1))))
 
-put-list-case-returns-2 : (t : ℕ) → put-list-case-lts.Need-returns-2 (put-list-case-claims t) (put-list-case-at t) put-list-case.Post
-put-list-case-returns-2 t c = lists.empty-switch (c .before .before .before .before .before .before .before .before .before .before .before .before .before .before .before .before .before .before .before .before .before .before .before .before .before .pre .1 .base) (c .before .before .before .before .before .before .before .before .before .before .before .before .before .before .before .before .before .before .before .before .get-node .ensures) (c .before .before .before .before .before .before .before .before .before .before .before .before .before .before .before .before .len .given .1) (c .before .before .before .before .before .before .before .before .before .before .before .shape-of .ensures) (c .before .before .before .before .before .before .before .before .before .enum-told .given .1) (c .before .before .before .before .before .before .before .before .passes .ensures) (c .before .before .before .before .before .before .before .if1 .left) (c .before .before .before .before .before .before .passes2 .ensures) (c .before .before .before .before .before .if2 .taken) (c .before .before .put-switch .ensures)
-
-put-list-case-same-length-2 : (t : ℕ) → put-list-case-lts.Need-same-length-2 (put-list-case-claims t) (put-list-case-at t) put-list-case.Post
-put-list-case-same-length-2 t c = put-list-case-returns-2 t c .frame .long
+put-list-case-enum-told-4 : (t : ℕ) → put-list-case-lts.Need-enum-told-4 (put-list-case-claims t) (put-list-case-at t) put-list-case.Post
+put-list-case-enum-told-4 t c = search needs
 
 put-list-case-enum-known-mid : (t : ℕ) → put-list-case-lts.Need-enum-known-mid (put-list-case-claims t) (put-list-case-at t) put-list-case.Post
 put-list-case-enum-known-mid t c = search needs
 
-put-list-case-passes-requires-3 : (t : ℕ) → put-list-case-lts.Need-passes-requires-3 (put-list-case-claims t) (put-list-case-at t) put-list-case.Post
-put-list-case-passes-requires-3 t c κs = search needs
+put-list-case-choose-requires-2 : (t : ℕ) → put-list-case-lts.Need-choose-requires-2 (put-list-case-claims t) (put-list-case-at t) put-list-case.Post
+put-list-case-choose-requires-2 t c κs = search needs
 
-put-list-case-add-put-under : (t : ℕ) → put-list-case-lts.Need-add-put-under (put-list-case-claims t) (put-list-case-at t) put-list-case.Post
-put-list-case-add-put-under t c = omega (arith, c .before .before .before .before .before .before .before .before .before .before .before .before .before .before .before .before .before .before .before .before .before .pre .1 .room)
-
-put-list-case-sub-put-under : (t : ℕ) → put-list-case-lts.Need-sub-put-under (put-list-case-claims t) (put-list-case-at t) put-list-case.Post
-put-list-case-sub-put-under t c = omega (arith, front-inside (c .before .before .before .before .before .before .before .before .before .before .before .before .before .before .before .before .before .before .before .before .before .pre .1 .base) (c .before .before .before .before .before .before .before .before .before .before .before .before .before .before .before .before .get-node .ensures) (c .before .before .before .before .before .before .before .before .before .before .before .before .len .given .1) (c .before .before .before .before .before .before .before .shape-of .ensures) (c .before .before .before .before .before .before .before .before .before .before .before .before .before .before .before .before .before .before .before .before .before .pre .1) (c .before .before .before .before .before .mid .given .1))
-
-put-list-case-sub-put-under-2 : (t : ℕ) → put-list-case-lts.Need-sub-put-under-2 (put-list-case-claims t) (put-list-case-at t) put-list-case.Post
-put-list-case-sub-put-under-2 t c = omega (arith, front-inside (c .before .before .before .before .before .before .before .before .before .before .before .before .before .before .before .before .before .before .before .before .before .pre .1 .base) (c .before .before .before .before .before .before .before .before .before .before .before .before .before .before .before .before .get-node .ensures) (c .before .before .before .before .before .before .before .before .before .before .before .before .len .given .1) (c .before .before .before .before .before .before .before .shape-of .ensures) (c .before .before .before .before .before .before .before .before .before .before .before .before .before .before .before .before .before .before .before .before .before .pre .1) (c .before .before .before .before .before .mid .given .1))
-
-put-list-case-add-put-under-2 : (t : ℕ) → put-list-case-lts.Need-add-put-under-2 (put-list-case-claims t) (put-list-case-at t) put-list-case.Post
-put-list-case-add-put-under-2 t c = omega (arith, subject-few (c .before .before .before .before .before .before .before .before .before .before .before .before .before .before .before .before .before .before .before .before .before .pre .1 .base) (c .before .before .before .before .before .before .before .before .before .before .before .before .before .before .before .before .get-node .ensures) (c .before .before .before .before .before .before .before .before .before .before .before .before .len .given .1) (c .before .before .before .before .before .before .before .before .before .before .before .before .before .before .before .before .before .before .before .before .before .pre .1), c .before .before .before .before .before .before .before .before .before .before .before .before .before .before .before .before .before .before .before .before .before .pre .1 .few)
-
-put-list-case-put-under-requires : (t : ℕ) → put-list-case-lts.Need-put-under-requires (put-list-case-claims t) (put-list-case-at t) put-list-case.Post
-put-list-case-put-under-requires t c κs = (omega (arith, c .before .before .before .before .before .before .before .before .before .before .before .before .before .before .before .before .before .before .before .before .before .pre .0), (after-subject (c .before .before .before .before .before .before .before .before .before .before .before .before .before .before .before .before .before .before .before .before .before .pre .1 .base) (c .before .before .before .before .before .before .before .before .before .before .before .before .before .before .before .before .get-node .ensures) (c .before .before .before .before .before .before .before .before .before .before .before .before .len .given .1) (c .before .before .before .before .before .before .before .before .before .before .before .before .before .before .before .before .before .before .before .before .before .pre .1) ((c .before .before .before .before .before .before .before .before .before .before .before .before .before .before .before .before .before .before .before .before .before .pre .1 .known .1 .front .inside, c .before .before .before .before .before .before .before .before .before .before .before .before .before .before .before .before .before .before .before .before .before .pre .1 .known .1 .subject .inside), aList refl) (omega (arith, subject-few (c .before .before .before .before .before .before .before .before .before .before .before .before .before .before .before .before .before .before .before .before .before .pre .1 .base) (c .before .before .before .before .before .before .before .before .before .before .before .before .before .before .before .before .get-node .ensures) (c .before .before .before .before .before .before .before .before .before .before .before .before .len .given .1) (c .before .before .before .before .before .before .before .before .before .before .before .before .before .before .before .before .before .before .before .before .before .pre .1))), (inner (c .before .before .before .before .before .before .before .before .before .before .before .before .before .before .before .before .before .before .before .before .before .pre .1 .base) (c .before .before .before .before .before .before .before .before .before .before .before .before .before .before .before .before .get-node .ensures) (c .before .before .before .before .before .before .before .before .before .before .before .before .len .given .1) (c .before .before .before .before .before .before .before .before .before .before .before .before .before .before .before .before .before .before .before .before .before .pre .1), front-spans (c .before .before .before .before .before .before .before .before .before .before .before .before .before .before .before .before .before .before .before .before .before .pre .1 .base) (c .before .before .before .before .before .before .before .before .before .before .before .before .before .before .before .before .get-node .ensures) (c .before .before .before .before .before .before .before .before .before .before .before .before .len .given .1) (c .before .before .before .before .before .before .before .shape-of .ensures) (c .before .before .before .before .before .before .before .before .before .before .before .before .before .before .before .before .before .before .before .before .before .pre .1) (c .before .before .before .before .before .mid .given .1))))
-
-put-list-case-returns-3 : (t : ℕ) → put-list-case-lts.Need-returns-3 (put-list-case-claims t) (put-list-case-at t) put-list-case.Post
-put-list-case-returns-3 t c = lists.front-under (c .before .before .before .before .before .before .before .before .before .before .before .before .before .before .before .before .before .before .before .before .before .before .before .before .pre .1 .base) (c .before .before .before .before .before .before .before .before .before .before .before .before .before .before .before .before .before .before .before .get-node .ensures) (c .before .before .before .before .before .before .before .before .before .before .before .before .before .before .before .len .given .1) (c .before .before .before .before .before .before .before .before .before .before .shape-of .ensures) (c .before .before .before .before .before .before .before .before .mid .given .1) (c .before .before .before .before .before .before .passes3 .ensures) (c .before .before .before .before .before .before .before .before .before .before .before .before .before .before .before .before .before .before .before .before .before .before .before .before .pre .1) (c .before .before .before .before .before .if3 .taken) (c .before .before .put-under .ensures)
-
-put-list-case-same-length-3 : (t : ℕ) → put-list-case-lts.Need-same-length-3 (put-list-case-claims t) (put-list-case-at t) put-list-case.Post
-put-list-case-same-length-3 t c = put-list-case-returns-3 t c .frame .long
-
-put-list-case-passes-requires-4 : (t : ℕ) → put-list-case-lts.Need-passes-requires-4 (put-list-case-claims t) (put-list-case-at t) put-list-case.Post
-put-list-case-passes-requires-4 t c κs = search needs
+put-list-case-enum-told-5 : (t : ℕ) → put-list-case-lts.Need-enum-told-5 (put-list-case-claims t) (put-list-case-at t) put-list-case.Post
+put-list-case-enum-told-5 t c = search needs
 
 put-list-case-slice-aggregate-put-both-2 : (t : ℕ) → put-list-case-lts.Need-slice-aggregate-put-both-2 (put-list-case-claims t) (put-list-case-at t) put-list-case.Post
 put-list-case-slice-aggregate-put-both-2 t c = search needs
 
 put-list-case-add-put-both-2 : (t : ℕ) → put-list-case-lts.Need-add-put-both-2 (put-list-case-claims t) (put-list-case-at t) put-list-case.Post
-put-list-case-add-put-both-2 t c = omega (arith, subject-few (c .before .before .before .before .before .before .before .before .before .before .before .before .before .before .before .before .before .before .before .before .before .before .before .before .pre .1 .base) (c .before .before .before .before .before .before .before .before .before .before .before .before .before .before .before .before .before .before .before .get-node .ensures) (c .before .before .before .before .before .before .before .before .before .before .before .before .before .before .before .len .given .1) (c .before .before .before .before .before .before .before .before .before .before .before .before .before .before .before .before .before .before .before .before .before .before .before .before .pre .1), c .before .before .before .before .before .before .before .before .before .before .before .before .before .before .before .before .before .before .before .before .before .before .before .before .pre .1 .few)
+put-list-case-add-put-both-2 t c = omega (arith, subject-few (c .before .before .before .before .before .before .before .before .before .before .before .before .before .before .before .before .before .before .before .before .before .before .before .pre .1 .base) (c .before .before .before .before .before .before .before .before .before .before .before .before .before .before .before .before .before .before .get-node .ensures) (c .before .before .before .before .before .before .before .before .before .before .before .before .before .before .len .given .1) (c .before .before .before .before .before .before .before .before .before .before .before .before .before .before .before .before .before .before .before .before .before .before .before .pre .1), c .before .before .before .before .before .before .before .before .before .before .before .before .before .before .before .before .before .before .before .before .before .before .before .pre .1 .few)
 
 put-list-case-put-both-requires-2 : (t : ℕ) → put-list-case-lts.Need-put-both-requires-2 (put-list-case-claims t) (put-list-case-at t) put-list-case.Post
-put-list-case-put-both-requires-2 t c κs = (omega (arith, c .before .before .before .before .before .before .before .before .before .before .before .before .before .before .before .before .before .before .before .before .before .before .before .before .pre .0), (after-subject (c .before .before .before .before .before .before .before .before .before .before .before .before .before .before .before .before .before .before .before .before .before .before .before .before .pre .1 .base) (c .before .before .before .before .before .before .before .before .before .before .before .before .before .before .before .before .before .before .before .get-node .ensures) (c .before .before .before .before .before .before .before .before .before .before .before .before .before .before .before .len .given .1) (c .before .before .before .before .before .before .before .before .before .before .before .before .before .before .before .before .before .before .before .before .before .before .before .before .pre .1) (c .before .before .before .before .before .before .before .before .before .before .before .before .before .before .before .before .before .before .before .before .before .before .before .before .pre .1 .known .1 .empty .inside, c .before .before .before .before .before .before .before .before .before .before .before .before .before .before .before .before .before .before .before .before .before .before .before .before .pre .1 .known .1 .subject .inside) (omega (arith, subject-few (c .before .before .before .before .before .before .before .before .before .before .before .before .before .before .before .before .before .before .before .before .before .before .before .before .pre .1 .base) (c .before .before .before .before .before .before .before .before .before .before .before .before .before .before .before .before .before .before .before .get-node .ensures) (c .before .before .before .before .before .before .before .before .before .before .before .before .before .before .before .len .given .1) (c .before .before .before .before .before .before .before .before .before .before .before .before .before .before .before .before .before .before .before .before .before .before .before .before .pre .1))), view-nil))
+put-list-case-put-both-requires-2 t c κs = (omega (arith, c .before .before .before .before .before .before .before .before .before .before .before .before .before .before .before .before .before .before .before .before .before .before .before .pre .0), (after-subject (c .before .before .before .before .before .before .before .before .before .before .before .before .before .before .before .before .before .before .before .before .before .before .before .pre .1 .base) (c .before .before .before .before .before .before .before .before .before .before .before .before .before .before .before .before .before .before .get-node .ensures) (c .before .before .before .before .before .before .before .before .before .before .before .before .before .before .len .given .1) (c .before .before .before .before .before .before .before .before .before .before .before .before .before .before .before .before .before .before .before .before .before .before .before .pre .1) (c .before .before .before .before .before .before .before .before .before .before .before .before .before .before .before .before .before .before .before .before .before .before .before .pre .1 .known .1 .empty .inside, c .before .before .before .before .before .before .before .before .before .before .before .before .before .before .before .before .before .before .before .before .before .before .before .pre .1 .known .1 .subject .inside) (omega (arith, subject-few (c .before .before .before .before .before .before .before .before .before .before .before .before .before .before .before .before .before .before .before .before .before .before .before .pre .1 .base) (c .before .before .before .before .before .before .before .before .before .before .before .before .before .before .before .before .before .before .get-node .ensures) (c .before .before .before .before .before .before .before .before .before .before .before .before .before .before .len .given .1) (c .before .before .before .before .before .before .before .before .before .before .before .before .before .before .before .before .before .before .before .before .before .before .before .pre .1))), view-nil))
+
+put-list-case-enum-told-6 : (t : ℕ) → put-list-case-lts.Need-enum-told-6 (put-list-case-claims t) (put-list-case-at t) put-list-case.Post
+put-list-case-enum-told-6 t c = search needs
+
+put-list-case-add-put-under : (t : ℕ) → put-list-case-lts.Need-add-put-under (put-list-case-claims t) (put-list-case-at t) put-list-case.Post
+put-list-case-add-put-under t c = omega (arith, c .before .before .before .before .before .before .before .before .before .before .before .before .before .before .before .before .before .before .before .before .before .before .pre .1 .room)
+
+put-list-case-sub-put-under : (t : ℕ) → put-list-case-lts.Need-sub-put-under (put-list-case-claims t) (put-list-case-at t) put-list-case.Post
+put-list-case-sub-put-under t c = omega (arith, front-inside (c .before .before .before .before .before .before .before .before .before .before .before .before .before .before .before .before .before .before .before .before .before .before .pre .1 .base) (c .before .before .before .before .before .before .before .before .before .before .before .before .before .before .before .before .before .get-node .ensures) (c .before .before .before .before .before .before .before .before .before .before .before .before .before .len .given .1) (c .before .before .before .before .before .before .before .before .shape-of .ensures) (c .before .before .before .before .before .before .before .before .before .before .before .before .before .before .before .before .before .before .before .before .before .before .pre .1) (c .before .before .before .before .before .before .mid .given .1))
+
+put-list-case-sub-put-under-2 : (t : ℕ) → put-list-case-lts.Need-sub-put-under-2 (put-list-case-claims t) (put-list-case-at t) put-list-case.Post
+put-list-case-sub-put-under-2 t c = omega (arith, front-inside (c .before .before .before .before .before .before .before .before .before .before .before .before .before .before .before .before .before .before .before .before .before .before .pre .1 .base) (c .before .before .before .before .before .before .before .before .before .before .before .before .before .before .before .before .before .get-node .ensures) (c .before .before .before .before .before .before .before .before .before .before .before .before .before .len .given .1) (c .before .before .before .before .before .before .before .before .shape-of .ensures) (c .before .before .before .before .before .before .before .before .before .before .before .before .before .before .before .before .before .before .before .before .before .before .pre .1) (c .before .before .before .before .before .before .mid .given .1))
+
+put-list-case-add-put-under-2 : (t : ℕ) → put-list-case-lts.Need-add-put-under-2 (put-list-case-claims t) (put-list-case-at t) put-list-case.Post
+put-list-case-add-put-under-2 t c = omega (arith, subject-few (c .before .before .before .before .before .before .before .before .before .before .before .before .before .before .before .before .before .before .before .before .before .before .pre .1 .base) (c .before .before .before .before .before .before .before .before .before .before .before .before .before .before .before .before .before .get-node .ensures) (c .before .before .before .before .before .before .before .before .before .before .before .before .before .len .given .1) (c .before .before .before .before .before .before .before .before .before .before .before .before .before .before .before .before .before .before .before .before .before .before .pre .1), c .before .before .before .before .before .before .before .before .before .before .before .before .before .before .before .before .before .before .before .before .before .before .pre .1 .few)
+
+put-list-case-put-under-requires : (t : ℕ) → put-list-case-lts.Need-put-under-requires (put-list-case-claims t) (put-list-case-at t) put-list-case.Post
+put-list-case-put-under-requires t c κs = (omega (arith, c .before .before .before .before .before .before .before .before .before .before .before .before .before .before .before .before .before .before .before .before .before .before .pre .0), (after-subject (c .before .before .before .before .before .before .before .before .before .before .before .before .before .before .before .before .before .before .before .before .before .before .pre .1 .base) (c .before .before .before .before .before .before .before .before .before .before .before .before .before .before .before .before .before .get-node .ensures) (c .before .before .before .before .before .before .before .before .before .before .before .before .before .len .given .1) (c .before .before .before .before .before .before .before .before .before .before .before .before .before .before .before .before .before .before .before .before .before .before .pre .1) ((c .before .before .before .before .before .before .before .before .before .before .before .before .before .before .before .before .before .before .before .before .before .before .pre .1 .known .1 .front .inside, c .before .before .before .before .before .before .before .before .before .before .before .before .before .before .before .before .before .before .before .before .before .before .pre .1 .known .1 .subject .inside), aList refl) (omega (arith, subject-few (c .before .before .before .before .before .before .before .before .before .before .before .before .before .before .before .before .before .before .before .before .before .before .pre .1 .base) (c .before .before .before .before .before .before .before .before .before .before .before .before .before .before .before .before .before .get-node .ensures) (c .before .before .before .before .before .before .before .before .before .before .before .before .before .len .given .1) (c .before .before .before .before .before .before .before .before .before .before .before .before .before .before .before .before .before .before .before .before .before .before .pre .1))), (inner (c .before .before .before .before .before .before .before .before .before .before .before .before .before .before .before .before .before .before .before .before .before .before .pre .1 .base) (c .before .before .before .before .before .before .before .before .before .before .before .before .before .before .before .before .before .get-node .ensures) (c .before .before .before .before .before .before .before .before .before .before .before .before .before .len .given .1) (c .before .before .before .before .before .before .before .before .before .before .before .before .before .before .before .before .before .before .before .before .before .before .pre .1), front-spans (c .before .before .before .before .before .before .before .before .before .before .before .before .before .before .before .before .before .before .before .before .before .before .pre .1 .base) (c .before .before .before .before .before .before .before .before .before .before .before .before .before .before .before .before .before .get-node .ensures) (c .before .before .before .before .before .before .before .before .before .before .before .before .before .len .given .1) (c .before .before .before .before .before .before .before .before .shape-of .ensures) (c .before .before .before .before .before .before .before .before .before .before .before .before .before .before .before .before .before .before .before .before .before .before .pre .1) (c .before .before .before .before .before .before .mid .given .1))))
+
+put-list-case-enum-told-7 : (t : ℕ) → put-list-case-lts.Need-enum-told-7 (put-list-case-claims t) (put-list-case-at t) put-list-case.Post
+put-list-case-enum-told-7 t c = search needs
+
+put-list-case-returns : (t : ℕ) → put-list-case-lts.Need-returns (put-list-case-claims t) (put-list-case-at t) put-list-case.Post
+put-list-case-returns t c = list-refused (c .before .before .before .before .before .before .before .before .before .before .pre .1 .base) (c .before .before .before .before .before .get-node .ensures) (c .before .c .given .1)
+
+put-list-case-returns-2 : (t : ℕ) → put-list-case-lts.Need-returns-2 (put-list-case-claims t) (put-list-case-at t) put-list-case.Post
+put-list-case-returns-2 t c = lists.empty-both (c .before .before .before .before .before .before .before .before .before .before .before .before .before .before .before .before .before .before .before .before .before .before .before .before .before .pre .1 .base) (c .before .before .before .before .before .before .before .before .before .before .before .before .before .before .before .before .before .before .before .before .get-node .ensures) (c .before .before .before .before .before .before .before .before .before .before .before .before .before .before .before .before .len .given .1) (c .before .before .before .before .before .before .before .before .before .before .before .shape-of .ensures) (c .before .before .before .before .before .before .before .before .before .enum-told .given .1) refl (first-kept _ _ (c .before .before .before .before .before .before .before .before .choose .ensures) (c .before .before .before .before .before .before .enum-told2 .given .1)) (c .before .before .put-both .ensures)
+
+put-list-case-returns-3 : (t : ℕ) → put-list-case-lts.Need-returns-3 (put-list-case-claims t) (put-list-case-at t) put-list-case.Post
+put-list-case-returns-3 t c = let w = first-left _ _ (c .before .before .before .before .before .before .before .choose .ensures) (c .before .before .before .before .before .enum-told3 .given .1) in lists.empty-switch (c .before .before .before .before .before .before .before .before .before .before .before .before .before .before .before .before .before .before .before .before .before .before .before .before .pre .1 .base) (c .before .before .before .before .before .before .before .before .before .before .before .before .before .before .before .before .before .before .before .get-node .ensures) (c .before .before .before .before .before .before .before .before .before .before .before .before .before .before .before .len .given .1) (c .before .before .before .before .before .before .before .before .before .before .shape-of .ensures) (c .before .before .before .before .before .before .before .before .enum-told .given .1) refl (w .0) refl (w .1) (c .before .before .put-switch .ensures)
 
 put-list-case-returns-4 : (t : ℕ) → put-list-case-lts.Need-returns-4 (put-list-case-claims t) (put-list-case-at t) put-list-case.Post
-put-list-case-returns-4 t c = lists.front-both (c .before .before .before .before .before .before .before .before .before .before .before .before .before .before .before .before .before .before .before .before .before .before .before .before .before .before .before .pre .1 .base) (c .before .before .before .before .before .before .before .before .before .before .before .before .before .before .before .before .before .before .before .before .before .before .get-node .ensures) (c .before .before .before .before .before .before .before .before .before .before .before .before .before .before .before .before .before .before .len .given .1) (c .before .before .before .before .before .before .before .before .before .before .before .before .before .shape-of .ensures) (c .before .before .before .before .before .before .before .before .before .before .before .mid .given .1) (c .before .before .before .before .before .before .before .before .before .passes3 .ensures) (c .before .before .before .before .before .before .before .before .if3 .left) (c .before .before .before .before .before .before .before .passes4 .ensures) (c .before .before .before .before .before .before .if4 .taken) (c .before .before .put-both2 .ensures)
+put-list-case-returns-4 t c = let w = none-says _ _ _ (c .before .before .choose .ensures) (c .enum-told4 .given .1) in lists.empty-53 (c .before .before .before .before .before .before .before .before .before .before .before .before .before .before .before .before .before .before .before .pre .1 .base) (c .before .before .before .before .before .before .before .before .before .before .before .before .before .before .get-node .ensures) (c .before .before .before .before .before .before .before .before .before .before .len .given .1) (c .before .before .before .before .before .shape-of .ensures) (c .before .before .before .enum-told .given .1) refl (w .0) refl (w .1)
+
+put-list-case-returns-5 : (t : ℕ) → put-list-case-lts.Need-returns-5 (put-list-case-claims t) (put-list-case-at t) put-list-case.Post
+put-list-case-returns-5 t c = let w = second-left _ _ (c .before .before .before .before .before .before .before .before .choose2 .ensures) (c .before .before .before .before .before .before .enum-told5 .given .1) in lists.front-both (c .before .before .before .before .before .before .before .before .before .before .before .before .before .before .before .before .before .before .before .before .before .before .before .before .before .before .pre .1 .base) (c .before .before .before .before .before .before .before .before .before .before .before .before .before .before .before .before .before .before .before .before .before .get-node .ensures) (c .before .before .before .before .before .before .before .before .before .before .before .before .before .before .before .before .before .len .given .1) (c .before .before .before .before .before .before .before .before .before .before .before .before .shape-of .ensures) (c .before .before .before .before .before .before .before .before .before .before .mid .given .1) refl (w .0) refl (w .1) (c .before .before .put-both2 .ensures)
+
+put-list-case-returns-6 : (t : ℕ) → put-list-case-lts.Need-returns-6 (put-list-case-claims t) (put-list-case-at t) put-list-case.Post
+put-list-case-returns-6 t c = lists.front-under (c .before .before .before .before .before .before .before .before .before .before .before .before .before .before .before .before .before .before .before .before .before .before .before .before .before .pre .1 .base) (c .before .before .before .before .before .before .before .before .before .before .before .before .before .before .before .before .before .before .before .before .get-node .ensures) (c .before .before .before .before .before .before .before .before .before .before .before .before .before .before .before .before .len .given .1) (c .before .before .before .before .before .before .before .before .before .before .before .shape-of .ensures) (c .before .before .before .before .before .before .before .before .before .mid .given .1) refl (c .before .before .before .before .before .before .before .before .before .before .before .before .before .before .before .before .before .before .before .before .before .before .before .before .before .pre .1) (second-kept _ _ (c .before .before .before .before .before .before .before .choose2 .ensures) (c .before .before .before .before .before .enum-told6 .given .1)) (c .before .before .put-under .ensures)
+
+put-list-case-returns-7 : (t : ℕ) → put-list-case-lts.Need-returns-7 (put-list-case-claims t) (put-list-case-at t) put-list-case.Post
+put-list-case-returns-7 t c = let w = none-says _ _ _ (c .before .before .choose2 .ensures) (c .enum-told7 .given .1) in lists.front-53 (c .before .before .before .before .before .before .before .before .before .before .before .before .before .before .before .before .before .before .before .before .pre .1 .base) (c .before .before .before .before .before .before .before .before .before .before .before .before .before .before .before .get-node .ensures) (c .before .before .before .before .before .before .before .before .before .before .before .len .given .1) (c .before .before .before .before .before .before .shape-of .ensures) (c .before .before .before .before .mid .given .1) refl (w .1) refl (w .0)
+
+put-list-case-returns-8 : (t : ℕ) → put-list-case-lts.Need-returns-8 (put-list-case-claims t) (put-list-case-at t) put-list-case.Post
+put-list-case-returns-8 t c = lists.list-43 (c .before .before .before .before .before .before .before .before .before .before .before .before .before .before .before .pre .1 .base) (c .before .before .before .before .before .before .before .before .before .before .get-node .ensures) (c .before .before .before .before .before .before .len .given .1) (c .before .shape-of .ensures) (tags.not-empty _ (c .match2 .keys3)) (tags.not-front _ (c .match2 .keys3))
+
+put-list-case-same-length : (t : ℕ) → put-list-case-lts.Need-same-length (put-list-case-claims t) (put-list-case-at t) put-list-case.Post
+put-list-case-same-length t c = put-list-case-returns t c .frame .long
+
+put-list-case-same-length-2 : (t : ℕ) → put-list-case-lts.Need-same-length-2 (put-list-case-claims t) (put-list-case-at t) put-list-case.Post
+put-list-case-same-length-2 t c = put-list-case-returns-2 t c .frame .long
+
+put-list-case-same-length-3 : (t : ℕ) → put-list-case-lts.Need-same-length-3 (put-list-case-claims t) (put-list-case-at t) put-list-case.Post
+put-list-case-same-length-3 t c = put-list-case-returns-3 t c .frame .long
 
 put-list-case-same-length-4 : (t : ℕ) → put-list-case-lts.Need-same-length-4 (put-list-case-claims t) (put-list-case-at t) put-list-case.Post
 put-list-case-same-length-4 t c = put-list-case-returns-4 t c .frame .long
 
-put-list-case-returns-5 : (t : ℕ) → put-list-case-lts.Need-returns-5 (put-list-case-claims t) (put-list-case-at t) put-list-case.Post
-put-list-case-returns-5 t c = list-refused (c .before .before .before .before .before .before .before .before .before .before .pre .1 .base) (c .before .before .before .before .before .get-node .ensures) (c .before .c .given .1)
-
 put-list-case-same-length-5 : (t : ℕ) → put-list-case-lts.Need-same-length-5 (put-list-case-claims t) (put-list-case-at t) put-list-case.Post
 put-list-case-same-length-5 t c = put-list-case-returns-5 t c .frame .long
-
-put-list-case-returns-6 : (t : ℕ) → put-list-case-lts.Need-returns-6 (put-list-case-claims t) (put-list-case-at t) put-list-case.Post
-put-list-case-returns-6 t c = lists.empty-53 (c .before .before .before .before .before .before .before .before .before .before .before .before .before .before .before .before .before .before .before .before .pre .1 .base) (c .before .before .before .before .before .before .before .before .before .before .before .before .before .before .before .get-node .ensures) (c .before .before .before .before .before .before .before .before .before .before .before .len .given .1) (c .before .before .before .before .before .before .shape-of .ensures) (c .before .before .before .before .enum-told .given .1) (c .before .before .before .passes .ensures) (c .before .before .if1 .left) (c .before .passes2 .ensures) (c .if2 .left)
 
 put-list-case-same-length-6 : (t : ℕ) → put-list-case-lts.Need-same-length-6 (put-list-case-claims t) (put-list-case-at t) put-list-case.Post
 put-list-case-same-length-6 t c = put-list-case-returns-6 t c .frame .long
 
-put-list-case-returns-7 : (t : ℕ) → put-list-case-lts.Need-returns-7 (put-list-case-claims t) (put-list-case-at t) put-list-case.Post
-put-list-case-returns-7 t c = lists.front-53 (c .before .before .before .before .before .before .before .before .before .before .before .before .before .before .before .before .before .before .before .before .before .pre .1 .base) (c .before .before .before .before .before .before .before .before .before .before .before .before .before .before .before .before .get-node .ensures) (c .before .before .before .before .before .before .before .before .before .before .before .before .len .given .1) (c .before .before .before .before .before .before .before .shape-of .ensures) (c .before .before .before .before .before .mid .given .1) (c .before .before .before .passes3 .ensures) (c .before .before .if3 .left) (c .before .passes4 .ensures) (c .if4 .left)
-
 put-list-case-same-length-7 : (t : ℕ) → put-list-case-lts.Need-same-length-7 (put-list-case-claims t) (put-list-case-at t) put-list-case.Post
 put-list-case-same-length-7 t c = put-list-case-returns-7 t c .frame .long
-
-put-list-case-returns-8 : (t : ℕ) → put-list-case-lts.Need-returns-8 (put-list-case-claims t) (put-list-case-at t) put-list-case.Post
-put-list-case-returns-8 t c = lists.list-43 (c .before .before .before .before .before .before .before .before .before .before .before .before .before .before .before .pre .1 .base) (c .before .before .before .before .before .before .before .before .before .before .get-node .ensures) (c .before .before .before .before .before .before .len .given .1) (c .before .shape-of .ensures) (tags.not-empty _ (c .match2 .keys3)) (tags.not-front _ (c .match2 .keys3))
 
 put-list-case-same-length-8 : (t : ℕ) → put-list-case-lts.Need-same-length-8 (put-list-case-claims t) (put-list-case-at t) put-list-case.Post
 put-list-case-same-length-8 t c = put-list-case-returns-8 t c .frame .long
@@ -747,7 +760,7 @@ put-rebuilt-element-copy-out-place-of : (t : ℕ) → put-rebuilt-lts.Need-eleme
 put-rebuilt-element-copy-out-place-of t c = omega (arith, c .before .before .pre .1 .0 .given .written .few)
 
 put-rebuilt-place-of-requires : (t : ℕ) → put-rebuilt-lts.Need-place-of-requires (put-rebuilt-claims t) (put-rebuilt-at t) put-rebuilt.Post
-put-rebuilt-place-of-requires t c κs = omega (arith, c .before .before .before .pre .1 .0 .given .written .few)
+put-rebuilt-place-of-requires t c κs = search needs
 
 put-rebuilt-add-place-of : (t : ℕ) → put-rebuilt-lts.Need-add-place-of (put-rebuilt-claims t) (put-rebuilt-at t) put-rebuilt.Post
 put-rebuilt-add-place-of t c = omega (arith, c .before .before .before .before .pre .1 .0 .given .written .few)
@@ -765,37 +778,37 @@ put-rebuilt-add-place-of-3 : (t : ℕ) → put-rebuilt-lts.Need-add-place-of-3 (
 put-rebuilt-add-place-of-3 t c = omega (arith, spans-few (c .before .before .before .before .before .pre .1 .1) (c .before .before .before .before .before .pre .1 .0 .base), c .before .before .before .before .before .pre .1 .0 .room)
 
 put-rebuilt-place-of-requires-2 : (t : ℕ) → put-rebuilt-lts.Need-place-of-requires-2 (put-rebuilt-claims t) (put-rebuilt-at t) put-rebuilt.Post
-put-rebuilt-place-of-requires-2 t c κs = omega (arith, c .before .before .before .before .before .pre .1 .0 .given .written .few)
+put-rebuilt-place-of-requires-2 t c κs = search needs
 
 put-rebuilt-slice-read-rest-kind : (t : ℕ) → put-rebuilt-lts.Need-slice-read-rest-kind (put-rebuilt-claims t) (put-rebuilt-at t) put-rebuilt.Post
-put-rebuilt-slice-read-rest-kind t c = omega (arith, rebuilt-places (c .before .before .before .before .before .before .before .pre .1 .0) (c .before .before .before .before .before .before .before .pre .1 .1) (placed (now (c .before .before .before .before .before .before .before .args .lens)) (c .before .before .before .before .before .before .before .args .cells .count) (c .before .before .before .before .before .before .before .args .start) (c .before .before .before .before .before .before .before .args .first) (c .before .before .before .before .before .before .before .args .second) (c .before .before .before .place-of .ensures) (c .before .place-of2 .ensures)), c .before .before .before .before .before .before .before .pre .1 .0 .long)
+put-rebuilt-slice-read-rest-kind t c = omega (arith, rebuilt-places (c .before .before .before .before .before .before .before .pre .1 .0) (c .before .before .before .before .before .before .before .pre .1 .1) (placed (now (c .before .before .before .before .before .before .before .args .lens)) (c .before .before .before .before .before .before .before .args .cells .count) (c .before .before .before .before .before .before .before .args .start) (c .before .before .before .before .before .before .before .args .first) (c .before .before .before .before .before .before .before .args .second) (c .before .before .before .place-of .ensures .inside (omega (arith, c .before .before .before .before .before .before .before .pre .1 .0 .given .written .few))) (c .before .place-of2 .ensures .inside (omega (arith, c .before .before .before .before .before .before .before .pre .1 .0 .given .written .few)))), c .before .before .before .before .before .before .before .pre .1 .0 .long)
 
 put-rebuilt-unfit-requires : (t : ℕ) → put-rebuilt-lts.Need-unfit-requires (put-rebuilt-claims t) (put-rebuilt-at t) put-rebuilt.Post
 put-rebuilt-unfit-requires t c κs = search needs
 
 put-rebuilt-returns : (t : ℕ) → put-rebuilt-lts.Need-returns (put-rebuilt-claims t) (put-rebuilt-at t) put-rebuilt.Post
-put-rebuilt-returns t c = λ f u h. rebuilt-43 (placed (now (c .before .before .before .before .before .before .before .before .before .args .lens)) (c .before .before .before .before .before .before .before .before .before .args .cells .count) (c .before .before .before .before .before .before .before .before .before .args .start) (c .before .before .before .before .before .before .before .before .before .args .first) (c .before .before .before .before .before .before .before .before .before .args .second) (c .before .before .before .before .before .place-of .ensures) (c .before .before .before .place-of2 .ensures)) (c .before .before .before .before .before .before .before .before .before .pre .1 .0 .known .1) (c .before .before .before .before .before .before .before .before .before .pre .1 .0 .base) (omega (arith, c .before .before .before .before .before .before .before .before .before .pre .1 .0 .room)) h (c .before .unfit .ensures) (c .if1 .taken)
+put-rebuilt-returns t c = λ f u h. rebuilt-43 (placed (now (c .before .before .before .before .before .before .before .before .before .args .lens)) (c .before .before .before .before .before .before .before .before .before .args .cells .count) (c .before .before .before .before .before .before .before .before .before .args .start) (c .before .before .before .before .before .before .before .before .before .args .first) (c .before .before .before .before .before .before .before .before .before .args .second) (c .before .before .before .before .before .place-of .ensures .inside (omega (arith, c .before .before .before .before .before .before .before .before .before .pre .1 .0 .given .written .few))) (c .before .before .before .place-of2 .ensures .inside (omega (arith, c .before .before .before .before .before .before .before .before .before .pre .1 .0 .given .written .few)))) (c .before .before .before .before .before .before .before .before .before .pre .1 .0 .known .1) (c .before .before .before .before .before .before .before .before .before .pre .1 .0 .base) (omega (arith, c .before .before .before .before .before .before .before .before .before .pre .1 .0 .room)) h (c .before .unfit .ensures) (c .if1 .taken)
 
 put-rebuilt-add-size : (t : ℕ) → put-rebuilt-lts.Need-add-size (put-rebuilt-claims t) (put-rebuilt-at t) put-rebuilt.Post
-put-rebuilt-add-size t c = omega (arith, rebuilt-places (c .before .before .before .before .before .before .before .before .before .before .pre .1 .0) (c .before .before .before .before .before .before .before .before .before .before .pre .1 .1) (placed (now (c .before .before .before .before .before .before .before .before .before .before .args .lens)) (c .before .before .before .before .before .before .before .before .before .before .args .cells .count) (c .before .before .before .before .before .before .before .before .before .before .args .start) (c .before .before .before .before .before .before .before .before .before .before .args .first) (c .before .before .before .before .before .before .before .before .before .before .args .second) (c .before .before .before .before .before .before .place-of .ensures) (c .before .before .before .before .place-of2 .ensures)))
+put-rebuilt-add-size t c = omega (arith, rebuilt-places (c .before .before .before .before .before .before .before .before .before .before .pre .1 .0) (c .before .before .before .before .before .before .before .before .before .before .pre .1 .1) (placed (now (c .before .before .before .before .before .before .before .before .before .before .args .lens)) (c .before .before .before .before .before .before .before .before .before .before .args .cells .count) (c .before .before .before .before .before .before .before .before .before .before .args .start) (c .before .before .before .before .before .before .before .before .before .before .args .first) (c .before .before .before .before .before .before .before .before .before .before .args .second) (c .before .before .before .before .before .before .place-of .ensures .inside (omega (arith, c .before .before .before .before .before .before .before .before .before .before .pre .1 .0 .given .written .few))) (c .before .before .before .before .place-of2 .ensures .inside (omega (arith, c .before .before .before .before .before .before .before .before .before .before .pre .1 .0 .given .written .few)))))
 
 put-rebuilt-add-size-2 : (t : ℕ) → put-rebuilt-lts.Need-add-size-2 (put-rebuilt-claims t) (put-rebuilt-at t) put-rebuilt.Post
-put-rebuilt-add-size-2 t c = omega (arith, rebuilt-places (c .before .before .before .before .before .before .before .before .before .before .before .pre .1 .0) (c .before .before .before .before .before .before .before .before .before .before .before .pre .1 .1) (placed (now (c .before .before .before .before .before .before .before .before .before .before .before .args .lens)) (c .before .before .before .before .before .before .before .before .before .before .before .args .cells .count) (c .before .before .before .before .before .before .before .before .before .before .before .args .start) (c .before .before .before .before .before .before .before .before .before .before .before .args .first) (c .before .before .before .before .before .before .before .before .before .before .before .args .second) (c .before .before .before .before .before .before .before .place-of .ensures) (c .before .before .before .before .before .place-of2 .ensures)))
+put-rebuilt-add-size-2 t c = omega (arith, rebuilt-places (c .before .before .before .before .before .before .before .before .before .before .before .pre .1 .0) (c .before .before .before .before .before .before .before .before .before .before .before .pre .1 .1) (placed (now (c .before .before .before .before .before .before .before .before .before .before .before .args .lens)) (c .before .before .before .before .before .before .before .before .before .before .before .args .cells .count) (c .before .before .before .before .before .before .before .before .before .before .before .args .start) (c .before .before .before .before .before .before .before .before .before .before .before .args .first) (c .before .before .before .before .before .before .before .before .before .before .before .args .second) (c .before .before .before .before .before .before .before .place-of .ensures .inside (omega (arith, c .before .before .before .before .before .before .before .before .before .before .before .pre .1 .0 .given .written .few))) (c .before .before .before .before .before .place-of2 .ensures .inside (omega (arith, c .before .before .before .before .before .before .before .before .before .before .before .pre .1 .0 .given .written .few)))))
 
 put-rebuilt-returns-2 : (t : ℕ) → put-rebuilt-lts.Need-returns-2 (put-rebuilt-claims t) (put-rebuilt-at t) put-rebuilt.Post
-put-rebuilt-returns-2 t c = λ f u h. rebuilt-44 (placed (now (c .before .before .before .before .before .before .before .before .before .before .before .before .args .lens)) (c .before .before .before .before .before .before .before .before .before .before .before .before .args .cells .count) (c .before .before .before .before .before .before .before .before .before .before .before .before .args .start) (c .before .before .before .before .before .before .before .before .before .before .before .before .args .first) (c .before .before .before .before .before .before .before .before .before .before .before .before .args .second) (c .before .before .before .before .before .before .before .before .place-of .ensures) (c .before .before .before .before .before .before .place-of2 .ensures)) (c .before .before .before .before .before .before .before .before .before .before .before .before .pre .1 .0 .known .1) (c .before .before .before .before .before .before .before .before .before .before .before .before .pre .1 .0 .base) (omega (arith, c .before .before .before .before .before .before .before .before .before .before .before .before .pre .1 .0 .room)) h (c .before .before .before .before .unfit .ensures) (c .before .before .before .if1 .left) (c .if2 .taken)
+put-rebuilt-returns-2 t c = λ f u h. rebuilt-44 (placed (now (c .before .before .before .before .before .before .before .before .before .before .before .before .args .lens)) (c .before .before .before .before .before .before .before .before .before .before .before .before .args .cells .count) (c .before .before .before .before .before .before .before .before .before .before .before .before .args .start) (c .before .before .before .before .before .before .before .before .before .before .before .before .args .first) (c .before .before .before .before .before .before .before .before .before .before .before .before .args .second) (c .before .before .before .before .before .before .before .before .place-of .ensures .inside (omega (arith, c .before .before .before .before .before .before .before .before .before .before .before .before .pre .1 .0 .given .written .few))) (c .before .before .before .before .before .before .place-of2 .ensures .inside (omega (arith, c .before .before .before .before .before .before .before .before .before .before .before .before .pre .1 .0 .given .written .few)))) (c .before .before .before .before .before .before .before .before .before .before .before .before .pre .1 .0 .known .1) (c .before .before .before .before .before .before .before .before .before .before .before .before .pre .1 .0 .base) (omega (arith, c .before .before .before .before .before .before .before .before .before .before .before .before .pre .1 .0 .room)) h (c .before .before .before .before .unfit .ensures) (c .before .before .before .if1 .left) (c .if2 .taken)
 
 put-rebuilt-rebuild-requires : (t : ℕ) → put-rebuilt-lts.Need-rebuild-requires (put-rebuilt-claims t) (put-rebuilt-at t) put-rebuilt.Post
-put-rebuilt-rebuild-requires t c κs = (omega arith, omega (arith, rebuilt-places (c .before .before .before .before .before .before .before .before .before .before .before .before .before .pre .1 .0) (c .before .before .before .before .before .before .before .before .before .before .before .before .before .pre .1 .1) (placed (now (c .before .before .before .before .before .before .before .before .before .before .before .before .before .args .lens)) (c .before .before .before .before .before .before .before .before .before .before .before .before .before .args .cells .count) (c .before .before .before .before .before .before .before .before .before .before .before .before .before .args .start) (c .before .before .before .before .before .before .before .before .before .before .before .before .before .args .first) (c .before .before .before .before .before .before .before .before .before .before .before .before .before .args .second) (c .before .before .before .before .before .before .before .before .before .place-of .ensures) (c .before .before .before .before .before .before .before .place-of2 .ensures)), c .before .before .before .before .before .before .before .before .before .before .before .before .before .pre .1 .0 .long), omega (arith, rebuilt-places (c .before .before .before .before .before .before .before .before .before .before .before .before .before .pre .1 .0) (c .before .before .before .before .before .before .before .before .before .before .before .before .before .pre .1 .1) (placed (now (c .before .before .before .before .before .before .before .before .before .before .before .before .before .args .lens)) (c .before .before .before .before .before .before .before .before .before .before .before .before .before .args .cells .count) (c .before .before .before .before .before .before .before .before .before .before .before .before .before .args .start) (c .before .before .before .before .before .before .before .before .before .before .before .before .before .args .first) (c .before .before .before .before .before .before .before .before .before .before .before .before .before .args .second) (c .before .before .before .before .before .before .before .before .before .place-of .ensures) (c .before .before .before .before .before .before .before .place-of2 .ensures)), c .before .before .before .before .before .before .before .before .before .before .before .before .before .pre .1 .0 .long))
+put-rebuilt-rebuild-requires t c κs = (omega arith, omega (arith, rebuilt-places (c .before .before .before .before .before .before .before .before .before .before .before .before .before .pre .1 .0) (c .before .before .before .before .before .before .before .before .before .before .before .before .before .pre .1 .1) (placed (now (c .before .before .before .before .before .before .before .before .before .before .before .before .before .args .lens)) (c .before .before .before .before .before .before .before .before .before .before .before .before .before .args .cells .count) (c .before .before .before .before .before .before .before .before .before .before .before .before .before .args .start) (c .before .before .before .before .before .before .before .before .before .before .before .before .before .args .first) (c .before .before .before .before .before .before .before .before .before .before .before .before .before .args .second) (c .before .before .before .before .before .before .before .before .before .place-of .ensures .inside (omega (arith, c .before .before .before .before .before .before .before .before .before .before .before .before .before .pre .1 .0 .given .written .few))) (c .before .before .before .before .before .before .before .place-of2 .ensures .inside (omega (arith, c .before .before .before .before .before .before .before .before .before .before .before .before .before .pre .1 .0 .given .written .few)))), c .before .before .before .before .before .before .before .before .before .before .before .before .before .pre .1 .0 .long), omega (arith, rebuilt-places (c .before .before .before .before .before .before .before .before .before .before .before .before .before .pre .1 .0) (c .before .before .before .before .before .before .before .before .before .before .before .before .before .pre .1 .1) (placed (now (c .before .before .before .before .before .before .before .before .before .before .before .before .before .args .lens)) (c .before .before .before .before .before .before .before .before .before .before .before .before .before .args .cells .count) (c .before .before .before .before .before .before .before .before .before .before .before .before .before .args .start) (c .before .before .before .before .before .before .before .before .before .before .before .before .before .args .first) (c .before .before .before .before .before .before .before .before .before .before .before .before .before .args .second) (c .before .before .before .before .before .before .before .before .before .place-of .ensures .inside (omega (arith, c .before .before .before .before .before .before .before .before .before .before .before .before .before .pre .1 .0 .given .written .few))) (c .before .before .before .before .before .before .before .place-of2 .ensures .inside (omega (arith, c .before .before .before .before .before .before .before .before .before .before .before .before .before .pre .1 .0 .given .written .few)))), c .before .before .before .before .before .before .before .before .before .before .before .before .before .pre .1 .0 .long))
 
 put-rebuilt-array-share-prefix-whole : (t : ℕ) → put-rebuilt-lts.Need-array-share-prefix-whole (put-rebuilt-claims t) (put-rebuilt-at t) put-rebuilt.Post
 put-rebuilt-array-share-prefix-whole t c = omega arith
 
 put-rebuilt-slice-aggregate-put-node : (t : ℕ) → put-rebuilt-lts.Need-slice-aggregate-put-node (put-rebuilt-claims t) (put-rebuilt-at t) put-rebuilt.Post
-put-rebuilt-slice-aggregate-put-node t c = rebuilt-count (c .before .before .before .before .before .before .before .before .before .before .before .before .before .before .before .before .before .args .kind) (c .before .before .before .before .before .before .before .before .before .before .before .before .before .before .before .before .before .pre .1 .0) (c .before .before .before .before .before .before .before .before .before .before .before .before .before .before .before .before .before .pre .1 .1) (placed (now (c .before .before .before .before .before .before .before .before .before .before .before .before .before .before .before .before .before .args .lens)) (c .before .before .before .before .before .before .before .before .before .before .before .before .before .before .before .before .before .args .cells .count) (c .before .before .before .before .before .before .before .before .before .before .before .before .before .before .before .before .before .args .start) (c .before .before .before .before .before .before .before .before .before .before .before .before .before .before .before .before .before .args .first) (c .before .before .before .before .before .before .before .before .before .before .before .before .before .before .before .before .before .args .second) (c .before .before .before .before .before .before .before .before .before .before .before .before .before .place-of .ensures) (c .before .before .before .before .before .before .before .before .before .before .before .place-of2 .ensures)) (c .before .before .before .before .before .if2 .left) (c .before .before .before .rebuild .ensures)
+put-rebuilt-slice-aggregate-put-node t c = rebuilt-count (c .before .before .before .before .before .before .before .before .before .before .before .before .before .before .before .before .before .args .kind) (c .before .before .before .before .before .before .before .before .before .before .before .before .before .before .before .before .before .pre .1 .0) (c .before .before .before .before .before .before .before .before .before .before .before .before .before .before .before .before .before .pre .1 .1) (placed (now (c .before .before .before .before .before .before .before .before .before .before .before .before .before .before .before .before .before .args .lens)) (c .before .before .before .before .before .before .before .before .before .before .before .before .before .before .before .before .before .args .cells .count) (c .before .before .before .before .before .before .before .before .before .before .before .before .before .before .before .before .before .args .start) (c .before .before .before .before .before .before .before .before .before .before .before .before .before .before .before .before .before .args .first) (c .before .before .before .before .before .before .before .before .before .before .before .before .before .before .before .before .before .args .second) (c .before .before .before .before .before .before .before .before .before .before .before .before .before .place-of .ensures .inside (omega (arith, c .before .before .before .before .before .before .before .before .before .before .before .before .before .before .before .before .before .pre .1 .0 .given .written .few))) (c .before .before .before .before .before .before .before .before .before .before .before .place-of2 .ensures .inside (omega (arith, c .before .before .before .before .before .before .before .before .before .before .before .before .before .before .before .before .before .pre .1 .0 .given .written .few)))) (c .before .before .before .before .before .if2 .left) (c .before .before .before .rebuild .ensures)
 
 put-rebuilt-put-node-requires : (t : ℕ) → put-rebuilt-lts.Need-put-node-requires (put-rebuilt-claims t) (put-rebuilt-at t) put-rebuilt.Post
-put-rebuilt-put-node-requires t c κs = (omega (arith, c .before .before .before .before .before .before .before .before .before .before .before .before .before .before .before .before .before .pre .0), rebuilt-ready (placed (now (c .before .before .before .before .before .before .before .before .before .before .before .before .before .before .before .before .before .args .lens)) (c .before .before .before .before .before .before .before .before .before .before .before .before .before .before .before .before .before .args .cells .count) (c .before .before .before .before .before .before .before .before .before .before .before .before .before .before .before .before .before .args .start) (c .before .before .before .before .before .before .before .before .before .before .before .before .before .before .before .before .before .args .first) (c .before .before .before .before .before .before .before .before .before .before .before .before .before .before .before .before .before .args .second) (c .before .before .before .before .before .before .before .before .before .before .before .before .before .place-of .ensures) (c .before .before .before .before .before .before .before .before .before .before .before .place-of2 .ensures)) (c .before .before .before .before .before .before .before .before .before .before .before .before .before .before .before .before .before .pre .1 .0 .known .1) (c .before .before .before .before .before .before .before .before .before .before .before .before .before .before .before .before .before .pre .1 .0 .base) (omega (arith, c .before .before .before .before .before .before .before .before .before .before .before .before .before .before .before .before .before .pre .1 .0 .room)) (c .before .before .before .before .before .before .before .before .before .before .before .before .before .before .before .before .before .pre .1 .1 .spans) (c .before .before .before .before .before .before .before .before .before .unfit .ensures) (c .before .before .before .before .before .before .before .before .if1 .left) (c .before .before .before .before .before .if2 .left) (c .before .before .before .before .before .before .before .before .before .before .before .before .before .before .before .before .before .pre .1 .0 .long) (c .before .before .before .rebuild .ensures) (c .before .before .before .before .before .before .before .before .before .before .before .before .before .before .before .before .before .pre .1 .0) (omega arith))
+put-rebuilt-put-node-requires t c κs = (omega (arith, c .before .before .before .before .before .before .before .before .before .before .before .before .before .before .before .before .before .pre .0), rebuilt-ready (placed (now (c .before .before .before .before .before .before .before .before .before .before .before .before .before .before .before .before .before .args .lens)) (c .before .before .before .before .before .before .before .before .before .before .before .before .before .before .before .before .before .args .cells .count) (c .before .before .before .before .before .before .before .before .before .before .before .before .before .before .before .before .before .args .start) (c .before .before .before .before .before .before .before .before .before .before .before .before .before .before .before .before .before .args .first) (c .before .before .before .before .before .before .before .before .before .before .before .before .before .before .before .before .before .args .second) (c .before .before .before .before .before .before .before .before .before .before .before .before .before .place-of .ensures .inside (omega (arith, c .before .before .before .before .before .before .before .before .before .before .before .before .before .before .before .before .before .pre .1 .0 .given .written .few))) (c .before .before .before .before .before .before .before .before .before .before .before .place-of2 .ensures .inside (omega (arith, c .before .before .before .before .before .before .before .before .before .before .before .before .before .before .before .before .before .pre .1 .0 .given .written .few)))) (c .before .before .before .before .before .before .before .before .before .before .before .before .before .before .before .before .before .pre .1 .0 .known .1) (c .before .before .before .before .before .before .before .before .before .before .before .before .before .before .before .before .before .pre .1 .0 .base) (omega (arith, c .before .before .before .before .before .before .before .before .before .before .before .before .before .before .before .before .before .pre .1 .0 .room)) (c .before .before .before .before .before .before .before .before .before .before .before .before .before .before .before .before .before .pre .1 .1 .spans) (c .before .before .before .before .before .before .before .before .before .unfit .ensures) (c .before .before .before .before .before .before .before .before .if1 .left) (c .before .before .before .before .before .if2 .left) (c .before .before .before .before .before .before .before .before .before .before .before .before .before .before .before .before .before .pre .1 .0 .long) (c .before .before .before .rebuild .ensures) (c .before .before .before .before .before .before .before .before .before .before .before .before .before .before .before .before .before .pre .1 .0) (omega arith))
 
 put-rebuilt-enum-known-c : (t : ℕ) → put-rebuilt-lts.Need-enum-known-c (put-rebuilt-claims t) (put-rebuilt-at t) put-rebuilt.Post
 put-rebuilt-enum-known-c t c = search needs
@@ -804,19 +817,19 @@ put-rebuilt-enum-known-t : (t : ℕ) → put-rebuilt-lts.Need-enum-known-t (put-
 put-rebuilt-enum-known-t t c = search needs
 
 put-rebuilt-add-t46 : (t : ℕ) → put-rebuilt-lts.Need-add-t46 (put-rebuilt-claims t) (put-rebuilt-at t) put-rebuilt.Post
-put-rebuilt-add-t46 t c = omega (arith, rebuilt-few (placed (now (c .before .before .before .before .before .before .before .before .before .before .before .before .before .before .before .before .before .before .before .before .before .before .before .args .lens)) (c .before .before .before .before .before .before .before .before .before .before .before .before .before .before .before .before .before .before .before .before .before .before .before .args .cells .count) (c .before .before .before .before .before .before .before .before .before .before .before .before .before .before .before .before .before .before .before .before .before .before .before .args .start) (c .before .before .before .before .before .before .before .before .before .before .before .before .before .before .before .before .before .before .before .before .before .before .before .args .first) (c .before .before .before .before .before .before .before .before .before .before .before .before .before .before .before .before .before .before .before .before .before .before .before .args .second) (c .before .before .before .before .before .before .before .before .before .before .before .before .before .before .before .before .before .before .before .place-of .ensures) (c .before .before .before .before .before .before .before .before .before .before .before .before .before .before .before .before .before .place-of2 .ensures)) (c .before .before .before .before .before .before .before .before .before .before .before .before .before .before .before .before .before .before .before .before .before .before .before .pre .1 .0 .known .1) (c .before .before .before .before .before .before .before .before .before .before .before .before .before .before .before .before .before .before .before .before .before .before .before .pre .1 .0 .base) (omega (arith, c .before .before .before .before .before .before .before .before .before .before .before .before .before .before .before .before .before .before .before .before .before .before .before .pre .1 .0 .room)) (c .before .before .before .before .before .before .before .before .before .before .before .before .before .before .before .before .before .before .before .before .before .before .before .pre .1 .1 .spans) (c .before .before .before .before .before .before .before .before .before .before .before .before .before .before .before .unfit .ensures) (c .before .before .before .before .before .before .before .before .before .before .before .before .before .before .if1 .left) (c .before .before .before .before .before .before .before .before .before .before .before .if2 .left) (c .before .before .before .before .before .before .before .before .before .before .before .before .before .before .before .before .before .before .before .before .before .before .before .pre .1 .0 .long) (c .before .before .before .before .before .before .before .before .before .rebuild .ensures) (c .before .before .before .before .before .put-node .ensures) (c .before .t .given .1) (c .before .before .before .before .before .before .before .before .before .before .before .before .before .before .before .before .before .before .before .before .before .before .before .pre .1 .0), c .before .before .before .before .before .before .before .before .before .before .before .before .before .before .before .before .before .before .before .before .before .before .before .pre .1 .0 .few)
+put-rebuilt-add-t46 t c = omega (arith, rebuilt-few (placed (now (c .before .before .before .before .before .before .before .before .before .before .before .before .before .before .before .before .before .before .before .before .before .before .before .args .lens)) (c .before .before .before .before .before .before .before .before .before .before .before .before .before .before .before .before .before .before .before .before .before .before .before .args .cells .count) (c .before .before .before .before .before .before .before .before .before .before .before .before .before .before .before .before .before .before .before .before .before .before .before .args .start) (c .before .before .before .before .before .before .before .before .before .before .before .before .before .before .before .before .before .before .before .before .before .before .before .args .first) (c .before .before .before .before .before .before .before .before .before .before .before .before .before .before .before .before .before .before .before .before .before .before .before .args .second) (c .before .before .before .before .before .before .before .before .before .before .before .before .before .before .before .before .before .before .before .place-of .ensures .inside (omega (arith, c .before .before .before .before .before .before .before .before .before .before .before .before .before .before .before .before .before .before .before .before .before .before .before .pre .1 .0 .given .written .few))) (c .before .before .before .before .before .before .before .before .before .before .before .before .before .before .before .before .before .place-of2 .ensures .inside (omega (arith, c .before .before .before .before .before .before .before .before .before .before .before .before .before .before .before .before .before .before .before .before .before .before .before .pre .1 .0 .given .written .few)))) (c .before .before .before .before .before .before .before .before .before .before .before .before .before .before .before .before .before .before .before .before .before .before .before .pre .1 .0 .known .1) (c .before .before .before .before .before .before .before .before .before .before .before .before .before .before .before .before .before .before .before .before .before .before .before .pre .1 .0 .base) (omega (arith, c .before .before .before .before .before .before .before .before .before .before .before .before .before .before .before .before .before .before .before .before .before .before .before .pre .1 .0 .room)) (c .before .before .before .before .before .before .before .before .before .before .before .before .before .before .before .before .before .before .before .before .before .before .before .pre .1 .1 .spans) (c .before .before .before .before .before .before .before .before .before .before .before .before .before .before .before .unfit .ensures) (c .before .before .before .before .before .before .before .before .before .before .before .before .before .before .if1 .left) (c .before .before .before .before .before .before .before .before .before .before .before .if2 .left) (c .before .before .before .before .before .before .before .before .before .before .before .before .before .before .before .before .before .before .before .before .before .before .before .pre .1 .0 .long) (c .before .before .before .before .before .before .before .before .before .rebuild .ensures) (c .before .before .before .before .before .put-node .ensures) (c .before .t .given .1) (c .before .before .before .before .before .before .before .before .before .before .before .before .before .before .before .before .before .before .before .before .before .before .before .pre .1 .0), c .before .before .before .before .before .before .before .before .before .before .before .before .before .before .before .before .before .before .before .before .before .before .before .pre .1 .0 .few)
 
 put-rebuilt-same-length : (t : ℕ) → put-rebuilt-lts.Need-same-length (put-rebuilt-claims t) (put-rebuilt-at t) put-rebuilt.Post
 put-rebuilt-same-length t c = c .before .before .before .before .before .put-node .ensures .frame .long
 
 put-rebuilt-returns-3 : (t : ℕ) → put-rebuilt-lts.Need-returns-3 (put-rebuilt-claims t) (put-rebuilt-at t) put-rebuilt.Post
-put-rebuilt-returns-3 t c = λ f u h. rebuilt-refused (placed (now (c .before .before .before .before .before .before .before .before .before .before .before .before .before .before .before .before .before .before .before .before .before .before .before .args .lens)) (c .before .before .before .before .before .before .before .before .before .before .before .before .before .before .before .before .before .before .before .before .before .before .before .args .cells .count) (c .before .before .before .before .before .before .before .before .before .before .before .before .before .before .before .before .before .before .before .before .before .before .before .args .start) (c .before .before .before .before .before .before .before .before .before .before .before .before .before .before .before .before .before .before .before .before .before .before .before .args .first) (c .before .before .before .before .before .before .before .before .before .before .before .before .before .before .before .before .before .before .before .before .before .before .before .args .second) (c .before .before .before .before .before .before .before .before .before .before .before .before .before .before .before .before .before .before .before .place-of .ensures) (c .before .before .before .before .before .before .before .before .before .before .before .before .before .before .before .before .before .place-of2 .ensures)) (c .before .before .before .before .before .before .before .before .before .before .before .before .before .before .before .before .before .before .before .before .before .before .before .pre .1 .0 .known .1) (c .before .before .before .before .before .before .before .before .before .before .before .before .before .before .before .before .before .before .before .before .before .before .before .pre .1 .0 .base) (omega (arith, c .before .before .before .before .before .before .before .before .before .before .before .before .before .before .before .before .before .before .before .before .before .before .before .pre .1 .0 .room)) h (c .before .before .before .before .before .before .before .before .before .before .before .before .before .before .before .unfit .ensures) (c .before .before .before .before .before .before .before .before .before .before .before .before .before .before .if1 .left) (c .before .before .before .before .before .before .before .before .before .before .before .if2 .left) (c .before .before .before .before .before .before .before .before .before .before .before .before .before .before .before .before .before .before .before .before .before .before .before .pre .1 .0 .long) (c .before .before .before .before .before .before .before .before .before .rebuild .ensures) (c .before .before .before .before .before .put-node .ensures) (c .before .c .given .1)
+put-rebuilt-returns-3 t c = λ f u h. rebuilt-refused (placed (now (c .before .before .before .before .before .before .before .before .before .before .before .before .before .before .before .before .before .before .before .before .before .before .before .args .lens)) (c .before .before .before .before .before .before .before .before .before .before .before .before .before .before .before .before .before .before .before .before .before .before .before .args .cells .count) (c .before .before .before .before .before .before .before .before .before .before .before .before .before .before .before .before .before .before .before .before .before .before .before .args .start) (c .before .before .before .before .before .before .before .before .before .before .before .before .before .before .before .before .before .before .before .before .before .before .before .args .first) (c .before .before .before .before .before .before .before .before .before .before .before .before .before .before .before .before .before .before .before .before .before .before .before .args .second) (c .before .before .before .before .before .before .before .before .before .before .before .before .before .before .before .before .before .before .before .place-of .ensures .inside (omega (arith, c .before .before .before .before .before .before .before .before .before .before .before .before .before .before .before .before .before .before .before .before .before .before .before .pre .1 .0 .given .written .few))) (c .before .before .before .before .before .before .before .before .before .before .before .before .before .before .before .before .before .place-of2 .ensures .inside (omega (arith, c .before .before .before .before .before .before .before .before .before .before .before .before .before .before .before .before .before .before .before .before .before .before .before .pre .1 .0 .given .written .few)))) (c .before .before .before .before .before .before .before .before .before .before .before .before .before .before .before .before .before .before .before .before .before .before .before .pre .1 .0 .known .1) (c .before .before .before .before .before .before .before .before .before .before .before .before .before .before .before .before .before .before .before .before .before .before .before .pre .1 .0 .base) (omega (arith, c .before .before .before .before .before .before .before .before .before .before .before .before .before .before .before .before .before .before .before .before .before .before .before .pre .1 .0 .room)) h (c .before .before .before .before .before .before .before .before .before .before .before .before .before .before .before .unfit .ensures) (c .before .before .before .before .before .before .before .before .before .before .before .before .before .before .if1 .left) (c .before .before .before .before .before .before .before .before .before .before .before .if2 .left) (c .before .before .before .before .before .before .before .before .before .before .before .before .before .before .before .before .before .before .before .before .before .before .before .pre .1 .0 .long) (c .before .before .before .before .before .before .before .before .before .rebuild .ensures) (c .before .before .before .before .before .put-node .ensures) (c .before .c .given .1)
 
 put-rebuilt-same-length-2 : (t : ℕ) → put-rebuilt-lts.Need-same-length-2 (put-rebuilt-claims t) (put-rebuilt-at t) put-rebuilt.Post
 put-rebuilt-same-length-2 t c = c .before .before .before .before .before .put-node .ensures .frame .long
 
 put-rebuilt-returns-4 : (t : ℕ) → put-rebuilt-lts.Need-returns-4 (put-rebuilt-claims t) (put-rebuilt-at t) put-rebuilt.Post
-put-rebuilt-returns-4 t c = λ f u h. rebuilt-done (placed (now (c .before .before .before .before .before .before .before .before .before .before .before .before .before .before .before .before .before .before .before .before .before .before .before .args .lens)) (c .before .before .before .before .before .before .before .before .before .before .before .before .before .before .before .before .before .before .before .before .before .before .before .args .cells .count) (c .before .before .before .before .before .before .before .before .before .before .before .before .before .before .before .before .before .before .before .before .before .before .before .args .start) (c .before .before .before .before .before .before .before .before .before .before .before .before .before .before .before .before .before .before .before .before .before .before .before .args .first) (c .before .before .before .before .before .before .before .before .before .before .before .before .before .before .before .before .before .before .before .before .before .before .before .args .second) (c .before .before .before .before .before .before .before .before .before .before .before .before .before .before .before .before .before .before .before .place-of .ensures) (c .before .before .before .before .before .before .before .before .before .before .before .before .before .before .before .before .before .place-of2 .ensures)) (c .before .before .before .before .before .before .before .before .before .before .before .before .before .before .before .before .before .before .before .before .before .before .before .pre .1 .0 .known .1) (c .before .before .before .before .before .before .before .before .before .before .before .before .before .before .before .before .before .before .before .before .before .before .before .pre .1 .0 .base) (omega (arith, c .before .before .before .before .before .before .before .before .before .before .before .before .before .before .before .before .before .before .before .before .before .before .before .pre .1 .0 .room)) h (c .before .before .before .before .before .before .before .before .before .before .before .before .before .before .before .unfit .ensures) (c .before .before .before .before .before .before .before .before .before .before .before .before .before .before .if1 .left) (c .before .before .before .before .before .before .before .before .before .before .before .if2 .left) (c .before .before .before .before .before .before .before .before .before .before .before .before .before .before .before .before .before .before .before .before .before .before .before .pre .1 .0 .long) (c .before .before .before .before .before .before .before .before .before .rebuild .ensures) (c .before .before .before .before .before .put-node .ensures) (c .before .t .given .1)
+put-rebuilt-returns-4 t c = λ f u h. rebuilt-done (placed (now (c .before .before .before .before .before .before .before .before .before .before .before .before .before .before .before .before .before .before .before .before .before .before .before .args .lens)) (c .before .before .before .before .before .before .before .before .before .before .before .before .before .before .before .before .before .before .before .before .before .before .before .args .cells .count) (c .before .before .before .before .before .before .before .before .before .before .before .before .before .before .before .before .before .before .before .before .before .before .before .args .start) (c .before .before .before .before .before .before .before .before .before .before .before .before .before .before .before .before .before .before .before .before .before .before .before .args .first) (c .before .before .before .before .before .before .before .before .before .before .before .before .before .before .before .before .before .before .before .before .before .before .before .args .second) (c .before .before .before .before .before .before .before .before .before .before .before .before .before .before .before .before .before .before .before .place-of .ensures .inside (omega (arith, c .before .before .before .before .before .before .before .before .before .before .before .before .before .before .before .before .before .before .before .before .before .before .before .pre .1 .0 .given .written .few))) (c .before .before .before .before .before .before .before .before .before .before .before .before .before .before .before .before .before .place-of2 .ensures .inside (omega (arith, c .before .before .before .before .before .before .before .before .before .before .before .before .before .before .before .before .before .before .before .before .before .before .before .pre .1 .0 .given .written .few)))) (c .before .before .before .before .before .before .before .before .before .before .before .before .before .before .before .before .before .before .before .before .before .before .before .pre .1 .0 .known .1) (c .before .before .before .before .before .before .before .before .before .before .before .before .before .before .before .before .before .before .before .before .before .before .before .pre .1 .0 .base) (omega (arith, c .before .before .before .before .before .before .before .before .before .before .before .before .before .before .before .before .before .before .before .before .before .before .before .pre .1 .0 .room)) h (c .before .before .before .before .before .before .before .before .before .before .before .before .before .before .before .unfit .ensures) (c .before .before .before .before .before .before .before .before .before .before .before .before .before .before .if1 .left) (c .before .before .before .before .before .before .before .before .before .before .before .if2 .left) (c .before .before .before .before .before .before .before .before .before .before .before .before .before .before .before .before .before .before .before .before .before .before .before .pre .1 .0 .long) (c .before .before .before .before .before .before .before .before .before .rebuild .ensures) (c .before .before .before .before .before .put-node .ensures) (c .before .t .given .1)
 
 put-split-get-node-requires : (t : ℕ) → put-split-lts.Need-get-node-requires (put-split-claims t) (put-split-at t) put-split.Post
 put-split-get-node-requires t c κs = subject-ready (c .before .before .before .before .pre .1) (c .before .before .before .before .pre .1 .known .1 .0 .inside)
@@ -989,101 +1002,113 @@ put-truth-case-shape-of-requires t c κs = search needs
 put-truth-case-enum-told : (t : ℕ) → put-truth-case-lts.Need-enum-told (put-truth-case-claims t) (put-truth-case-at t) put-truth-case.Post
 put-truth-case-enum-told t c = search needs
 
-put-truth-case-passes-requires : (t : ℕ) → put-truth-case-lts.Need-passes-requires (put-truth-case-claims t) (put-truth-case-at t) put-truth-case.Post
-put-truth-case-passes-requires t c κs = search needs
+put-truth-case-choose-requires : (t : ℕ) → put-truth-case-lts.Need-choose-requires (put-truth-case-claims t) (put-truth-case-at t) put-truth-case.Post
+put-truth-case-choose-requires t c κs = search needs
+
+put-truth-case-enum-told-2 : (t : ℕ) → put-truth-case-lts.Need-enum-told-2 (put-truth-case-claims t) (put-truth-case-at t) put-truth-case.Post
+put-truth-case-enum-told-2 t c = search needs
 
 put-truth-case-slice-aggregate-put-both : (t : ℕ) → put-truth-case-lts.Need-slice-aggregate-put-both (put-truth-case-claims t) (put-truth-case-at t) put-truth-case.Post
 put-truth-case-slice-aggregate-put-both t c = search needs
 
 put-truth-case-add-put-both : (t : ℕ) → put-truth-case-lts.Need-add-put-both (put-truth-case-claims t) (put-truth-case-at t) put-truth-case.Post
-put-truth-case-add-put-both t c = omega (arith, subject-few (c .before .before .before .before .before .before .before .before .before .before .before .before .before .before .before .before .before .before .before .before .before .pre .1 .base) (c .before .before .before .before .before .before .before .before .before .before .before .before .before .before .before .before .get-node .ensures) (c .before .before .before .before .before .before .before .before .before .before .before .before .len .given .1) (c .before .before .before .before .before .before .before .before .before .before .before .before .before .before .before .before .before .before .before .before .before .pre .1), c .before .before .before .before .before .before .before .before .before .before .before .before .before .before .before .before .before .before .before .before .before .pre .1 .few)
+put-truth-case-add-put-both t c = omega (arith, subject-few (c .before .before .before .before .before .before .before .before .before .before .before .before .before .before .before .before .before .before .before .before .before .before .pre .1 .base) (c .before .before .before .before .before .before .before .before .before .before .before .before .before .before .before .before .before .get-node .ensures) (c .before .before .before .before .before .before .before .before .before .before .before .before .before .len .given .1) (c .before .before .before .before .before .before .before .before .before .before .before .before .before .before .before .before .before .before .before .before .before .before .pre .1), c .before .before .before .before .before .before .before .before .before .before .before .before .before .before .before .before .before .before .before .before .before .before .pre .1 .few)
 
 put-truth-case-put-both-requires : (t : ℕ) → put-truth-case-lts.Need-put-both-requires (put-truth-case-claims t) (put-truth-case-at t) put-truth-case.Post
-put-truth-case-put-both-requires t c κs = (omega (arith, c .before .before .before .before .before .before .before .before .before .before .before .before .before .before .before .before .before .before .before .before .before .pre .0), (after-subject (c .before .before .before .before .before .before .before .before .before .before .before .before .before .before .before .before .before .before .before .before .before .pre .1 .base) (c .before .before .before .before .before .before .before .before .before .before .before .before .before .before .before .before .get-node .ensures) (c .before .before .before .before .before .before .before .before .before .before .before .before .len .given .1) (c .before .before .before .before .before .before .before .before .before .before .before .before .before .before .before .before .before .before .before .before .before .pre .1) (c .before .before .before .before .before .before .before .before .before .before .before .before .before .before .before .before .before .before .before .before .before .pre .1 .known .1 .no .inside, c .before .before .before .before .before .before .before .before .before .before .before .before .before .before .before .before .before .before .before .before .before .pre .1 .known .1 .subject .inside) (omega (arith, subject-few (c .before .before .before .before .before .before .before .before .before .before .before .before .before .before .before .before .before .before .before .before .before .pre .1 .base) (c .before .before .before .before .before .before .before .before .before .before .before .before .before .before .before .before .get-node .ensures) (c .before .before .before .before .before .before .before .before .before .before .before .before .len .given .1) (c .before .before .before .before .before .before .before .before .before .before .before .before .before .before .before .before .before .before .before .before .before .pre .1))), view-false))
+put-truth-case-put-both-requires t c κs = (omega (arith, c .before .before .before .before .before .before .before .before .before .before .before .before .before .before .before .before .before .before .before .before .before .before .pre .0), (after-subject (c .before .before .before .before .before .before .before .before .before .before .before .before .before .before .before .before .before .before .before .before .before .before .pre .1 .base) (c .before .before .before .before .before .before .before .before .before .before .before .before .before .before .before .before .before .get-node .ensures) (c .before .before .before .before .before .before .before .before .before .before .before .before .before .len .given .1) (c .before .before .before .before .before .before .before .before .before .before .before .before .before .before .before .before .before .before .before .before .before .before .pre .1) (c .before .before .before .before .before .before .before .before .before .before .before .before .before .before .before .before .before .before .before .before .before .before .pre .1 .known .1 .no .inside, c .before .before .before .before .before .before .before .before .before .before .before .before .before .before .before .before .before .before .before .before .before .before .pre .1 .known .1 .subject .inside) (omega (arith, subject-few (c .before .before .before .before .before .before .before .before .before .before .before .before .before .before .before .before .before .before .before .before .before .before .pre .1 .base) (c .before .before .before .before .before .before .before .before .before .before .before .before .before .before .before .before .before .get-node .ensures) (c .before .before .before .before .before .before .before .before .before .before .before .before .before .len .given .1) (c .before .before .before .before .before .before .before .before .before .before .before .before .before .before .before .before .before .before .before .before .before .before .pre .1))), view-false))
 
-put-truth-case-returns : (t : ℕ) → put-truth-case-lts.Need-returns (put-truth-case-claims t) (put-truth-case-at t) put-truth-case.Post
-put-truth-case-returns t c = false-no (c .before .before .before .before .before .before .before .before .before .before .before .before .before .before .before .before .before .before .before .before .before .before .before .before .pre .1 .base) (c .before .before .before .before .before .before .before .before .before .before .before .before .before .before .before .before .before .before .before .get-node .ensures) (c .before .before .before .before .before .before .before .before .before .before .before .before .before .before .before .len .given .1) (c .before .before .before .before .before .before .before .before .before .before .shape-of .ensures) (c .before .before .before .before .before .before .before .before .enum-told .given .1) (c .before .before .before .before .before .before .before .passes .ensures) (c .before .before .before .before .before .before .if1 .taken) (c .before .before .put-both .ensures)
-
-put-truth-case-same-length : (t : ℕ) → put-truth-case-lts.Need-same-length (put-truth-case-claims t) (put-truth-case-at t) put-truth-case.Post
-put-truth-case-same-length t c = put-truth-case-returns t c .frame .long
-
-put-truth-case-passes-requires-2 : (t : ℕ) → put-truth-case-lts.Need-passes-requires-2 (put-truth-case-claims t) (put-truth-case-at t) put-truth-case.Post
-put-truth-case-passes-requires-2 t c κs = search needs
+put-truth-case-enum-told-3 : (t : ℕ) → put-truth-case-lts.Need-enum-told-3 (put-truth-case-claims t) (put-truth-case-at t) put-truth-case.Post
+put-truth-case-enum-told-3 t c = search needs
 
 put-truth-case-slice-aggregate-put-both-2 : (t : ℕ) → put-truth-case-lts.Need-slice-aggregate-put-both-2 (put-truth-case-claims t) (put-truth-case-at t) put-truth-case.Post
 put-truth-case-slice-aggregate-put-both-2 t c = search needs
 
 put-truth-case-add-put-both-2 : (t : ℕ) → put-truth-case-lts.Need-add-put-both-2 (put-truth-case-claims t) (put-truth-case-at t) put-truth-case.Post
-put-truth-case-add-put-both-2 t c = omega (arith, subject-few (c .before .before .before .before .before .before .before .before .before .before .before .before .before .before .before .before .before .before .before .before .before .before .before .pre .1 .base) (c .before .before .before .before .before .before .before .before .before .before .before .before .before .before .before .before .before .before .get-node .ensures) (c .before .before .before .before .before .before .before .before .before .before .before .before .before .before .len .given .1) (c .before .before .before .before .before .before .before .before .before .before .before .before .before .before .before .before .before .before .before .before .before .before .before .pre .1), c .before .before .before .before .before .before .before .before .before .before .before .before .before .before .before .before .before .before .before .before .before .before .before .pre .1 .few)
+put-truth-case-add-put-both-2 t c = omega (arith, subject-few (c .before .before .before .before .before .before .before .before .before .before .before .before .before .before .before .before .before .before .before .before .before .before .pre .1 .base) (c .before .before .before .before .before .before .before .before .before .before .before .before .before .before .before .before .before .get-node .ensures) (c .before .before .before .before .before .before .before .before .before .before .before .before .before .len .given .1) (c .before .before .before .before .before .before .before .before .before .before .before .before .before .before .before .before .before .before .before .before .before .before .pre .1), c .before .before .before .before .before .before .before .before .before .before .before .before .before .before .before .before .before .before .before .before .before .before .pre .1 .few)
 
 put-truth-case-put-both-requires-2 : (t : ℕ) → put-truth-case-lts.Need-put-both-requires-2 (put-truth-case-claims t) (put-truth-case-at t) put-truth-case.Post
-put-truth-case-put-both-requires-2 t c κs = (omega (arith, c .before .before .before .before .before .before .before .before .before .before .before .before .before .before .before .before .before .before .before .before .before .before .before .pre .0), (after-subject (c .before .before .before .before .before .before .before .before .before .before .before .before .before .before .before .before .before .before .before .before .before .before .before .pre .1 .base) (c .before .before .before .before .before .before .before .before .before .before .before .before .before .before .before .before .before .before .get-node .ensures) (c .before .before .before .before .before .before .before .before .before .before .before .before .before .before .len .given .1) (c .before .before .before .before .before .before .before .before .before .before .before .before .before .before .before .before .before .before .before .before .before .before .before .pre .1) (c .before .before .before .before .before .before .before .before .before .before .before .before .before .before .before .before .before .before .before .before .before .before .before .pre .1 .known .1 .yes .inside, c .before .before .before .before .before .before .before .before .before .before .before .before .before .before .before .before .before .before .before .before .before .before .before .pre .1 .known .1 .subject .inside) (omega (arith, subject-few (c .before .before .before .before .before .before .before .before .before .before .before .before .before .before .before .before .before .before .before .before .before .before .before .pre .1 .base) (c .before .before .before .before .before .before .before .before .before .before .before .before .before .before .before .before .before .before .get-node .ensures) (c .before .before .before .before .before .before .before .before .before .before .before .before .before .before .len .given .1) (c .before .before .before .before .before .before .before .before .before .before .before .before .before .before .before .before .before .before .before .before .before .before .before .pre .1))), view-true))
+put-truth-case-put-both-requires-2 t c κs = (omega (arith, c .before .before .before .before .before .before .before .before .before .before .before .before .before .before .before .before .before .before .before .before .before .before .pre .0), (after-subject (c .before .before .before .before .before .before .before .before .before .before .before .before .before .before .before .before .before .before .before .before .before .before .pre .1 .base) (c .before .before .before .before .before .before .before .before .before .before .before .before .before .before .before .before .before .get-node .ensures) (c .before .before .before .before .before .before .before .before .before .before .before .before .before .len .given .1) (c .before .before .before .before .before .before .before .before .before .before .before .before .before .before .before .before .before .before .before .before .before .before .pre .1) (c .before .before .before .before .before .before .before .before .before .before .before .before .before .before .before .before .before .before .before .before .before .before .pre .1 .known .1 .yes .inside, c .before .before .before .before .before .before .before .before .before .before .before .before .before .before .before .before .before .before .before .before .before .before .pre .1 .known .1 .subject .inside) (omega (arith, subject-few (c .before .before .before .before .before .before .before .before .before .before .before .before .before .before .before .before .before .before .before .before .before .before .pre .1 .base) (c .before .before .before .before .before .before .before .before .before .before .before .before .before .before .before .before .before .get-node .ensures) (c .before .before .before .before .before .before .before .before .before .before .before .before .before .len .given .1) (c .before .before .before .before .before .before .before .before .before .before .before .before .before .before .before .before .before .before .before .before .before .before .pre .1))), view-true))
 
-put-truth-case-returns-2 : (t : ℕ) → put-truth-case-lts.Need-returns-2 (put-truth-case-claims t) (put-truth-case-at t) put-truth-case.Post
-put-truth-case-returns-2 t c = false-yes (c .before .before .before .before .before .before .before .before .before .before .before .before .before .before .before .before .before .before .before .before .before .before .before .before .before .before .pre .1 .base) (c .before .before .before .before .before .before .before .before .before .before .before .before .before .before .before .before .before .before .before .before .before .get-node .ensures) (c .before .before .before .before .before .before .before .before .before .before .before .before .before .before .before .before .before .len .given .1) (c .before .before .before .before .before .before .before .before .before .before .before .before .shape-of .ensures) (c .before .before .before .before .before .before .before .before .before .before .enum-told .given .1) (c .before .before .before .before .before .before .before .before .before .passes .ensures) (c .before .before .before .before .before .before .before .before .if1 .left) (c .before .before .before .before .before .before .before .passes2 .ensures) (c .before .before .before .before .before .before .if2 .taken) (c .before .before .put-both2 .ensures)
+put-truth-case-enum-told-4 : (t : ℕ) → put-truth-case-lts.Need-enum-told-4 (put-truth-case-claims t) (put-truth-case-at t) put-truth-case.Post
+put-truth-case-enum-told-4 t c = search needs
 
-put-truth-case-same-length-2 : (t : ℕ) → put-truth-case-lts.Need-same-length-2 (put-truth-case-claims t) (put-truth-case-at t) put-truth-case.Post
-put-truth-case-same-length-2 t c = put-truth-case-returns-2 t c .frame .long
+put-truth-case-enum-told-5 : (t : ℕ) → put-truth-case-lts.Need-enum-told-5 (put-truth-case-claims t) (put-truth-case-at t) put-truth-case.Post
+put-truth-case-enum-told-5 t c = search needs
 
-put-truth-case-enum-told-2 : (t : ℕ) → put-truth-case-lts.Need-enum-told-2 (put-truth-case-claims t) (put-truth-case-at t) put-truth-case.Post
-put-truth-case-enum-told-2 t c = search needs
+put-truth-case-choose-requires-2 : (t : ℕ) → put-truth-case-lts.Need-choose-requires-2 (put-truth-case-claims t) (put-truth-case-at t) put-truth-case.Post
+put-truth-case-choose-requires-2 t c κs = search needs
 
-put-truth-case-passes-requires-3 : (t : ℕ) → put-truth-case-lts.Need-passes-requires-3 (put-truth-case-claims t) (put-truth-case-at t) put-truth-case.Post
-put-truth-case-passes-requires-3 t c κs = search needs
+put-truth-case-enum-told-6 : (t : ℕ) → put-truth-case-lts.Need-enum-told-6 (put-truth-case-claims t) (put-truth-case-at t) put-truth-case.Post
+put-truth-case-enum-told-6 t c = search needs
 
 put-truth-case-slice-aggregate-put-both-3 : (t : ℕ) → put-truth-case-lts.Need-slice-aggregate-put-both-3 (put-truth-case-claims t) (put-truth-case-at t) put-truth-case.Post
 put-truth-case-slice-aggregate-put-both-3 t c = search needs
 
 put-truth-case-add-put-both-3 : (t : ℕ) → put-truth-case-lts.Need-add-put-both-3 (put-truth-case-claims t) (put-truth-case-at t) put-truth-case.Post
-put-truth-case-add-put-both-3 t c = omega (arith, subject-few (c .before .before .before .before .before .before .before .before .before .before .before .before .before .before .before .before .before .before .before .before .before .pre .1 .base) (c .before .before .before .before .before .before .before .before .before .before .before .before .before .before .before .before .get-node .ensures) (c .before .before .before .before .before .before .before .before .before .before .before .before .len .given .1) (c .before .before .before .before .before .before .before .before .before .before .before .before .before .before .before .before .before .before .before .before .before .pre .1), c .before .before .before .before .before .before .before .before .before .before .before .before .before .before .before .before .before .before .before .before .before .pre .1 .few)
+put-truth-case-add-put-both-3 t c = omega (arith, subject-few (c .before .before .before .before .before .before .before .before .before .before .before .before .before .before .before .before .before .before .before .before .before .before .pre .1 .base) (c .before .before .before .before .before .before .before .before .before .before .before .before .before .before .before .before .before .get-node .ensures) (c .before .before .before .before .before .before .before .before .before .before .before .before .before .len .given .1) (c .before .before .before .before .before .before .before .before .before .before .before .before .before .before .before .before .before .before .before .before .before .before .pre .1), c .before .before .before .before .before .before .before .before .before .before .before .before .before .before .before .before .before .before .before .before .before .before .pre .1 .few)
 
 put-truth-case-put-both-requires-3 : (t : ℕ) → put-truth-case-lts.Need-put-both-requires-3 (put-truth-case-claims t) (put-truth-case-at t) put-truth-case.Post
-put-truth-case-put-both-requires-3 t c κs = (omega (arith, c .before .before .before .before .before .before .before .before .before .before .before .before .before .before .before .before .before .before .before .before .before .pre .0), (after-subject (c .before .before .before .before .before .before .before .before .before .before .before .before .before .before .before .before .before .before .before .before .before .pre .1 .base) (c .before .before .before .before .before .before .before .before .before .before .before .before .before .before .before .before .get-node .ensures) (c .before .before .before .before .before .before .before .before .before .before .before .before .len .given .1) (c .before .before .before .before .before .before .before .before .before .before .before .before .before .before .before .before .before .before .before .before .before .pre .1) (c .before .before .before .before .before .before .before .before .before .before .before .before .before .before .before .before .before .before .before .before .before .pre .1 .known .1 .yes .inside, c .before .before .before .before .before .before .before .before .before .before .before .before .before .before .before .before .before .before .before .before .before .pre .1 .known .1 .subject .inside) (omega (arith, subject-few (c .before .before .before .before .before .before .before .before .before .before .before .before .before .before .before .before .before .before .before .before .before .pre .1 .base) (c .before .before .before .before .before .before .before .before .before .before .before .before .before .before .before .before .get-node .ensures) (c .before .before .before .before .before .before .before .before .before .before .before .before .len .given .1) (c .before .before .before .before .before .before .before .before .before .before .before .before .before .before .before .before .before .before .before .before .before .pre .1))), view-true))
+put-truth-case-put-both-requires-3 t c κs = (omega (arith, c .before .before .before .before .before .before .before .before .before .before .before .before .before .before .before .before .before .before .before .before .before .before .pre .0), (after-subject (c .before .before .before .before .before .before .before .before .before .before .before .before .before .before .before .before .before .before .before .before .before .before .pre .1 .base) (c .before .before .before .before .before .before .before .before .before .before .before .before .before .before .before .before .before .get-node .ensures) (c .before .before .before .before .before .before .before .before .before .before .before .before .before .len .given .1) (c .before .before .before .before .before .before .before .before .before .before .before .before .before .before .before .before .before .before .before .before .before .before .pre .1) (c .before .before .before .before .before .before .before .before .before .before .before .before .before .before .before .before .before .before .before .before .before .before .pre .1 .known .1 .no .inside, c .before .before .before .before .before .before .before .before .before .before .before .before .before .before .before .before .before .before .before .before .before .before .pre .1 .known .1 .subject .inside) (omega (arith, subject-few (c .before .before .before .before .before .before .before .before .before .before .before .before .before .before .before .before .before .before .before .before .before .before .pre .1 .base) (c .before .before .before .before .before .before .before .before .before .before .before .before .before .before .before .before .before .get-node .ensures) (c .before .before .before .before .before .before .before .before .before .before .before .before .before .len .given .1) (c .before .before .before .before .before .before .before .before .before .before .before .before .before .before .before .before .before .before .before .before .before .before .pre .1))), view-false))
 
-put-truth-case-returns-3 : (t : ℕ) → put-truth-case-lts.Need-returns-3 (put-truth-case-claims t) (put-truth-case-at t) put-truth-case.Post
-put-truth-case-returns-3 t c = true-yes (c .before .before .before .before .before .before .before .before .before .before .before .before .before .before .before .before .before .before .before .before .before .before .before .before .pre .1 .base) (c .before .before .before .before .before .before .before .before .before .before .before .before .before .before .before .before .before .before .before .get-node .ensures) (c .before .before .before .before .before .before .before .before .before .before .before .before .before .before .before .len .given .1) (c .before .before .before .before .before .before .before .before .before .before .shape-of .ensures) (c .before .before .before .before .before .before .before .before .enum-told2 .given .1) (c .before .before .before .before .before .before .before .passes3 .ensures) (c .before .before .before .before .before .before .if3 .taken) (c .before .before .put-both3 .ensures)
-
-put-truth-case-same-length-3 : (t : ℕ) → put-truth-case-lts.Need-same-length-3 (put-truth-case-claims t) (put-truth-case-at t) put-truth-case.Post
-put-truth-case-same-length-3 t c = put-truth-case-returns-3 t c .frame .long
-
-put-truth-case-passes-requires-4 : (t : ℕ) → put-truth-case-lts.Need-passes-requires-4 (put-truth-case-claims t) (put-truth-case-at t) put-truth-case.Post
-put-truth-case-passes-requires-4 t c κs = search needs
+put-truth-case-enum-told-7 : (t : ℕ) → put-truth-case-lts.Need-enum-told-7 (put-truth-case-claims t) (put-truth-case-at t) put-truth-case.Post
+put-truth-case-enum-told-7 t c = search needs
 
 put-truth-case-slice-aggregate-put-both-4 : (t : ℕ) → put-truth-case-lts.Need-slice-aggregate-put-both-4 (put-truth-case-claims t) (put-truth-case-at t) put-truth-case.Post
 put-truth-case-slice-aggregate-put-both-4 t c = search needs
 
 put-truth-case-add-put-both-4 : (t : ℕ) → put-truth-case-lts.Need-add-put-both-4 (put-truth-case-claims t) (put-truth-case-at t) put-truth-case.Post
-put-truth-case-add-put-both-4 t c = omega (arith, subject-few (c .before .before .before .before .before .before .before .before .before .before .before .before .before .before .before .before .before .before .before .before .before .before .before .pre .1 .base) (c .before .before .before .before .before .before .before .before .before .before .before .before .before .before .before .before .before .before .get-node .ensures) (c .before .before .before .before .before .before .before .before .before .before .before .before .before .before .len .given .1) (c .before .before .before .before .before .before .before .before .before .before .before .before .before .before .before .before .before .before .before .before .before .before .before .pre .1), c .before .before .before .before .before .before .before .before .before .before .before .before .before .before .before .before .before .before .before .before .before .before .before .pre .1 .few)
+put-truth-case-add-put-both-4 t c = omega (arith, subject-few (c .before .before .before .before .before .before .before .before .before .before .before .before .before .before .before .before .before .before .before .before .before .before .pre .1 .base) (c .before .before .before .before .before .before .before .before .before .before .before .before .before .before .before .before .before .get-node .ensures) (c .before .before .before .before .before .before .before .before .before .before .before .before .before .len .given .1) (c .before .before .before .before .before .before .before .before .before .before .before .before .before .before .before .before .before .before .before .before .before .before .pre .1), c .before .before .before .before .before .before .before .before .before .before .before .before .before .before .before .before .before .before .before .before .before .before .pre .1 .few)
 
 put-truth-case-put-both-requires-4 : (t : ℕ) → put-truth-case-lts.Need-put-both-requires-4 (put-truth-case-claims t) (put-truth-case-at t) put-truth-case.Post
-put-truth-case-put-both-requires-4 t c κs = (omega (arith, c .before .before .before .before .before .before .before .before .before .before .before .before .before .before .before .before .before .before .before .before .before .before .before .pre .0), (after-subject (c .before .before .before .before .before .before .before .before .before .before .before .before .before .before .before .before .before .before .before .before .before .before .before .pre .1 .base) (c .before .before .before .before .before .before .before .before .before .before .before .before .before .before .before .before .before .before .get-node .ensures) (c .before .before .before .before .before .before .before .before .before .before .before .before .before .before .len .given .1) (c .before .before .before .before .before .before .before .before .before .before .before .before .before .before .before .before .before .before .before .before .before .before .before .pre .1) (c .before .before .before .before .before .before .before .before .before .before .before .before .before .before .before .before .before .before .before .before .before .before .before .pre .1 .known .1 .no .inside, c .before .before .before .before .before .before .before .before .before .before .before .before .before .before .before .before .before .before .before .before .before .before .before .pre .1 .known .1 .subject .inside) (omega (arith, subject-few (c .before .before .before .before .before .before .before .before .before .before .before .before .before .before .before .before .before .before .before .before .before .before .before .pre .1 .base) (c .before .before .before .before .before .before .before .before .before .before .before .before .before .before .before .before .before .before .get-node .ensures) (c .before .before .before .before .before .before .before .before .before .before .before .before .before .before .len .given .1) (c .before .before .before .before .before .before .before .before .before .before .before .before .before .before .before .before .before .before .before .before .before .before .before .pre .1))), view-false))
+put-truth-case-put-both-requires-4 t c κs = (omega (arith, c .before .before .before .before .before .before .before .before .before .before .before .before .before .before .before .before .before .before .before .before .before .before .pre .0), (after-subject (c .before .before .before .before .before .before .before .before .before .before .before .before .before .before .before .before .before .before .before .before .before .before .pre .1 .base) (c .before .before .before .before .before .before .before .before .before .before .before .before .before .before .before .before .before .get-node .ensures) (c .before .before .before .before .before .before .before .before .before .before .before .before .before .len .given .1) (c .before .before .before .before .before .before .before .before .before .before .before .before .before .before .before .before .before .before .before .before .before .before .pre .1) (c .before .before .before .before .before .before .before .before .before .before .before .before .before .before .before .before .before .before .before .before .before .before .pre .1 .known .1 .yes .inside, c .before .before .before .before .before .before .before .before .before .before .before .before .before .before .before .before .before .before .before .before .before .before .pre .1 .known .1 .subject .inside) (omega (arith, subject-few (c .before .before .before .before .before .before .before .before .before .before .before .before .before .before .before .before .before .before .before .before .before .before .pre .1 .base) (c .before .before .before .before .before .before .before .before .before .before .before .before .before .before .before .before .before .get-node .ensures) (c .before .before .before .before .before .before .before .before .before .before .before .before .before .len .given .1) (c .before .before .before .before .before .before .before .before .before .before .before .before .before .before .before .before .before .before .before .before .before .before .pre .1))), view-true))
+
+put-truth-case-enum-told-8 : (t : ℕ) → put-truth-case-lts.Need-enum-told-8 (put-truth-case-claims t) (put-truth-case-at t) put-truth-case.Post
+put-truth-case-enum-told-8 t c = search needs
+
+put-truth-case-returns : (t : ℕ) → put-truth-case-lts.Need-returns (put-truth-case-claims t) (put-truth-case-at t) put-truth-case.Post
+put-truth-case-returns t c = truth-refused (c .before .before .before .before .before .before .before .before .before .before .pre .1 .base) (c .before .before .before .before .before .get-node .ensures) (c .before .c .given .1)
+
+put-truth-case-returns-2 : (t : ℕ) → put-truth-case-lts.Need-returns-2 (put-truth-case-claims t) (put-truth-case-at t) put-truth-case.Post
+put-truth-case-returns-2 t c = false-no (c .before .before .before .before .before .before .before .before .before .before .before .before .before .before .before .before .before .before .before .before .before .before .before .before .before .pre .1 .base) (c .before .before .before .before .before .before .before .before .before .before .before .before .before .before .before .before .before .before .before .before .get-node .ensures) (c .before .before .before .before .before .before .before .before .before .before .before .before .before .before .before .before .len .given .1) (c .before .before .before .before .before .before .before .before .before .before .before .shape-of .ensures) (c .before .before .before .before .before .before .before .before .before .enum-told .given .1) refl (first-kept _ _ (c .before .before .before .before .before .before .before .before .choose .ensures) (c .before .before .before .before .before .before .enum-told2 .given .1)) (c .before .before .put-both .ensures)
+
+put-truth-case-returns-3 : (t : ℕ) → put-truth-case-lts.Need-returns-3 (put-truth-case-claims t) (put-truth-case-at t) put-truth-case.Post
+put-truth-case-returns-3 t c = let w = first-left _ _ (c .before .before .before .before .before .before .before .before .choose .ensures) (c .before .before .before .before .before .before .enum-told3 .given .1) in false-yes (c .before .before .before .before .before .before .before .before .before .before .before .before .before .before .before .before .before .before .before .before .before .before .before .before .before .pre .1 .base) (c .before .before .before .before .before .before .before .before .before .before .before .before .before .before .before .before .before .before .before .before .get-node .ensures) (c .before .before .before .before .before .before .before .before .before .before .before .before .before .before .before .before .len .given .1) (c .before .before .before .before .before .before .before .before .before .before .before .shape-of .ensures) (c .before .before .before .before .before .before .before .before .before .enum-told .given .1) refl (w .0) refl (w .1) (c .before .before .put-both2 .ensures)
 
 put-truth-case-returns-4 : (t : ℕ) → put-truth-case-lts.Need-returns-4 (put-truth-case-claims t) (put-truth-case-at t) put-truth-case.Post
-put-truth-case-returns-4 t c = true-no (c .before .before .before .before .before .before .before .before .before .before .before .before .before .before .before .before .before .before .before .before .before .before .before .before .before .before .pre .1 .base) (c .before .before .before .before .before .before .before .before .before .before .before .before .before .before .before .before .before .before .before .before .before .get-node .ensures) (c .before .before .before .before .before .before .before .before .before .before .before .before .before .before .before .before .before .len .given .1) (c .before .before .before .before .before .before .before .before .before .before .before .before .shape-of .ensures) (c .before .before .before .before .before .before .before .before .before .before .enum-told2 .given .1) (c .before .before .before .before .before .before .before .before .before .passes3 .ensures) (c .before .before .before .before .before .before .before .before .if3 .left) (c .before .before .before .before .before .before .before .passes4 .ensures) (c .before .before .before .before .before .before .if4 .taken) (c .before .before .put-both4 .ensures)
+put-truth-case-returns-4 t c = let w = none-says _ _ _ (c .before .before .choose .ensures) (c .enum-told4 .given .1) in false-53 (c .before .before .before .before .before .before .before .before .before .before .before .before .before .before .before .before .before .before .before .pre .1 .base) (c .before .before .before .before .before .before .before .before .before .before .before .before .before .before .get-node .ensures) (c .before .before .before .before .before .before .before .before .before .before .len .given .1) (c .before .before .before .before .before .shape-of .ensures) (c .before .before .before .enum-told .given .1) refl (w .0) refl (w .1)
+
+put-truth-case-returns-5 : (t : ℕ) → put-truth-case-lts.Need-returns-5 (put-truth-case-claims t) (put-truth-case-at t) put-truth-case.Post
+put-truth-case-returns-5 t c = let w = second-left _ _ (c .before .before .before .before .before .before .before .before .choose2 .ensures) (c .before .before .before .before .before .before .enum-told6 .given .1) in true-no (c .before .before .before .before .before .before .before .before .before .before .before .before .before .before .before .before .before .before .before .before .before .before .before .before .before .pre .1 .base) (c .before .before .before .before .before .before .before .before .before .before .before .before .before .before .before .before .before .before .before .before .get-node .ensures) (c .before .before .before .before .before .before .before .before .before .before .before .before .before .before .before .before .len .given .1) (c .before .before .before .before .before .before .before .before .before .before .before .shape-of .ensures) (c .before .before .before .before .before .before .before .before .before .enum-told5 .given .1) refl (w .0) refl (w .1) (c .before .before .put-both3 .ensures)
+
+put-truth-case-returns-6 : (t : ℕ) → put-truth-case-lts.Need-returns-6 (put-truth-case-claims t) (put-truth-case-at t) put-truth-case.Post
+put-truth-case-returns-6 t c = true-yes (c .before .before .before .before .before .before .before .before .before .before .before .before .before .before .before .before .before .before .before .before .before .before .before .before .before .pre .1 .base) (c .before .before .before .before .before .before .before .before .before .before .before .before .before .before .before .before .before .before .before .before .get-node .ensures) (c .before .before .before .before .before .before .before .before .before .before .before .before .before .before .before .before .len .given .1) (c .before .before .before .before .before .before .before .before .before .before .before .shape-of .ensures) (c .before .before .before .before .before .before .before .before .before .enum-told5 .given .1) refl (second-kept _ _ (c .before .before .before .before .before .before .before .before .choose2 .ensures) (c .before .before .before .before .before .before .enum-told7 .given .1)) (c .before .before .put-both4 .ensures)
+
+put-truth-case-returns-7 : (t : ℕ) → put-truth-case-lts.Need-returns-7 (put-truth-case-claims t) (put-truth-case-at t) put-truth-case.Post
+put-truth-case-returns-7 t c = let w = none-says _ _ _ (c .before .before .choose2 .ensures) (c .enum-told8 .given .1) in true-53 (c .before .before .before .before .before .before .before .before .before .before .before .before .before .before .before .before .before .before .before .pre .1 .base) (c .before .before .before .before .before .before .before .before .before .before .before .before .before .before .get-node .ensures) (c .before .before .before .before .before .before .before .before .before .before .len .given .1) (c .before .before .before .before .before .shape-of .ensures) (c .before .before .before .enum-told5 .given .1) refl (w .1) refl (w .0)
+
+put-truth-case-returns-8 : (t : ℕ) → put-truth-case-lts.Need-returns-8 (put-truth-case-claims t) (put-truth-case-at t) put-truth-case.Post
+put-truth-case-returns-8 t c = truth-43 (c .before .before .before .before .before .before .before .before .before .before .before .before .before .before .before .pre .1 .base) (c .before .before .before .before .before .before .before .before .before .before .get-node .ensures) (c .before .before .before .before .before .before .len .given .1) (c .before .shape-of .ensures) (tags.not-false _ (c .match2 .keys3)) (tags.not-true _ (c .match2 .keys3))
+
+put-truth-case-same-length : (t : ℕ) → put-truth-case-lts.Need-same-length (put-truth-case-claims t) (put-truth-case-at t) put-truth-case.Post
+put-truth-case-same-length t c = put-truth-case-returns t c .frame .long
+
+put-truth-case-same-length-2 : (t : ℕ) → put-truth-case-lts.Need-same-length-2 (put-truth-case-claims t) (put-truth-case-at t) put-truth-case.Post
+put-truth-case-same-length-2 t c = put-truth-case-returns-2 t c .frame .long
+
+put-truth-case-same-length-3 : (t : ℕ) → put-truth-case-lts.Need-same-length-3 (put-truth-case-claims t) (put-truth-case-at t) put-truth-case.Post
+put-truth-case-same-length-3 t c = put-truth-case-returns-3 t c .frame .long
 
 put-truth-case-same-length-4 : (t : ℕ) → put-truth-case-lts.Need-same-length-4 (put-truth-case-claims t) (put-truth-case-at t) put-truth-case.Post
 put-truth-case-same-length-4 t c = put-truth-case-returns-4 t c .frame .long
 
-put-truth-case-returns-5 : (t : ℕ) → put-truth-case-lts.Need-returns-5 (put-truth-case-claims t) (put-truth-case-at t) put-truth-case.Post
-put-truth-case-returns-5 t c = truth-refused (c .before .before .before .before .before .before .before .before .before .before .pre .1 .base) (c .before .before .before .before .before .get-node .ensures) (c .before .c .given .1)
-
 put-truth-case-same-length-5 : (t : ℕ) → put-truth-case-lts.Need-same-length-5 (put-truth-case-claims t) (put-truth-case-at t) put-truth-case.Post
 put-truth-case-same-length-5 t c = put-truth-case-returns-5 t c .frame .long
-
-put-truth-case-returns-6 : (t : ℕ) → put-truth-case-lts.Need-returns-6 (put-truth-case-claims t) (put-truth-case-at t) put-truth-case.Post
-put-truth-case-returns-6 t c = false-53 (c .before .before .before .before .before .before .before .before .before .before .before .before .before .before .before .before .before .before .before .before .pre .1 .base) (c .before .before .before .before .before .before .before .before .before .before .before .before .before .before .before .get-node .ensures) (c .before .before .before .before .before .before .before .before .before .before .before .len .given .1) (c .before .before .before .before .before .before .shape-of .ensures) (c .before .before .before .before .enum-told .given .1) (c .before .before .before .passes .ensures) (c .before .before .if1 .left) (c .before .passes2 .ensures) (c .if2 .left)
 
 put-truth-case-same-length-6 : (t : ℕ) → put-truth-case-lts.Need-same-length-6 (put-truth-case-claims t) (put-truth-case-at t) put-truth-case.Post
 put-truth-case-same-length-6 t c = put-truth-case-returns-6 t c .frame .long
 
-put-truth-case-returns-7 : (t : ℕ) → put-truth-case-lts.Need-returns-7 (put-truth-case-claims t) (put-truth-case-at t) put-truth-case.Post
-put-truth-case-returns-7 t c = true-53 (c .before .before .before .before .before .before .before .before .before .before .before .before .before .before .before .before .before .before .before .before .pre .1 .base) (c .before .before .before .before .before .before .before .before .before .before .before .before .before .before .before .get-node .ensures) (c .before .before .before .before .before .before .before .before .before .before .before .len .given .1) (c .before .before .before .before .before .before .shape-of .ensures) (c .before .before .before .before .enum-told2 .given .1) (c .before .before .before .passes3 .ensures) (c .before .before .if3 .left) (c .before .passes4 .ensures) (c .if4 .left)
-
 put-truth-case-same-length-7 : (t : ℕ) → put-truth-case-lts.Need-same-length-7 (put-truth-case-claims t) (put-truth-case-at t) put-truth-case.Post
 put-truth-case-same-length-7 t c = put-truth-case-returns-7 t c .frame .long
-
-put-truth-case-returns-8 : (t : ℕ) → put-truth-case-lts.Need-returns-8 (put-truth-case-claims t) (put-truth-case-at t) put-truth-case.Post
-put-truth-case-returns-8 t c = truth-43 (c .before .before .before .before .before .before .before .before .before .before .before .before .before .before .before .pre .1 .base) (c .before .before .before .before .before .before .before .before .before .before .get-node .ensures) (c .before .before .before .before .before .before .len .given .1) (c .before .shape-of .ensures) (tags.not-false _ (c .match2 .keys3)) (tags.not-true _ (c .match2 .keys3))
 
 put-truth-case-same-length-8 : (t : ℕ) → put-truth-case-lts.Need-same-length-8 (put-truth-case-claims t) (put-truth-case-at t) put-truth-case.Post
 put-truth-case-same-length-8 t c = put-truth-case-returns-8 t c .frame .long
@@ -1107,7 +1132,7 @@ put-under-push-two-requires : (t : ℕ) → put-under-lts.Need-push-two-requires
 put-under-push-two-requires t c κs = (omega (arith, c .before .before .before .pre .1 .1 .0 .some, c .before .before .before .pre .1 .1 .0 .slots, c .before .before .before .pre .1 .1 .0 .more-cells), omega (arith, c .before .before .before .pre .1 .1 .0 .some, c .before .before .before .pre .1 .1 .0 .slots, c .before .before .before .pre .1 .1 .0 .more-cells, c .before .before .before .pre .1 .0 .room, spans-few (c .before .before .before .pre .1 .1 .1) (c .before .before .before .pre .1 .0 .base)), omega (arith, spans-few (c .before .before .before .pre .1 .1 .1) (c .before .before .before .pre .1 .0 .base)))
 
 put-under-add-two-requires : (t : ℕ) → put-under-lts.Need-add-two-requires (put-under-claims t) (put-under-at t) put-under.Post
-put-under-add-two-requires t c κs = (omega (arith, c .before .before .before .before .pre .1 .1 .0 .some, c .before .before .before .before .pre .1 .1 .0 .slots, c .before .before .before .before .pre .1 .1 .0 .more-cells), omega (arith, c .before .before .before .before .pre .1 .1 .0 .some, c .before .before .before .before .pre .1 .1 .0 .slots, c .before .before .before .before .pre .1 .1 .0 .more-cells))
+put-under-add-two-requires t c κs = search needs
 
 put-under-put-node-requires : (t : ℕ) → put-under-lts.Need-put-node-requires (put-under-claims t) (put-under-at t) put-under.Post
 put-under-put-node-requires t c κs = (omega (arith, c .before .before .before .before .before .before .before .pre .0), under-ready₁ (opened (now (c .before .before .before .before .before .before .before .args .lens)) (c .before .before .before .before .before .before .before .args .start) (c .before .before .before .before .before .before .before .args .first) (c .before .before .before .before .before .before .before .args .second) (c .before .before .before .before .before .before .before .pre .1 .1 .0) (c .before .before .before .push-two .ensures) (c .before .before .add-two .ensures)) (c .before .before .before .before .before .before .before .pre .1 .0) (omega arith) (c .before .before .before .before .before .before .before .pre .1 .1 .0) (c .before .before .before .before .before .before .before .pre .1 .1 .1))
@@ -1232,30 +1257,34 @@ pub +put-add+put-both+put-call+put-front+put-list-case+put-node+put-pair+put-reb
     (put-list-case-part-shape-of-end t)
     (put-list-case-shape-of-requires t)
     (put-list-case-enum-told t)
-    (put-list-case-passes-requires t)
+    (put-list-case-choose-requires t)
+    (put-list-case-enum-told-2 t)
     (put-list-case-slice-aggregate-put-both t)
     (put-list-case-add-put-both t)
     (put-list-case-put-both-requires t)
-    (put-list-case-same-length t)
-    (put-list-case-returns t)
-    (put-list-case-passes-requires-2 t)
+    (put-list-case-enum-told-3 t)
     (put-list-case-add-put-switch t)
     (put-list-case-put-switch-requires t)
-    (put-list-case-same-length-2 t)
-    (put-list-case-returns-2 t)
+    (put-list-case-enum-told-4 t)
     (put-list-case-enum-known-mid t)
-    (put-list-case-passes-requires-3 t)
+    (put-list-case-choose-requires-2 t)
+    (put-list-case-enum-told-5 t)
+    (put-list-case-slice-aggregate-put-both-2 t)
+    (put-list-case-add-put-both-2 t)
+    (put-list-case-put-both-requires-2 t)
+    (put-list-case-enum-told-6 t)
     (put-list-case-add-put-under t)
     (put-list-case-sub-put-under t)
     (put-list-case-sub-put-under-2 t)
     (put-list-case-add-put-under-2 t)
     (put-list-case-put-under-requires t)
+    (put-list-case-enum-told-7 t)
+    (put-list-case-same-length t)
+    (put-list-case-returns t)
+    (put-list-case-same-length-2 t)
+    (put-list-case-returns-2 t)
     (put-list-case-same-length-3 t)
     (put-list-case-returns-3 t)
-    (put-list-case-passes-requires-4 t)
-    (put-list-case-slice-aggregate-put-both-2 t)
-    (put-list-case-add-put-both-2 t)
-    (put-list-case-put-both-requires-2 t)
     (put-list-case-same-length-4 t)
     (put-list-case-returns-4 t)
     (put-list-case-same-length-5 t)
@@ -1427,29 +1456,33 @@ pub +put-add+put-both+put-call+put-front+put-list-case+put-node+put-pair+put-reb
     (put-truth-case-part-shape-of-end t)
     (put-truth-case-shape-of-requires t)
     (put-truth-case-enum-told t)
-    (put-truth-case-passes-requires t)
+    (put-truth-case-choose-requires t)
+    (put-truth-case-enum-told-2 t)
     (put-truth-case-slice-aggregate-put-both t)
     (put-truth-case-add-put-both t)
     (put-truth-case-put-both-requires t)
-    (put-truth-case-same-length t)
-    (put-truth-case-returns t)
-    (put-truth-case-passes-requires-2 t)
+    (put-truth-case-enum-told-3 t)
     (put-truth-case-slice-aggregate-put-both-2 t)
     (put-truth-case-add-put-both-2 t)
     (put-truth-case-put-both-requires-2 t)
-    (put-truth-case-same-length-2 t)
-    (put-truth-case-returns-2 t)
-    (put-truth-case-enum-told-2 t)
-    (put-truth-case-passes-requires-3 t)
+    (put-truth-case-enum-told-4 t)
+    (put-truth-case-enum-told-5 t)
+    (put-truth-case-choose-requires-2 t)
+    (put-truth-case-enum-told-6 t)
     (put-truth-case-slice-aggregate-put-both-3 t)
     (put-truth-case-add-put-both-3 t)
     (put-truth-case-put-both-requires-3 t)
-    (put-truth-case-same-length-3 t)
-    (put-truth-case-returns-3 t)
-    (put-truth-case-passes-requires-4 t)
+    (put-truth-case-enum-told-7 t)
     (put-truth-case-slice-aggregate-put-both-4 t)
     (put-truth-case-add-put-both-4 t)
     (put-truth-case-put-both-requires-4 t)
+    (put-truth-case-enum-told-8 t)
+    (put-truth-case-same-length t)
+    (put-truth-case-returns t)
+    (put-truth-case-same-length-2 t)
+    (put-truth-case-returns-2 t)
+    (put-truth-case-same-length-3 t)
+    (put-truth-case-returns-3 t)
     (put-truth-case-same-length-4 t)
     (put-truth-case-returns-4 t)
     (put-truth-case-same-length-5 t)

@@ -3,7 +3,7 @@ use borrow.Author.Needs.{needs}
 use native.Mathlib.Omega.{arith}
 use mathlib.Core.Path.{_≡_, _∙_, ap}
 use Prim.Native.Nat.{_+_}
-use Rattle.walk.specs.declared.scope.Scope.{Scope}
+use Rattle.step.specs.declared.Scope.{Scope}
 use Rattle.walk.specs.Scope.{pushed}
 use Rattle.walk.proofs.scope.push_two.Statement.{statement}
 use Rattle.walk.proofs.scope.push_two.Tie as tie
