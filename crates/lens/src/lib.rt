@@ -1,7 +1,8 @@
 //! What callers call: get and put on lent buffers.
 ghost use mathlib.Core.Path.{_≡_};
-ghost use Prim.Native.Nat.{_≤_};
-ghost use lib.ListN.{length};
+ghost use Prim.Native.Nat.{_+_, _≤_};
+ghost use lib.ListN.{length, drop};
+ghost use lib.Seq.{paste};
 ghost use Rattle.rules.specs.Answer.{getAnswer, putAnswer};
 ghost use Rattle.lens.specs.Buffers.{zeroed};
 ghost use Rattle.lens.specs.Calls.{Answered};
@@ -42,6 +43,17 @@ fn refused(code: u8, scratch: &mut [u8]) -> Reply
     Reply::Refused(code)
 }
 
+// A walk that is done: its bytes go to the front of the output, and scratch is cleared.
+fn given(len: usize, steps: usize, out: &mut [u8], scratch: &mut [u8]) -> Reply
+    requires { ⌜ 65536 ≤ length (now scratch) ⌝ }
+    requires { ⌜ (32256 + len ≤ length (now scratch)) × (len ≤ length (now out)) ⌝ }
+    ensures { λ r. ⌜ (r ≡ Reply.Done len steps) × (now (out .exit) ≡ paste (now (out .entry)) 0 (drop 32256 (now (scratch .entry))) len) × (now (scratch .exit) ≡ zeroed (now (scratch .entry))) ⌝ }
+{
+    copy_out(scratch, 32256, len, out, 0);
+    clear(scratch);
+    Reply::Done { len, steps }
+}
+
 /// Get: the list that a sheet reads out of a plan, at the front of `out`, which takes 256 bytes. Scratch takes 65,536.
 pub fn get(sheet: &[u8], plan: &[u8], allowance: u32, out: &mut [u8], scratch: &mut [u8]) -> Reply
     ensures { λ r. ⌜ Answered (getAnswer (now (sheet .entry)) (now (plan .entry)) allowance (length (now (out .entry))) (length (now (scratch .entry)))) r (now (out .entry)) (now (out .exit)) (now (scratch .entry)) (now (scratch .exit)) ⌝ }
@@ -62,11 +74,7 @@ pub fn get(sheet: &[u8], plan: &[u8], allowance: u32, out: &mut [u8], scratch: &
     }
     match walk::get(sheet, plan, steps_allowed, scratch) {
         Walked::Refused(c) => refused(c, scratch),
-        Walked::Done { len, steps } => {
-            copy_out(scratch, 32256, len, out, 0);
-            clear(scratch);
-            Reply::Done { len, steps }
-        }
+        Walked::Done { len, steps } => given(len, steps, out, scratch),
     }
 }
 
@@ -98,10 +106,6 @@ pub fn put(
     }
     match walk::put(sheet, plan, view, steps_allowed, scratch) {
         Walked::Refused(code) => refused(code, scratch),
-        Walked::Done { len, steps } => {
-            copy_out(scratch, 32256, len, out, 0);
-            clear(scratch);
-            Reply::Done { len, steps }
-        }
+        Walked::Done { len, steps } => given(len, steps, out, scratch),
     }
 }

@@ -18,6 +18,12 @@ pub record When {A : Type 0} (P : Type 0) (r x y : A) : Type 0 where
   pub inside : P → r ≡ x
   pub outside : (P → ⊥) → r ≡ y
 
+-- refusals 40 and 41, in this order; 0 where neither is met
+unfoldable pub entryRefusal : (levels left : ℕ) → ℕ
+entryRefusal zero left = 40
+entryRefusal (suc l) zero = 41
+entryRefusal (suc l) (suc n) = 0
+
 -- the two variables x and y alone
 abbrev pub picked : Scope → ℕ → ℕ → Scope
 picked s x y = record {
@@ -38,6 +44,10 @@ addedTwo c n = record { count = c .count + 2; of = set (set (c .of) n (c .count)
 unfoldable pub placeOf : (written cell start len : ℕ) → Span
 placeOf zero cell start len = record { start = start; len = len }
 placeOf (suc w) cell start len = record { start = 4096 + 256 * cell; len = suc w }
+
+-- no place
+abbrev pub nowhere : Span
+nowhere = record { start = 0; len = 0 }
 
 -- the branch that the old subject fits is kept where its test says yes; otherwise the other is taken where its test says yes
 unfoldable pub chosen : (fits-second first-says second-says : Bool) → Branch

@@ -2,19 +2,42 @@
 use mathlib.Core.Path.{_≡_, refl, sym}
 use mathlib.Core.Bool.{Bool, true, false, _&&_, _||_, false≢true}
 use Prim.Native.Nat.{ℕ, zero, suc, _+_, _*_, _≤_, _<_}
+use native.Mathlib.Omega.{arith}
 use lib.Dec.{eqb, ltb}
 use borrow.Author.Tests.{ne-eqb, eq-eqb, lt-ltb, le-ltb}
 use Rattle.step.specs.declared.Put.{Put}
 use Rattle.step.specs.declared.Put.the-variants.{Done, Refused}
 use Rattle.step.specs.declared.Branch.{Branch}
 use Rattle.step.specs.declared.Branch.the-variants.{First, Second, Neither}
-use Rattle.step.specs.Step.{When, placeOf, chosen, judged, unfitRest}
+use Rattle.step.specs.Step.{When, placeOf, entryRefusal, chosen, judged, unfitRest}
 
 pub when-in : {A P : Type 0} {r x y : A} → P → r ≡ x → When P r x y
 when-in p e = record { inside = λ _. e; outside = λ n. absurd (n p) }
 
 pub when-out : {A P : Type 0} {r x y : A} → (P → ⊥) → r ≡ y → When P r x y
 when-out n e = record { inside = λ p. absurd (n p); outside = λ _. e }
+
+pub no-level : (levels left : ℕ) → levels ≡ 0 → 40 ≡ entryRefusal levels left
+unfolding entryRefusal
+no-level levels left e = rw e
+
+pub no-step : (levels left : ℕ) → (levels ≡ 0 → ⊥) → left ≡ 0 → 41 ≡ entryRefusal levels left
+unfolding entryRefusal
+no-step zero left n e = absurd (n refl)
+no-step (suc l) left n e = rw e
+
+pub both-left : (levels left : ℕ) → (levels ≡ 0 → ⊥) → (left ≡ 0 → ⊥) → 0 ≡ entryRefusal levels left
+unfolding entryRefusal
+both-left zero left n m = absurd (n refl)
+both-left (suc l) zero n m = absurd (m refl)
+both-left (suc l) (suc k) n m = refl
+
+-- where a node may be entered, a level and a step are left
+pub entered : {r : ℕ} (levels left : ℕ) → r ≡ entryRefusal levels left → r ≡ 0 → (levels ≡ 0 → ⊥) × (left ≡ 0 → ⊥)
+unfolding entryRefusal
+entered zero left e z = absurd (omega (arith, e, z))
+entered (suc l) zero e z = absurd (omega (arith, e, z))
+entered (suc l) (suc k) e z = (λ q. omega (arith, q), λ q. omega (arith, q))
 
 pub judged-yes : (c : ℕ) {p q : Bool} → p ≡ q → p ≡ true → Done 1 ≡ judged c q
 unfolding judged

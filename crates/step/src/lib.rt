@@ -1,10 +1,10 @@
-//! What a walk decides without the arena: which cell a variable is, where its value stands, which branch a view takes, and whether
-//! a constant or a written value takes it.
+//! What a walk decides without the arena: whether a node may be entered, what a section's scope is, which cell a variable is and where
+//! its value stands, which branch a view takes, and whether a constant or a written value takes it.
 ghost use mathlib.Core.Path.{_≡_};
 ghost use mathlib.Core.List.{[], _∷_};
 ghost use Prim.Native.Nat.{_+_, _/_, _%_, _≤_, _<_};
 ghost use Rattle.value.specs.Parts.{passesBytes, sameBytes};
-ghost use Rattle.step.specs.Step.{When, picked, addedTwo, pickedCells, placeOf, chosen, judged, unfitRest};
+ghost use Rattle.step.specs.Step.{When, picked, addedTwo, pickedCells, nowhere, placeOf, entryRefusal, chosen, judged, unfitRest};
 
 /// The variables in scope, at most 110: where each one's bytes start and how many they are.
 pub struct Scope {
@@ -36,6 +36,19 @@ pub enum Branch {
     First,
     Second,
     Neither,
+}
+
+/// What entering a node is refused with: 40 where no level is left, then 41 where no step is; 0 where it may be entered.
+pub fn entry(levels: usize, left: usize) -> u8
+    ensures { λ r. ⌜ r ≡ entryRefusal levels left ⌝ }
+{
+    if levels == 0 {
+        return 40;
+    }
+    if left == 0 {
+        return 41;
+    }
+    0
 }
 
 /// The two variables x and y alone, a section's scope; the scope itself where a number is over 109.
@@ -97,14 +110,15 @@ pub fn add_two(cells: Cells, from: usize) -> Cells
     c
 }
 
-/// Where a variable's value stands: in the slot of its cell where it was written, or else where it stood. There are 110 cells.
+/// Where a variable's value stands: in the slot of its cell where it was written, or else where it stood; nowhere where there is
+/// no such cell.
 pub fn place_of(written: u16, cell: usize, start: usize, len: usize) -> Span
-    ensures { λ r. ⌜ When (cell < 110) r (placeOf written cell start len) (placeOf 0 cell start len) ⌝ }
+    ensures { λ r. ⌜ When (cell < 110) r (placeOf written cell start len) nowhere ⌝ }
 {
-    if written == 0 {
-        return Span { start, len };
-    }
     if 110 <= cell {
+        return Span { start: 0, len: 0 };
+    }
+    if written == 0 {
         return Span { start, len };
     }
     Span {
@@ -131,14 +145,21 @@ pub fn choose(fits_second: bool, first_test: u8, second_test: u8, view: &[u8]) -
     Branch::Neither
 }
 
+// A step where two values are the same, or else a refusal.
+fn judge(code: u8, a: &[u8], b: &[u8]) -> Put
+    ensures { λ r. ⌜ r ≡ judged code (sameBytes (now (a .entry)) (now (b .entry))) ⌝ }
+{
+    if value::same(a, b) {
+        return Put::Done(1);
+    }
+    Put::Refused(code)
+}
+
 /// A second view for a written variable must equal the first.
 pub fn put_again(written: &[u8], view: &[u8]) -> Put
     ensures { λ r. ⌜ r ≡ judged 54 (sameBytes (now (written .entry)) (now (view .entry))) ⌝ }
 {
-    if value::same(written, view) {
-        return Put::Done(1);
-    }
-    Put::Refused(54)
+    judge(54, written, view)
 }
 
 /// A view for a constant of one byte, its kind, must equal it.
@@ -146,10 +167,7 @@ pub fn put_constant(kind: u8, view: &[u8]) -> Put
     ensures { λ r. ⌜ r ≡ judged 50 (sameBytes (now (view .entry)) (kind ∷ [])) ⌝ }
 {
     let constant = [kind];
-    if value::same(view, &constant) {
-        return Put::Done(1);
-    }
-    Put::Refused(50)
+    judge(50, view, &constant)
 }
 
 /// A view for a constant number must equal it.
@@ -157,10 +175,7 @@ pub fn put_number(n: u16, view: &[u8]) -> Put
     ensures { λ r. ⌜ r ≡ judged 50 (sameBytes (now (view .entry)) (4 ∷ n / 256 ∷ n % 256 ∷ [])) ⌝ }
 {
     let constant = [4, value::high(n), value::low(n)];
-    if value::same(view, &constant) {
-        return Put::Done(1);
-    }
-    Put::Refused(50)
+    judge(50, view, &constant)
 }
 
 /// Whether the rest of a rebuilt list (kind 3) is no list, by the kind bytes of both.

@@ -19,6 +19,8 @@ use Rattle.walk.specs.Parts.{kept-refl}
 use Rattle.walk.specs.Answers.{refuse, step, no-step}
 use Rattle.walk.specs.Gets.{enter, body, run, Lent, Ready, Gives}
 use Rattle.walk.specs.GetReady.{ready-later}
+use Rattle.step.specs.Step.{entryRefusal}
+use Rattle.step.specs.StepLaws.{no-level, no-step as out-of-steps, both-left}
 
 module _ {b s : List ℕ} {sc : Scope} {top left x : ℕ} where
   pub enter-40 : {levels : ℕ} → levels ≡ 0 → Gives b b s sc top top left 0 (Refused 40) levels (enter x)
@@ -29,6 +31,14 @@ module _ {b s : List ℕ} {sc : Scope} {top left x : ℕ} where
   unfolding run get
   enter-41 {levels = zero} n e = absurd (n refl)
   enter-41 {levels = suc l} n e = record { kept = kept-refl top b; told = λ sh es μ w. no-step _ e (record { is = refl }) }
+
+  pub enter-refused : {levels r : ℕ} → r ≡ entryRefusal levels left → (r ≡ 0 → ⊥) → Gives b b s sc top top left 0 (Refused r) levels (enter x)
+  enter-refused {levels} {r} e n = go levels left refl refl
+    where
+      go : (l k : ℕ) → levels ≡ l → left ≡ k → Gives b b s sc top top left 0 (Refused r) levels (enter x)
+      go zero k p q = let z : r ≡ 40 = e ∙ sym (no-level levels left p) in rw z (enter-40 p)
+      go (suc l) zero p q = let h : levels ≡ 0 → ⊥ = λ y. omega (arith, p, y) in let z : r ≡ 41 = e ∙ sym (out-of-steps levels left h q) in rw z (enter-41 h q)
+      go (suc l) (suc k) p q = absurd (n (e ∙ sym (both-left levels left (λ y. omega (arith, p, y)) (λ y. omega (arith, q, y)))))
 
 -- no record is longer than 8 bytes, so that every start is small
 width-small : (n : Node) → width n ≤ 8

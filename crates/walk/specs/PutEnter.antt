@@ -20,6 +20,8 @@ use Rattle.walk.specs.Answers.{refuse, step, no-step}
 use Rattle.walk.specs.Gets.{Lent}
 use Rattle.walk.specs.Frames.{frame-refl}
 use Rattle.walk.specs.Puts.{Task, enter, body, run, Given, Ready, Gives}
+use Rattle.step.specs.Step.{entryRefusal}
+use Rattle.step.specs.StepLaws.{no-level, no-step as out-of-steps, both-left}
 
 -- the sheet that is lent is the one that is read
 pub same-sheet : {s starts : List ℕ} {sh : Sheet} (t : Lent s starts) → readSheet s ≡ ok sh → t .sh ≡ sh
@@ -39,6 +41,14 @@ module _ {b lens s : List ℕ} {P : Value → Type 0} {sc : Scope} {cells : Owne
 
   pub put-41 : {levels : ℕ} → (levels ≡ 0 → ⊥) → left ≡ 0 → Gives b b lens lens s P sc cells m top left 0 (Refused 41) levels (enter x)
   put-41 {levels} n e = let z : levels ≡ suc (levels - 1) = omega arith in rw z (put-none (levels - 1) e)
+
+  pub put-refused : {levels r : ℕ} → r ≡ entryRefusal levels left → (r ≡ 0 → ⊥) → Gives b b lens lens s P sc cells m top left 0 (Refused r) levels (enter x)
+  put-refused {levels} {r} e n = go levels left refl refl
+    where
+      go : (l k : ℕ) → levels ≡ l → left ≡ k → Gives b b lens lens s P sc cells m top left 0 (Refused r) levels (enter x)
+      go zero k p q = let z : r ≡ 40 = e ∙ sym (no-level levels left p) in rw z (put-40 p)
+      go (suc l) zero p q = let h : levels ≡ 0 → ⊥ = λ y. omega (arith, p, y) in let z : r ≡ 41 = e ∙ sym (out-of-steps levels left h q) in rw z (put-41 h q)
+      go (suc l) (suc k) p q = absurd (n (e ∙ sym (both-left levels left (λ y. omega (arith, p, y)) (λ y. omega (arith, q, y)))))
 
   module _ {starts : List ℕ} {nd N : Node} (read : nd ≡ nodeAt s (getD starts x 0)) (is : nd ≡ N) where
     put-one : {a lens′ : List ℕ} {r : Put} (l : ℕ) (t : Lent s starts) → x < length (t .sh .nodes) → 0 < left

@@ -207,4 +207,3 @@ module _ {b lens view : List ℕ} {sc : Scope} {cells : Owners} {x : ℕ} where
           by : (q : Bool) → p ≡ q → Gives b b lens lens s (Shown view) sc cells (cells .count) top left 1 r l (body (Var x))
           by true t = let z : r ≡ Done 1 = j ∙ ap (judged 54) t in rw z (var-same t)
           by false t = let z : r ≡ Refused 54 = j ∙ ap (judged 54) t in rw z (var-54 t)
-

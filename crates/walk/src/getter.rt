@@ -63,11 +63,9 @@ pub fn get_node(
     ensures { λ r. ⌜ Gives (now (arena .entry)) (now (arena .exit)) (now (sheet .entry)) scope (at .top) (at .top) (at .left) 0 r (at .levels) (enter node) ⌝ }
 {
     let top = at.top;
-    if at.levels == 0 {
-        return Walked::Refused(40);
-    }
-    if at.left == 0 {
-        return Walked::Refused(41);
+    let refusal = step::entry(at.levels, at.left);
+    if refusal != 0 {
+        return Walked::Refused(refusal);
     }
     let start = starts[node] as usize;
     let below = At {

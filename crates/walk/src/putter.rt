@@ -77,11 +77,9 @@ pub fn put_node(
     ensures { λ r. ⌜ Gives (now (arena .entry)) (now (arena .exit)) (now (lens .entry)) (now (lens .exit)) (now (sheet .entry)) (Shown (now (view .entry))) scope cells (cells .count) (at .top) (at .left) 0 r (at .levels) (enter node) ⌝ }
 {
     let top = at.top;
-    if at.levels == 0 {
-        return Put::Refused(40);
-    }
-    if at.left == 0 {
-        return Put::Refused(41);
+    let refusal = step::entry(at.levels, at.left);
+    if refusal != 0 {
+        return Put::Refused(refusal);
     }
     let start = starts[node] as usize;
     let below = At {
@@ -262,8 +260,8 @@ fn put_front(
     let Shape::Front(mid) = value::shape_of(view) else {
         return Put::Refused(51);
     };
-    let left = value::first_part(view, mid);
-    let right = value::second_part(view, mid);
+    let head = value::first_part(view, mid);
+    let tail = value::second_part(view, mid);
     put_both(
         sheet,
         starts,
@@ -272,9 +270,9 @@ fn put_front(
         scope,
         cells,
         first,
-        left,
+        head,
         rest,
-        right,
+        tail,
         1,
         at,
     )

@@ -6,7 +6,8 @@ use native.Mathlib.Omega.{arith}
 use lib.ListN.{length-set}
 use Rattle.walk.specs.Parts.{marked, down}
 use Rattle.walk.specs.GetReady.{ready-room, sizes}
-use Rattle.walk.specs.GetEnter.{enter-40, enter-41, enter-ready, enter-body, lent-few, lent-start}
+use Rattle.step.specs.StepLaws.{entered}
+use Rattle.walk.specs.GetEnter.{enter-refused, enter-ready, enter-body, lent-few, lent-start}
 use Rattle.walk.specs.GetLeaf.{false-done, true-done, empty-done, number-done}
 use Rattle.walk.specs.GetTwo.{two-ready₁, two-ready₂, pair-refused₁, pair-refused₂, pair-44, pair-done, front-refused₁, front-refused₂, front-43, front-44, front-done}
 use Rattle.walk.specs.GetBranch.{branch-ready, branch-refused, branch-46, branch-done}
@@ -44,6 +45,7 @@ use Rattle.walk.proofs.getter.+get_add+get_branch+get_call+get_front+ge
 use Rattle.walk.proofs.getter.get_truth_case.Reads as get-truth-case
 use Rattle.walk.proofs.getter.get_truth_case.Kinds as get-truth-case-kinds
 use Rattle.walk.proofs.getter.+get_add+get_branch+get_call+get_front+get_list_case+get_node+get_pair+get_split+get_truth_case.Lts-get_truth_case as get-truth-case-lts
+use Rattle.step.proofs.entry.Reads as entry-reads
 use Rattle.sheet.proofs.node_at.Reads as node-at-reads
 use Rattle.sheet.proofs.section_root.Reads as section-root-reads
 use Rattle.value.proofs.high.Reads as high-reads
@@ -183,7 +185,7 @@ abbrev get-list-case-claims : ℕ → get-list-case-lts.Claims
 get-list-case-claims t = (get-node-below t, get-node.Post, shape-of-reads.Asked, shape-of-reads.Learnt, get-branch-below t, get-branch.Post, push-two-reads.Asked, push-two-reads.Learnt)
 
 abbrev get-node-claims : ℕ → get-node-lts.Claims
-get-node-claims t = (node-at-reads.Asked, node-at-reads.Learnt, get-var-reads.Asked, get-var-reads.Learnt, get-constant-reads.Asked, get-constant-reads.Learnt, get-number-reads.Asked, get-number-reads.Learnt, get-front-below t, get-front.Post, get-pair-below t, get-pair.Post, get-list-case-below t, get-list-case.Post, get-truth-case-below t, get-truth-case.Post, get-split-below t, get-split.Post, get-call-below t, get-call.Post, get-add-below t, get-add.Post)
+get-node-claims t = (entry-reads.Asked, entry-reads.Learnt, node-at-reads.Asked, node-at-reads.Learnt, get-var-reads.Asked, get-var-reads.Learnt, get-constant-reads.Asked, get-constant-reads.Learnt, get-number-reads.Asked, get-number-reads.Learnt, get-front-below t, get-front.Post, get-pair-below t, get-pair.Post, get-list-case-below t, get-list-case.Post, get-truth-case-below t, get-truth-case.Post, get-split-below t, get-split.Post, get-call-below t, get-call.Post, get-add-below t, get-add.Post)
 
 abbrev get-pair-claims : ℕ → get-pair-lts.Claims
 get-pair-claims t = (get-node-below t, get-node.Post)
@@ -639,32 +641,32 @@ get-list-case-same-length-4 : (t : ℕ) → get-list-case-lts.Need-same-length-4
 get-list-case-same-length-4 t c = get-list-case-returns-4 t c .kept .long
 
 -- src/getter.rt:73:9
-get-node-returns : (t : ℕ) → get-node-lts.Need-returns (get-node-claims t) (get-node-at t) get-node.Post
-get-node-returns t c = enter-40 (c .if1 .taken)
-
 -- src/getter.rt:76:9
-get-node-returns-2 : (t : ℕ) → get-node-lts.Need-returns-2 (get-node-claims t) (get-node-at t) get-node.Post
-get-node-returns-2 t c = enter-41 (c .before .before .if1 .left) (c .if2 .taken)
+get-node-entry-requires : (t : ℕ) → get-node-lts.Need-entry-requires (get-node-claims t) (get-node-at t) get-node.Post
+get-node-entry-requires t c κs = search needs
+
+get-node-returns : (t : ℕ) → get-node-lts.Need-returns (get-node-claims t) (get-node-at t) get-node.Post
+get-node-returns t c = enter-refused (c .before .entry .ensures) (c .if1 .taken)
 
 -- src/getter.rt:78:17
 get-node-mul-start : (t : ℕ) → get-node-lts.Need-mul-start (get-node-claims t) (get-node-at t) get-node.Post
-get-node-mul-start t c = record { fits = omega (arith, lent-few ((c .before .before .before .before .before .before .pre .1) .lent) ((c .before .before .before .before .before .before .pre .1) .known)) }
+get-node-mul-start t c = record { fits = omega (arith, lent-few ((c .before .before .before .before .pre .1) .lent) ((c .before .before .before .before .pre .1) .known)) }
 
 -- src/getter.rt:78:17
 get-node-element-copy-out-start : (t : ℕ) → get-node-lts.Need-element-copy-out-start (get-node-claims t) (get-node-at t) get-node.Post
-get-node-element-copy-out-start t c = lent-few ((c .before .before .before .before .before .before .pre .1) .lent) ((c .before .before .before .before .before .before .pre .1) .known)
+get-node-element-copy-out-start t c = lent-few ((c .before .before .before .before .pre .1) .lent) ((c .before .before .before .before .pre .1) .known)
 
 -- src/getter.rt:78:17
 get-node-cast-start : (t : ℕ) → get-node-lts.Need-cast-start (get-node-claims t) (get-node-at t) get-node.Post
-get-node-cast-start t c = record { fits = omega (arith, lent-start ((c .before .before .before .before .before .before .before .pre .1) .lent) ((c .before .before .before .before .before .before .before .pre .1) .known)) }
+get-node-cast-start t c = record { fits = omega (arith, lent-start ((c .before .before .before .before .before .pre .1) .lent) ((c .before .before .before .before .before .pre .1) .known)) }
 
 -- src/getter.rt:80:17
-get-node-sub-t36 : (t : ℕ) → get-node-lts.Need-sub-t36 (get-node-claims t) (get-node-at t) get-node.Post
-get-node-sub-t36 t c = search needs
+get-node-sub-t37 : (t : ℕ) → get-node-lts.Need-sub-t37 (get-node-claims t) (get-node-at t) get-node.Post
+get-node-sub-t37 t c = omega (arith, entered _ _ (c .before .before .before .entry .ensures) (c .before .before .if1 .left) .0)
 
 -- src/getter.rt:81:15
-get-node-sub-t40 : (t : ℕ) → get-node-lts.Need-sub-t40 (get-node-claims t) (get-node-at t) get-node.Post
-get-node-sub-t40 t c = search needs
+get-node-sub-t41 : (t : ℕ) → get-node-lts.Need-sub-t41 (get-node-claims t) (get-node-at t) get-node.Post
+get-node-sub-t41 t c = omega (arith, entered _ _ (c .before .before .before .before .entry .ensures) (c .before .before .before .if1 .left) .1)
 
 -- src/getter.rt:84:11
 get-node-node-at-requires : (t : ℕ) → get-node-lts.Need-node-at-requires (get-node-claims t) (get-node-at t) get-node.Post
@@ -676,7 +678,7 @@ get-node-enum-known-x t c = search needs
 
 -- src/getter.rt:85:25
 get-node-get-var-requires : (t : ℕ) → get-node-lts.Need-get-var-requires (get-node-claims t) (get-node-at t) get-node.Post
-get-node-get-var-requires t c κs = ready-room (c .before .before .before .before .before .before .before .before .before .before .before .before .before .before .pre .1) (omega (arith, c .before .before .before .before .before .before .before .before .before .before .if1 .left))
+get-node-get-var-requires t c κs = ready-room (c .before .before .before .before .before .before .before .before .before .before .before .before .pre .1) (omega (arith, (entered _ _ (c .before .before .before .before .before .before .before .before .before .entry .ensures) (c .before .before .before .before .before .before .before .before .if1 .left)) .0))
 
 -- src/getter.rt:86:37
 get-node-enum-told : (t : ℕ) → get-node-lts.Need-enum-told (get-node-claims t) (get-node-at t) get-node.Post
@@ -684,7 +686,7 @@ get-node-enum-told t c = search needs
 
 -- src/getter.rt:86:24
 get-node-get-constant-requires : (t : ℕ) → get-node-lts.Need-get-constant-requires (get-node-claims t) (get-node-at t) get-node.Post
-get-node-get-constant-requires t c κs = search needs
+get-node-get-constant-requires t c κs = omega (arith, c .before .before .before .before .before .before .before .before .before .before .before .pre .1 .long, c .before .before .before .before .before .before .before .before .before .before .before .pre .1 .room, entered _ _ (c .before .before .before .before .before .before .before .before .entry .ensures) (c .before .before .before .before .before .before .before .if1 .left) .0)
 
 -- src/getter.rt:87:36
 get-node-enum-told-2 : (t : ℕ) → get-node-lts.Need-enum-told-2 (get-node-claims t) (get-node-at t) get-node.Post
@@ -692,7 +694,7 @@ get-node-enum-told-2 t c = search needs
 
 -- src/getter.rt:87:23
 get-node-get-constant-requires-2 : (t : ℕ) → get-node-lts.Need-get-constant-requires-2 (get-node-claims t) (get-node-at t) get-node.Post
-get-node-get-constant-requires-2 t c κs = search needs
+get-node-get-constant-requires-2 t c κs = omega (arith, c .before .before .before .before .before .before .before .before .before .before .before .pre .1 .long, c .before .before .before .before .before .before .before .before .before .before .before .pre .1 .room, entered _ _ (c .before .before .before .before .before .before .before .before .entry .ensures) (c .before .before .before .before .before .before .before .if1 .left) .0)
 
 -- src/getter.rt:88:37
 get-node-enum-told-3 : (t : ℕ) → get-node-lts.Need-enum-told-3 (get-node-claims t) (get-node-at t) get-node.Post
@@ -700,7 +702,7 @@ get-node-enum-told-3 t c = search needs
 
 -- src/getter.rt:88:24
 get-node-get-constant-requires-3 : (t : ℕ) → get-node-lts.Need-get-constant-requires-3 (get-node-claims t) (get-node-at t) get-node.Post
-get-node-get-constant-requires-3 t c κs = search needs
+get-node-get-constant-requires-3 t c κs = omega (arith, c .before .before .before .before .before .before .before .before .before .before .before .pre .1 .long, c .before .before .before .before .before .before .before .before .before .before .before .pre .1 .room, entered _ _ (c .before .before .before .before .before .before .before .before .entry .ensures) (c .before .before .before .before .before .before .before .if1 .left) .0)
 
 -- src/getter.rt:89:22
 get-node-enum-known-n : (t : ℕ) → get-node-lts.Need-enum-known-n (get-node-claims t) (get-node-at t) get-node.Post
@@ -708,7 +710,7 @@ get-node-enum-known-n t c = search needs
 
 -- src/getter.rt:89:28
 get-node-get-number-requires : (t : ℕ) → get-node-lts.Need-get-number-requires (get-node-claims t) (get-node-at t) get-node.Post
-get-node-get-number-requires t c κs = search needs
+get-node-get-number-requires t c κs = omega (arith, c .before .before .before .before .before .before .before .before .before .before .before .before .pre .1 .long, c .before .before .before .before .before .before .before .before .before .before .before .before .pre .1 .room, entered _ _ (c .before .before .before .before .before .before .before .before .before .entry .ensures) (c .before .before .before .before .before .before .before .before .if1 .left) .0)
 
 -- src/getter.rt:90:23
 get-node-enum-known-first : (t : ℕ) → get-node-lts.Need-enum-known-first (get-node-claims t) (get-node-at t) get-node.Post
@@ -716,7 +718,7 @@ get-node-enum-known-first t c = search needs
 
 -- src/getter.rt:90:40
 get-node-get-front-requires : (t : ℕ) → get-node-lts.Need-get-front-requires (get-node-claims t) (get-node-at t) get-node.Post
-get-node-get-front-requires t c κs = (omega (arith, c .before .before .before .before .before .before .before .before .before .before .before .before .before .before .pre .0, c .before .before .before .before .before .before .before .before .before .before .if1 .left), enter-ready (c .before .before .before .before .before .before .before .before .before .before .before .before .before .before .pre .1) (c .before .before .before .before .before .before .before .before .before .before .if1 .left) (c .before .before .before .before .before .before .before .before .if2 .left) (c .before .before .before .before .node-at .ensures) (c .before .before .first .given .1))
+get-node-get-front-requires t c κs = (omega (arith, c .before .before .before .before .before .before .before .before .before .before .before .before .pre .0, (entered _ _ (c .before .before .before .before .before .before .before .before .before .entry .ensures) (c .before .before .before .before .before .before .before .before .if1 .left)) .0), enter-ready (c .before .before .before .before .before .before .before .before .before .before .before .before .pre .1) ((entered _ _ (c .before .before .before .before .before .before .before .before .before .entry .ensures) (c .before .before .before .before .before .before .before .before .if1 .left)) .0) ((entered _ _ (c .before .before .before .before .before .before .before .before .before .entry .ensures) (c .before .before .before .before .before .before .before .before .if1 .left)) .1) (c .before .before .before .before .node-at .ensures) (c .before .before .first .given .1))
 
 -- src/getter.rt:91:22
 get-node-enum-known-left : (t : ℕ) → get-node-lts.Need-enum-known-left (get-node-claims t) (get-node-at t) get-node.Post
@@ -724,7 +726,7 @@ get-node-enum-known-left t c = search needs
 
 -- src/getter.rt:91:39
 get-node-get-pair-requires : (t : ℕ) → get-node-lts.Need-get-pair-requires (get-node-claims t) (get-node-at t) get-node.Post
-get-node-get-pair-requires t c κs = (omega (arith, c .before .before .before .before .before .before .before .before .before .before .before .before .before .before .pre .0, c .before .before .before .before .before .before .before .before .before .before .if1 .left), enter-ready (c .before .before .before .before .before .before .before .before .before .before .before .before .before .before .pre .1) (c .before .before .before .before .before .before .before .before .before .before .if1 .left) (c .before .before .before .before .before .before .before .before .if2 .left) (c .before .before .before .before .node-at .ensures) (c .before .before .left .given .1))
+get-node-get-pair-requires t c κs = (omega (arith, c .before .before .before .before .before .before .before .before .before .before .before .before .pre .0, (entered _ _ (c .before .before .before .before .before .before .before .before .before .entry .ensures) (c .before .before .before .before .before .before .before .before .if1 .left)) .0), enter-ready (c .before .before .before .before .before .before .before .before .before .before .before .before .pre .1) ((entered _ _ (c .before .before .before .before .before .before .before .before .before .entry .ensures) (c .before .before .before .before .before .before .before .before .if1 .left)) .0) ((entered _ _ (c .before .before .before .before .before .before .before .before .before .entry .ensures) (c .before .before .before .before .before .before .before .before .if1 .left)) .1) (c .before .before .before .before .node-at .ensures) (c .before .before .left .given .1))
 
 -- src/getter.rt:93:13
 get-node-enum-known-subject : (t : ℕ) → get-node-lts.Need-enum-known-subject (get-node-claims t) (get-node-at t) get-node.Post
@@ -732,7 +734,7 @@ get-node-enum-known-subject t c = search needs
 
 -- src/getter.rt:100:14
 get-node-get-list-case-requires : (t : ℕ) → get-node-lts.Need-get-list-case-requires (get-node-claims t) (get-node-at t) get-node.Post
-get-node-get-list-case-requires t c κs = (omega (arith, c .before .before .before .before .before .before .before .before .before .before .before .before .before .before .pre .0, c .before .before .before .before .before .before .before .before .before .before .if1 .left), enter-ready (c .before .before .before .before .before .before .before .before .before .before .before .before .before .before .pre .1) (c .before .before .before .before .before .before .before .before .before .before .if1 .left) (c .before .before .before .before .before .before .before .before .if2 .left) (c .before .before .before .before .node-at .ensures) (c .before .before .subject .given .1))
+get-node-get-list-case-requires t c κs = (omega (arith, c .before .before .before .before .before .before .before .before .before .before .before .before .pre .0, (entered _ _ (c .before .before .before .before .before .before .before .before .before .entry .ensures) (c .before .before .before .before .before .before .before .before .if1 .left)) .0), enter-ready (c .before .before .before .before .before .before .before .before .before .before .before .before .pre .1) ((entered _ _ (c .before .before .before .before .before .before .before .before .before .entry .ensures) (c .before .before .before .before .before .before .before .before .if1 .left)) .0) ((entered _ _ (c .before .before .before .before .before .before .before .before .before .entry .ensures) (c .before .before .before .before .before .before .before .before .if1 .left)) .1) (c .before .before .before .before .node-at .ensures) (c .before .before .subject .given .1))
 
 -- src/getter.rt:115:13
 get-node-enum-known-subject-2 : (t : ℕ) → get-node-lts.Need-enum-known-subject-2 (get-node-claims t) (get-node-at t) get-node.Post
@@ -740,7 +742,7 @@ get-node-enum-known-subject-2 t c = search needs
 
 -- src/getter.rt:120:14
 get-node-get-truth-case-requires : (t : ℕ) → get-node-lts.Need-get-truth-case-requires (get-node-claims t) (get-node-at t) get-node.Post
-get-node-get-truth-case-requires t c κs = (omega (arith, c .before .before .before .before .before .before .before .before .before .before .before .before .before .before .pre .0, c .before .before .before .before .before .before .before .before .before .before .if1 .left), enter-ready (c .before .before .before .before .before .before .before .before .before .before .before .before .before .before .pre .1) (c .before .before .before .before .before .before .before .before .before .before .if1 .left) (c .before .before .before .before .before .before .before .before .if2 .left) (c .before .before .before .before .node-at .ensures) (c .before .before .subject2 .given .1))
+get-node-get-truth-case-requires t c κs = (omega (arith, c .before .before .before .before .before .before .before .before .before .before .before .before .pre .0, (entered _ _ (c .before .before .before .before .before .before .before .before .before .entry .ensures) (c .before .before .before .before .before .before .before .before .if1 .left)) .0), enter-ready (c .before .before .before .before .before .before .before .before .before .before .before .before .pre .1) ((entered _ _ (c .before .before .before .before .before .before .before .before .before .entry .ensures) (c .before .before .before .before .before .before .before .before .if1 .left)) .0) ((entered _ _ (c .before .before .before .before .before .before .before .before .before .entry .ensures) (c .before .before .before .before .before .before .before .before .if1 .left)) .1) (c .before .before .before .before .node-at .ensures) (c .before .before .subject2 .given .1))
 
 -- src/getter.rt:132:23
 get-node-enum-known-subject-3 : (t : ℕ) → get-node-lts.Need-enum-known-subject-3 (get-node-claims t) (get-node-at t) get-node.Post
@@ -748,7 +750,7 @@ get-node-enum-known-subject-3 t c = search needs
 
 -- src/getter.rt:132:43
 get-node-get-split-requires : (t : ℕ) → get-node-lts.Need-get-split-requires (get-node-claims t) (get-node-at t) get-node.Post
-get-node-get-split-requires t c κs = (omega (arith, c .before .before .before .before .before .before .before .before .before .before .before .before .before .before .pre .0, c .before .before .before .before .before .before .before .before .before .before .if1 .left), enter-ready (c .before .before .before .before .before .before .before .before .before .before .before .before .before .before .pre .1) (c .before .before .before .before .before .before .before .before .before .before .if1 .left) (c .before .before .before .before .before .before .before .before .if2 .left) (c .before .before .before .before .node-at .ensures) (c .before .before .subject3 .given .1))
+get-node-get-split-requires t c κs = (omega (arith, c .before .before .before .before .before .before .before .before .before .before .before .before .pre .0, (entered _ _ (c .before .before .before .before .before .before .before .before .before .entry .ensures) (c .before .before .before .before .before .before .before .before .if1 .left)) .0), enter-ready (c .before .before .before .before .before .before .before .before .before .before .before .before .pre .1) ((entered _ _ (c .before .before .before .before .before .before .before .before .before .entry .ensures) (c .before .before .before .before .before .before .before .before .if1 .left)) .0) ((entered _ _ (c .before .before .before .before .before .before .before .before .before .entry .ensures) (c .before .before .before .before .before .before .before .before .if1 .left)) .1) (c .before .before .before .before .node-at .ensures) (c .before .before .subject3 .given .1))
 
 -- src/getter.rt:142:13
 get-node-enum-known-section : (t : ℕ) → get-node-lts.Need-enum-known-section (get-node-claims t) (get-node-at t) get-node.Post
@@ -756,7 +758,7 @@ get-node-enum-known-section t c = search needs
 
 -- src/getter.rt:145:14
 get-node-get-call-requires : (t : ℕ) → get-node-lts.Need-get-call-requires (get-node-claims t) (get-node-at t) get-node.Post
-get-node-get-call-requires t c κs = (omega (arith, c .before .before .before .before .before .before .before .before .before .before .before .before .before .before .pre .0, c .before .before .before .before .before .before .before .before .before .before .if1 .left), enter-ready (c .before .before .before .before .before .before .before .before .before .before .before .before .before .before .pre .1) (c .before .before .before .before .before .before .before .before .before .before .if1 .left) (c .before .before .before .before .before .before .before .before .if2 .left) (c .before .before .before .before .node-at .ensures) (c .before .before .section .given .1))
+get-node-get-call-requires t c κs = (omega (arith, c .before .before .before .before .before .before .before .before .before .before .before .before .pre .0, (entered _ _ (c .before .before .before .before .before .before .before .before .before .entry .ensures) (c .before .before .before .before .before .before .before .before .if1 .left)) .0), enter-ready (c .before .before .before .before .before .before .before .before .before .before .before .before .pre .1) ((entered _ _ (c .before .before .before .before .before .before .before .before .before .entry .ensures) (c .before .before .before .before .before .before .before .before .if1 .left)) .0) ((entered _ _ (c .before .before .before .before .before .before .before .before .before .entry .ensures) (c .before .before .before .before .before .before .before .before .if1 .left)) .1) (c .before .before .before .before .node-at .ensures) (c .before .before .section .given .1))
 
 -- src/getter.rt:146:21
 get-node-enum-known-node : (t : ℕ) → get-node-lts.Need-enum-known-node (get-node-claims t) (get-node-at t) get-node.Post
@@ -764,103 +766,103 @@ get-node-enum-known-node t c = search needs
 
 -- src/getter.rt:146:39
 get-node-get-add-requires : (t : ℕ) → get-node-lts.Need-get-add-requires (get-node-claims t) (get-node-at t) get-node.Post
-get-node-get-add-requires t c κs = (omega (arith, c .before .before .before .before .before .before .before .before .before .before .before .before .before .before .pre .0, c .before .before .before .before .before .before .before .before .before .before .if1 .left), enter-ready (c .before .before .before .before .before .before .before .before .before .before .before .before .before .before .pre .1) (c .before .before .before .before .before .before .before .before .before .before .if1 .left) (c .before .before .before .before .before .before .before .before .if2 .left) (c .before .before .before .before .node-at .ensures) (c .before .before .node .given .1))
+get-node-get-add-requires t c κs = (omega (arith, c .before .before .before .before .before .before .before .before .before .before .before .before .pre .0, (entered _ _ (c .before .before .before .before .before .before .before .before .before .entry .ensures) (c .before .before .before .before .before .before .before .before .if1 .left)) .0), enter-ready (c .before .before .before .before .before .before .before .before .before .before .before .before .pre .1) ((entered _ _ (c .before .before .before .before .before .before .before .before .before .entry .ensures) (c .before .before .before .before .before .before .before .before .if1 .left)) .0) ((entered _ _ (c .before .before .before .before .before .before .before .before .before .entry .ensures) (c .before .before .before .before .before .before .before .before .if1 .left)) .1) (c .before .before .before .before .node-at .ensures) (c .before .before .node .given .1))
 
 -- src/getter.rt:60:1
-get-node-returns-3 : (t : ℕ) → get-node-lts.Need-returns-3 (get-node-claims t) (get-node-at t) get-node.Post
-get-node-returns-3 t c = enter-body (c .before .before .before .before .before .before .before .before .before .before .before .before .before .before .before .before .before .pre .1) (c .before .before .before .before .before .before .before .before .before .before .before .before .before .if1 .left) (c .before .before .before .before .before .before .before .before .before .before .before .if2 .left) (c .before .before .before .before .before .before .before .node-at .ensures) (c .before .before .before .before .before .x .given .1) (c .before .before .get-var .ensures _ _ _)
+get-node-returns-2 : (t : ℕ) → get-node-lts.Need-returns-2 (get-node-claims t) (get-node-at t) get-node.Post
+get-node-returns-2 t c = enter-body (c .before .before .before .before .before .before .before .before .before .before .before .before .before .before .before .pre .1) ((entered _ _ (c .before .before .before .before .before .before .before .before .before .before .before .before .entry .ensures) (c .before .before .before .before .before .before .before .before .before .before .before .if1 .left)) .0) ((entered _ _ (c .before .before .before .before .before .before .before .before .before .before .before .before .entry .ensures) (c .before .before .before .before .before .before .before .before .before .before .before .if1 .left)) .1) (c .before .before .before .before .before .before .before .node-at .ensures) (c .before .before .before .before .before .x .given .1) (c .before .before .get-var .ensures _ _ _)
 
 -- src/getter.rt:60:1
 get-node-same-length : (t : ℕ) → get-node-lts.Need-same-length (get-node-claims t) (get-node-at t) get-node.Post
-get-node-same-length t c = get-node-returns-3 t c .kept .long
+get-node-same-length t c = get-node-returns-2 t c .kept .long
 
 -- src/getter.rt:60:1
-get-node-returns-4 : (t : ℕ) → get-node-lts.Need-returns-4 (get-node-claims t) (get-node-at t) get-node.Post
-get-node-returns-4 t c = enter-body (c .before .before .before .before .before .before .before .before .before .before .before .before .before .before .before .before .pre .1) (c .before .before .before .before .before .before .before .before .before .before .before .before .if1 .left) (c .before .before .before .before .before .before .before .before .before .before .if2 .left) (c .before .before .before .before .before .before .node-at .ensures) (c .before .before .before .before .enum-told .given .1) (false-done ((c .before .before .before .before .before .before .before .before .before .before .before .before .before .before .before .before .pre .1) .base) (rw (c .before .before .get-constant .ensures .0) (marked 0 (c .before .before .before .before .before .before .before .before .before .before .before .before .before .before .before .before .args .at .top) (c .before .before .before .before .before .before .before .before .before .before .before .before .before .before .before .before .args .arena .now) (omega (arith, (c .before .before .before .before .before .before .before .before .before .before .before .before .before .before .before .before .pre .1) .long, (c .before .before .before .before .before .before .before .before .before .before .before .before .before .before .before .before .pre .1) .room, c .before .before .before .before .before .before .before .before .before .before .before .before .if1 .left)))) (c .before .before .get-constant .ensures .1) refl)
+get-node-returns-3 : (t : ℕ) → get-node-lts.Need-returns-3 (get-node-claims t) (get-node-at t) get-node.Post
+get-node-returns-3 t c = enter-body (c .before .before .before .before .before .before .before .before .before .before .before .before .before .before .pre .1) ((entered _ _ (c .before .before .before .before .before .before .before .before .before .before .before .entry .ensures) (c .before .before .before .before .before .before .before .before .before .before .if1 .left)) .0) ((entered _ _ (c .before .before .before .before .before .before .before .before .before .before .before .entry .ensures) (c .before .before .before .before .before .before .before .before .before .before .if1 .left)) .1) (c .before .before .before .before .before .before .node-at .ensures) (c .before .before .before .before .enum-told .given .1) (false-done ((c .before .before .before .before .before .before .before .before .before .before .before .before .before .before .pre .1) .base) (rw (c .before .before .get-constant .ensures .0) (marked 0 (c .before .before .before .before .before .before .before .before .before .before .before .before .before .before .args .at .top) (c .before .before .before .before .before .before .before .before .before .before .before .before .before .before .args .arena .now) (omega (arith, (c .before .before .before .before .before .before .before .before .before .before .before .before .before .before .pre .1) .long, (c .before .before .before .before .before .before .before .before .before .before .before .before .before .before .pre .1) .room, (entered _ _ (c .before .before .before .before .before .before .before .before .before .before .before .entry .ensures) (c .before .before .before .before .before .before .before .before .before .before .if1 .left)) .0)))) (c .before .before .get-constant .ensures .1) refl)
 
 -- src/getter.rt:60:1
 get-node-same-length-2 : (t : ℕ) → get-node-lts.Need-same-length-2 (get-node-claims t) (get-node-at t) get-node.Post
-get-node-same-length-2 t c = get-node-returns-4 t c .kept .long
+get-node-same-length-2 t c = get-node-returns-3 t c .kept .long
 
 -- src/getter.rt:60:1
-get-node-returns-5 : (t : ℕ) → get-node-lts.Need-returns-5 (get-node-claims t) (get-node-at t) get-node.Post
-get-node-returns-5 t c = enter-body (c .before .before .before .before .before .before .before .before .before .before .before .before .before .before .before .before .pre .1) (c .before .before .before .before .before .before .before .before .before .before .before .before .if1 .left) (c .before .before .before .before .before .before .before .before .before .before .if2 .left) (c .before .before .before .before .before .before .node-at .ensures) (c .before .before .before .before .enum-told2 .given .1) (true-done ((c .before .before .before .before .before .before .before .before .before .before .before .before .before .before .before .before .pre .1) .base) (rw (c .before .before .get-constant2 .ensures .0) (marked 1 (c .before .before .before .before .before .before .before .before .before .before .before .before .before .before .before .before .args .at .top) (c .before .before .before .before .before .before .before .before .before .before .before .before .before .before .before .before .args .arena .now) (omega (arith, (c .before .before .before .before .before .before .before .before .before .before .before .before .before .before .before .before .pre .1) .long, (c .before .before .before .before .before .before .before .before .before .before .before .before .before .before .before .before .pre .1) .room, c .before .before .before .before .before .before .before .before .before .before .before .before .if1 .left)))) (c .before .before .get-constant2 .ensures .1) refl)
+get-node-returns-4 : (t : ℕ) → get-node-lts.Need-returns-4 (get-node-claims t) (get-node-at t) get-node.Post
+get-node-returns-4 t c = enter-body (c .before .before .before .before .before .before .before .before .before .before .before .before .before .before .pre .1) ((entered _ _ (c .before .before .before .before .before .before .before .before .before .before .before .entry .ensures) (c .before .before .before .before .before .before .before .before .before .before .if1 .left)) .0) ((entered _ _ (c .before .before .before .before .before .before .before .before .before .before .before .entry .ensures) (c .before .before .before .before .before .before .before .before .before .before .if1 .left)) .1) (c .before .before .before .before .before .before .node-at .ensures) (c .before .before .before .before .enum-told2 .given .1) (true-done ((c .before .before .before .before .before .before .before .before .before .before .before .before .before .before .pre .1) .base) (rw (c .before .before .get-constant2 .ensures .0) (marked 1 (c .before .before .before .before .before .before .before .before .before .before .before .before .before .before .args .at .top) (c .before .before .before .before .before .before .before .before .before .before .before .before .before .before .args .arena .now) (omega (arith, (c .before .before .before .before .before .before .before .before .before .before .before .before .before .before .pre .1) .long, (c .before .before .before .before .before .before .before .before .before .before .before .before .before .before .pre .1) .room, (entered _ _ (c .before .before .before .before .before .before .before .before .before .before .before .entry .ensures) (c .before .before .before .before .before .before .before .before .before .before .if1 .left)) .0)))) (c .before .before .get-constant2 .ensures .1) refl)
 
 -- src/getter.rt:60:1
 get-node-same-length-3 : (t : ℕ) → get-node-lts.Need-same-length-3 (get-node-claims t) (get-node-at t) get-node.Post
-get-node-same-length-3 t c = get-node-returns-5 t c .kept .long
+get-node-same-length-3 t c = get-node-returns-4 t c .kept .long
 
 -- src/getter.rt:60:1
-get-node-returns-6 : (t : ℕ) → get-node-lts.Need-returns-6 (get-node-claims t) (get-node-at t) get-node.Post
-get-node-returns-6 t c = enter-body (c .before .before .before .before .before .before .before .before .before .before .before .before .before .before .before .before .pre .1) (c .before .before .before .before .before .before .before .before .before .before .before .before .if1 .left) (c .before .before .before .before .before .before .before .before .before .before .if2 .left) (c .before .before .before .before .before .before .node-at .ensures) (c .before .before .before .before .enum-told3 .given .1) (empty-done ((c .before .before .before .before .before .before .before .before .before .before .before .before .before .before .before .before .pre .1) .base) (rw (c .before .before .get-constant3 .ensures .0) (marked 2 (c .before .before .before .before .before .before .before .before .before .before .before .before .before .before .before .before .args .at .top) (c .before .before .before .before .before .before .before .before .before .before .before .before .before .before .before .before .args .arena .now) (omega (arith, (c .before .before .before .before .before .before .before .before .before .before .before .before .before .before .before .before .pre .1) .long, (c .before .before .before .before .before .before .before .before .before .before .before .before .before .before .before .before .pre .1) .room, c .before .before .before .before .before .before .before .before .before .before .before .before .if1 .left)))) (c .before .before .get-constant3 .ensures .1) refl)
+get-node-returns-5 : (t : ℕ) → get-node-lts.Need-returns-5 (get-node-claims t) (get-node-at t) get-node.Post
+get-node-returns-5 t c = enter-body (c .before .before .before .before .before .before .before .before .before .before .before .before .before .before .pre .1) ((entered _ _ (c .before .before .before .before .before .before .before .before .before .before .before .entry .ensures) (c .before .before .before .before .before .before .before .before .before .before .if1 .left)) .0) ((entered _ _ (c .before .before .before .before .before .before .before .before .before .before .before .entry .ensures) (c .before .before .before .before .before .before .before .before .before .before .if1 .left)) .1) (c .before .before .before .before .before .before .node-at .ensures) (c .before .before .before .before .enum-told3 .given .1) (empty-done ((c .before .before .before .before .before .before .before .before .before .before .before .before .before .before .pre .1) .base) (rw (c .before .before .get-constant3 .ensures .0) (marked 2 (c .before .before .before .before .before .before .before .before .before .before .before .before .before .before .args .at .top) (c .before .before .before .before .before .before .before .before .before .before .before .before .before .before .args .arena .now) (omega (arith, (c .before .before .before .before .before .before .before .before .before .before .before .before .before .before .pre .1) .long, (c .before .before .before .before .before .before .before .before .before .before .before .before .before .before .pre .1) .room, (entered _ _ (c .before .before .before .before .before .before .before .before .before .before .before .entry .ensures) (c .before .before .before .before .before .before .before .before .before .before .if1 .left)) .0)))) (c .before .before .get-constant3 .ensures .1) refl)
 
 -- src/getter.rt:60:1
 get-node-same-length-4 : (t : ℕ) → get-node-lts.Need-same-length-4 (get-node-claims t) (get-node-at t) get-node.Post
-get-node-same-length-4 t c = get-node-returns-6 t c .kept .long
+get-node-same-length-4 t c = get-node-returns-5 t c .kept .long
 
 -- src/getter.rt:60:1
-get-node-returns-7 : (t : ℕ) → get-node-lts.Need-returns-7 (get-node-claims t) (get-node-at t) get-node.Post
-get-node-returns-7 t c = enter-body (c .before .before .before .before .before .before .before .before .before .before .before .before .before .before .before .before .before .pre .1) (c .before .before .before .before .before .before .before .before .before .before .before .before .before .if1 .left) (c .before .before .before .before .before .before .before .before .before .before .before .if2 .left) (c .before .before .before .before .before .before .before .node-at .ensures) (c .before .before .before .before .before .n .given .1) (number-done ((c .before .before .before .before .before .before .before .before .before .before .before .before .before .before .before .before .before .pre .1) .base) (omega (arith, (c .before .before .before .before .before .before .before .before .before .before .before .before .before .before .before .before .before .pre .1) .long, (c .before .before .before .before .before .before .before .before .before .before .before .before .before .before .before .before .before .pre .1) .room, c .before .before .before .before .before .before .before .before .before .before .before .before .before .if1 .left)) (enter-ready (c .before .before .before .before .before .before .before .before .before .before .before .before .before .before .before .before .before .pre .1) (c .before .before .before .before .before .before .before .before .before .before .before .before .before .if1 .left) (c .before .before .before .before .before .before .before .before .before .before .before .if2 .left) (c .before .before .before .before .before .before .before .node-at .ensures) (c .before .before .before .before .before .n .given .1) .known .1) (c .before .before .get-number .ensures))
+get-node-returns-6 : (t : ℕ) → get-node-lts.Need-returns-6 (get-node-claims t) (get-node-at t) get-node.Post
+get-node-returns-6 t c = enter-body (c .before .before .before .before .before .before .before .before .before .before .before .before .before .before .before .pre .1) ((entered _ _ (c .before .before .before .before .before .before .before .before .before .before .before .before .entry .ensures) (c .before .before .before .before .before .before .before .before .before .before .before .if1 .left)) .0) ((entered _ _ (c .before .before .before .before .before .before .before .before .before .before .before .before .entry .ensures) (c .before .before .before .before .before .before .before .before .before .before .before .if1 .left)) .1) (c .before .before .before .before .before .before .before .node-at .ensures) (c .before .before .before .before .before .n .given .1) (number-done ((c .before .before .before .before .before .before .before .before .before .before .before .before .before .before .before .pre .1) .base) (omega (arith, (c .before .before .before .before .before .before .before .before .before .before .before .before .before .before .before .pre .1) .long, (c .before .before .before .before .before .before .before .before .before .before .before .before .before .before .before .pre .1) .room, (entered _ _ (c .before .before .before .before .before .before .before .before .before .before .before .before .entry .ensures) (c .before .before .before .before .before .before .before .before .before .before .before .if1 .left)) .0)) (enter-ready (c .before .before .before .before .before .before .before .before .before .before .before .before .before .before .before .pre .1) ((entered _ _ (c .before .before .before .before .before .before .before .before .before .before .before .before .entry .ensures) (c .before .before .before .before .before .before .before .before .before .before .before .if1 .left)) .0) ((entered _ _ (c .before .before .before .before .before .before .before .before .before .before .before .before .entry .ensures) (c .before .before .before .before .before .before .before .before .before .before .before .if1 .left)) .1) (c .before .before .before .before .before .before .before .node-at .ensures) (c .before .before .before .before .before .n .given .1) .known .1) (c .before .before .get-number .ensures))
 
 -- src/getter.rt:60:1
 get-node-same-length-5 : (t : ℕ) → get-node-lts.Need-same-length-5 (get-node-claims t) (get-node-at t) get-node.Post
-get-node-same-length-5 t c = get-node-returns-7 t c .kept .long
+get-node-same-length-5 t c = get-node-returns-6 t c .kept .long
 
 -- src/getter.rt:60:1
-get-node-returns-8 : (t : ℕ) → get-node-lts.Need-returns-8 (get-node-claims t) (get-node-at t) get-node.Post
-get-node-returns-8 t c = enter-body (c .before .before .before .before .before .before .before .before .before .before .before .before .before .before .before .before .before .pre .1) (c .before .before .before .before .before .before .before .before .before .before .before .before .before .if1 .left) (c .before .before .before .before .before .before .before .before .before .before .before .if2 .left) (c .before .before .before .before .before .before .before .node-at .ensures) (c .before .before .before .before .before .first .given .1) (c .before .before .get-front .ensures)
+get-node-returns-7 : (t : ℕ) → get-node-lts.Need-returns-7 (get-node-claims t) (get-node-at t) get-node.Post
+get-node-returns-7 t c = enter-body (c .before .before .before .before .before .before .before .before .before .before .before .before .before .before .before .pre .1) ((entered _ _ (c .before .before .before .before .before .before .before .before .before .before .before .before .entry .ensures) (c .before .before .before .before .before .before .before .before .before .before .before .if1 .left)) .0) ((entered _ _ (c .before .before .before .before .before .before .before .before .before .before .before .before .entry .ensures) (c .before .before .before .before .before .before .before .before .before .before .before .if1 .left)) .1) (c .before .before .before .before .before .before .before .node-at .ensures) (c .before .before .before .before .before .first .given .1) (c .before .before .get-front .ensures)
 
 -- src/getter.rt:60:1
 get-node-same-length-6 : (t : ℕ) → get-node-lts.Need-same-length-6 (get-node-claims t) (get-node-at t) get-node.Post
-get-node-same-length-6 t c = get-node-returns-8 t c .kept .long
+get-node-same-length-6 t c = get-node-returns-7 t c .kept .long
 
 -- src/getter.rt:60:1
-get-node-returns-9 : (t : ℕ) → get-node-lts.Need-returns-9 (get-node-claims t) (get-node-at t) get-node.Post
-get-node-returns-9 t c = enter-body (c .before .before .before .before .before .before .before .before .before .before .before .before .before .before .before .before .before .pre .1) (c .before .before .before .before .before .before .before .before .before .before .before .before .before .if1 .left) (c .before .before .before .before .before .before .before .before .before .before .before .if2 .left) (c .before .before .before .before .before .before .before .node-at .ensures) (c .before .before .before .before .before .left .given .1) (c .before .before .get-pair .ensures)
+get-node-returns-8 : (t : ℕ) → get-node-lts.Need-returns-8 (get-node-claims t) (get-node-at t) get-node.Post
+get-node-returns-8 t c = enter-body (c .before .before .before .before .before .before .before .before .before .before .before .before .before .before .before .pre .1) ((entered _ _ (c .before .before .before .before .before .before .before .before .before .before .before .before .entry .ensures) (c .before .before .before .before .before .before .before .before .before .before .before .if1 .left)) .0) ((entered _ _ (c .before .before .before .before .before .before .before .before .before .before .before .before .entry .ensures) (c .before .before .before .before .before .before .before .before .before .before .before .if1 .left)) .1) (c .before .before .before .before .before .before .before .node-at .ensures) (c .before .before .before .before .before .left .given .1) (c .before .before .get-pair .ensures)
 
 -- src/getter.rt:60:1
 get-node-same-length-7 : (t : ℕ) → get-node-lts.Need-same-length-7 (get-node-claims t) (get-node-at t) get-node.Post
-get-node-same-length-7 t c = get-node-returns-9 t c .kept .long
+get-node-same-length-7 t c = get-node-returns-8 t c .kept .long
 
 -- src/getter.rt:60:1
-get-node-returns-10 : (t : ℕ) → get-node-lts.Need-returns-10 (get-node-claims t) (get-node-at t) get-node.Post
-get-node-returns-10 t c = enter-body (c .before .before .before .before .before .before .before .before .before .before .before .before .before .before .before .before .before .pre .1) (c .before .before .before .before .before .before .before .before .before .before .before .before .before .if1 .left) (c .before .before .before .before .before .before .before .before .before .before .before .if2 .left) (c .before .before .before .before .before .before .before .node-at .ensures) (c .before .before .before .before .before .subject .given .1) (c .before .before .get-list-case .ensures)
+get-node-returns-9 : (t : ℕ) → get-node-lts.Need-returns-9 (get-node-claims t) (get-node-at t) get-node.Post
+get-node-returns-9 t c = enter-body (c .before .before .before .before .before .before .before .before .before .before .before .before .before .before .before .pre .1) ((entered _ _ (c .before .before .before .before .before .before .before .before .before .before .before .before .entry .ensures) (c .before .before .before .before .before .before .before .before .before .before .before .if1 .left)) .0) ((entered _ _ (c .before .before .before .before .before .before .before .before .before .before .before .before .entry .ensures) (c .before .before .before .before .before .before .before .before .before .before .before .if1 .left)) .1) (c .before .before .before .before .before .before .before .node-at .ensures) (c .before .before .before .before .before .subject .given .1) (c .before .before .get-list-case .ensures)
 
 -- src/getter.rt:60:1
 get-node-same-length-8 : (t : ℕ) → get-node-lts.Need-same-length-8 (get-node-claims t) (get-node-at t) get-node.Post
-get-node-same-length-8 t c = get-node-returns-10 t c .kept .long
+get-node-same-length-8 t c = get-node-returns-9 t c .kept .long
 
 -- src/getter.rt:60:1
-get-node-returns-11 : (t : ℕ) → get-node-lts.Need-returns-11 (get-node-claims t) (get-node-at t) get-node.Post
-get-node-returns-11 t c = enter-body (c .before .before .before .before .before .before .before .before .before .before .before .before .before .before .before .before .before .pre .1) (c .before .before .before .before .before .before .before .before .before .before .before .before .before .if1 .left) (c .before .before .before .before .before .before .before .before .before .before .before .if2 .left) (c .before .before .before .before .before .before .before .node-at .ensures) (c .before .before .before .before .before .subject2 .given .1) (c .before .before .get-truth-case .ensures)
+get-node-returns-10 : (t : ℕ) → get-node-lts.Need-returns-10 (get-node-claims t) (get-node-at t) get-node.Post
+get-node-returns-10 t c = enter-body (c .before .before .before .before .before .before .before .before .before .before .before .before .before .before .before .pre .1) ((entered _ _ (c .before .before .before .before .before .before .before .before .before .before .before .before .entry .ensures) (c .before .before .before .before .before .before .before .before .before .before .before .if1 .left)) .0) ((entered _ _ (c .before .before .before .before .before .before .before .before .before .before .before .before .entry .ensures) (c .before .before .before .before .before .before .before .before .before .before .before .if1 .left)) .1) (c .before .before .before .before .before .before .before .node-at .ensures) (c .before .before .before .before .before .subject2 .given .1) (c .before .before .get-truth-case .ensures)
 
 -- src/getter.rt:60:1
 get-node-same-length-9 : (t : ℕ) → get-node-lts.Need-same-length-9 (get-node-claims t) (get-node-at t) get-node.Post
-get-node-same-length-9 t c = get-node-returns-11 t c .kept .long
+get-node-same-length-9 t c = get-node-returns-10 t c .kept .long
 
 -- src/getter.rt:60:1
-get-node-returns-12 : (t : ℕ) → get-node-lts.Need-returns-12 (get-node-claims t) (get-node-at t) get-node.Post
-get-node-returns-12 t c = enter-body (c .before .before .before .before .before .before .before .before .before .before .before .before .before .before .before .before .before .pre .1) (c .before .before .before .before .before .before .before .before .before .before .before .before .before .if1 .left) (c .before .before .before .before .before .before .before .before .before .before .before .if2 .left) (c .before .before .before .before .before .before .before .node-at .ensures) (c .before .before .before .before .before .subject3 .given .1) (c .before .before .get-split .ensures)
+get-node-returns-11 : (t : ℕ) → get-node-lts.Need-returns-11 (get-node-claims t) (get-node-at t) get-node.Post
+get-node-returns-11 t c = enter-body (c .before .before .before .before .before .before .before .before .before .before .before .before .before .before .before .pre .1) ((entered _ _ (c .before .before .before .before .before .before .before .before .before .before .before .before .entry .ensures) (c .before .before .before .before .before .before .before .before .before .before .before .if1 .left)) .0) ((entered _ _ (c .before .before .before .before .before .before .before .before .before .before .before .before .entry .ensures) (c .before .before .before .before .before .before .before .before .before .before .before .if1 .left)) .1) (c .before .before .before .before .before .before .before .node-at .ensures) (c .before .before .before .before .before .subject3 .given .1) (c .before .before .get-split .ensures)
 
 -- src/getter.rt:60:1
 get-node-same-length-10 : (t : ℕ) → get-node-lts.Need-same-length-10 (get-node-claims t) (get-node-at t) get-node.Post
-get-node-same-length-10 t c = get-node-returns-12 t c .kept .long
+get-node-same-length-10 t c = get-node-returns-11 t c .kept .long
 
 -- src/getter.rt:60:1
-get-node-returns-13 : (t : ℕ) → get-node-lts.Need-returns-13 (get-node-claims t) (get-node-at t) get-node.Post
-get-node-returns-13 t c = enter-body (c .before .before .before .before .before .before .before .before .before .before .before .before .before .before .before .before .before .pre .1) (c .before .before .before .before .before .before .before .before .before .before .before .before .before .if1 .left) (c .before .before .before .before .before .before .before .before .before .before .before .if2 .left) (c .before .before .before .before .before .before .before .node-at .ensures) (c .before .before .before .before .before .section .given .1) (c .before .before .get-call .ensures)
+get-node-returns-12 : (t : ℕ) → get-node-lts.Need-returns-12 (get-node-claims t) (get-node-at t) get-node.Post
+get-node-returns-12 t c = enter-body (c .before .before .before .before .before .before .before .before .before .before .before .before .before .before .before .pre .1) ((entered _ _ (c .before .before .before .before .before .before .before .before .before .before .before .before .entry .ensures) (c .before .before .before .before .before .before .before .before .before .before .before .if1 .left)) .0) ((entered _ _ (c .before .before .before .before .before .before .before .before .before .before .before .before .entry .ensures) (c .before .before .before .before .before .before .before .before .before .before .before .if1 .left)) .1) (c .before .before .before .before .before .before .before .node-at .ensures) (c .before .before .before .before .before .section .given .1) (c .before .before .get-call .ensures)
 
 -- src/getter.rt:60:1
 get-node-same-length-11 : (t : ℕ) → get-node-lts.Need-same-length-11 (get-node-claims t) (get-node-at t) get-node.Post
-get-node-same-length-11 t c = get-node-returns-13 t c .kept .long
+get-node-same-length-11 t c = get-node-returns-12 t c .kept .long
 
 -- src/getter.rt:60:1
-get-node-returns-14 : (t : ℕ) → get-node-lts.Need-returns-14 (get-node-claims t) (get-node-at t) get-node.Post
-get-node-returns-14 t c = enter-body (c .before .before .before .before .before .before .before .before .before .before .before .before .before .before .before .before .before .pre .1) (c .before .before .before .before .before .before .before .before .before .before .before .before .before .if1 .left) (c .before .before .before .before .before .before .before .before .before .before .before .if2 .left) (c .before .before .before .before .before .before .before .node-at .ensures) (c .before .before .before .before .before .node .given .1) (c .before .before .get-add .ensures)
+get-node-returns-13 : (t : ℕ) → get-node-lts.Need-returns-13 (get-node-claims t) (get-node-at t) get-node.Post
+get-node-returns-13 t c = enter-body (c .before .before .before .before .before .before .before .before .before .before .before .before .before .before .before .pre .1) ((entered _ _ (c .before .before .before .before .before .before .before .before .before .before .before .before .entry .ensures) (c .before .before .before .before .before .before .before .before .before .before .before .if1 .left)) .0) ((entered _ _ (c .before .before .before .before .before .before .before .before .before .before .before .before .entry .ensures) (c .before .before .before .before .before .before .before .before .before .before .before .if1 .left)) .1) (c .before .before .before .before .before .before .before .node-at .ensures) (c .before .before .before .before .before .node .given .1) (c .before .before .get-add .ensures)
 
 -- src/getter.rt:60:1
 get-node-same-length-12 : (t : ℕ) → get-node-lts.Need-same-length-12 (get-node-claims t) (get-node-at t) get-node.Post
-get-node-same-length-12 t c = get-node-returns-14 t c .kept .long
+get-node-same-length-12 t c = get-node-returns-13 t c .kept .long
 
 -- src/getter.rt:228:5
 get-pair-slice-write-arena : (t : ℕ) → get-pair-lts.Need-slice-write-arena (get-pair-claims t) (get-pair-at t) get-pair.Post
@@ -1272,13 +1274,13 @@ pub +get-add+get-branch+get-call+get-front+get-list-case+get-node+get-pair+get-s
     (get-list-case-same-length-4 t)
     (get-list-case-returns-4 t))
     (λ t. get-node-lts.spec (get-node-claims t) (get-node-at t) get-node.Post
+    (get-node-entry-requires t)
     (get-node-returns t)
-    (get-node-returns-2 t)
     (get-node-mul-start t)
     (get-node-element-copy-out-start t)
     (get-node-cast-start t)
-    (get-node-sub-t36 t)
-    (get-node-sub-t40 t)
+    (get-node-sub-t37 t)
+    (get-node-sub-t41 t)
     (get-node-node-at-requires t)
     (get-node-enum-known-x t)
     (get-node-get-var-requires t)
@@ -1305,29 +1307,29 @@ pub +get-add+get-branch+get-call+get-front+get-list-case+get-node+get-pair+get-s
     (get-node-enum-known-node t)
     (get-node-get-add-requires t)
     (get-node-same-length t)
-    (get-node-returns-3 t)
+    (get-node-returns-2 t)
     (get-node-same-length-2 t)
-    (get-node-returns-4 t)
+    (get-node-returns-3 t)
     (get-node-same-length-3 t)
-    (get-node-returns-5 t)
+    (get-node-returns-4 t)
     (get-node-same-length-4 t)
-    (get-node-returns-6 t)
+    (get-node-returns-5 t)
     (get-node-same-length-5 t)
-    (get-node-returns-7 t)
+    (get-node-returns-6 t)
     (get-node-same-length-6 t)
-    (get-node-returns-8 t)
+    (get-node-returns-7 t)
     (get-node-same-length-7 t)
-    (get-node-returns-9 t)
+    (get-node-returns-8 t)
     (get-node-same-length-8 t)
-    (get-node-returns-10 t)
+    (get-node-returns-9 t)
     (get-node-same-length-9 t)
-    (get-node-returns-11 t)
+    (get-node-returns-10 t)
     (get-node-same-length-10 t)
-    (get-node-returns-12 t)
+    (get-node-returns-11 t)
     (get-node-same-length-11 t)
-    (get-node-returns-13 t)
+    (get-node-returns-12 t)
     (get-node-same-length-12 t)
-    (get-node-returns-14 t))
+    (get-node-returns-13 t))
     (λ t. get-pair-lts.spec (get-pair-claims t) (get-pair-at t) get-pair.Post
     (get-pair-slice-write-arena t)
     (get-pair-add-t21 t)

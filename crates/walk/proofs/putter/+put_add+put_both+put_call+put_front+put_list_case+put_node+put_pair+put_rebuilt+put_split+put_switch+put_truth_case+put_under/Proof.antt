@@ -7,7 +7,7 @@ use native.Mathlib.Omega.{arith}
 use denote.Ref.{now}
 use Rattle.walk.specs.Puts.{aList, aPair}
 use Rattle.walk.specs.GetEnter.{lent-start}
-use Rattle.walk.specs.PutEnter.{put-40, put-41, put-body, body-ready, node-few}
+use Rattle.walk.specs.PutEnter.{put-refused, put-body, body-ready, node-few}
 use Rattle.walk.specs.PutLeaf.{leaf-ready, false-gives, true-gives, empty-gives, number-gives}
 use Rattle.walk.specs.PutTwo.{both-ready₁, both-ready₂, both-few, both-sum, both-refused₁, both-refused₂, both-done, front-51, pair-51, front-ready, pair-ready, front-both, pair-both}
 use Rattle.walk.specs.PutOne.{call-first, call-second, call-ready, call-refused, call-done, call-few, add-51, add-52, add-ready, add-refused, add-done, add-few}
@@ -17,7 +17,7 @@ use Rattle.walk.specs.PutCase.{view-nil, view-false, view-true, subject-
 use Rattle.walk.specs.PutList as lists
 use Rattle.walk.specs.PutTruth.{truth-43, false-no, false-yes, false-53, true-yes, true-no, true-53, split-43, split-under}
 use Rattle.walk.specs.PutSwitch.{default-ready, switch-few₁, switch-few₂, switch-refused₁, switch-refused₂, switch-43, switch-spans, switch-ready, switch-under}
-use Rattle.step.specs.StepLaws.{first-kept, first-left, second-kept, second-left, none-says}
+use Rattle.step.specs.StepLaws.{entered, first-kept, first-left, second-kept, second-left, none-says}
 use Rattle.walk.proofs.PutTags as tags
 use Prim.Native.Nat.{ℕ, _<_, _+_, _*_}
 use borrow.Fn.Kinds.{In}
@@ -58,6 +58,7 @@ use Rattle.walk.proofs.putter.+put_add+put_both+put_call+put_front+put_
 use Rattle.walk.proofs.putter.put_under.Reads as put-under
 use Rattle.walk.proofs.putter.put_under.Kinds as put-under-kinds
 use Rattle.walk.proofs.putter.+put_add+put_both+put_call+put_front+put_list_case+put_node+put_pair+put_rebuilt+put_split+put_switch+put_truth_case+put_under.Lts-put_under as put-under-lts
+use Rattle.step.proofs.entry.Reads as entry-reads
 use Rattle.sheet.proofs.node_at.Reads as node-at-reads
 use Rattle.sheet.proofs.section_root.Reads as section-root-reads
 use Rattle.value.proofs.first_part.Reads as first-part-reads
@@ -236,7 +237,7 @@ abbrev put-list-case-claims : ℕ → put-list-case-lts.Claims
 put-list-case-claims t = (get-node-reads.Asked, get-node-reads.Learnt, shape-of-reads.Asked, shape-of-reads.Learnt, choose-reads.Asked, choose-reads.Learnt, put-both-below t, put-both.Post, put-switch-below t, put-switch.Post, put-under-below t, put-under.Post)
 
 abbrev put-node-claims : ℕ → put-node-lts.Claims
-put-node-claims t = (node-at-reads.Asked, node-at-reads.Learnt, put-var-reads.Asked, put-var-reads.Learnt, put-constant-reads.Asked, put-constant-reads.Learnt, put-number-reads.Asked, put-number-reads.Learnt, put-front-below t, put-front.Post, put-pair-below t, put-pair.Post, put-list-case-below t, put-list-case.Post, put-truth-case-below t, put-truth-case.Post, put-split-below t, put-split.Post, put-call-below t, put-call.Post, put-add-below t, put-add.Post)
+put-node-claims t = (entry-reads.Asked, entry-reads.Learnt, node-at-reads.Asked, node-at-reads.Learnt, put-var-reads.Asked, put-var-reads.Learnt, put-constant-reads.Asked, put-constant-reads.Learnt, put-number-reads.Asked, put-number-reads.Learnt, put-front-below t, put-front.Post, put-pair-below t, put-pair.Post, put-list-case-below t, put-list-case.Post, put-truth-case-below t, put-truth-case.Post, put-split-below t, put-split.Post, put-call-below t, put-call.Post, put-add-below t, put-add.Post)
 
 abbrev put-pair-claims : ℕ → put-pair-lts.Claims
 put-pair-claims t = (shape-of-reads.Asked, shape-of-reads.Learnt, first-part-reads.Asked, first-part-reads.Learnt, second-part-reads.Asked, second-part-reads.Learnt, put-both-below t, put-both.Post)
@@ -573,26 +574,26 @@ put-list-case-same-length-7 t c = put-list-case-returns-7 t c .frame .long
 put-list-case-same-length-8 : (t : ℕ) → put-list-case-lts.Need-same-length-8 (put-list-case-claims t) (put-list-case-at t) put-list-case.Post
 put-list-case-same-length-8 t c = put-list-case-returns-8 t c .frame .long
 
-put-node-returns : (t : ℕ) → put-node-lts.Need-returns (put-node-claims t) (put-node-at t) put-node.Post
-put-node-returns t c = put-40 (c .if1 .taken)
+put-node-entry-requires : (t : ℕ) → put-node-lts.Need-entry-requires (put-node-claims t) (put-node-at t) put-node.Post
+put-node-entry-requires t c κs = search needs
 
-put-node-returns-2 : (t : ℕ) → put-node-lts.Need-returns-2 (put-node-claims t) (put-node-at t) put-node.Post
-put-node-returns-2 t c = put-41 (c .before .before .if1 .left) (c .if2 .taken)
+put-node-returns : (t : ℕ) → put-node-lts.Need-returns (put-node-claims t) (put-node-at t) put-node.Post
+put-node-returns t c = put-refused (c .before .entry .ensures) (c .if1 .taken)
 
 put-node-mul-start : (t : ℕ) → put-node-lts.Need-mul-start (put-node-claims t) (put-node-at t) put-node.Post
-put-node-mul-start t c = omega (arith, node-few (c .before .before .before .before .before .before .before .pre .1))
+put-node-mul-start t c = omega (arith, node-few (c .before .before .before .before .before .pre .1))
 
 put-node-element-copy-out-start : (t : ℕ) → put-node-lts.Need-element-copy-out-start (put-node-claims t) (put-node-at t) put-node.Post
-put-node-element-copy-out-start t c = omega (arith, node-few (c .before .before .before .before .before .before .before .pre .1))
+put-node-element-copy-out-start t c = omega (arith, node-few (c .before .before .before .before .before .pre .1))
 
 put-node-cast-start : (t : ℕ) → put-node-lts.Need-cast-start (put-node-claims t) (put-node-at t) put-node.Post
-put-node-cast-start t c = record { fits = omega (arith, lent-start (c .before .before .before .before .before .before .before .before .pre .1 .lent) (c .before .before .before .before .before .before .before .before .pre .1 .known)) }
+put-node-cast-start t c = record { fits = omega (arith, lent-start (c .before .before .before .before .before .before .pre .1 .lent) (c .before .before .before .before .before .before .pre .1 .known)) }
 
-put-node-sub-t39 : (t : ℕ) → put-node-lts.Need-sub-t39 (put-node-claims t) (put-node-at t) put-node.Post
-put-node-sub-t39 t c = search needs
+put-node-sub-t40 : (t : ℕ) → put-node-lts.Need-sub-t40 (put-node-claims t) (put-node-at t) put-node.Post
+put-node-sub-t40 t c = omega (arith, entered _ _ (c .before .before .before .entry .ensures) (c .before .before .if1 .left) .0)
 
-put-node-sub-t43 : (t : ℕ) → put-node-lts.Need-sub-t43 (put-node-claims t) (put-node-at t) put-node.Post
-put-node-sub-t43 t c = search needs
+put-node-sub-t44 : (t : ℕ) → put-node-lts.Need-sub-t44 (put-node-claims t) (put-node-at t) put-node.Post
+put-node-sub-t44 t c = omega (arith, entered _ _ (c .before .before .before .before .entry .ensures) (c .before .before .before .if1 .left) .1)
 
 put-node-node-at-requires : (t : ℕ) → put-node-lts.Need-node-at-requires (put-node-claims t) (put-node-at t) put-node.Post
 put-node-node-at-requires t c κs = search needs
@@ -601,7 +602,7 @@ put-node-enum-known-x : (t : ℕ) → put-node-lts.Need-enum-known-x (put-node-c
 put-node-enum-known-x t c = search needs
 
 put-node-put-var-requires : (t : ℕ) → put-node-lts.Need-put-var-requires (put-node-claims t) (put-node-at t) put-node.Post
-put-node-put-var-requires t c κs = leaf-ready (body-ready (c .before .before .before .before .before .node-at .ensures) (c .before .before .before .x .given .1) (c .before .before .before .before .before .before .before .before .before .before .before .if1 .left) (c .before .before .before .before .before .before .before .before .before .if2 .left) (c .before .before .before .before .before .before .before .before .before .before .before .before .before .before .before .before .pre .1))
+put-node-put-var-requires t c κs = leaf-ready (body-ready (c .before .before .before .before .before .node-at .ensures) (c .before .before .before .x .given .1) ((entered _ _ (c .before .before .before .before .before .before .before .before .before .before .entry .ensures) (c .before .before .before .before .before .before .before .before .before .if1 .left)) .0) ((entered _ _ (c .before .before .before .before .before .before .before .before .before .before .entry .ensures) (c .before .before .before .before .before .before .before .before .before .if1 .left)) .1) (c .before .before .before .before .before .before .before .before .before .before .before .before .before .before .pre .1))
 
 put-node-enum-told : (t : ℕ) → put-node-lts.Need-enum-told (put-node-claims t) (put-node-at t) put-node.Post
 put-node-enum-told t c = search needs
@@ -631,103 +632,103 @@ put-node-enum-known-first : (t : ℕ) → put-node-lts.Need-enum-known-first (pu
 put-node-enum-known-first t c = search needs
 
 put-node-put-front-requires : (t : ℕ) → put-node-lts.Need-put-front-requires (put-node-claims t) (put-node-at t) put-node.Post
-put-node-put-front-requires t c κs = (omega (arith, c .before .before .before .before .before .before .before .before .before .before .before .before .before .before .before .before .pre .0), body-ready (c .before .before .before .before .before .node-at .ensures) (c .before .before .before .first .given .1) (c .before .before .before .before .before .before .before .before .before .before .before .if1 .left) (c .before .before .before .before .before .before .before .before .before .if2 .left) (c .before .before .before .before .before .before .before .before .before .before .before .before .before .before .before .before .pre .1))
+put-node-put-front-requires t c κs = (omega (arith, c .before .before .before .before .before .before .before .before .before .before .before .before .before .before .pre .0, entered _ _ (c .before .before .before .before .before .before .before .before .before .before .entry .ensures) (c .before .before .before .before .before .before .before .before .before .if1 .left) .0), body-ready (c .before .before .before .before .before .node-at .ensures) (c .before .before .before .first .given .1) ((entered _ _ (c .before .before .before .before .before .before .before .before .before .before .entry .ensures) (c .before .before .before .before .before .before .before .before .before .if1 .left)) .0) ((entered _ _ (c .before .before .before .before .before .before .before .before .before .before .entry .ensures) (c .before .before .before .before .before .before .before .before .before .if1 .left)) .1) (c .before .before .before .before .before .before .before .before .before .before .before .before .before .before .pre .1))
 
 put-node-enum-known-left : (t : ℕ) → put-node-lts.Need-enum-known-left (put-node-claims t) (put-node-at t) put-node.Post
 put-node-enum-known-left t c = search needs
 
 put-node-put-pair-requires : (t : ℕ) → put-node-lts.Need-put-pair-requires (put-node-claims t) (put-node-at t) put-node.Post
-put-node-put-pair-requires t c κs = (omega (arith, c .before .before .before .before .before .before .before .before .before .before .before .before .before .before .before .before .pre .0), body-ready (c .before .before .before .before .before .node-at .ensures) (c .before .before .before .left .given .1) (c .before .before .before .before .before .before .before .before .before .before .before .if1 .left) (c .before .before .before .before .before .before .before .before .before .if2 .left) (c .before .before .before .before .before .before .before .before .before .before .before .before .before .before .before .before .pre .1))
+put-node-put-pair-requires t c κs = (omega (arith, c .before .before .before .before .before .before .before .before .before .before .before .before .before .before .pre .0, entered _ _ (c .before .before .before .before .before .before .before .before .before .before .entry .ensures) (c .before .before .before .before .before .before .before .before .before .if1 .left) .0), body-ready (c .before .before .before .before .before .node-at .ensures) (c .before .before .before .left .given .1) ((entered _ _ (c .before .before .before .before .before .before .before .before .before .before .entry .ensures) (c .before .before .before .before .before .before .before .before .before .if1 .left)) .0) ((entered _ _ (c .before .before .before .before .before .before .before .before .before .before .entry .ensures) (c .before .before .before .before .before .before .before .before .before .if1 .left)) .1) (c .before .before .before .before .before .before .before .before .before .before .before .before .before .before .pre .1))
 
 put-node-enum-known-subject : (t : ℕ) → put-node-lts.Need-enum-known-subject (put-node-claims t) (put-node-at t) put-node.Post
 put-node-enum-known-subject t c = search needs
 
 put-node-put-list-case-requires : (t : ℕ) → put-node-lts.Need-put-list-case-requires (put-node-claims t) (put-node-at t) put-node.Post
-put-node-put-list-case-requires t c κs = (omega (arith, c .before .before .before .before .before .before .before .before .before .before .before .before .before .before .before .before .pre .0), body-ready (c .before .before .before .before .before .node-at .ensures) (c .before .before .before .subject .given .1) (c .before .before .before .before .before .before .before .before .before .before .before .if1 .left) (c .before .before .before .before .before .before .before .before .before .if2 .left) (c .before .before .before .before .before .before .before .before .before .before .before .before .before .before .before .before .pre .1))
+put-node-put-list-case-requires t c κs = (omega (arith, c .before .before .before .before .before .before .before .before .before .before .before .before .before .before .pre .0, entered _ _ (c .before .before .before .before .before .before .before .before .before .before .entry .ensures) (c .before .before .before .before .before .before .before .before .before .if1 .left) .0), body-ready (c .before .before .before .before .before .node-at .ensures) (c .before .before .before .subject .given .1) ((entered _ _ (c .before .before .before .before .before .before .before .before .before .before .entry .ensures) (c .before .before .before .before .before .before .before .before .before .if1 .left)) .0) ((entered _ _ (c .before .before .before .before .before .before .before .before .before .before .entry .ensures) (c .before .before .before .before .before .before .before .before .before .if1 .left)) .1) (c .before .before .before .before .before .before .before .before .before .before .before .before .before .before .pre .1))
 
 put-node-enum-known-subject-2 : (t : ℕ) → put-node-lts.Need-enum-known-subject-2 (put-node-claims t) (put-node-at t) put-node.Post
 put-node-enum-known-subject-2 t c = search needs
 
 put-node-put-truth-case-requires : (t : ℕ) → put-node-lts.Need-put-truth-case-requires (put-node-claims t) (put-node-at t) put-node.Post
-put-node-put-truth-case-requires t c κs = (omega (arith, c .before .before .before .before .before .before .before .before .before .before .before .before .before .before .before .before .pre .0), body-ready (c .before .before .before .before .before .node-at .ensures) (c .before .before .before .subject2 .given .1) (c .before .before .before .before .before .before .before .before .before .before .before .if1 .left) (c .before .before .before .before .before .before .before .before .before .if2 .left) (c .before .before .before .before .before .before .before .before .before .before .before .before .before .before .before .before .pre .1))
+put-node-put-truth-case-requires t c κs = (omega (arith, c .before .before .before .before .before .before .before .before .before .before .before .before .before .before .pre .0, entered _ _ (c .before .before .before .before .before .before .before .before .before .before .entry .ensures) (c .before .before .before .before .before .before .before .before .before .if1 .left) .0), body-ready (c .before .before .before .before .before .node-at .ensures) (c .before .before .before .subject2 .given .1) ((entered _ _ (c .before .before .before .before .before .before .before .before .before .before .entry .ensures) (c .before .before .before .before .before .before .before .before .before .if1 .left)) .0) ((entered _ _ (c .before .before .before .before .before .before .before .before .before .before .entry .ensures) (c .before .before .before .before .before .before .before .before .before .if1 .left)) .1) (c .before .before .before .before .before .before .before .before .before .before .before .before .before .before .pre .1))
 
 put-node-enum-known-subject-3 : (t : ℕ) → put-node-lts.Need-enum-known-subject-3 (put-node-claims t) (put-node-at t) put-node.Post
 put-node-enum-known-subject-3 t c = search needs
 
 put-node-put-split-requires : (t : ℕ) → put-node-lts.Need-put-split-requires (put-node-claims t) (put-node-at t) put-node.Post
-put-node-put-split-requires t c κs = (omega (arith, c .before .before .before .before .before .before .before .before .before .before .before .before .before .before .before .before .pre .0), body-ready (c .before .before .before .before .before .node-at .ensures) (c .before .before .before .subject3 .given .1) (c .before .before .before .before .before .before .before .before .before .before .before .if1 .left) (c .before .before .before .before .before .before .before .before .before .if2 .left) (c .before .before .before .before .before .before .before .before .before .before .before .before .before .before .before .before .pre .1))
+put-node-put-split-requires t c κs = (omega (arith, c .before .before .before .before .before .before .before .before .before .before .before .before .before .before .pre .0, entered _ _ (c .before .before .before .before .before .before .before .before .before .before .entry .ensures) (c .before .before .before .before .before .before .before .before .before .if1 .left) .0), body-ready (c .before .before .before .before .before .node-at .ensures) (c .before .before .before .subject3 .given .1) ((entered _ _ (c .before .before .before .before .before .before .before .before .before .before .entry .ensures) (c .before .before .before .before .before .before .before .before .before .if1 .left)) .0) ((entered _ _ (c .before .before .before .before .before .before .before .before .before .before .entry .ensures) (c .before .before .before .before .before .before .before .before .before .if1 .left)) .1) (c .before .before .before .before .before .before .before .before .before .before .before .before .before .before .pre .1))
 
 put-node-enum-known-section : (t : ℕ) → put-node-lts.Need-enum-known-section (put-node-claims t) (put-node-at t) put-node.Post
 put-node-enum-known-section t c = search needs
 
 put-node-put-call-requires : (t : ℕ) → put-node-lts.Need-put-call-requires (put-node-claims t) (put-node-at t) put-node.Post
-put-node-put-call-requires t c κs = (omega (arith, c .before .before .before .before .before .before .before .before .before .before .before .before .before .before .before .before .pre .0), body-ready (c .before .before .before .before .before .node-at .ensures) (c .before .before .before .section .given .1) (c .before .before .before .before .before .before .before .before .before .before .before .if1 .left) (c .before .before .before .before .before .before .before .before .before .if2 .left) (c .before .before .before .before .before .before .before .before .before .before .before .before .before .before .before .before .pre .1))
+put-node-put-call-requires t c κs = (omega (arith, c .before .before .before .before .before .before .before .before .before .before .before .before .before .before .pre .0, entered _ _ (c .before .before .before .before .before .before .before .before .before .before .entry .ensures) (c .before .before .before .before .before .before .before .before .before .if1 .left) .0), body-ready (c .before .before .before .before .before .node-at .ensures) (c .before .before .before .section .given .1) ((entered _ _ (c .before .before .before .before .before .before .before .before .before .before .entry .ensures) (c .before .before .before .before .before .before .before .before .before .if1 .left)) .0) ((entered _ _ (c .before .before .before .before .before .before .before .before .before .before .entry .ensures) (c .before .before .before .before .before .before .before .before .before .if1 .left)) .1) (c .before .before .before .before .before .before .before .before .before .before .before .before .before .before .pre .1))
 
 put-node-enum-known-node : (t : ℕ) → put-node-lts.Need-enum-known-node (put-node-claims t) (put-node-at t) put-node.Post
 put-node-enum-known-node t c = search needs
 
 put-node-put-add-requires : (t : ℕ) → put-node-lts.Need-put-add-requires (put-node-claims t) (put-node-at t) put-node.Post
-put-node-put-add-requires t c κs = (omega (arith, c .before .before .before .before .before .before .before .before .before .before .before .before .before .before .before .before .pre .0), body-ready (c .before .before .before .before .before .node-at .ensures) (c .before .before .before .node .given .1) (c .before .before .before .before .before .before .before .before .before .before .before .if1 .left) (c .before .before .before .before .before .before .before .before .before .if2 .left) (c .before .before .before .before .before .before .before .before .before .before .before .before .before .before .before .before .pre .1))
+put-node-put-add-requires t c κs = (omega (arith, c .before .before .before .before .before .before .before .before .before .before .before .before .before .before .pre .0, entered _ _ (c .before .before .before .before .before .before .before .before .before .before .entry .ensures) (c .before .before .before .before .before .before .before .before .before .if1 .left) .0), body-ready (c .before .before .before .before .before .node-at .ensures) (c .before .before .before .node .given .1) ((entered _ _ (c .before .before .before .before .before .before .before .before .before .before .entry .ensures) (c .before .before .before .before .before .before .before .before .before .if1 .left)) .0) ((entered _ _ (c .before .before .before .before .before .before .before .before .before .before .entry .ensures) (c .before .before .before .before .before .before .before .before .before .if1 .left)) .1) (c .before .before .before .before .before .before .before .before .before .before .before .before .before .before .pre .1))
 
-put-node-returns-3 : (t : ℕ) → put-node-lts.Need-returns-3 (put-node-claims t) (put-node-at t) put-node.Post
-put-node-returns-3 t c = put-body (c .before .before .before .before .before .before .before .before .node-at .ensures) (c .before .before .before .before .before .before .x .given .1) (c .before .before .before .before .before .before .before .before .before .before .before .before .before .before .if1 .left) (c .before .before .before .before .before .before .before .before .before .before .before .before .if2 .left) (c .before .before .before .before .before .before .before .before .before .before .before .before .before .before .before .before .before .before .before .pre .1) (c .before .before .put-var .ensures _ _ _ _)
+put-node-returns-2 : (t : ℕ) → put-node-lts.Need-returns-2 (put-node-claims t) (put-node-at t) put-node.Post
+put-node-returns-2 t c = put-body (c .before .before .before .before .before .before .before .before .node-at .ensures) (c .before .before .before .before .before .before .x .given .1) ((entered _ _ (c .before .before .before .before .before .before .before .before .before .before .before .before .before .entry .ensures) (c .before .before .before .before .before .before .before .before .before .before .before .before .if1 .left)) .0) ((entered _ _ (c .before .before .before .before .before .before .before .before .before .before .before .before .before .entry .ensures) (c .before .before .before .before .before .before .before .before .before .before .before .before .if1 .left)) .1) (c .before .before .before .before .before .before .before .before .before .before .before .before .before .before .before .before .before .pre .1) (c .before .before .put-var .ensures _ _ _ _)
 
 put-node-same-length : (t : ℕ) → put-node-lts.Need-same-length (put-node-claims t) (put-node-at t) put-node.Post
-put-node-same-length t c = put-node-returns-3 t c .frame .long
+put-node-same-length t c = put-node-returns-2 t c .frame .long
+
+put-node-returns-3 : (t : ℕ) → put-node-lts.Need-returns-3 (put-node-claims t) (put-node-at t) put-node.Post
+put-node-returns-3 t c = put-body (c .before .before .before .node-at .ensures) (c .before .enum-told .given .1) ((entered _ _ (c .before .before .before .before .before .before .before .before .entry .ensures) (c .before .before .before .before .before .before .before .if1 .left)) .0) ((entered _ _ (c .before .before .before .before .before .before .before .before .entry .ensures) (c .before .before .before .before .before .before .before .if1 .left)) .1) (c .before .before .before .before .before .before .before .before .before .before .before .before .pre .1) (false-gives (c .put-constant .ensures) refl)
 
 put-node-returns-4 : (t : ℕ) → put-node-lts.Need-returns-4 (put-node-claims t) (put-node-at t) put-node.Post
-put-node-returns-4 t c = put-body (c .before .before .before .node-at .ensures) (c .before .enum-told .given .1) (c .before .before .before .before .before .before .before .before .before .if1 .left) (c .before .before .before .before .before .before .before .if2 .left) (c .before .before .before .before .before .before .before .before .before .before .before .before .before .before .pre .1) (false-gives (c .put-constant .ensures) refl)
+put-node-returns-4 t c = put-body (c .before .before .before .node-at .ensures) (c .before .enum-told2 .given .1) ((entered _ _ (c .before .before .before .before .before .before .before .before .entry .ensures) (c .before .before .before .before .before .before .before .if1 .left)) .0) ((entered _ _ (c .before .before .before .before .before .before .before .before .entry .ensures) (c .before .before .before .before .before .before .before .if1 .left)) .1) (c .before .before .before .before .before .before .before .before .before .before .before .before .pre .1) (true-gives (c .put-constant2 .ensures) refl)
 
 put-node-returns-5 : (t : ℕ) → put-node-lts.Need-returns-5 (put-node-claims t) (put-node-at t) put-node.Post
-put-node-returns-5 t c = put-body (c .before .before .before .node-at .ensures) (c .before .enum-told2 .given .1) (c .before .before .before .before .before .before .before .before .before .if1 .left) (c .before .before .before .before .before .before .before .if2 .left) (c .before .before .before .before .before .before .before .before .before .before .before .before .before .before .pre .1) (true-gives (c .put-constant2 .ensures) refl)
+put-node-returns-5 t c = put-body (c .before .before .before .node-at .ensures) (c .before .enum-told3 .given .1) ((entered _ _ (c .before .before .before .before .before .before .before .before .entry .ensures) (c .before .before .before .before .before .before .before .if1 .left)) .0) ((entered _ _ (c .before .before .before .before .before .before .before .before .entry .ensures) (c .before .before .before .before .before .before .before .if1 .left)) .1) (c .before .before .before .before .before .before .before .before .before .before .before .before .pre .1) (empty-gives (c .put-constant3 .ensures) refl)
 
 put-node-returns-6 : (t : ℕ) → put-node-lts.Need-returns-6 (put-node-claims t) (put-node-at t) put-node.Post
-put-node-returns-6 t c = put-body (c .before .before .before .node-at .ensures) (c .before .enum-told3 .given .1) (c .before .before .before .before .before .before .before .before .before .if1 .left) (c .before .before .before .before .before .before .before .if2 .left) (c .before .before .before .before .before .before .before .before .before .before .before .before .before .before .pre .1) (empty-gives (c .put-constant3 .ensures) refl)
+put-node-returns-6 t c = put-body (c .before .before .before .before .node-at .ensures) (c .before .before .n .given .1) ((entered _ _ (c .before .before .before .before .before .before .before .before .before .entry .ensures) (c .before .before .before .before .before .before .before .before .if1 .left)) .0) ((entered _ _ (c .before .before .before .before .before .before .before .before .before .entry .ensures) (c .before .before .before .before .before .before .before .before .if1 .left)) .1) (c .before .before .before .before .before .before .before .before .before .before .before .before .before .pre .1) (number-gives (c .put-number .ensures) refl)
 
 put-node-returns-7 : (t : ℕ) → put-node-lts.Need-returns-7 (put-node-claims t) (put-node-at t) put-node.Post
-put-node-returns-7 t c = put-body (c .before .before .before .before .node-at .ensures) (c .before .before .n .given .1) (c .before .before .before .before .before .before .before .before .before .before .if1 .left) (c .before .before .before .before .before .before .before .before .if2 .left) (c .before .before .before .before .before .before .before .before .before .before .before .before .before .before .before .pre .1) (number-gives (c .put-number .ensures) refl)
-
-put-node-returns-8 : (t : ℕ) → put-node-lts.Need-returns-8 (put-node-claims t) (put-node-at t) put-node.Post
-put-node-returns-8 t c = put-body (c .before .before .before .before .before .before .before .before .node-at .ensures) (c .before .before .before .before .before .before .first .given .1) (c .before .before .before .before .before .before .before .before .before .before .before .before .before .before .if1 .left) (c .before .before .before .before .before .before .before .before .before .before .before .before .if2 .left) (c .before .before .before .before .before .before .before .before .before .before .before .before .before .before .before .before .before .before .before .pre .1) (c .before .before .put-front .ensures)
+put-node-returns-7 t c = put-body (c .before .before .before .before .before .before .before .before .node-at .ensures) (c .before .before .before .before .before .before .first .given .1) ((entered _ _ (c .before .before .before .before .before .before .before .before .before .before .before .before .before .entry .ensures) (c .before .before .before .before .before .before .before .before .before .before .before .before .if1 .left)) .0) ((entered _ _ (c .before .before .before .before .before .before .before .before .before .before .before .before .before .entry .ensures) (c .before .before .before .before .before .before .before .before .before .before .before .before .if1 .left)) .1) (c .before .before .before .before .before .before .before .before .before .before .before .before .before .before .before .before .before .pre .1) (c .before .before .put-front .ensures)
 
 put-node-same-length-2 : (t : ℕ) → put-node-lts.Need-same-length-2 (put-node-claims t) (put-node-at t) put-node.Post
-put-node-same-length-2 t c = put-node-returns-8 t c .frame .long
+put-node-same-length-2 t c = put-node-returns-7 t c .frame .long
 
-put-node-returns-9 : (t : ℕ) → put-node-lts.Need-returns-9 (put-node-claims t) (put-node-at t) put-node.Post
-put-node-returns-9 t c = put-body (c .before .before .before .before .before .before .before .before .node-at .ensures) (c .before .before .before .before .before .before .left .given .1) (c .before .before .before .before .before .before .before .before .before .before .before .before .before .before .if1 .left) (c .before .before .before .before .before .before .before .before .before .before .before .before .if2 .left) (c .before .before .before .before .before .before .before .before .before .before .before .before .before .before .before .before .before .before .before .pre .1) (c .before .before .put-pair .ensures)
+put-node-returns-8 : (t : ℕ) → put-node-lts.Need-returns-8 (put-node-claims t) (put-node-at t) put-node.Post
+put-node-returns-8 t c = put-body (c .before .before .before .before .before .before .before .before .node-at .ensures) (c .before .before .before .before .before .before .left .given .1) ((entered _ _ (c .before .before .before .before .before .before .before .before .before .before .before .before .before .entry .ensures) (c .before .before .before .before .before .before .before .before .before .before .before .before .if1 .left)) .0) ((entered _ _ (c .before .before .before .before .before .before .before .before .before .before .before .before .before .entry .ensures) (c .before .before .before .before .before .before .before .before .before .before .before .before .if1 .left)) .1) (c .before .before .before .before .before .before .before .before .before .before .before .before .before .before .before .before .before .pre .1) (c .before .before .put-pair .ensures)
 
 put-node-same-length-3 : (t : ℕ) → put-node-lts.Need-same-length-3 (put-node-claims t) (put-node-at t) put-node.Post
-put-node-same-length-3 t c = put-node-returns-9 t c .frame .long
+put-node-same-length-3 t c = put-node-returns-8 t c .frame .long
 
-put-node-returns-10 : (t : ℕ) → put-node-lts.Need-returns-10 (put-node-claims t) (put-node-at t) put-node.Post
-put-node-returns-10 t c = put-body (c .before .before .before .before .before .before .before .before .node-at .ensures) (c .before .before .before .before .before .before .subject .given .1) (c .before .before .before .before .before .before .before .before .before .before .before .before .before .before .if1 .left) (c .before .before .before .before .before .before .before .before .before .before .before .before .if2 .left) (c .before .before .before .before .before .before .before .before .before .before .before .before .before .before .before .before .before .before .before .pre .1) (c .before .before .put-list-case .ensures)
+put-node-returns-9 : (t : ℕ) → put-node-lts.Need-returns-9 (put-node-claims t) (put-node-at t) put-node.Post
+put-node-returns-9 t c = put-body (c .before .before .before .before .before .before .before .before .node-at .ensures) (c .before .before .before .before .before .before .subject .given .1) ((entered _ _ (c .before .before .before .before .before .before .before .before .before .before .before .before .before .entry .ensures) (c .before .before .before .before .before .before .before .before .before .before .before .before .if1 .left)) .0) ((entered _ _ (c .before .before .before .before .before .before .before .before .before .before .before .before .before .entry .ensures) (c .before .before .before .before .before .before .before .before .before .before .before .before .if1 .left)) .1) (c .before .before .before .before .before .before .before .before .before .before .before .before .before .before .before .before .before .pre .1) (c .before .before .put-list-case .ensures)
 
 put-node-same-length-4 : (t : ℕ) → put-node-lts.Need-same-length-4 (put-node-claims t) (put-node-at t) put-node.Post
-put-node-same-length-4 t c = put-node-returns-10 t c .frame .long
+put-node-same-length-4 t c = put-node-returns-9 t c .frame .long
 
-put-node-returns-11 : (t : ℕ) → put-node-lts.Need-returns-11 (put-node-claims t) (put-node-at t) put-node.Post
-put-node-returns-11 t c = put-body (c .before .before .before .before .before .before .before .before .node-at .ensures) (c .before .before .before .before .before .before .subject2 .given .1) (c .before .before .before .before .before .before .before .before .before .before .before .before .before .before .if1 .left) (c .before .before .before .before .before .before .before .before .before .before .before .before .if2 .left) (c .before .before .before .before .before .before .before .before .before .before .before .before .before .before .before .before .before .before .before .pre .1) (c .before .before .put-truth-case .ensures)
+put-node-returns-10 : (t : ℕ) → put-node-lts.Need-returns-10 (put-node-claims t) (put-node-at t) put-node.Post
+put-node-returns-10 t c = put-body (c .before .before .before .before .before .before .before .before .node-at .ensures) (c .before .before .before .before .before .before .subject2 .given .1) ((entered _ _ (c .before .before .before .before .before .before .before .before .before .before .before .before .before .entry .ensures) (c .before .before .before .before .before .before .before .before .before .before .before .before .if1 .left)) .0) ((entered _ _ (c .before .before .before .before .before .before .before .before .before .before .before .before .before .entry .ensures) (c .before .before .before .before .before .before .before .before .before .before .before .before .if1 .left)) .1) (c .before .before .before .before .before .before .before .before .before .before .before .before .before .before .before .before .before .pre .1) (c .before .before .put-truth-case .ensures)
 
 put-node-same-length-5 : (t : ℕ) → put-node-lts.Need-same-length-5 (put-node-claims t) (put-node-at t) put-node.Post
-put-node-same-length-5 t c = put-node-returns-11 t c .frame .long
+put-node-same-length-5 t c = put-node-returns-10 t c .frame .long
 
-put-node-returns-12 : (t : ℕ) → put-node-lts.Need-returns-12 (put-node-claims t) (put-node-at t) put-node.Post
-put-node-returns-12 t c = put-body (c .before .before .before .before .before .before .before .before .node-at .ensures) (c .before .before .before .before .before .before .subject3 .given .1) (c .before .before .before .before .before .before .before .before .before .before .before .before .before .before .if1 .left) (c .before .before .before .before .before .before .before .before .before .before .before .before .if2 .left) (c .before .before .before .before .before .before .before .before .before .before .before .before .before .before .before .before .before .before .before .pre .1) (c .before .before .put-split .ensures)
+put-node-returns-11 : (t : ℕ) → put-node-lts.Need-returns-11 (put-node-claims t) (put-node-at t) put-node.Post
+put-node-returns-11 t c = put-body (c .before .before .before .before .before .before .before .before .node-at .ensures) (c .before .before .before .before .before .before .subject3 .given .1) ((entered _ _ (c .before .before .before .before .before .before .before .before .before .before .before .before .before .entry .ensures) (c .before .before .before .before .before .before .before .before .before .before .before .before .if1 .left)) .0) ((entered _ _ (c .before .before .before .before .before .before .before .before .before .before .before .before .before .entry .ensures) (c .before .before .before .before .before .before .before .before .before .before .before .before .if1 .left)) .1) (c .before .before .before .before .before .before .before .before .before .before .before .before .before .before .before .before .before .pre .1) (c .before .before .put-split .ensures)
 
 put-node-same-length-6 : (t : ℕ) → put-node-lts.Need-same-length-6 (put-node-claims t) (put-node-at t) put-node.Post
-put-node-same-length-6 t c = put-node-returns-12 t c .frame .long
+put-node-same-length-6 t c = put-node-returns-11 t c .frame .long
 
-put-node-returns-13 : (t : ℕ) → put-node-lts.Need-returns-13 (put-node-claims t) (put-node-at t) put-node.Post
-put-node-returns-13 t c = put-body (c .before .before .before .before .before .before .before .before .node-at .ensures) (c .before .before .before .before .before .before .section .given .1) (c .before .before .before .before .before .before .before .before .before .before .before .before .before .before .if1 .left) (c .before .before .before .before .before .before .before .before .before .before .before .before .if2 .left) (c .before .before .before .before .before .before .before .before .before .before .before .before .before .before .before .before .before .before .before .pre .1) (c .before .before .put-call .ensures)
+put-node-returns-12 : (t : ℕ) → put-node-lts.Need-returns-12 (put-node-claims t) (put-node-at t) put-node.Post
+put-node-returns-12 t c = put-body (c .before .before .before .before .before .before .before .before .node-at .ensures) (c .before .before .before .before .before .before .section .given .1) ((entered _ _ (c .before .before .before .before .before .before .before .before .before .before .before .before .before .entry .ensures) (c .before .before .before .before .before .before .before .before .before .before .before .before .if1 .left)) .0) ((entered _ _ (c .before .before .before .before .before .before .before .before .before .before .before .before .before .entry .ensures) (c .before .before .before .before .before .before .before .before .before .before .before .before .if1 .left)) .1) (c .before .before .before .before .before .before .before .before .before .before .before .before .before .before .before .before .before .pre .1) (c .before .before .put-call .ensures)
 
 put-node-same-length-7 : (t : ℕ) → put-node-lts.Need-same-length-7 (put-node-claims t) (put-node-at t) put-node.Post
-put-node-same-length-7 t c = put-node-returns-13 t c .frame .long
+put-node-same-length-7 t c = put-node-returns-12 t c .frame .long
 
-put-node-returns-14 : (t : ℕ) → put-node-lts.Need-returns-14 (put-node-claims t) (put-node-at t) put-node.Post
-put-node-returns-14 t c = put-body (c .before .before .before .before .before .before .before .before .node-at .ensures) (c .before .before .before .before .before .before .node .given .1) (c .before .before .before .before .before .before .before .before .before .before .before .before .before .before .if1 .left) (c .before .before .before .before .before .before .before .before .before .before .before .before .if2 .left) (c .before .before .before .before .before .before .before .before .before .before .before .before .before .before .before .before .before .before .before .pre .1) (c .before .before .put-add .ensures)
+put-node-returns-13 : (t : ℕ) → put-node-lts.Need-returns-13 (put-node-claims t) (put-node-at t) put-node.Post
+put-node-returns-13 t c = put-body (c .before .before .before .before .before .before .before .before .node-at .ensures) (c .before .before .before .before .before .before .node .given .1) ((entered _ _ (c .before .before .before .before .before .before .before .before .before .before .before .before .before .entry .ensures) (c .before .before .before .before .before .before .before .before .before .before .before .before .if1 .left)) .0) ((entered _ _ (c .before .before .before .before .before .before .before .before .before .before .before .before .before .entry .ensures) (c .before .before .before .before .before .before .before .before .before .before .before .before .if1 .left)) .1) (c .before .before .before .before .before .before .before .before .before .before .before .before .before .before .before .before .before .pre .1) (c .before .before .put-add .ensures)
 
 put-node-same-length-8 : (t : ℕ) → put-node-lts.Need-same-length-8 (put-node-claims t) (put-node-at t) put-node.Post
-put-node-same-length-8 t c = put-node-returns-14 t c .frame .long
+put-node-same-length-8 t c = put-node-returns-13 t c .frame .long
 
 put-pair-shape-of-requires : (t : ℕ) → put-pair-lts.Need-shape-of-requires (put-pair-claims t) (put-pair-at t) put-pair.Post
 put-pair-shape-of-requires t c κs = search needs
@@ -1298,13 +1299,13 @@ pub +put-add+put-both+put-call+put-front+put-list-case+put-node+put-pair+put-reb
     (λ t. put-node-lts.spec (put-node-claims t)
     (put-node-at t)
     put-node.Post
+    (put-node-entry-requires t)
     (put-node-returns t)
-    (put-node-returns-2 t)
     (put-node-mul-start t)
     (put-node-element-copy-out-start t)
     (put-node-cast-start t)
-    (put-node-sub-t39 t)
-    (put-node-sub-t43 t)
+    (put-node-sub-t40 t)
+    (put-node-sub-t44 t)
     (put-node-node-at-requires t)
     (put-node-enum-known-x t)
     (put-node-put-var-requires t)
@@ -1331,25 +1332,25 @@ pub +put-add+put-both+put-call+put-front+put-list-case+put-node+put-pair+put-reb
     (put-node-enum-known-node t)
     (put-node-put-add-requires t)
     (put-node-same-length t)
+    (put-node-returns-2 t)
     (put-node-returns-3 t)
     (put-node-returns-4 t)
     (put-node-returns-5 t)
     (put-node-returns-6 t)
-    (put-node-returns-7 t)
     (put-node-same-length-2 t)
-    (put-node-returns-8 t)
+    (put-node-returns-7 t)
     (put-node-same-length-3 t)
-    (put-node-returns-9 t)
+    (put-node-returns-8 t)
     (put-node-same-length-4 t)
-    (put-node-returns-10 t)
+    (put-node-returns-9 t)
     (put-node-same-length-5 t)
-    (put-node-returns-11 t)
+    (put-node-returns-10 t)
     (put-node-same-length-6 t)
-    (put-node-returns-12 t)
+    (put-node-returns-11 t)
     (put-node-same-length-7 t)
-    (put-node-returns-13 t)
+    (put-node-returns-12 t)
     (put-node-same-length-8 t)
-    (put-node-returns-14 t))
+    (put-node-returns-13 t))
     (λ t. put-pair-lts.spec (put-pair-claims t)
     (put-pair-at t)
     put-pair.Post
