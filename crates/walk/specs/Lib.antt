@@ -7,6 +7,7 @@ pub mod Gets
 pub mod GetReady
 pub mod GetTwo
 pub mod GetEnter
+pub mod Subjects
 pub mod GetLeaf
 pub mod GetBranch
 pub mod GetCase

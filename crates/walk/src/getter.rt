@@ -4,6 +4,7 @@ ghost use mathlib.Core.List.{List};
 ghost use Prim.Native.Nat.{ℕ, suc, _+_, _/_, _%_, _≤_, _<_};
 ghost use lib.ListN.{length, set};
 ghost use Rattle.walk.specs.Gets.{Room, Ready, Gives, enter, body, branch};
+ghost use Rattle.walk.specs.Subjects.{Looks};
 use crate::Walked;
 use crate::bytes::copy;
 use crate::scope::push_two;
@@ -16,6 +17,16 @@ pub struct At {
     pub levels: usize,
     pub left: usize,
     pub top: usize,
+}
+
+/// The subject of a case: its shape, its length and the steps taken, or a refusal.
+pub enum Subject {
+    Seen {
+        shape: Shape,
+        len: usize,
+        steps: usize,
+    },
+    Refused(u8),
 }
 
 fn get_var(arena: &mut [u8], scope: Scope, x: usize, top: usize) -> Walked
@@ -260,6 +271,29 @@ fn get_pair(
     }
 }
 
+/// The subject of a case, at the top of the stack, and its shape.
+pub fn get_subject(
+    sheet: &[u8],
+    starts: &[u16; 200],
+    arena: &mut [u8],
+    scope: Scope,
+    node: usize,
+    at: At,
+) -> Subject
+    requires { ⌜ Ready (now sheet) (now starts) (now arena) scope (at .top) (at .levels) (at .left) (enter node) ⌝ }
+    ensures { λ r. ⌜ Looks (now (arena .entry)) (now (arena .exit)) (now (sheet .entry)) scope (at .top) (at .left) r (at .levels) node ⌝ }
+{
+    let top = at.top;
+    match get_node(sheet, starts, arena, scope, node, at) {
+        Walked::Refused(c) => Subject::Refused(c),
+        Walked::Done { len, steps } => {
+            let end = top + len;
+            let shape = value::shape_of(&arena[top..end]);
+            Subject::Seen { shape, len, steps }
+        }
+    }
+}
+
 // A branch, judged by its test and moved down to `top`; `spent` steps were taken before it.
 fn get_branch(
     sheet: &[u8],
@@ -311,27 +345,15 @@ fn get_list_case(
     ensures { λ r. ⌜ Gives (now (arena .entry)) (now (arena .exit)) (now (sheet .entry)) scope (at .top) (at .top) (at .left) 1 r (at .levels) (body (Node.ListCase subject empty «empty_test» front «front_test» first rest)) ⌝ }
 {
     let top = at.top;
-    match get_node(
-        sheet,
-        starts,
-        arena,
-        scope,
-        subject,
-        At {
-            levels: at.levels,
-            left: at.left,
-            top: top,
-        },
-    ) {
-        Walked::Refused(c) => Walked::Refused(c),
-        Walked::Done { len, steps } => {
-            let end = top + len;
+    match get_subject(sheet, starts, arena, scope, subject, at) {
+        Subject::Refused(c) => Walked::Refused(c),
+        Subject::Seen { shape, len, steps } => {
             let inner = At {
                 levels: at.levels,
                 left: at.left - steps,
-                top: end,
+                top: top + len,
             };
-            match value::shape_of(&arena[top..end]) {
+            match shape {
                 Shape::Empty => get_branch(
                     sheet,
                     starts,
@@ -379,27 +401,15 @@ fn get_truth_case(
     ensures { λ r. ⌜ Gives (now (arena .entry)) (now (arena .exit)) (now (sheet .entry)) scope (at .top) (at .top) (at .left) 1 r (at .levels) (body (Node.TruthCase subject no «no_test» yes «yes_test»)) ⌝ }
 {
     let top = at.top;
-    match get_node(
-        sheet,
-        starts,
-        arena,
-        scope,
-        subject,
-        At {
-            levels: at.levels,
-            left: at.left,
-            top: top,
-        },
-    ) {
-        Walked::Refused(c) => Walked::Refused(c),
-        Walked::Done { len, steps } => {
-            let end = top + len;
+    match get_subject(sheet, starts, arena, scope, subject, at) {
+        Subject::Refused(c) => Walked::Refused(c),
+        Subject::Seen { shape, len, steps } => {
             let inner = At {
                 levels: at.levels,
                 left: at.left - steps,
-                top: end,
+                top: top + len,
             };
-            match value::shape_of(&arena[top..end]) {
+            match shape {
                 Shape::False => get_branch(
                     sheet,
                     starts,
@@ -442,27 +452,15 @@ fn get_split(
     ensures { λ r. ⌜ Gives (now (arena .entry)) (now (arena .exit)) (now (sheet .entry)) scope (at .top) (at .top) (at .left) 1 r (at .levels) (body (Node.Split subject node)) ⌝ }
 {
     let top = at.top;
-    match get_node(
-        sheet,
-        starts,
-        arena,
-        scope,
-        subject,
-        At {
-            levels: at.levels,
-            left: at.left,
-            top: top,
-        },
-    ) {
-        Walked::Refused(c) => Walked::Refused(c),
-        Walked::Done { len, steps } => {
-            let end = top + len;
+    match get_subject(sheet, starts, arena, scope, subject, at) {
+        Subject::Refused(c) => Walked::Refused(c),
+        Subject::Seen { shape, len, steps } => {
             let inner = At {
                 levels: at.levels,
                 left: at.left - steps,
-                top: end,
+                top: top + len,
             };
-            match value::shape_of(&arena[top..end]) {
+            match shape {
                 Shape::Pair(mid) => {
                     let more = push_two(scope, top + 1, mid - 1, len - mid);
                     get_branch(sheet, starts, arena, more, node, 0, 1 + steps, top, inner)

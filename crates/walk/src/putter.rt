@@ -11,7 +11,9 @@ use crate::Walked;
 use crate::bytes::rebuild;
 use crate::bytes::store;
 use crate::getter::At;
+use crate::getter::Subject;
 use crate::getter::get_node;
+use crate::getter::get_subject;
 use crate::scope::empty;
 use crate::scope::push_two;
 use sheet::Node;
@@ -440,27 +442,15 @@ fn put_list_case(
     ensures { λ r. ⌜ Gives (now (arena .entry)) (now (arena .exit)) (now (lens .entry)) (now (lens .exit)) (now (sheet .entry)) (Shown (now (view .entry))) scope cells (cells .count) (at .top) (at .left) 1 r (at .levels) (body (Node.ListCase subject empty «empty_test» front «front_test» first rest)) ⌝ }
 {
     let top = at.top;
-    match get_node(
-        sheet,
-        starts,
-        arena,
-        scope,
-        subject,
-        At {
-            levels: at.levels,
-            left: at.left,
-            top,
-        },
-    ) {
-        Walked::Refused(c) => Put::Refused(c),
-        Walked::Done { len, steps } => {
-            let end = top + len;
+    match get_subject(sheet, starts, arena, scope, subject, at) {
+        Subject::Refused(c) => Put::Refused(c),
+        Subject::Seen { shape, len, steps } => {
             let then = At {
                 levels: at.levels,
                 left: at.left - steps,
-                top: end,
+                top: top + len,
             };
-            match value::shape_of(&arena[top..end]) {
+            match shape {
                 Shape::Empty => match step::choose(false, empty_test, front_test, view) {
                     Branch::First => put_both(
                         sheet,
@@ -628,27 +618,15 @@ fn put_truth_case(
     ensures { λ r. ⌜ Gives (now (arena .entry)) (now (arena .exit)) (now (lens .entry)) (now (lens .exit)) (now (sheet .entry)) (Shown (now (view .entry))) scope cells (cells .count) (at .top) (at .left) 1 r (at .levels) (body (Node.TruthCase subject no «no_test» yes «yes_test»)) ⌝ }
 {
     let top = at.top;
-    match get_node(
-        sheet,
-        starts,
-        arena,
-        scope,
-        subject,
-        At {
-            levels: at.levels,
-            left: at.left,
-            top,
-        },
-    ) {
-        Walked::Refused(c) => Put::Refused(c),
-        Walked::Done { len, steps } => {
-            let end = top + len;
+    match get_subject(sheet, starts, arena, scope, subject, at) {
+        Subject::Refused(c) => Put::Refused(c),
+        Subject::Seen { shape, len, steps } => {
             let then = At {
                 levels: at.levels,
                 left: at.left - steps,
-                top: end,
+                top: top + len,
             };
-            match value::shape_of(&arena[top..end]) {
+            match shape {
                 Shape::False => match step::choose(false, no_test, yes_test, view) {
                     Branch::First => put_both(
                         sheet,
@@ -733,27 +711,15 @@ fn put_split(
     ensures { λ r. ⌜ Gives (now (arena .entry)) (now (arena .exit)) (now (lens .entry)) (now (lens .exit)) (now (sheet .entry)) (Shown (now (view .entry))) scope cells (cells .count) (at .top) (at .left) 1 r (at .levels) (body (Node.Split subject node)) ⌝ }
 {
     let top = at.top;
-    match get_node(
-        sheet,
-        starts,
-        arena,
-        scope,
-        subject,
-        At {
-            levels: at.levels,
-            left: at.left,
-            top,
-        },
-    ) {
-        Walked::Refused(c) => Put::Refused(c),
-        Walked::Done { len, steps } => {
-            let end = top + len;
+    match get_subject(sheet, starts, arena, scope, subject, at) {
+        Subject::Refused(c) => Put::Refused(c),
+        Subject::Seen { shape, len, steps } => {
             let then = At {
                 levels: at.levels,
                 left: at.left - steps,
-                top: end,
+                top: top + len,
             };
-            match value::shape_of(&arena[top..end]) {
+            match shape {
                 Shape::Pair(mid) => put_under(
                     sheet,
                     starts,
