@@ -4,7 +4,7 @@ ghost use mathlib.Core.List.{List};
 ghost use Prim.Native.Nat.{ℕ, suc, _+_, _/_, _%_, _≤_, _<_};
 ghost use lib.ListN.{length, set};
 ghost use Rattle.walk.specs.Gets.{Room, Ready, Gives, enter, body, branch};
-ghost use Rattle.walk.specs.Subjects.{Looks};
+ghost use Rattle.walk.specs.Subjects.{Whole, Looks};
 use crate::Walked;
 use crate::bytes::copy;
 use crate::scope::push_two;
@@ -271,20 +271,12 @@ fn get_pair(
     }
 }
 
-/// The subject of a case, at the top of the stack, and its shape.
-pub fn get_subject(
-    sheet: &[u8],
-    starts: &[u16; 200],
-    arena: &mut [u8],
-    scope: Scope,
-    node: usize,
-    at: At,
-) -> Subject
-    requires { ⌜ Ready (now sheet) (now starts) (now arena) scope (at .top) (at .levels) (at .left) (enter node) ⌝ }
-    ensures { λ r. ⌜ Looks (now (arena .entry)) (now (arena .exit)) (now (sheet .entry)) scope (at .top) (at .left) r (at .levels) node ⌝ }
+/// The subject of a case, which was got at the top of the stack, by its shape.
+pub fn look(arena: &[u8], top: usize, got: Walked) -> Subject
+    requires { ⌜ Whole (now arena) top got ⌝ }
+    ensures { λ r. ⌜ Looks (now (arena .entry)) top got r ⌝ }
 {
-    let top = at.top;
-    match get_node(sheet, starts, arena, scope, node, at) {
+    match got {
         Walked::Refused(c) => Subject::Refused(c),
         Walked::Done { len, steps } => {
             let end = top + len;
@@ -345,7 +337,8 @@ fn get_list_case(
     ensures { λ r. ⌜ Gives (now (arena .entry)) (now (arena .exit)) (now (sheet .entry)) scope (at .top) (at .top) (at .left) 1 r (at .levels) (body (Node.ListCase subject empty «empty_test» front «front_test» first rest)) ⌝ }
 {
     let top = at.top;
-    match get_subject(sheet, starts, arena, scope, subject, at) {
+    let got = get_node(sheet, starts, arena, scope, subject, at);
+    match look(arena, top, got) {
         Subject::Refused(c) => Walked::Refused(c),
         Subject::Seen { shape, len, steps } => {
             let inner = At {
@@ -401,7 +394,8 @@ fn get_truth_case(
     ensures { λ r. ⌜ Gives (now (arena .entry)) (now (arena .exit)) (now (sheet .entry)) scope (at .top) (at .top) (at .left) 1 r (at .levels) (body (Node.TruthCase subject no «no_test» yes «yes_test»)) ⌝ }
 {
     let top = at.top;
-    match get_subject(sheet, starts, arena, scope, subject, at) {
+    let got = get_node(sheet, starts, arena, scope, subject, at);
+    match look(arena, top, got) {
         Subject::Refused(c) => Walked::Refused(c),
         Subject::Seen { shape, len, steps } => {
             let inner = At {
@@ -452,7 +446,8 @@ fn get_split(
     ensures { λ r. ⌜ Gives (now (arena .entry)) (now (arena .exit)) (now (sheet .entry)) scope (at .top) (at .top) (at .left) 1 r (at .levels) (body (Node.Split subject node)) ⌝ }
 {
     let top = at.top;
-    match get_subject(sheet, starts, arena, scope, subject, at) {
+    let got = get_node(sheet, starts, arena, scope, subject, at);
+    match look(arena, top, got) {
         Subject::Refused(c) => Walked::Refused(c),
         Subject::Seen { shape, len, steps } => {
             let inner = At {

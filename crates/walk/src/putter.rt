@@ -13,7 +13,7 @@ use crate::bytes::store;
 use crate::getter::At;
 use crate::getter::Subject;
 use crate::getter::get_node;
-use crate::getter::get_subject;
+use crate::getter::look;
 use crate::scope::empty;
 use crate::scope::push_two;
 use sheet::Node;
@@ -442,7 +442,8 @@ fn put_list_case(
     ensures { λ r. ⌜ Gives (now (arena .entry)) (now (arena .exit)) (now (lens .entry)) (now (lens .exit)) (now (sheet .entry)) (Shown (now (view .entry))) scope cells (cells .count) (at .top) (at .left) 1 r (at .levels) (body (Node.ListCase subject empty «empty_test» front «front_test» first rest)) ⌝ }
 {
     let top = at.top;
-    match get_subject(sheet, starts, arena, scope, subject, at) {
+    let got = get_node(sheet, starts, arena, scope, subject, at);
+    match look(arena, top, got) {
         Subject::Refused(c) => Put::Refused(c),
         Subject::Seen { shape, len, steps } => {
             let then = At {
@@ -618,7 +619,8 @@ fn put_truth_case(
     ensures { λ r. ⌜ Gives (now (arena .entry)) (now (arena .exit)) (now (lens .entry)) (now (lens .exit)) (now (sheet .entry)) (Shown (now (view .entry))) scope cells (cells .count) (at .top) (at .left) 1 r (at .levels) (body (Node.TruthCase subject no «no_test» yes «yes_test»)) ⌝ }
 {
     let top = at.top;
-    match get_subject(sheet, starts, arena, scope, subject, at) {
+    let got = get_node(sheet, starts, arena, scope, subject, at);
+    match look(arena, top, got) {
         Subject::Refused(c) => Put::Refused(c),
         Subject::Seen { shape, len, steps } => {
             let then = At {
@@ -711,7 +713,8 @@ fn put_split(
     ensures { λ r. ⌜ Gives (now (arena .entry)) (now (arena .exit)) (now (lens .entry)) (now (lens .exit)) (now (sheet .entry)) (Shown (now (view .entry))) scope cells (cells .count) (at .top) (at .left) 1 r (at .levels) (body (Node.Split subject node)) ⌝ }
 {
     let top = at.top;
-    match get_subject(sheet, starts, arena, scope, subject, at) {
+    let got = get_node(sheet, starts, arena, scope, subject, at);
+    match look(arena, top, got) {
         Subject::Refused(c) => Put::Refused(c),
         Subject::Seen { shape, len, steps } => {
             let then = At {

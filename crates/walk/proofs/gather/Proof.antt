@@ -6,10 +6,6 @@ use native.Mathlib.Omega.{arith}
 use Rattle.walk.specs.Gather.{Gathered, gathered-none, gather-fits, gather-apart, gathered-more, gathered-all}
 use Rattle.walk.proofs.gather.Statement.{statement}
 use Rattle.walk.proofs.gather.Tie as tie
-use Rattle.walk.proofs.gather.Reads as reads
-use Rattle.walk.proofs.gather.Lts as lts
-use Rattle.walk.proofs.bytes.copy.Reads as copy-reads
-use Rattle.step.proofs.place_of.Reads as place-of-reads
 
 abbrev Inv-loop : tie.InvT-loop
 Inv-loop arena₀ lens scope len₀ i₀ arena len i = (i ≤ scope .count) × Gathered i lens scope arena₀ arena len
@@ -17,75 +13,57 @@ Inv-loop arena₀ lens scope len₀ i₀ arena len i = (i ≤ scope .count) × G
 abbrev μ-loop : tie.MeasureT-loop
 μ-loop arena₀ lens scope len₀ i₀ arena len i = scope .count - i
 
--- src/lib.rt:89:5
 loop-holds : tie.Need-loop-holds Inv-loop μ-loop
 loop-holds c = (omega arith, gathered-none _)
 
--- src/lib.rt:90:29
 mul-place-of : tie.Need-mul-place-of Inv-loop μ-loop
 mul-place-of c = (omega (arith, c .before .before .before .pre .placed .few, c .before .before .before .pre .placed .count, c .loop-test .taken))
 
--- src/lib.rt:90:29
 element-copy-out-place-of : tie.Need-element-copy-out-place-of Inv-loop μ-loop
 element-copy-out-place-of c = (omega (arith, c .before .before .before .pre .placed .few, c .before .before .before .pre .placed .count, c .loop-test .taken))
 
--- src/lib.rt:90:41
 mul-place-of-2 : tie.Need-mul-place-of-2 Inv-loop μ-loop
 mul-place-of-2 c = (omega (arith, c .before .before .before .before .pre .placed .few, c .before .before .before .before .pre .placed .count, c .before .loop-test .taken))
 
--- src/lib.rt:90:41
 element-copy-out-place-of-2 : tie.Need-element-copy-out-place-of-2 Inv-loop μ-loop
 element-copy-out-place-of-2 c = (omega (arith, c .before .before .before .before .pre .placed .few, c .before .before .before .before .pre .placed .count, c .before .loop-test .taken))
 
--- src/lib.rt:90:41
 cast-place-of : tie.Need-cast-place-of Inv-loop μ-loop
 cast-place-of c = search needs
 
--- src/lib.rt:90:67
 mul-place-of-3 : tie.Need-mul-place-of-3 Inv-loop μ-loop
 mul-place-of-3 c = (omega (arith, c .before .before .before .before .before .pre .placed .few, c .before .before .before .before .before .pre .placed .count, c .before .before .loop-test .taken))
 
--- src/lib.rt:90:67
 element-copy-out-place-of-3 : tie.Need-element-copy-out-place-of-3 Inv-loop μ-loop
 element-copy-out-place-of-3 c = (omega (arith, c .before .before .before .before .before .pre .placed .few, c .before .before .before .before .before .pre .placed .count, c .before .before .loop-test .taken))
 
--- src/lib.rt:90:67
 cast-place-of-2 : tie.Need-cast-place-of-2 Inv-loop μ-loop
 cast-place-of-2 c = search needs
 
--- src/lib.rt:90:13
 place-of-requires : tie.Need-place-of-requires Inv-loop μ-loop
 place-of-requires c κs = search needs
 
--- src/lib.rt:91:33
 add-copy : tie.Need-add-copy Inv-loop μ-loop
 add-copy c = omega (arith, c .before .before .before .before .before .before .before .before .pre .placed .few, c .before .before .before .before .before .before .before .before .pre .placed .count, c .before .before .before .before .before .loop-test .taken, c .before .before .before .before .before .before .loop .inv .1 .short)
 
--- src/lib.rt:91:9
 copy-requires : tie.Need-copy-requires Inv-loop μ-loop
 copy-requires c κs = (gather-fits (c .before .before .before .before .before .before .loop .inv .1) (c .before .before .before .before .before .before .before .before .pre) (c .before .before .before .before .before .loop-test .taken) (c .before .place-of .ensures .inside (omega (arith, c .before .before .before .before .before .before .before .before .pre .placed .few, c .before .before .before .before .before .before .before .before .pre .placed .count, c .before .before .before .before .before .loop-test .taken))), gather-apart (c .before .before .before .before .before .before .loop .inv .1) (c .before .before .before .before .before .before .before .before .pre) (c .before .before .before .before .before .loop-test .taken) (c .before .place-of .ensures .inside (omega (arith, c .before .before .before .before .before .before .before .before .pre .placed .few, c .before .before .before .before .before .before .before .before .pre .placed .count, c .before .before .before .before .before .loop-test .taken))))
 
--- src/lib.rt:92:9
 add-len : tie.Need-add-len Inv-loop μ-loop
 add-len c = let f = gather-fits (c .before .before .before .before .before .before .before .before .before .before .loop .inv .1) (c .before .before .before .before .before .before .before .before .before .before .before .before .pre) (c .before .before .before .before .before .before .before .before .before .loop-test .taken) (c .before .before .before .before .before .place-of .ensures .inside (omega (arith, c .before .before .before .before .before .before .before .before .before .before .before .before .pre .placed .few, c .before .before .before .before .before .before .before .before .before .before .before .before .pre .placed .count, c .before .before .before .before .before .before .before .before .before .loop-test .taken))) in omega (arith, f .1, c .before .before .before .before .before .before .before .before .before .before .loop .inv .1 .kept .long, c .before .before .before .before .before .before .before .before .before .before .before .before .pre .placed .long)
 
--- src/lib.rt:93:9
 add-i : tie.Need-add-i Inv-loop μ-loop
 add-i c = omega (arith, c .before .before .before .before .before .before .before .before .before .before .before .before .pre .placed .few, c .before .before .before .before .before .before .before .before .before .before .before .before .pre .placed .count, c .before .before .before .before .before .before .before .before .before .loop-test .taken)
 
--- src/lib.rt:89:5
 loop-less : tie.Need-loop-less Inv-loop μ-loop
 loop-less c = omega (arith, c .before .before .before .before .before .before .before .before .before .loop-test .taken)
 
--- src/lib.rt:89:5
 loop-again : tie.Need-loop-again Inv-loop μ-loop
 loop-again c = (omega (arith, c .before .before .before .before .before .before .before .before .before .loop-test .taken), gathered-more (c .before .before .before .before .before .before .before .before .before .before .loop .inv .1) (c .before .before .before .before .before .before .before .before .before .before .before .before .pre) (c .before .before .before .before .before .before .before .before .before .loop-test .taken) (c .before .before .before .before .before .place-of .ensures .inside (omega (arith, c .before .before .before .before .before .before .before .before .before .before .before .before .pre .placed .few, c .before .before .before .before .before .before .before .before .before .before .before .before .pre .placed .count, c .before .before .before .before .before .before .before .before .before .loop-test .taken))) (c .before .before .before .copy .ensures))
 
--- src/lib.rt:83:1
 same-length : tie.Need-same-length Inv-loop μ-loop
 same-length c = c .before .loop .inv .1 .kept .long
 
--- src/lib.rt:83:1
 returns : tie.Need-returns Inv-loop μ-loop
 returns c = gathered-all (c .before .loop .inv .1) (omega (arith, c .before .loop .inv .0, c .loop-test .left))
 

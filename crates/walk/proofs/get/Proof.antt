@@ -8,58 +8,40 @@ use Rattle.walk.specs.Entry.{table-read, call-2, call-3, call-refused, c
 use borrow.Author.Needs.{needs}
 use Rattle.walk.proofs.get.Statement.{statement}
 use Rattle.walk.proofs.get.Tie as tie
-use Rattle.walk.proofs.get.Reads as reads
-use Rattle.walk.proofs.get.Lts as lts
-use Rattle.sheet.proofs.read_sheet.Reads as read-sheet-reads
-use Rattle.value.proofs.read_plan.Reads as read-plan-reads
-use Rattle.walk.proofs.get_plan.Reads as get-plan-reads
-use Rattle.walk.proofs.scope.of_spans.Reads as of-spans-reads
 
--- src/lib.rt:54:9
 returns : tie.Need-returns
 returns c = call-2 (c .if1 .taken)
 
--- src/lib.rt:57:9
 returns-2 : tie.Need-returns-2
 returns-2 c = call-3 (omega (arith, c .before .if1 .left)) (c .if2 .taken)
 
--- src/lib.rt:59:9
 read-sheet-requires : tie.Need-read-sheet-requires
 read-sheet-requires c κs = search needs
 
--- src/lib.rt:61:9
 returns-3 : tie.Need-returns-3
 returns-3 c = call-refused (omega (arith, c .before .before .before .before .if1 .left)) (omega (arith, c .before .before .before .if2 .left)) (get-sheet-refused _ _ _ (sheet-refusal _ (c .before .before .read-sheet .ensures) (c .if3 .taken)))
 
--- src/lib.rt:63:9
 read-plan-requires : tie.Need-read-plan-requires
 read-plan-requires c κs = search needs
 
--- src/lib.rt:65:9
 returns-4 : tie.Need-returns-4
 returns-4 c = call-refused (omega (arith, c .before .before .before .before .before .before .before .if1 .left)) (omega (arith, c .before .before .before .before .before .before .if2 .left)) (let t = table-read _ (c .before .before .before .before .before .read-sheet .ensures) (c .before .before .before .if3 .left) in get-plan-refused _ _ _ (t .read) (plan-refusal _ t (c .before .before .read-plan .ensures) (c .if4 .taken)))
 
--- src/lib.rt:67:9
 of-spans-requires : tie.Need-of-spans-requires
 of-spans-requires c κs = table-read _ (c .before .before .before .before .before .read-sheet .ensures) (c .before .before .before .if3 .left) .few
 
--- src/lib.rt:68:52
 slice-relend-prefix-get-plan : tie.Need-slice-relend-prefix-get-plan
 slice-relend-prefix-get-plan c = search needs
 
--- src/lib.rt:68:52
 slice-aggregate-get-plan : tie.Need-slice-aggregate-get-plan
 slice-aggregate-get-plan c = sym (length-take-le 65536 (now (c .before .before .before .before .before .before .before .before .before .before .before .before .before .args .arena)) (omega (arith, c .before .before .before .before .before .before .before .before .before .if1 .left)))
 
--- src/lib.rt:68:5
 get-plan-requires : tie.Need-get-plan-requires
 get-plan-requires c κs = planned (now (c .before .before .before .before .before .before .before .before .before .before .before .before .before .args .arena)) (omega (arith, c .before .before .before .before .before .before .before .before .before .if1 .left)) (omega (arith, c .before .before .before .before .before .before .before .before .if2 .left)) (table-read _ (c .before .before .before .before .before .before .before .read-sheet .ensures) (c .before .before .before .before .before .if3 .left)) (c .before .before .before .before .read-plan .ensures) (c .before .before .if4 .left) (c .before .of-spans .ensures)
 
--- src/lib.rt:50:1
 same-length : tie.Need-same-length
 same-length c = search needs
 
--- src/lib.rt:50:1
 returns-5 : tie.Need-returns-5
 returns-5 c = call-done (omega (arith, c .before .before .before .before .before .before .before .before .before .before .before .before .if1 .left)) (omega (arith, c .before .before .before .before .before .before .before .before .before .before .before .if2 .left)) (omega arith) (c .before .before .get-plan .ensures)
 

@@ -9,67 +9,46 @@ use Rattle.walk.specs.PutEntry.{viewed, view-refused, put-sheet-refused,
 use borrow.Author.Needs.{needs}
 use Rattle.walk.proofs.put.Statement.{statement}
 use Rattle.walk.proofs.put.Tie as tie
-use Rattle.walk.proofs.put.Reads as reads
-use Rattle.walk.proofs.put.Lts as lts
-use Rattle.sheet.proofs.read_sheet.Reads as read-sheet-reads
-use Rattle.value.proofs.read_plan.Reads as read-plan-reads
-use Rattle.value.proofs.read_view.Reads as read-view-reads
-use Rattle.walk.proofs.put_plan.Reads as put-plan-reads
-use Rattle.walk.proofs.scope.of_spans.Reads as of-spans-reads
 
--- src/lib.rt:143:9
 returns : tie.Need-returns
 returns c = call-2 (c .if1 .taken)
 
--- src/lib.rt:146:9
 returns-2 : tie.Need-returns-2
 returns-2 c = call-3 (omega (arith, c .before .if1 .left)) (c .if2 .taken)
 
--- src/lib.rt:148:9
 read-sheet-requires : tie.Need-read-sheet-requires
 read-sheet-requires c κs = search needs
 
--- src/lib.rt:150:9
 returns-3 : tie.Need-returns-3
 returns-3 c = call-refused (omega (arith, c .before .before .before .before .if1 .left)) (omega (arith, c .before .before .before .if2 .left)) (put-sheet-refused _ _ _ _ (sheet-refusal _ (c .before .before .read-sheet .ensures) (c .if3 .taken)))
 
--- src/lib.rt:152:9
 read-plan-requires : tie.Need-read-plan-requires
 read-plan-requires c κs = search needs
 
--- src/lib.rt:154:9
 returns-4 : tie.Need-returns-4
 returns-4 c = call-refused (omega (arith, c .before .before .before .before .before .before .before .if1 .left)) (omega (arith, c .before .before .before .before .before .before .if2 .left)) (let t = (table-read _ (c .before .before .before .before .before .read-sheet .ensures) (c .before .before .before .if3 .left)) in put-plan-refused _ _ _ _ (t .read) (plan-refusal _ t (c .before .before .read-plan .ensures) (c .if4 .taken)))
 
--- src/lib.rt:156:9
 read-view-requires : tie.Need-read-view-requires
 read-view-requires c κs = search needs
 
--- src/lib.rt:158:9
 returns-5 : tie.Need-returns-5
 returns-5 c = call-refused (omega (arith, c .before .before .before .before .before .before .before .before .before .if1 .left)) (omega (arith, c .before .before .before .before .before .before .before .before .if2 .left)) (let t = (table-read _ (c .before .before .before .before .before .before .before .read-sheet .ensures) (c .before .before .before .before .before .if3 .left)) in put-view-refused _ _ _ _ (t .read) (plan-values _ t (c .before .before .before .before .read-plan .ensures) (c .before .before .if4 .left) .1) (view-refused _ (c .before .read-view .ensures) (c .if5 .taken)))
 
--- src/lib.rt:160:9
 of-spans-requires : tie.Need-of-spans-requires
 of-spans-requires c κs = (table-read _ (c .before .before .before .before .before .before .before .read-sheet .ensures) (c .before .before .before .before .before .if3 .left)) .few
 
--- src/lib.rt:168:9
 slice-relend-prefix-put-plan : tie.Need-slice-relend-prefix-put-plan
 slice-relend-prefix-put-plan c = search needs
 
--- src/lib.rt:168:9
 slice-aggregate-put-plan : tie.Need-slice-aggregate-put-plan
 slice-aggregate-put-plan c = sym (length-take-le 65536 (now (c .before .before .before .before .before .before .before .before .before .before .before .before .before .before .before .before .args .arena)) (omega (arith, c .before .before .before .before .before .before .before .before .before .before .before .if1 .left)))
 
--- src/lib.rt:161:5
 put-plan-requires : tie.Need-put-plan-requires
 put-plan-requires c κs = (planned (now (c .before .before .before .before .before .before .before .before .before .before .before .before .before .before .before .before .args .arena)) (omega (arith, c .before .before .before .before .before .before .before .before .before .before .before .if1 .left)) (omega (arith, c .before .before .before .before .before .before .before .before .before .before .if2 .left)) (table-read _ (c .before .before .before .before .before .before .before .before .before .read-sheet .ensures) (c .before .before .before .before .before .before .before .if3 .left)) (c .before .before .before .before .before .before .read-plan .ensures) (c .before .before .before .before .if4 .left) (c .before .of-spans .ensures), viewed _ (c .before .before .before .read-view .ensures) (c .before .before .if5 .left))
 
--- src/lib.rt:139:1
 returns-6 : tie.Need-returns-6
 returns-6 c = call-done (omega (arith, c .before .before .before .before .before .before .before .before .before .before .before .before .before .before .if1 .left)) (omega (arith, c .before .before .before .before .before .before .before .before .before .before .before .before .before .if2 .left)) (omega arith) (c .before .before .put-plan .ensures)
 
--- src/lib.rt:139:1
 same-length : tie.Need-same-length
 same-length c = returns-6 c .long
 

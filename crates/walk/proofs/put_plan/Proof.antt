@@ -5,50 +5,34 @@ use Rattle.walk.specs.PutEntry.{few-variables, put-ready, put-placed, pu
 use borrow.Author.Needs.{needs}
 use Rattle.walk.proofs.put_plan.Statement.{statement}
 use Rattle.walk.proofs.put_plan.Tie as tie
-use Rattle.walk.proofs.put_plan.Reads as reads
-use Rattle.walk.proofs.put_plan.Lts as lts
-use Rattle.walk.proofs.bytes.copy_in.Reads as copy-in-reads
-use Rattle.walk.proofs.gather.Reads as gather-reads
-use Rattle.walk.proofs.putter.first_cells.Reads as first-cells-reads
-use Rattle.walk.proofs.putter.put_node.Reads as put-node-reads
 
--- src/lib.rt:112:5
 copy-in-requires : tie.Need-copy-in-requires
 copy-in-requires c κs = plan-fits (c .before .before .before .before .before .pre .0)
 
--- src/lib.rt:114:9
 first-cells-requires : tie.Need-first-cells-requires
 first-cells-requires c κs = few-variables (c .before .before .before .before .before .before .before .before .pre .0) (c .before .before .before .before .before .before .before .before .pre .1)
 
--- src/lib.rt:115:11
 put-node-requires : tie.Need-put-node-requires
 put-node-requires c κs = put-ready (c .before .before .before .before .before .before .before .before .before .before .before .before .before .pre .0) (c .before .before .before .before .before .before .before .before .before .before .before .before .before .pre .1) (c .before .before .before .before .before .before .before .copy-in .ensures) (c .before .before .before .before .first-cells .ensures)
 
--- src/lib.rt:130:22
 enum-known-c : tie.Need-enum-known-c
 enum-known-c c = search needs
 
--- src/lib.rt:131:19
 enum-known-steps : tie.Need-enum-known-steps
 enum-known-steps c = search needs
 
--- src/lib.rt:132:17
 gather-requires : tie.Need-gather-requires
 gather-requires c κs = put-placed (c .before .before .before .before .before .before .before .before .before .before .before .before .before .before .before .before .before .before .before .before .before .pre .0) (c .before .before .before .before .before .before .before .before .before .before .before .before .before .before .before .before .before .before .before .before .before .pre .1) (c .before .before .before .before .before .before .before .before .before .before .before .before .before .before .before .copy-in .ensures) (c .before .before .before .before .before .before .before .before .before .before .before .before .first-cells .ensures) (c .before .before .before .before .before .before .before .put-node .ensures) (c .before .before .before .steps .given .1)
 
--- src/lib.rt:99:1
 returns : tie.Need-returns
 returns c = put-refused (c .before .before .before .before .before .before .before .before .before .before .before .before .before .before .before .before .before .before .before .pre .0) (c .before .before .before .before .before .before .before .before .before .before .before .before .before .before .before .before .before .before .before .pre .1) (c .before .before .before .before .before .before .before .before .before .before .before .before .before .copy-in .ensures) (c .before .before .before .before .before .before .before .before .before .before .first-cells .ensures) (c .before .before .before .before .before .put-node .ensures) (c .before .c .given .1)
 
--- src/lib.rt:99:1
 same-length : tie.Need-same-length
 same-length c = returns c .long
 
--- src/lib.rt:99:1
 returns-2 : tie.Need-returns-2
 returns-2 c = put-done (c .before .before .before .before .before .before .before .before .before .before .before .before .before .before .before .before .before .before .before .before .before .before .before .before .pre .0) (c .before .before .before .before .before .before .before .before .before .before .before .before .before .before .before .before .before .before .before .before .before .before .before .before .pre .1) (c .before .before .before .before .before .before .before .before .before .before .before .before .before .before .before .before .before .before .copy-in .ensures) (c .before .before .before .before .before .before .before .before .before .before .before .before .before .before .before .first-cells .ensures) (c .before .before .before .before .before .before .before .before .before .before .put-node .ensures) (c .before .before .before .before .before .before .steps .given .1) (c .before .before .gather .ensures)
 
--- src/lib.rt:99:1
 same-length-2 : tie.Need-same-length-2
 same-length-2 c = returns-2 c .long
 

@@ -6,8 +6,6 @@ use native.Mathlib.Omega.{arith}
 use Rattle.walk.specs.Parts.{Copying, copying-none, copying-more, copying-all}
 use Rattle.walk.proofs.bytes.copy.Statement.{statement}
 use Rattle.walk.proofs.bytes.copy.Tie as tie
-use Rattle.walk.proofs.bytes.copy.Reads as reads
-use Rattle.walk.proofs.bytes.copy.Lts as lts
 
 abbrev Inv-loop : tie.InvT-loop
 Inv-loop arena₀ from to n i₀ arena i = (i ≤ n) × Copying from to i arena₀ arena

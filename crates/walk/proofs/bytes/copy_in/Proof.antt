@@ -7,8 +7,6 @@ use lib.ListN.{length}
 use Rattle.walk.specs.Parts.{CopyingIn, copying-in-none, copying-in-more, copying-in-all}
 use Rattle.walk.proofs.bytes.copy_in.Statement.{statement}
 use Rattle.walk.proofs.bytes.copy_in.Tie as tie
-use Rattle.walk.proofs.bytes.copy_in.Reads as reads
-use Rattle.walk.proofs.bytes.copy_in.Lts as lts
 
 abbrev Inv-loop : tie.InvT-loop
 Inv-loop from arena₀ i₀ arena i = (i ≤ length from) × CopyingIn i from arena₀ arena
@@ -16,35 +14,27 @@ Inv-loop from arena₀ i₀ arena i = (i ≤ length from) × CopyingIn i from ar
 abbrev μ-loop : tie.MeasureT-loop
 μ-loop from arena₀ i₀ arena i = length from - i
 
--- src/bytes.rt:25:5
 loop-holds : tie.Need-loop-holds Inv-loop μ-loop
 loop-holds c = (search needs, copying-in-none _ _)
 
--- src/bytes.rt:26:20
 shared-slice-read-arena : tie.Need-shared-slice-read-arena Inv-loop μ-loop
 shared-slice-read-arena c = search needs
 
--- src/bytes.rt:26:9
 slice-write-arena : tie.Need-slice-write-arena Inv-loop μ-loop
 slice-write-arena c = omega (arith, c .before .before .loop .inv .1 .long, c .before .before .before .pre, c .before .loop-test .taken)
 
--- src/bytes.rt:27:9
 add-i : tie.Need-add-i Inv-loop μ-loop
 add-i c = search needs
 
--- src/bytes.rt:25:5
 loop-less : tie.Need-loop-less Inv-loop μ-loop
 loop-less c = search needs
 
--- src/bytes.rt:25:5
 loop-again : tie.Need-loop-again Inv-loop μ-loop
 loop-again c = (omega (arith, c .before .loop-test .taken), copying-in-more (c .before .before .loop .inv .1) (omega (arith, c .before .loop-test .taken, c .before .before .before .pre)))
 
--- src/bytes.rt:20:1
 same-length : tie.Need-same-length Inv-loop μ-loop
 same-length c = c .before .loop .inv .1 .long
 
--- src/bytes.rt:20:1
 returns : tie.Need-returns Inv-loop μ-loop
 returns c = copying-in-all (c .before .loop .inv .1) (omega (arith, c .loop-test .left)) (c .before .before .pre)
 

@@ -8,8 +8,6 @@ use mathlib.Core.Path.{_≡_}
 use Rattle.walk.specs.Storing.{Pasting, pasting-none, pasting-part}
 use Rattle.walk.proofs.bytes.fill.Statement.{statement}
 use Rattle.walk.proofs.bytes.fill.Tie as tie
-use Rattle.walk.proofs.bytes.fill.Reads as reads
-use Rattle.walk.proofs.bytes.fill.Lts as lts
 
 abbrev Inv-loop : tie.InvT-loop
 Inv-loop at arena start len w₀ i₀ w i = (i ≤ len) × Pasting at i (drop start arena) w₀ w
@@ -17,39 +15,30 @@ Inv-loop at arena start len w₀ i₀ w i = (i ≤ len) × Pasting at i (drop st
 abbrev μ-loop : tie.MeasureT-loop
 μ-loop at arena start len w₀ i₀ w i = len - i
 
--- src/bytes.rt:61:5
 loop-holds : tie.Need-loop-holds Inv-loop μ-loop
 loop-holds c = (search needs, pasting-none _ _ _)
 
--- src/bytes.rt:62:27
 add-w : tie.Need-add-w Inv-loop μ-loop
 add-w c = omega arith
 
--- src/bytes.rt:62:21
 shared-slice-read-w : tie.Need-shared-slice-read-w Inv-loop μ-loop
 shared-slice-read-w c = omega arith
 
--- src/bytes.rt:62:11
 add-w-2 : tie.Need-add-w-2 Inv-loop μ-loop
 add-w-2 c = omega arith
 
--- src/bytes.rt:62:9
 array-write-w : tie.Need-array-write-w Inv-loop μ-loop
 array-write-w c = omega arith
 
--- src/bytes.rt:63:9
 add-i : tie.Need-add-i Inv-loop μ-loop
 add-i c = omega arith
 
--- src/bytes.rt:61:5
 loop-less : tie.Need-loop-less Inv-loop μ-loop
 loop-less c = omega arith
 
--- src/bytes.rt:61:5
 loop-again : tie.Need-loop-again Inv-loop μ-loop
 loop-again c = (omega arith, pasting-part (c .before .before .before .args .start) (now (c .before .before .before .args .arena)) (c .before .before .loop .inv .1) (omega (arith, c .before .before .before .good)) (omega arith))
 
--- src/bytes.rt:55:1
 returns : tie.Need-returns Inv-loop μ-loop
 returns c = let e : c .before .loop .i ≡ c .before .before .args .len = omega arith in rw e at (c .before .loop .inv .1 .made)
 

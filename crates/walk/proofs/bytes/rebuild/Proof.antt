@@ -9,27 +9,19 @@ use Rattle.walk.specs.Cells.{rebuiltBytes}
 use borrow.Author.Needs.{needs}
 use Rattle.walk.proofs.bytes.rebuild.Statement.{statement}
 use Rattle.walk.proofs.bytes.rebuild.Tie as tie
-use Rattle.walk.proofs.bytes.rebuild.Reads as reads
-use Rattle.walk.proofs.bytes.rebuild.Lts as lts
-use Rattle.walk.proofs.bytes.fill.Reads as fill-reads
 
--- src/bytes.rt:81:5
 array-write-whole : tie.Need-array-write-whole
 array-write-whole c = search needs
 
--- src/bytes.rt:82:9
 fill-requires : tie.Need-fill-requires
 fill-requires c κs = search needs
 
--- src/bytes.rt:83:16
 add-fill : tie.Need-add-fill
 add-fill c = search needs
 
--- src/bytes.rt:83:5
 fill-requires-2 : tie.Need-fill-requires-2
 fill-requires-2 c κs = search needs
 
--- src/bytes.rt:69:1
 returns : tie.Need-returns
 unfolding rebuiltBytes
 returns c = c .fill2 .ensures ∙ ap (λ (d : List ℕ). paste d (1 + c .before .before .before .args .flen) (drop (c .before .before .before .args .second) (now (c .before .before .before .args .arena))) (c .before .before .before .args .slen)) (c .before .fill .ensures)

@@ -6,44 +6,31 @@ use native.Mathlib.Omega.{arith}
 use lib.ListN.{length-set}
 use Rattle.walk.proofs.getter.get_number.Statement.{statement}
 use Rattle.walk.proofs.getter.get_number.Tie as tie
-use Rattle.walk.proofs.getter.get_number.Reads as reads
-use Rattle.walk.proofs.getter.get_number.Lts as lts
-use Rattle.value.proofs.high.Reads as high-reads
-use Rattle.value.proofs.low.Reads as low-reads
 
--- src/getter.rt:53:5
 slice-write-arena : tie.Need-slice-write-arena
 slice-write-arena c = search needs
 
--- src/getter.rt:54:22
 high-requires : tie.Need-high-requires
 high-requires c κs = search needs
 
--- src/getter.rt:54:11
 add-arena : tie.Need-add-arena
 add-arena c = search needs
 
--- src/getter.rt:54:5
 slice-write-arena-2 : tie.Need-slice-write-arena-2
 slice-write-arena-2 c = simp length-set (omega (arith, c .before .before .pre))
 
--- src/getter.rt:55:22
 low-requires : tie.Need-low-requires
 low-requires c κs = search needs
 
--- src/getter.rt:55:11
 add-arena-2 : tie.Need-add-arena-2
 add-arena-2 c = search needs
 
--- src/getter.rt:55:5
 slice-write-arena-3 : tie.Need-slice-write-arena-3
 slice-write-arena-3 c = simp length-set (omega (arith, c .before .before .before .pre))
 
--- src/getter.rt:49:1
 same-length : tie.Need-same-length
 same-length c = search needs
 
--- src/getter.rt:49:1
 returns : tie.Need-returns
 returns c = rw (c .before .high .ensures, c .low .ensures) (refl, refl)
 

@@ -5,47 +5,34 @@ use native.Mathlib.Omega.{arith}
 use Rattle.walk.specs.GetLeaf.{var-42, var-done, stands}
 use Rattle.walk.proofs.getter.get_var.Statement.{statement}
 use Rattle.walk.proofs.getter.get_var.Tie as tie
-use Rattle.walk.proofs.getter.get_var.Reads as reads
-use Rattle.walk.proofs.getter.get_var.Lts as lts
-use Rattle.walk.proofs.bytes.copy.Reads as copy-reads
 
--- src/getter.rt:32:9
 returns : tie.Need-returns
 returns c = λ s left l. var-42 (c .if1 .taken)
 
--- src/getter.rt:34:17
 mul-start : tie.Need-mul-start
 mul-start c = let z = stands (c .before .before .pre) (c .if1 .left) in record { fits = omega (arith, z .slot) }
 
--- src/getter.rt:34:17
 element-copy-out-start : tie.Need-element-copy-out-start
 element-copy-out-start c = let z = stands (c .before .before .pre) (c .if1 .left) in omega (arith, z .slot, z .starts-long)
 
--- src/getter.rt:34:17
 cast-start : tie.Need-cast-start
 cast-start c = search needs
 
--- src/getter.rt:35:15
 mul-len : tie.Need-mul-len
 mul-len c = let z = stands (c .before .before .before .pre) (c .before .if1 .left) in record { fits = omega (arith, z .slot) }
 
--- src/getter.rt:35:15
 element-copy-out-len : tie.Need-element-copy-out-len
 element-copy-out-len c = let z = stands (c .before .before .before .pre) (c .before .if1 .left) in omega (arith, z .slot, z .lens-long)
 
--- src/getter.rt:35:15
 cast-len : tie.Need-cast-len
 cast-len c = search needs
 
--- src/getter.rt:36:5
 copy-requires : tie.Need-copy-requires
 copy-requires c κs = let z = stands (c .before .before .before .before .before .pre) (c .before .before .before .if1 .left) in ((z .from-inside, z .to-inside), z .apart)
 
--- src/getter.rt:27:1
 same-length : tie.Need-same-length
 same-length c = search needs
 
--- src/getter.rt:27:1
 returns-2 : tie.Need-returns-2
 returns-2 c = λ s left l. var-done (c .before .before .before .before .before .before .if1 .left) (c .before .before .before .before .before .before .before .before .pre .base) (c .before .before .copy .ensures)
 

@@ -7,6 +7,7 @@ use native.Mathlib.Omega.{arith}
 use denote.Ref.{now}
 use Rattle.walk.specs.Puts.{aList, aPair}
 use Rattle.walk.specs.GetEnter.{lent-start}
+use Rattle.walk.specs.Subjects.{got-whole}
 use Rattle.walk.specs.PutEnter.{put-refused, put-body, body-ready, node-few}
 use Rattle.walk.specs.PutLeaf.{leaf-ready, false-gives, true-gives, empty-gives, number-gives}
 use Rattle.walk.specs.PutTwo.{both-ready₁, both-ready₂, both-few, both-sum, both-refused₁, both-refused₂, both-done, front-51, pair-51, front-ready, pair-ready, front-both, pair-both}
@@ -66,10 +67,10 @@ use Rattle.value.proofs.high.Reads as high-reads
 use Rattle.value.proofs.low.Reads as low-reads
 use Rattle.value.proofs.second_part.Reads as second-part-reads
 use Rattle.value.proofs.shape_of.Reads as shape-of-reads
+use Rattle.walk.proofs.getter.look.Reads as look-reads
 use Rattle.step.proofs.place_of.Reads as place-of-reads
 use Rattle.walk.proofs.bytes.rebuild.Reads as rebuild-reads
 use Rattle.walk.proofs.getter.get_node.Reads as get-node-reads
-use Rattle.walk.proofs.getter.get_subject.Reads as get-subject-reads
 use Rattle.step.proofs.choose.Reads as choose-reads
 use Rattle.step.proofs.add_two.Reads as add-two-reads
 use Rattle.step.proofs.pick_cells.Reads as pick-cells-reads
@@ -235,7 +236,7 @@ abbrev put-front-claims : ℕ → put-front-lts.Claims
 put-front-claims t = (shape-of-reads.Asked, shape-of-reads.Learnt, first-part-reads.Asked, first-part-reads.Learnt, second-part-reads.Asked, second-part-reads.Learnt, put-both-below t, put-both.Post)
 
 abbrev put-list-case-claims : ℕ → put-list-case-lts.Claims
-put-list-case-claims t = (get-subject-reads.Asked, get-subject-reads.Learnt, choose-reads.Asked, choose-reads.Learnt, put-both-below t, put-both.Post, put-switch-below t, put-switch.Post, put-under-below t, put-under.Post)
+put-list-case-claims t = (get-node-reads.Asked, get-node-reads.Learnt, look-reads.Asked, look-reads.Learnt, choose-reads.Asked, choose-reads.Learnt, put-both-below t, put-both.Post, put-switch-below t, put-switch.Post, put-under-below t, put-under.Post)
 
 abbrev put-node-claims : ℕ → put-node-lts.Claims
 put-node-claims t = (entry-reads.Asked, entry-reads.Learnt, node-at-reads.Asked, node-at-reads.Learnt, put-var-reads.Asked, put-var-reads.Learnt, put-constant-reads.Asked, put-constant-reads.Learnt, put-number-reads.Asked, put-number-reads.Learnt, put-front-below t, put-front.Post, put-pair-below t, put-pair.Post, put-list-case-below t, put-list-case.Post, put-truth-case-below t, put-truth-case.Post, put-split-below t, put-split.Post, put-call-below t, put-call.Post, put-add-below t, put-add.Post)
@@ -247,13 +248,13 @@ abbrev put-rebuilt-claims : ℕ → put-rebuilt-lts.Claims
 put-rebuilt-claims t = (place-of-reads.Asked, place-of-reads.Learnt, unfit-reads.Asked, unfit-reads.Learnt, rebuild-reads.Asked, rebuild-reads.Learnt, put-node-below t, put-node.Post)
 
 abbrev put-split-claims : ℕ → put-split-lts.Claims
-put-split-claims t = (get-subject-reads.Asked, get-subject-reads.Learnt, put-under-below t, put-under.Post)
+put-split-claims t = (get-node-reads.Asked, get-node-reads.Learnt, look-reads.Asked, look-reads.Learnt, put-under-below t, put-under.Post)
 
 abbrev put-switch-claims : ℕ → put-switch-lts.Claims
 put-switch-claims t = (empty-reads.Asked, empty-reads.Learnt, get-node-reads.Asked, get-node-reads.Learnt, put-under-below t, put-under.Post)
 
 abbrev put-truth-case-claims : ℕ → put-truth-case-lts.Claims
-put-truth-case-claims t = (get-subject-reads.Asked, get-subject-reads.Learnt, choose-reads.Asked, choose-reads.Learnt, put-both-below t, put-both.Post)
+put-truth-case-claims t = (get-node-reads.Asked, get-node-reads.Learnt, look-reads.Asked, look-reads.Learnt, choose-reads.Asked, choose-reads.Learnt, put-both-below t, put-both.Post)
 
 abbrev put-under-claims : ℕ → put-under-lts.Claims
 put-under-claims t = (push-two-reads.Asked, push-two-reads.Learnt, add-two-reads.Asked, add-two-reads.Learnt, put-node-below t, put-node.Post, put-rebuilt-below t, put-rebuilt.Post)
@@ -431,8 +432,11 @@ put-front-returns-2 t c = front-both (c .before .before .before .before .before 
 put-front-same-length : (t : ℕ) → put-front-lts.Need-same-length (put-front-claims t) (put-front-at t) put-front.Post
 put-front-same-length t c = put-front-returns-2 t c .frame .long
 
-put-list-case-get-subject-requires : (t : ℕ) → put-list-case-lts.Need-get-subject-requires (put-list-case-claims t) (put-list-case-at t) put-list-case.Post
-put-list-case-get-subject-requires t c κs = subject-ready (c .before .before .before .before .pre .1) (c .before .before .before .before .pre .1 .known .1 .subject .inside)
+put-list-case-get-node-requires : (t : ℕ) → put-list-case-lts.Need-get-node-requires (put-list-case-claims t) (put-list-case-at t) put-list-case.Post
+put-list-case-get-node-requires t c κs = subject-ready (c .before .before .before .before .pre .1) (c .before .before .before .before .pre .1 .known .1 .subject .inside)
+
+put-list-case-look-requires : (t : ℕ) → put-list-case-lts.Need-look-requires (put-list-case-claims t) (put-list-case-at t) put-list-case.Post
+put-list-case-look-requires t c κs = got-whole (subject-ready (c .before .before .before .before .before .before .before .before .pre .1) (c .before .before .before .before .before .before .before .before .pre .1 .known .1 .subject .inside)) (c .before .before .before .get-node .ensures)
 
 put-list-case-enum-known-c : (t : ℕ) → put-list-case-lts.Need-enum-known-c (put-list-case-claims t) (put-list-case-at t) put-list-case.Post
 put-list-case-enum-known-c t c = search needs
@@ -440,11 +444,11 @@ put-list-case-enum-known-c t c = search needs
 put-list-case-enum-known-shape : (t : ℕ) → put-list-case-lts.Need-enum-known-shape (put-list-case-claims t) (put-list-case-at t) put-list-case.Post
 put-list-case-enum-known-shape t c = search needs
 
-put-list-case-sub-t29 : (t : ℕ) → put-list-case-lts.Need-sub-t29 (put-list-case-claims t) (put-list-case-at t) put-list-case.Post
-put-list-case-sub-t29 t c = omega (arith, subject-few (c .before .before .before .before .before .before .before .before .before .before .before .pre .1 .base) (c .before .before .before .before .before .before .get-subject .ensures .gives) (c .before .before .before .before .before .before .get-subject .ensures .seen (c .before .before .shape .given .1) .0) (c .before .before .before .before .before .before .before .before .before .before .before .pre .1))
+put-list-case-sub-t32 : (t : ℕ) → put-list-case-lts.Need-sub-t32 (put-list-case-claims t) (put-list-case-at t) put-list-case.Post
+put-list-case-sub-t32 t c = omega (arith, subject-few (c .before .before .before .before .before .before .before .before .before .before .before .before .before .pre .1 .base) (c .before .before .before .before .before .before .before .before .get-node .ensures) (c .before .before .before .before .look .ensures .seen (c .before .before .shape .given .1) .0) (c .before .before .before .before .before .before .before .before .before .before .before .before .before .pre .1))
 
-put-list-case-add-t30 : (t : ℕ) → put-list-case-lts.Need-add-t30 (put-list-case-claims t) (put-list-case-at t) put-list-case.Post
-put-list-case-add-t30 t c = omega (arith, subject-few (c .before .before .before .before .before .before .before .before .before .before .before .pre .1 .base) (c .before .before .before .before .before .before .get-subject .ensures .gives) (c .before .before .before .before .before .before .get-subject .ensures .seen (c .before .before .shape .given .1) .0) (c .before .before .before .before .before .before .before .before .before .before .before .pre .1), c .before .before .before .before .before .before .before .before .before .before .before .pre .1 .room)
+put-list-case-add-t33 : (t : ℕ) → put-list-case-lts.Need-add-t33 (put-list-case-claims t) (put-list-case-at t) put-list-case.Post
+put-list-case-add-t33 t c = omega (arith, subject-few (c .before .before .before .before .before .before .before .before .before .before .before .before .before .pre .1 .base) (c .before .before .before .before .before .before .before .before .get-node .ensures) (c .before .before .before .before .look .ensures .seen (c .before .before .shape .given .1) .0) (c .before .before .before .before .before .before .before .before .before .before .before .before .before .pre .1), c .before .before .before .before .before .before .before .before .before .before .before .before .before .pre .1 .room)
 
 put-list-case-enum-told : (t : ℕ) → put-list-case-lts.Need-enum-told (put-list-case-claims t) (put-list-case-at t) put-list-case.Post
 put-list-case-enum-told t c = search needs
@@ -459,19 +463,19 @@ put-list-case-slice-aggregate-put-both : (t : ℕ) → put-list-case-lts.Need-sl
 put-list-case-slice-aggregate-put-both t c = search needs
 
 put-list-case-add-put-both : (t : ℕ) → put-list-case-lts.Need-add-put-both (put-list-case-claims t) (put-list-case-at t) put-list-case.Post
-put-list-case-add-put-both t c = omega (arith, subject-few (c .before .before .before .before .before .before .before .before .before .before .before .before .before .before .before .before .before .before .before .pre .1 .base) (c .before .before .before .before .before .before .before .before .before .before .before .before .before .before .get-subject .ensures .gives) (c .before .before .before .before .before .before .before .before .before .before .before .before .before .before .get-subject .ensures .seen (c .before .before .before .before .before .before .before .before .before .before .shape .given .1) .0) (c .before .before .before .before .before .before .before .before .before .before .before .before .before .before .before .before .before .before .before .pre .1), c .before .before .before .before .before .before .before .before .before .before .before .before .before .before .before .before .before .before .before .pre .1 .few)
+put-list-case-add-put-both t c = omega (arith, subject-few (c .before .before .before .before .before .before .before .before .before .before .before .before .before .before .before .before .before .before .before .before .before .pre .1 .base) (c .before .before .before .before .before .before .before .before .before .before .before .before .before .before .before .before .get-node .ensures) (c .before .before .before .before .before .before .before .before .before .before .before .before .look .ensures .seen (c .before .before .before .before .before .before .before .before .before .before .shape .given .1) .0) (c .before .before .before .before .before .before .before .before .before .before .before .before .before .before .before .before .before .before .before .before .before .pre .1), c .before .before .before .before .before .before .before .before .before .before .before .before .before .before .before .before .before .before .before .before .before .pre .1 .few)
 
 put-list-case-put-both-requires : (t : ℕ) → put-list-case-lts.Need-put-both-requires (put-list-case-claims t) (put-list-case-at t) put-list-case.Post
-put-list-case-put-both-requires t c κs = (omega (arith, c .before .before .before .before .before .before .before .before .before .before .before .before .before .before .before .before .before .before .before .pre .0), (after-subject (c .before .before .before .before .before .before .before .before .before .before .before .before .before .before .before .before .before .before .before .pre .1 .base) (c .before .before .before .before .before .before .before .before .before .before .before .before .before .before .get-subject .ensures .gives) (c .before .before .before .before .before .before .before .before .before .before .before .before .before .before .get-subject .ensures .seen (c .before .before .before .before .before .before .before .before .before .before .shape .given .1) .0) (c .before .before .before .before .before .before .before .before .before .before .before .before .before .before .before .before .before .before .before .pre .1) (c .before .before .before .before .before .before .before .before .before .before .before .before .before .before .before .before .before .before .before .pre .1 .known .1 .empty .inside, c .before .before .before .before .before .before .before .before .before .before .before .before .before .before .before .before .before .before .before .pre .1 .known .1 .subject .inside) (omega (arith, subject-few (c .before .before .before .before .before .before .before .before .before .before .before .before .before .before .before .before .before .before .before .pre .1 .base) (c .before .before .before .before .before .before .before .before .before .before .before .before .before .before .get-subject .ensures .gives) (c .before .before .before .before .before .before .before .before .before .before .before .before .before .before .get-subject .ensures .seen (c .before .before .before .before .before .before .before .before .before .before .shape .given .1) .0) (c .before .before .before .before .before .before .before .before .before .before .before .before .before .before .before .before .before .before .before .pre .1))), view-nil))
+put-list-case-put-both-requires t c κs = (omega (arith, c .before .before .before .before .before .before .before .before .before .before .before .before .before .before .before .before .before .before .before .before .before .pre .0), (after-subject (c .before .before .before .before .before .before .before .before .before .before .before .before .before .before .before .before .before .before .before .before .before .pre .1 .base) (c .before .before .before .before .before .before .before .before .before .before .before .before .before .before .before .before .get-node .ensures) (c .before .before .before .before .before .before .before .before .before .before .before .before .look .ensures .seen (c .before .before .before .before .before .before .before .before .before .before .shape .given .1) .0) (c .before .before .before .before .before .before .before .before .before .before .before .before .before .before .before .before .before .before .before .before .before .pre .1) (c .before .before .before .before .before .before .before .before .before .before .before .before .before .before .before .before .before .before .before .before .before .pre .1 .known .1 .empty .inside, c .before .before .before .before .before .before .before .before .before .before .before .before .before .before .before .before .before .before .before .before .before .pre .1 .known .1 .subject .inside) (omega (arith, subject-few (c .before .before .before .before .before .before .before .before .before .before .before .before .before .before .before .before .before .before .before .before .before .pre .1 .base) (c .before .before .before .before .before .before .before .before .before .before .before .before .before .before .before .before .get-node .ensures) (c .before .before .before .before .before .before .before .before .before .before .before .before .look .ensures .seen (c .before .before .before .before .before .before .before .before .before .before .shape .given .1) .0) (c .before .before .before .before .before .before .before .before .before .before .before .before .before .before .before .before .before .before .before .before .before .pre .1))), view-nil))
 
 put-list-case-enum-told-3 : (t : ℕ) → put-list-case-lts.Need-enum-told-3 (put-list-case-claims t) (put-list-case-at t) put-list-case.Post
 put-list-case-enum-told-3 t c = search needs
 
 put-list-case-add-put-switch : (t : ℕ) → put-list-case-lts.Need-add-put-switch (put-list-case-claims t) (put-list-case-at t) put-list-case.Post
-put-list-case-add-put-switch t c = omega (arith, subject-few (c .before .before .before .before .before .before .before .before .before .before .before .before .before .before .before .before .before .before .pre .1 .base) (c .before .before .before .before .before .before .before .before .before .before .before .before .before .get-subject .ensures .gives) (c .before .before .before .before .before .before .before .before .before .before .before .before .before .get-subject .ensures .seen (c .before .before .before .before .before .before .before .before .before .shape .given .1) .0) (c .before .before .before .before .before .before .before .before .before .before .before .before .before .before .before .before .before .before .pre .1), c .before .before .before .before .before .before .before .before .before .before .before .before .before .before .before .before .before .before .pre .1 .few)
+put-list-case-add-put-switch t c = omega (arith, subject-few (c .before .before .before .before .before .before .before .before .before .before .before .before .before .before .before .before .before .before .before .before .pre .1 .base) (c .before .before .before .before .before .before .before .before .before .before .before .before .before .before .before .get-node .ensures) (c .before .before .before .before .before .before .before .before .before .before .before .look .ensures .seen (c .before .before .before .before .before .before .before .before .before .shape .given .1) .0) (c .before .before .before .before .before .before .before .before .before .before .before .before .before .before .before .before .before .before .before .before .pre .1), c .before .before .before .before .before .before .before .before .before .before .before .before .before .before .before .before .before .before .before .before .pre .1 .few)
 
 put-list-case-put-switch-requires : (t : ℕ) → put-list-case-lts.Need-put-switch-requires (put-list-case-claims t) (put-list-case-at t) put-list-case.Post
-put-list-case-put-switch-requires t c κs = (omega (arith, c .before .before .before .before .before .before .before .before .before .before .before .before .before .before .before .before .before .before .pre .0), (after-subject (c .before .before .before .before .before .before .before .before .before .before .before .before .before .before .before .before .before .before .pre .1 .base) (c .before .before .before .before .before .before .before .before .before .before .before .before .before .get-subject .ensures .gives) (c .before .before .before .before .before .before .before .before .before .before .before .before .before .get-subject .ensures .seen (c .before .before .before .before .before .before .before .before .before .shape .given .1) .0) (c .before .before .before .before .before .before .before .before .before .before .before .before .before .before .before .before .before .before .pre .1) ((c .before .before .before .before .before .before .before .before .before .before .before .before .before .before .before .before .before .before .pre .1 .known .1 .front .inside, c .before .before .before .before .before .before .before .before .before .before .before .before .before .before .before .before .before .before .pre .1 .known .1 .subject .inside), (c .before .before .before .before .before .before .before .before .before .before .before .before .before .before .before .before .before .before .pre .1 .known .1 .first .inside, c .before .before .before .before .before .before .before .before .before .before .before .before .before .before .before .before .before .before .pre .1 .known .1 .rest .inside)) (omega (arith, subject-few (c .before .before .before .before .before .before .before .before .before .before .before .before .before .before .before .before .before .before .pre .1 .base) (c .before .before .before .before .before .before .before .before .before .before .before .before .before .get-subject .ensures .gives) (c .before .before .before .before .before .before .before .before .before .before .before .before .before .get-subject .ensures .seen (c .before .before .before .before .before .before .before .before .before .shape .given .1) .0) (c .before .before .before .before .before .before .before .before .before .before .before .before .before .before .before .before .before .before .pre .1))), (inner (c .before .before .before .before .before .before .before .before .before .before .before .before .before .before .before .before .before .before .pre .1 .base) (c .before .before .before .before .before .before .before .before .before .before .before .before .before .get-subject .ensures .gives) (c .before .before .before .before .before .before .before .before .before .before .before .before .before .get-subject .ensures .seen (c .before .before .before .before .before .before .before .before .before .shape .given .1) .0) (c .before .before .before .before .before .before .before .before .before .before .before .before .before .before .before .before .before .before .pre .1), switch-room (c .before .before .before .before .before .before .before .before .before .before .before .before .before .before .before .before .before .before .pre .1 .base) (c .before .before .before .before .before .before .before .before .before .before .before .before .before .get-subject .ensures .gives) (c .before .before .before .before .before .before .before .before .before .before .before .before .before .get-subject .ensures .seen (c .before .before .before .before .before .before .before .before .before .shape .given .1) .0) (c .before .before .before .before .before .before .before .before .before .before .before .before .before .get-subject .ensures .seen (c .before .before .before .before .before .before .before .before .before .shape .given .1) .1) (c .before .before .before .before .before .before .before .before .before .before .before .before .before .before .before .before .before .before .pre .1) (c .before .before .before .before .before .enum-told .given .1))))
+put-list-case-put-switch-requires t c κs = (omega (arith, c .before .before .before .before .before .before .before .before .before .before .before .before .before .before .before .before .before .before .before .before .pre .0), (after-subject (c .before .before .before .before .before .before .before .before .before .before .before .before .before .before .before .before .before .before .before .before .pre .1 .base) (c .before .before .before .before .before .before .before .before .before .before .before .before .before .before .before .get-node .ensures) (c .before .before .before .before .before .before .before .before .before .before .before .look .ensures .seen (c .before .before .before .before .before .before .before .before .before .shape .given .1) .0) (c .before .before .before .before .before .before .before .before .before .before .before .before .before .before .before .before .before .before .before .before .pre .1) ((c .before .before .before .before .before .before .before .before .before .before .before .before .before .before .before .before .before .before .before .before .pre .1 .known .1 .front .inside, c .before .before .before .before .before .before .before .before .before .before .before .before .before .before .before .before .before .before .before .before .pre .1 .known .1 .subject .inside), (c .before .before .before .before .before .before .before .before .before .before .before .before .before .before .before .before .before .before .before .before .pre .1 .known .1 .first .inside, c .before .before .before .before .before .before .before .before .before .before .before .before .before .before .before .before .before .before .before .before .pre .1 .known .1 .rest .inside)) (omega (arith, subject-few (c .before .before .before .before .before .before .before .before .before .before .before .before .before .before .before .before .before .before .before .before .pre .1 .base) (c .before .before .before .before .before .before .before .before .before .before .before .before .before .before .before .get-node .ensures) (c .before .before .before .before .before .before .before .before .before .before .before .look .ensures .seen (c .before .before .before .before .before .before .before .before .before .shape .given .1) .0) (c .before .before .before .before .before .before .before .before .before .before .before .before .before .before .before .before .before .before .before .before .pre .1))), (inner (c .before .before .before .before .before .before .before .before .before .before .before .before .before .before .before .before .before .before .before .before .pre .1 .base) (c .before .before .before .before .before .before .before .before .before .before .before .before .before .before .before .get-node .ensures) (c .before .before .before .before .before .before .before .before .before .before .before .look .ensures .seen (c .before .before .before .before .before .before .before .before .before .shape .given .1) .0) (c .before .before .before .before .before .before .before .before .before .before .before .before .before .before .before .before .before .before .before .before .pre .1), switch-room (c .before .before .before .before .before .before .before .before .before .before .before .before .before .before .before .before .before .before .before .before .pre .1 .base) (c .before .before .before .before .before .before .before .before .before .before .before .before .before .before .before .get-node .ensures) (c .before .before .before .before .before .before .before .before .before .before .before .look .ensures .seen (c .before .before .before .before .before .before .before .before .before .shape .given .1) .0) (c .before .before .before .before .before .before .before .before .before .before .before .look .ensures .seen (c .before .before .before .before .before .before .before .before .before .shape .given .1) .1) (c .before .before .before .before .before .before .before .before .before .before .before .before .before .before .before .before .before .before .before .before .pre .1) (c .before .before .before .before .before .enum-told .given .1))))
 
 put-list-case-enum-told-4 : (t : ℕ) → put-list-case-lts.Need-enum-told-4 (put-list-case-claims t) (put-list-case-at t) put-list-case.Post
 put-list-case-enum-told-4 t c = search needs
@@ -489,55 +493,55 @@ put-list-case-slice-aggregate-put-both-2 : (t : ℕ) → put-list-case-lts.Need-
 put-list-case-slice-aggregate-put-both-2 t c = search needs
 
 put-list-case-add-put-both-2 : (t : ℕ) → put-list-case-lts.Need-add-put-both-2 (put-list-case-claims t) (put-list-case-at t) put-list-case.Post
-put-list-case-add-put-both-2 t c = omega (arith, subject-few (c .before .before .before .before .before .before .before .before .before .before .before .before .before .before .before .before .before .before .before .before .pre .1 .base) (c .before .before .before .before .before .before .before .before .before .before .before .before .before .before .before .get-subject .ensures .gives) (c .before .before .before .before .before .before .before .before .before .before .before .before .before .before .before .get-subject .ensures .seen (c .before .before .before .before .before .before .before .before .before .before .before .shape .given .1) .0) (c .before .before .before .before .before .before .before .before .before .before .before .before .before .before .before .before .before .before .before .before .pre .1), c .before .before .before .before .before .before .before .before .before .before .before .before .before .before .before .before .before .before .before .before .pre .1 .few)
+put-list-case-add-put-both-2 t c = omega (arith, subject-few (c .before .before .before .before .before .before .before .before .before .before .before .before .before .before .before .before .before .before .before .before .before .before .pre .1 .base) (c .before .before .before .before .before .before .before .before .before .before .before .before .before .before .before .before .before .get-node .ensures) (c .before .before .before .before .before .before .before .before .before .before .before .before .before .look .ensures .seen (c .before .before .before .before .before .before .before .before .before .before .before .shape .given .1) .0) (c .before .before .before .before .before .before .before .before .before .before .before .before .before .before .before .before .before .before .before .before .before .before .pre .1), c .before .before .before .before .before .before .before .before .before .before .before .before .before .before .before .before .before .before .before .before .before .before .pre .1 .few)
 
 put-list-case-put-both-requires-2 : (t : ℕ) → put-list-case-lts.Need-put-both-requires-2 (put-list-case-claims t) (put-list-case-at t) put-list-case.Post
-put-list-case-put-both-requires-2 t c κs = (omega (arith, c .before .before .before .before .before .before .before .before .before .before .before .before .before .before .before .before .before .before .before .before .pre .0), (after-subject (c .before .before .before .before .before .before .before .before .before .before .before .before .before .before .before .before .before .before .before .before .pre .1 .base) (c .before .before .before .before .before .before .before .before .before .before .before .before .before .before .before .get-subject .ensures .gives) (c .before .before .before .before .before .before .before .before .before .before .before .before .before .before .before .get-subject .ensures .seen (c .before .before .before .before .before .before .before .before .before .before .before .shape .given .1) .0) (c .before .before .before .before .before .before .before .before .before .before .before .before .before .before .before .before .before .before .before .before .pre .1) (c .before .before .before .before .before .before .before .before .before .before .before .before .before .before .before .before .before .before .before .before .pre .1 .known .1 .empty .inside, c .before .before .before .before .before .before .before .before .before .before .before .before .before .before .before .before .before .before .before .before .pre .1 .known .1 .subject .inside) (omega (arith, subject-few (c .before .before .before .before .before .before .before .before .before .before .before .before .before .before .before .before .before .before .before .before .pre .1 .base) (c .before .before .before .before .before .before .before .before .before .before .before .before .before .before .before .get-subject .ensures .gives) (c .before .before .before .before .before .before .before .before .before .before .before .before .before .before .before .get-subject .ensures .seen (c .before .before .before .before .before .before .before .before .before .before .before .shape .given .1) .0) (c .before .before .before .before .before .before .before .before .before .before .before .before .before .before .before .before .before .before .before .before .pre .1))), view-nil))
+put-list-case-put-both-requires-2 t c κs = (omega (arith, c .before .before .before .before .before .before .before .before .before .before .before .before .before .before .before .before .before .before .before .before .before .before .pre .0), (after-subject (c .before .before .before .before .before .before .before .before .before .before .before .before .before .before .before .before .before .before .before .before .before .before .pre .1 .base) (c .before .before .before .before .before .before .before .before .before .before .before .before .before .before .before .before .before .get-node .ensures) (c .before .before .before .before .before .before .before .before .before .before .before .before .before .look .ensures .seen (c .before .before .before .before .before .before .before .before .before .before .before .shape .given .1) .0) (c .before .before .before .before .before .before .before .before .before .before .before .before .before .before .before .before .before .before .before .before .before .before .pre .1) (c .before .before .before .before .before .before .before .before .before .before .before .before .before .before .before .before .before .before .before .before .before .before .pre .1 .known .1 .empty .inside, c .before .before .before .before .before .before .before .before .before .before .before .before .before .before .before .before .before .before .before .before .before .before .pre .1 .known .1 .subject .inside) (omega (arith, subject-few (c .before .before .before .before .before .before .before .before .before .before .before .before .before .before .before .before .before .before .before .before .before .before .pre .1 .base) (c .before .before .before .before .before .before .before .before .before .before .before .before .before .before .before .before .before .get-node .ensures) (c .before .before .before .before .before .before .before .before .before .before .before .before .before .look .ensures .seen (c .before .before .before .before .before .before .before .before .before .before .before .shape .given .1) .0) (c .before .before .before .before .before .before .before .before .before .before .before .before .before .before .before .before .before .before .before .before .before .before .pre .1))), view-nil))
 
 put-list-case-enum-told-6 : (t : ℕ) → put-list-case-lts.Need-enum-told-6 (put-list-case-claims t) (put-list-case-at t) put-list-case.Post
 put-list-case-enum-told-6 t c = search needs
 
 put-list-case-add-put-under : (t : ℕ) → put-list-case-lts.Need-add-put-under (put-list-case-claims t) (put-list-case-at t) put-list-case.Post
-put-list-case-add-put-under t c = omega (arith, c .before .before .before .before .before .before .before .before .before .before .before .before .before .before .before .before .before .before .before .pre .1 .room)
+put-list-case-add-put-under t c = omega (arith, c .before .before .before .before .before .before .before .before .before .before .before .before .before .before .before .before .before .before .before .before .before .pre .1 .room)
 
 put-list-case-sub-put-under : (t : ℕ) → put-list-case-lts.Need-sub-put-under (put-list-case-claims t) (put-list-case-at t) put-list-case.Post
-put-list-case-sub-put-under t c = omega (arith, front-inside (c .before .before .before .before .before .before .before .before .before .before .before .before .before .before .before .before .before .before .before .pre .1 .base) (c .before .before .before .before .before .before .before .before .before .before .before .before .before .before .get-subject .ensures .gives) (c .before .before .before .before .before .before .before .before .before .before .before .before .before .before .get-subject .ensures .seen (c .before .before .before .before .before .before .before .before .before .before .shape .given .1) .0) (c .before .before .before .before .before .before .before .before .before .before .before .before .before .before .get-subject .ensures .seen (c .before .before .before .before .before .before .before .before .before .before .shape .given .1) .1) (c .before .before .before .before .before .before .before .before .before .before .before .before .before .before .before .before .before .before .before .pre .1) (c .before .before .before .before .before .before .shape2 .given .1))
+put-list-case-sub-put-under t c = omega (arith, front-inside (c .before .before .before .before .before .before .before .before .before .before .before .before .before .before .before .before .before .before .before .before .before .pre .1 .base) (c .before .before .before .before .before .before .before .before .before .before .before .before .before .before .before .before .get-node .ensures) (c .before .before .before .before .before .before .before .before .before .before .before .before .look .ensures .seen (c .before .before .before .before .before .before .before .before .before .before .shape .given .1) .0) (c .before .before .before .before .before .before .before .before .before .before .before .before .look .ensures .seen (c .before .before .before .before .before .before .before .before .before .before .shape .given .1) .1) (c .before .before .before .before .before .before .before .before .before .before .before .before .before .before .before .before .before .before .before .before .before .pre .1) (c .before .before .before .before .before .before .shape2 .given .1))
 
 put-list-case-sub-put-under-2 : (t : ℕ) → put-list-case-lts.Need-sub-put-under-2 (put-list-case-claims t) (put-list-case-at t) put-list-case.Post
-put-list-case-sub-put-under-2 t c = omega (arith, front-inside (c .before .before .before .before .before .before .before .before .before .before .before .before .before .before .before .before .before .before .before .pre .1 .base) (c .before .before .before .before .before .before .before .before .before .before .before .before .before .before .get-subject .ensures .gives) (c .before .before .before .before .before .before .before .before .before .before .before .before .before .before .get-subject .ensures .seen (c .before .before .before .before .before .before .before .before .before .before .shape .given .1) .0) (c .before .before .before .before .before .before .before .before .before .before .before .before .before .before .get-subject .ensures .seen (c .before .before .before .before .before .before .before .before .before .before .shape .given .1) .1) (c .before .before .before .before .before .before .before .before .before .before .before .before .before .before .before .before .before .before .before .pre .1) (c .before .before .before .before .before .before .shape2 .given .1))
+put-list-case-sub-put-under-2 t c = omega (arith, front-inside (c .before .before .before .before .before .before .before .before .before .before .before .before .before .before .before .before .before .before .before .before .before .pre .1 .base) (c .before .before .before .before .before .before .before .before .before .before .before .before .before .before .before .before .get-node .ensures) (c .before .before .before .before .before .before .before .before .before .before .before .before .look .ensures .seen (c .before .before .before .before .before .before .before .before .before .before .shape .given .1) .0) (c .before .before .before .before .before .before .before .before .before .before .before .before .look .ensures .seen (c .before .before .before .before .before .before .before .before .before .before .shape .given .1) .1) (c .before .before .before .before .before .before .before .before .before .before .before .before .before .before .before .before .before .before .before .before .before .pre .1) (c .before .before .before .before .before .before .shape2 .given .1))
 
 put-list-case-add-put-under-2 : (t : ℕ) → put-list-case-lts.Need-add-put-under-2 (put-list-case-claims t) (put-list-case-at t) put-list-case.Post
-put-list-case-add-put-under-2 t c = omega (arith, subject-few (c .before .before .before .before .before .before .before .before .before .before .before .before .before .before .before .before .before .before .before .pre .1 .base) (c .before .before .before .before .before .before .before .before .before .before .before .before .before .before .get-subject .ensures .gives) (c .before .before .before .before .before .before .before .before .before .before .before .before .before .before .get-subject .ensures .seen (c .before .before .before .before .before .before .before .before .before .before .shape .given .1) .0) (c .before .before .before .before .before .before .before .before .before .before .before .before .before .before .before .before .before .before .before .pre .1), c .before .before .before .before .before .before .before .before .before .before .before .before .before .before .before .before .before .before .before .pre .1 .few)
+put-list-case-add-put-under-2 t c = omega (arith, subject-few (c .before .before .before .before .before .before .before .before .before .before .before .before .before .before .before .before .before .before .before .before .before .pre .1 .base) (c .before .before .before .before .before .before .before .before .before .before .before .before .before .before .before .before .get-node .ensures) (c .before .before .before .before .before .before .before .before .before .before .before .before .look .ensures .seen (c .before .before .before .before .before .before .before .before .before .before .shape .given .1) .0) (c .before .before .before .before .before .before .before .before .before .before .before .before .before .before .before .before .before .before .before .before .before .pre .1), c .before .before .before .before .before .before .before .before .before .before .before .before .before .before .before .before .before .before .before .before .before .pre .1 .few)
 
 put-list-case-put-under-requires : (t : ℕ) → put-list-case-lts.Need-put-under-requires (put-list-case-claims t) (put-list-case-at t) put-list-case.Post
-put-list-case-put-under-requires t c κs = (omega (arith, c .before .before .before .before .before .before .before .before .before .before .before .before .before .before .before .before .before .before .before .pre .0), (after-subject (c .before .before .before .before .before .before .before .before .before .before .before .before .before .before .before .before .before .before .before .pre .1 .base) (c .before .before .before .before .before .before .before .before .before .before .before .before .before .before .get-subject .ensures .gives) (c .before .before .before .before .before .before .before .before .before .before .before .before .before .before .get-subject .ensures .seen (c .before .before .before .before .before .before .before .before .before .before .shape .given .1) .0) (c .before .before .before .before .before .before .before .before .before .before .before .before .before .before .before .before .before .before .before .pre .1) ((c .before .before .before .before .before .before .before .before .before .before .before .before .before .before .before .before .before .before .before .pre .1 .known .1 .front .inside, c .before .before .before .before .before .before .before .before .before .before .before .before .before .before .before .before .before .before .before .pre .1 .known .1 .subject .inside), aList refl) (omega (arith, subject-few (c .before .before .before .before .before .before .before .before .before .before .before .before .before .before .before .before .before .before .before .pre .1 .base) (c .before .before .before .before .before .before .before .before .before .before .before .before .before .before .get-subject .ensures .gives) (c .before .before .before .before .before .before .before .before .before .before .before .before .before .before .get-subject .ensures .seen (c .before .before .before .before .before .before .before .before .before .before .shape .given .1) .0) (c .before .before .before .before .before .before .before .before .before .before .before .before .before .before .before .before .before .before .before .pre .1))), (inner (c .before .before .before .before .before .before .before .before .before .before .before .before .before .before .before .before .before .before .before .pre .1 .base) (c .before .before .before .before .before .before .before .before .before .before .before .before .before .before .get-subject .ensures .gives) (c .before .before .before .before .before .before .before .before .before .before .before .before .before .before .get-subject .ensures .seen (c .before .before .before .before .before .before .before .before .before .before .shape .given .1) .0) (c .before .before .before .before .before .before .before .before .before .before .before .before .before .before .before .before .before .before .before .pre .1), front-spans (c .before .before .before .before .before .before .before .before .before .before .before .before .before .before .before .before .before .before .before .pre .1 .base) (c .before .before .before .before .before .before .before .before .before .before .before .before .before .before .get-subject .ensures .gives) (c .before .before .before .before .before .before .before .before .before .before .before .before .before .before .get-subject .ensures .seen (c .before .before .before .before .before .before .before .before .before .before .shape .given .1) .0) (c .before .before .before .before .before .before .before .before .before .before .before .before .before .before .get-subject .ensures .seen (c .before .before .before .before .before .before .before .before .before .before .shape .given .1) .1) (c .before .before .before .before .before .before .before .before .before .before .before .before .before .before .before .before .before .before .before .pre .1) (c .before .before .before .before .before .before .shape2 .given .1))))
+put-list-case-put-under-requires t c κs = (omega (arith, c .before .before .before .before .before .before .before .before .before .before .before .before .before .before .before .before .before .before .before .before .before .pre .0), (after-subject (c .before .before .before .before .before .before .before .before .before .before .before .before .before .before .before .before .before .before .before .before .before .pre .1 .base) (c .before .before .before .before .before .before .before .before .before .before .before .before .before .before .before .before .get-node .ensures) (c .before .before .before .before .before .before .before .before .before .before .before .before .look .ensures .seen (c .before .before .before .before .before .before .before .before .before .before .shape .given .1) .0) (c .before .before .before .before .before .before .before .before .before .before .before .before .before .before .before .before .before .before .before .before .before .pre .1) ((c .before .before .before .before .before .before .before .before .before .before .before .before .before .before .before .before .before .before .before .before .before .pre .1 .known .1 .front .inside, c .before .before .before .before .before .before .before .before .before .before .before .before .before .before .before .before .before .before .before .before .before .pre .1 .known .1 .subject .inside), aList refl) (omega (arith, subject-few (c .before .before .before .before .before .before .before .before .before .before .before .before .before .before .before .before .before .before .before .before .before .pre .1 .base) (c .before .before .before .before .before .before .before .before .before .before .before .before .before .before .before .before .get-node .ensures) (c .before .before .before .before .before .before .before .before .before .before .before .before .look .ensures .seen (c .before .before .before .before .before .before .before .before .before .before .shape .given .1) .0) (c .before .before .before .before .before .before .before .before .before .before .before .before .before .before .before .before .before .before .before .before .before .pre .1))), (inner (c .before .before .before .before .before .before .before .before .before .before .before .before .before .before .before .before .before .before .before .before .before .pre .1 .base) (c .before .before .before .before .before .before .before .before .before .before .before .before .before .before .before .before .get-node .ensures) (c .before .before .before .before .before .before .before .before .before .before .before .before .look .ensures .seen (c .before .before .before .before .before .before .before .before .before .before .shape .given .1) .0) (c .before .before .before .before .before .before .before .before .before .before .before .before .before .before .before .before .before .before .before .before .before .pre .1), front-spans (c .before .before .before .before .before .before .before .before .before .before .before .before .before .before .before .before .before .before .before .before .before .pre .1 .base) (c .before .before .before .before .before .before .before .before .before .before .before .before .before .before .before .before .get-node .ensures) (c .before .before .before .before .before .before .before .before .before .before .before .before .look .ensures .seen (c .before .before .before .before .before .before .before .before .before .before .shape .given .1) .0) (c .before .before .before .before .before .before .before .before .before .before .before .before .look .ensures .seen (c .before .before .before .before .before .before .before .before .before .before .shape .given .1) .1) (c .before .before .before .before .before .before .before .before .before .before .before .before .before .before .before .before .before .before .before .before .before .pre .1) (c .before .before .before .before .before .before .shape2 .given .1))))
 
 put-list-case-enum-told-7 : (t : ℕ) → put-list-case-lts.Need-enum-told-7 (put-list-case-claims t) (put-list-case-at t) put-list-case.Post
 put-list-case-enum-told-7 t c = search needs
 
 put-list-case-returns : (t : ℕ) → put-list-case-lts.Need-returns (put-list-case-claims t) (put-list-case-at t) put-list-case.Post
-put-list-case-returns t c = list-refused (c .before .before .before .before .before .before .before .before .before .before .pre .1 .base) (c .before .before .before .before .before .get-subject .ensures .gives) (c .before .before .before .before .before .get-subject .ensures .unseen (c .before .c .given .1))
+put-list-case-returns t c = list-refused (c .before .before .before .before .before .before .before .before .before .before .before .before .pre .1 .base) (c .before .before .before .before .before .before .before .get-node .ensures) (c .before .before .before .look .ensures .unseen (c .before .c .given .1))
 
 put-list-case-returns-2 : (t : ℕ) → put-list-case-lts.Need-returns-2 (put-list-case-claims t) (put-list-case-at t) put-list-case.Post
-put-list-case-returns-2 t c = lists.empty-both (c .before .before .before .before .before .before .before .before .before .before .before .before .before .before .before .before .before .before .before .before .before .before .pre .1 .base) (c .before .before .before .before .before .before .before .before .before .before .before .before .before .before .before .before .before .get-subject .ensures .gives) (c .before .before .before .before .before .before .before .before .before .before .before .before .before .before .before .before .before .get-subject .ensures .seen (c .before .before .before .before .before .before .before .before .before .before .before .before .before .shape .given .1) .0) (c .before .before .before .before .before .before .before .before .before .before .before .before .before .before .before .before .before .get-subject .ensures .seen (c .before .before .before .before .before .before .before .before .before .before .before .before .before .shape .given .1) .1) (c .before .before .before .before .before .before .before .before .before .enum-told .given .1) refl (first-kept _ _ (c .before .before .before .before .before .before .before .before .choose .ensures) (c .before .before .before .before .before .before .enum-told2 .given .1)) (c .before .before .put-both .ensures)
+put-list-case-returns-2 t c = lists.empty-both (c .before .before .before .before .before .before .before .before .before .before .before .before .before .before .before .before .before .before .before .before .before .before .before .before .pre .1 .base) (c .before .before .before .before .before .before .before .before .before .before .before .before .before .before .before .before .before .before .before .get-node .ensures) (c .before .before .before .before .before .before .before .before .before .before .before .before .before .before .before .look .ensures .seen (c .before .before .before .before .before .before .before .before .before .before .before .before .before .shape .given .1) .0) (c .before .before .before .before .before .before .before .before .before .before .before .before .before .before .before .look .ensures .seen (c .before .before .before .before .before .before .before .before .before .before .before .before .before .shape .given .1) .1) (c .before .before .before .before .before .before .before .before .before .enum-told .given .1) refl (first-kept _ _ (c .before .before .before .before .before .before .before .before .choose .ensures) (c .before .before .before .before .before .before .enum-told2 .given .1)) (c .before .before .put-both .ensures)
 
 put-list-case-returns-3 : (t : ℕ) → put-list-case-lts.Need-returns-3 (put-list-case-claims t) (put-list-case-at t) put-list-case.Post
-put-list-case-returns-3 t c = let w = first-left _ _ (c .before .before .before .before .before .before .before .choose .ensures) (c .before .before .before .before .before .enum-told3 .given .1) in lists.empty-switch (c .before .before .before .before .before .before .before .before .before .before .before .before .before .before .before .before .before .before .before .before .before .pre .1 .base) (c .before .before .before .before .before .before .before .before .before .before .before .before .before .before .before .before .get-subject .ensures .gives) (c .before .before .before .before .before .before .before .before .before .before .before .before .before .before .before .before .get-subject .ensures .seen (c .before .before .before .before .before .before .before .before .before .before .before .before .shape .given .1) .0) (c .before .before .before .before .before .before .before .before .before .before .before .before .before .before .before .before .get-subject .ensures .seen (c .before .before .before .before .before .before .before .before .before .before .before .before .shape .given .1) .1) (c .before .before .before .before .before .before .before .before .enum-told .given .1) refl (w .0) refl (w .1) (c .before .before .put-switch .ensures)
+put-list-case-returns-3 t c = let w = first-left _ _ (c .before .before .before .before .before .before .before .choose .ensures) (c .before .before .before .before .before .enum-told3 .given .1) in lists.empty-switch (c .before .before .before .before .before .before .before .before .before .before .before .before .before .before .before .before .before .before .before .before .before .before .before .pre .1 .base) (c .before .before .before .before .before .before .before .before .before .before .before .before .before .before .before .before .before .before .get-node .ensures) (c .before .before .before .before .before .before .before .before .before .before .before .before .before .before .look .ensures .seen (c .before .before .before .before .before .before .before .before .before .before .before .before .shape .given .1) .0) (c .before .before .before .before .before .before .before .before .before .before .before .before .before .before .look .ensures .seen (c .before .before .before .before .before .before .before .before .before .before .before .before .shape .given .1) .1) (c .before .before .before .before .before .before .before .before .enum-told .given .1) refl (w .0) refl (w .1) (c .before .before .put-switch .ensures)
 
 put-list-case-returns-4 : (t : ℕ) → put-list-case-lts.Need-returns-4 (put-list-case-claims t) (put-list-case-at t) put-list-case.Post
-put-list-case-returns-4 t c = let w = none-says _ _ _ (c .before .before .choose .ensures) (c .enum-told4 .given .1) in lists.empty-53 (c .before .before .before .before .before .before .before .before .before .before .before .before .before .before .before .before .pre .1 .base) (c .before .before .before .before .before .before .before .before .before .before .before .get-subject .ensures .gives) (c .before .before .before .before .before .before .before .before .before .before .before .get-subject .ensures .seen (c .before .before .before .before .before .before .before .shape .given .1) .0) (c .before .before .before .before .before .before .before .before .before .before .before .get-subject .ensures .seen (c .before .before .before .before .before .before .before .shape .given .1) .1) (c .before .before .before .enum-told .given .1) refl (w .0) refl (w .1)
+put-list-case-returns-4 t c = let w = none-says _ _ _ (c .before .before .choose .ensures) (c .enum-told4 .given .1) in lists.empty-53 (c .before .before .before .before .before .before .before .before .before .before .before .before .before .before .before .before .before .before .pre .1 .base) (c .before .before .before .before .before .before .before .before .before .before .before .before .before .get-node .ensures) (c .before .before .before .before .before .before .before .before .before .look .ensures .seen (c .before .before .before .before .before .before .before .shape .given .1) .0) (c .before .before .before .before .before .before .before .before .before .look .ensures .seen (c .before .before .before .before .before .before .before .shape .given .1) .1) (c .before .before .before .enum-told .given .1) refl (w .0) refl (w .1)
 
 put-list-case-returns-5 : (t : ℕ) → put-list-case-lts.Need-returns-5 (put-list-case-claims t) (put-list-case-at t) put-list-case.Post
-put-list-case-returns-5 t c = let w = second-left _ _ (c .before .before .before .before .before .before .before .before .choose2 .ensures) (c .before .before .before .before .before .before .enum-told5 .given .1) in lists.front-both (c .before .before .before .before .before .before .before .before .before .before .before .before .before .before .before .before .before .before .before .before .before .before .before .pre .1 .base) (c .before .before .before .before .before .before .before .before .before .before .before .before .before .before .before .before .before .before .get-subject .ensures .gives) (c .before .before .before .before .before .before .before .before .before .before .before .before .before .before .before .before .before .before .get-subject .ensures .seen (c .before .before .before .before .before .before .before .before .before .before .before .before .before .before .shape .given .1) .0) (c .before .before .before .before .before .before .before .before .before .before .before .before .before .before .before .before .before .before .get-subject .ensures .seen (c .before .before .before .before .before .before .before .before .before .before .before .before .before .before .shape .given .1) .1) (c .before .before .before .before .before .before .before .before .before .before .shape2 .given .1) refl (w .0) refl (w .1) (c .before .before .put-both2 .ensures)
+put-list-case-returns-5 t c = let w = second-left _ _ (c .before .before .before .before .before .before .before .before .choose2 .ensures) (c .before .before .before .before .before .before .enum-told5 .given .1) in lists.front-both (c .before .before .before .before .before .before .before .before .before .before .before .before .before .before .before .before .before .before .before .before .before .before .before .before .before .pre .1 .base) (c .before .before .before .before .before .before .before .before .before .before .before .before .before .before .before .before .before .before .before .before .get-node .ensures) (c .before .before .before .before .before .before .before .before .before .before .before .before .before .before .before .before .look .ensures .seen (c .before .before .before .before .before .before .before .before .before .before .before .before .before .before .shape .given .1) .0) (c .before .before .before .before .before .before .before .before .before .before .before .before .before .before .before .before .look .ensures .seen (c .before .before .before .before .before .before .before .before .before .before .before .before .before .before .shape .given .1) .1) (c .before .before .before .before .before .before .before .before .before .before .shape2 .given .1) refl (w .0) refl (w .1) (c .before .before .put-both2 .ensures)
 
 put-list-case-returns-6 : (t : ℕ) → put-list-case-lts.Need-returns-6 (put-list-case-claims t) (put-list-case-at t) put-list-case.Post
-put-list-case-returns-6 t c = lists.front-under (c .before .before .before .before .before .before .before .before .before .before .before .before .before .before .before .before .before .before .before .before .before .before .pre .1 .base) (c .before .before .before .before .before .before .before .before .before .before .before .before .before .before .before .before .before .get-subject .ensures .gives) (c .before .before .before .before .before .before .before .before .before .before .before .before .before .before .before .before .before .get-subject .ensures .seen (c .before .before .before .before .before .before .before .before .before .before .before .before .before .shape .given .1) .0) (c .before .before .before .before .before .before .before .before .before .before .before .before .before .before .before .before .before .get-subject .ensures .seen (c .before .before .before .before .before .before .before .before .before .before .before .before .before .shape .given .1) .1) (c .before .before .before .before .before .before .before .before .before .shape2 .given .1) refl (c .before .before .before .before .before .before .before .before .before .before .before .before .before .before .before .before .before .before .before .before .before .before .pre .1) (second-kept _ _ (c .before .before .before .before .before .before .before .choose2 .ensures) (c .before .before .before .before .before .enum-told6 .given .1)) (c .before .before .put-under .ensures)
+put-list-case-returns-6 t c = lists.front-under (c .before .before .before .before .before .before .before .before .before .before .before .before .before .before .before .before .before .before .before .before .before .before .before .before .pre .1 .base) (c .before .before .before .before .before .before .before .before .before .before .before .before .before .before .before .before .before .before .before .get-node .ensures) (c .before .before .before .before .before .before .before .before .before .before .before .before .before .before .before .look .ensures .seen (c .before .before .before .before .before .before .before .before .before .before .before .before .before .shape .given .1) .0) (c .before .before .before .before .before .before .before .before .before .before .before .before .before .before .before .look .ensures .seen (c .before .before .before .before .before .before .before .before .before .before .before .before .before .shape .given .1) .1) (c .before .before .before .before .before .before .before .before .before .shape2 .given .1) refl (c .before .before .before .before .before .before .before .before .before .before .before .before .before .before .before .before .before .before .before .before .before .before .before .before .pre .1) (second-kept _ _ (c .before .before .before .before .before .before .before .choose2 .ensures) (c .before .before .before .before .before .enum-told6 .given .1)) (c .before .before .put-under .ensures)
 
 put-list-case-returns-7 : (t : ℕ) → put-list-case-lts.Need-returns-7 (put-list-case-claims t) (put-list-case-at t) put-list-case.Post
-put-list-case-returns-7 t c = let w = none-says _ _ _ (c .before .before .choose2 .ensures) (c .enum-told7 .given .1) in lists.front-53 (c .before .before .before .before .before .before .before .before .before .before .before .before .before .before .before .before .before .pre .1 .base) (c .before .before .before .before .before .before .before .before .before .before .before .before .get-subject .ensures .gives) (c .before .before .before .before .before .before .before .before .before .before .before .before .get-subject .ensures .seen (c .before .before .before .before .before .before .before .before .shape .given .1) .0) (c .before .before .before .before .before .before .before .before .before .before .before .before .get-subject .ensures .seen (c .before .before .before .before .before .before .before .before .shape .given .1) .1) (c .before .before .before .before .shape2 .given .1) refl (w .1) refl (w .0)
+put-list-case-returns-7 t c = let w = none-says _ _ _ (c .before .before .choose2 .ensures) (c .enum-told7 .given .1) in lists.front-53 (c .before .before .before .before .before .before .before .before .before .before .before .before .before .before .before .before .before .before .before .pre .1 .base) (c .before .before .before .before .before .before .before .before .before .before .before .before .before .before .get-node .ensures) (c .before .before .before .before .before .before .before .before .before .before .look .ensures .seen (c .before .before .before .before .before .before .before .before .shape .given .1) .0) (c .before .before .before .before .before .before .before .before .before .before .look .ensures .seen (c .before .before .before .before .before .before .before .before .shape .given .1) .1) (c .before .before .before .before .shape2 .given .1) refl (w .1) refl (w .0)
 
 put-list-case-returns-8 : (t : ℕ) → put-list-case-lts.Need-returns-8 (put-list-case-claims t) (put-list-case-at t) put-list-case.Post
-put-list-case-returns-8 t c = lists.list-43 (c .before .before .before .before .before .before .before .before .before .before .before .before .pre .1 .base) (c .before .before .before .before .before .before .before .get-subject .ensures .gives) (c .before .before .before .before .before .before .before .get-subject .ensures .seen (c .before .before .before .shape .given .1) .0) (c .before .before .before .before .before .before .before .get-subject .ensures .seen (c .before .before .before .shape .given .1) .1) (tags.not-empty _ (c .match2 .keys3)) (tags.not-front _ (c .match2 .keys3))
+put-list-case-returns-8 t c = lists.list-43 (c .before .before .before .before .before .before .before .before .before .before .before .before .before .before .pre .1 .base) (c .before .before .before .before .before .before .before .before .before .get-node .ensures) (c .before .before .before .before .before .look .ensures .seen (c .before .before .before .shape .given .1) .0) (c .before .before .before .before .before .look .ensures .seen (c .before .before .before .shape .given .1) .1) (tags.not-empty _ (c .match2 .keys3)) (tags.not-front _ (c .match2 .keys3))
 
 put-list-case-same-length : (t : ℕ) → put-list-case-lts.Need-same-length (put-list-case-claims t) (put-list-case-at t) put-list-case.Post
 put-list-case-same-length t c = put-list-case-returns t c .frame .long
@@ -821,8 +825,11 @@ put-rebuilt-same-length-2 t c = c .before .before .before .before .before .put-n
 put-rebuilt-returns-4 : (t : ℕ) → put-rebuilt-lts.Need-returns-4 (put-rebuilt-claims t) (put-rebuilt-at t) put-rebuilt.Post
 put-rebuilt-returns-4 t c = λ f u h. rebuilt-done (placed (now (c .before .before .before .before .before .before .before .before .before .before .before .before .before .before .before .before .before .before .before .before .before .before .before .args .lens)) (c .before .before .before .before .before .before .before .before .before .before .before .before .before .before .before .before .before .before .before .before .before .before .before .args .cells .count) (c .before .before .before .before .before .before .before .before .before .before .before .before .before .before .before .before .before .before .before .before .before .before .before .args .start) (c .before .before .before .before .before .before .before .before .before .before .before .before .before .before .before .before .before .before .before .before .before .before .before .args .first) (c .before .before .before .before .before .before .before .before .before .before .before .before .before .before .before .before .before .before .before .before .before .before .before .args .second) (c .before .before .before .before .before .before .before .before .before .before .before .before .before .before .before .before .before .before .before .place-of .ensures .inside (omega (arith, c .before .before .before .before .before .before .before .before .before .before .before .before .before .before .before .before .before .before .before .before .before .before .before .pre .1 .0 .given .written .few))) (c .before .before .before .before .before .before .before .before .before .before .before .before .before .before .before .before .before .place-of2 .ensures .inside (omega (arith, c .before .before .before .before .before .before .before .before .before .before .before .before .before .before .before .before .before .before .before .before .before .before .before .pre .1 .0 .given .written .few)))) (c .before .before .before .before .before .before .before .before .before .before .before .before .before .before .before .before .before .before .before .before .before .before .before .pre .1 .0 .known .1) (c .before .before .before .before .before .before .before .before .before .before .before .before .before .before .before .before .before .before .before .before .before .before .before .pre .1 .0 .base) (omega (arith, c .before .before .before .before .before .before .before .before .before .before .before .before .before .before .before .before .before .before .before .before .before .before .before .pre .1 .0 .room)) h (c .before .before .before .before .before .before .before .before .before .before .before .before .before .before .before .unfit .ensures) (c .before .before .before .before .before .before .before .before .before .before .before .before .before .before .if1 .left) (c .before .before .before .before .before .before .before .before .before .before .before .if2 .left) (c .before .before .before .before .before .before .before .before .before .before .before .before .before .before .before .before .before .before .before .before .before .before .before .pre .1 .0 .long) (c .before .before .before .before .before .before .before .before .before .rebuild .ensures) (c .before .before .before .before .before .put-node .ensures) (c .before .t .given .1)
 
-put-split-get-subject-requires : (t : ℕ) → put-split-lts.Need-get-subject-requires (put-split-claims t) (put-split-at t) put-split.Post
-put-split-get-subject-requires t c κs = subject-ready (c .before .before .before .before .pre .1) (c .before .before .before .before .pre .1 .known .1 .0 .inside)
+put-split-get-node-requires : (t : ℕ) → put-split-lts.Need-get-node-requires (put-split-claims t) (put-split-at t) put-split.Post
+put-split-get-node-requires t c κs = subject-ready (c .before .before .before .before .pre .1) (c .before .before .before .before .pre .1 .known .1 .0 .inside)
+
+put-split-look-requires : (t : ℕ) → put-split-lts.Need-look-requires (put-split-claims t) (put-split-at t) put-split.Post
+put-split-look-requires t c κs = got-whole (subject-ready (c .before .before .before .before .before .before .before .before .pre .1) (c .before .before .before .before .before .before .before .before .pre .1 .known .1 .0 .inside)) (c .before .before .before .get-node .ensures)
 
 put-split-enum-known-c : (t : ℕ) → put-split-lts.Need-enum-known-c (put-split-claims t) (put-split-at t) put-split.Post
 put-split-enum-known-c t c = search needs
@@ -830,38 +837,38 @@ put-split-enum-known-c t c = search needs
 put-split-enum-known-shape : (t : ℕ) → put-split-lts.Need-enum-known-shape (put-split-claims t) (put-split-at t) put-split.Post
 put-split-enum-known-shape t c = search needs
 
-put-split-sub-t22 : (t : ℕ) → put-split-lts.Need-sub-t22 (put-split-claims t) (put-split-at t) put-split.Post
-put-split-sub-t22 t c = omega (arith, subject-few (c .before .before .before .before .before .before .before .before .before .before .before .pre .1 .base) (c .before .before .before .before .before .before .get-subject .ensures .gives) (c .before .before .before .before .before .before .get-subject .ensures .seen (c .before .before .shape .given .1) .0) (c .before .before .before .before .before .before .before .before .before .before .before .pre .1))
+put-split-sub-t25 : (t : ℕ) → put-split-lts.Need-sub-t25 (put-split-claims t) (put-split-at t) put-split.Post
+put-split-sub-t25 t c = omega (arith, subject-few (c .before .before .before .before .before .before .before .before .before .before .before .before .before .pre .1 .base) (c .before .before .before .before .before .before .before .before .get-node .ensures) (c .before .before .before .before .look .ensures .seen (c .before .before .shape .given .1) .0) (c .before .before .before .before .before .before .before .before .before .before .before .before .before .pre .1))
 
-put-split-add-t23 : (t : ℕ) → put-split-lts.Need-add-t23 (put-split-claims t) (put-split-at t) put-split.Post
-put-split-add-t23 t c = omega (arith, subject-few (c .before .before .before .before .before .before .before .before .before .before .before .pre .1 .base) (c .before .before .before .before .before .before .get-subject .ensures .gives) (c .before .before .before .before .before .before .get-subject .ensures .seen (c .before .before .shape .given .1) .0) (c .before .before .before .before .before .before .before .before .before .before .before .pre .1), c .before .before .before .before .before .before .before .before .before .before .before .pre .1 .room)
+put-split-add-t26 : (t : ℕ) → put-split-lts.Need-add-t26 (put-split-claims t) (put-split-at t) put-split.Post
+put-split-add-t26 t c = omega (arith, subject-few (c .before .before .before .before .before .before .before .before .before .before .before .before .before .pre .1 .base) (c .before .before .before .before .before .before .before .before .get-node .ensures) (c .before .before .before .before .look .ensures .seen (c .before .before .shape .given .1) .0) (c .before .before .before .before .before .before .before .before .before .before .before .before .before .pre .1), c .before .before .before .before .before .before .before .before .before .before .before .before .before .pre .1 .room)
 
 put-split-enum-known-shape-2 : (t : ℕ) → put-split-lts.Need-enum-known-shape-2 (put-split-claims t) (put-split-at t) put-split.Post
 put-split-enum-known-shape-2 t c = search needs
 
 put-split-add-put-under : (t : ℕ) → put-split-lts.Need-add-put-under (put-split-claims t) (put-split-at t) put-split.Post
-put-split-add-put-under t c = omega (arith, c .before .before .before .before .before .before .before .before .before .before .before .before .before .before .before .before .pre .1 .room)
+put-split-add-put-under t c = omega (arith, c .before .before .before .before .before .before .before .before .before .before .before .before .before .before .before .before .before .before .pre .1 .room)
 
 put-split-sub-put-under : (t : ℕ) → put-split-lts.Need-sub-put-under (put-split-claims t) (put-split-at t) put-split.Post
-put-split-sub-put-under t c = omega (arith, pair-inside (c .before .before .before .before .before .before .before .before .before .before .before .before .before .before .before .before .pre .1 .base) (c .before .before .before .before .before .before .before .before .before .before .before .get-subject .ensures .gives) (c .before .before .before .before .before .before .before .before .before .before .before .get-subject .ensures .seen (c .before .before .before .before .before .before .before .shape .given .1) .0) (c .before .before .before .before .before .before .before .before .before .before .before .get-subject .ensures .seen (c .before .before .before .before .before .before .before .shape .given .1) .1) (c .before .before .before .before .before .before .before .before .before .before .before .before .before .before .before .before .pre .1) (c .before .before .before .shape2 .given .1))
+put-split-sub-put-under t c = omega (arith, pair-inside (c .before .before .before .before .before .before .before .before .before .before .before .before .before .before .before .before .before .before .pre .1 .base) (c .before .before .before .before .before .before .before .before .before .before .before .before .before .get-node .ensures) (c .before .before .before .before .before .before .before .before .before .look .ensures .seen (c .before .before .before .before .before .before .before .shape .given .1) .0) (c .before .before .before .before .before .before .before .before .before .look .ensures .seen (c .before .before .before .before .before .before .before .shape .given .1) .1) (c .before .before .before .before .before .before .before .before .before .before .before .before .before .before .before .before .before .before .pre .1) (c .before .before .before .shape2 .given .1))
 
 put-split-sub-put-under-2 : (t : ℕ) → put-split-lts.Need-sub-put-under-2 (put-split-claims t) (put-split-at t) put-split.Post
-put-split-sub-put-under-2 t c = omega (arith, pair-inside (c .before .before .before .before .before .before .before .before .before .before .before .before .before .before .before .before .pre .1 .base) (c .before .before .before .before .before .before .before .before .before .before .before .get-subject .ensures .gives) (c .before .before .before .before .before .before .before .before .before .before .before .get-subject .ensures .seen (c .before .before .before .before .before .before .before .shape .given .1) .0) (c .before .before .before .before .before .before .before .before .before .before .before .get-subject .ensures .seen (c .before .before .before .before .before .before .before .shape .given .1) .1) (c .before .before .before .before .before .before .before .before .before .before .before .before .before .before .before .before .pre .1) (c .before .before .before .shape2 .given .1))
+put-split-sub-put-under-2 t c = omega (arith, pair-inside (c .before .before .before .before .before .before .before .before .before .before .before .before .before .before .before .before .before .before .pre .1 .base) (c .before .before .before .before .before .before .before .before .before .before .before .before .before .get-node .ensures) (c .before .before .before .before .before .before .before .before .before .look .ensures .seen (c .before .before .before .before .before .before .before .shape .given .1) .0) (c .before .before .before .before .before .before .before .before .before .look .ensures .seen (c .before .before .before .before .before .before .before .shape .given .1) .1) (c .before .before .before .before .before .before .before .before .before .before .before .before .before .before .before .before .before .before .pre .1) (c .before .before .before .shape2 .given .1))
 
 put-split-add-put-under-2 : (t : ℕ) → put-split-lts.Need-add-put-under-2 (put-split-claims t) (put-split-at t) put-split.Post
-put-split-add-put-under-2 t c = omega (arith, subject-few (c .before .before .before .before .before .before .before .before .before .before .before .before .before .before .before .before .pre .1 .base) (c .before .before .before .before .before .before .before .before .before .before .before .get-subject .ensures .gives) (c .before .before .before .before .before .before .before .before .before .before .before .get-subject .ensures .seen (c .before .before .before .before .before .before .before .shape .given .1) .0) (c .before .before .before .before .before .before .before .before .before .before .before .before .before .before .before .before .pre .1), c .before .before .before .before .before .before .before .before .before .before .before .before .before .before .before .before .pre .1 .few)
+put-split-add-put-under-2 t c = omega (arith, subject-few (c .before .before .before .before .before .before .before .before .before .before .before .before .before .before .before .before .before .before .pre .1 .base) (c .before .before .before .before .before .before .before .before .before .before .before .before .before .get-node .ensures) (c .before .before .before .before .before .before .before .before .before .look .ensures .seen (c .before .before .before .before .before .before .before .shape .given .1) .0) (c .before .before .before .before .before .before .before .before .before .before .before .before .before .before .before .before .before .before .pre .1), c .before .before .before .before .before .before .before .before .before .before .before .before .before .before .before .before .before .before .pre .1 .few)
 
 put-split-put-under-requires : (t : ℕ) → put-split-lts.Need-put-under-requires (put-split-claims t) (put-split-at t) put-split.Post
-put-split-put-under-requires t c κs = (omega (arith, c .before .before .before .before .before .before .before .before .before .before .before .before .before .before .before .before .pre .0), (after-subject (c .before .before .before .before .before .before .before .before .before .before .before .before .before .before .before .before .pre .1 .base) (c .before .before .before .before .before .before .before .before .before .before .before .get-subject .ensures .gives) (c .before .before .before .before .before .before .before .before .before .before .before .get-subject .ensures .seen (c .before .before .before .before .before .before .before .shape .given .1) .0) (c .before .before .before .before .before .before .before .before .before .before .before .before .before .before .before .before .pre .1) ((c .before .before .before .before .before .before .before .before .before .before .before .before .before .before .before .before .pre .1 .known .1 .1 .inside, c .before .before .before .before .before .before .before .before .before .before .before .before .before .before .before .before .pre .1 .known .1 .0 .inside), aPair refl) (omega (arith, subject-few (c .before .before .before .before .before .before .before .before .before .before .before .before .before .before .before .before .pre .1 .base) (c .before .before .before .before .before .before .before .before .before .before .before .get-subject .ensures .gives) (c .before .before .before .before .before .before .before .before .before .before .before .get-subject .ensures .seen (c .before .before .before .before .before .before .before .shape .given .1) .0) (c .before .before .before .before .before .before .before .before .before .before .before .before .before .before .before .before .pre .1))), (inner (c .before .before .before .before .before .before .before .before .before .before .before .before .before .before .before .before .pre .1 .base) (c .before .before .before .before .before .before .before .before .before .before .before .get-subject .ensures .gives) (c .before .before .before .before .before .before .before .before .before .before .before .get-subject .ensures .seen (c .before .before .before .before .before .before .before .shape .given .1) .0) (c .before .before .before .before .before .before .before .before .before .before .before .before .before .before .before .before .pre .1), pair-spans (c .before .before .before .before .before .before .before .before .before .before .before .before .before .before .before .before .pre .1 .base) (c .before .before .before .before .before .before .before .before .before .before .before .get-subject .ensures .gives) (c .before .before .before .before .before .before .before .before .before .before .before .get-subject .ensures .seen (c .before .before .before .before .before .before .before .shape .given .1) .0) (c .before .before .before .before .before .before .before .before .before .before .before .get-subject .ensures .seen (c .before .before .before .before .before .before .before .shape .given .1) .1) (c .before .before .before .before .before .before .before .before .before .before .before .before .before .before .before .before .pre .1) (c .before .before .before .shape2 .given .1))))
+put-split-put-under-requires t c κs = (omega (arith, c .before .before .before .before .before .before .before .before .before .before .before .before .before .before .before .before .before .before .pre .0), (after-subject (c .before .before .before .before .before .before .before .before .before .before .before .before .before .before .before .before .before .before .pre .1 .base) (c .before .before .before .before .before .before .before .before .before .before .before .before .before .get-node .ensures) (c .before .before .before .before .before .before .before .before .before .look .ensures .seen (c .before .before .before .before .before .before .before .shape .given .1) .0) (c .before .before .before .before .before .before .before .before .before .before .before .before .before .before .before .before .before .before .pre .1) ((c .before .before .before .before .before .before .before .before .before .before .before .before .before .before .before .before .before .before .pre .1 .known .1 .1 .inside, c .before .before .before .before .before .before .before .before .before .before .before .before .before .before .before .before .before .before .pre .1 .known .1 .0 .inside), aPair refl) (omega (arith, subject-few (c .before .before .before .before .before .before .before .before .before .before .before .before .before .before .before .before .before .before .pre .1 .base) (c .before .before .before .before .before .before .before .before .before .before .before .before .before .get-node .ensures) (c .before .before .before .before .before .before .before .before .before .look .ensures .seen (c .before .before .before .before .before .before .before .shape .given .1) .0) (c .before .before .before .before .before .before .before .before .before .before .before .before .before .before .before .before .before .before .pre .1))), (inner (c .before .before .before .before .before .before .before .before .before .before .before .before .before .before .before .before .before .before .pre .1 .base) (c .before .before .before .before .before .before .before .before .before .before .before .before .before .get-node .ensures) (c .before .before .before .before .before .before .before .before .before .look .ensures .seen (c .before .before .before .before .before .before .before .shape .given .1) .0) (c .before .before .before .before .before .before .before .before .before .before .before .before .before .before .before .before .before .before .pre .1), pair-spans (c .before .before .before .before .before .before .before .before .before .before .before .before .before .before .before .before .before .before .pre .1 .base) (c .before .before .before .before .before .before .before .before .before .before .before .before .before .get-node .ensures) (c .before .before .before .before .before .before .before .before .before .look .ensures .seen (c .before .before .before .before .before .before .before .shape .given .1) .0) (c .before .before .before .before .before .before .before .before .before .look .ensures .seen (c .before .before .before .before .before .before .before .shape .given .1) .1) (c .before .before .before .before .before .before .before .before .before .before .before .before .before .before .before .before .before .before .pre .1) (c .before .before .before .shape2 .given .1))))
 
 put-split-returns : (t : ℕ) → put-split-lts.Need-returns (put-split-claims t) (put-split-at t) put-split.Post
-put-split-returns t c = split-refused (c .before .before .before .before .before .before .before .before .before .before .pre .1 .base) (c .before .before .before .before .before .get-subject .ensures .gives) (c .before .before .before .before .before .get-subject .ensures .unseen (c .before .c .given .1))
+put-split-returns t c = split-refused (c .before .before .before .before .before .before .before .before .before .before .before .before .pre .1 .base) (c .before .before .before .before .before .before .before .get-node .ensures) (c .before .before .before .look .ensures .unseen (c .before .c .given .1))
 
 put-split-returns-2 : (t : ℕ) → put-split-lts.Need-returns-2 (put-split-claims t) (put-split-at t) put-split.Post
-put-split-returns-2 t c = split-under (c .before .before .before .before .before .before .before .before .before .before .before .before .before .before .before .before .before .before .before .pre .1 .base) (c .before .before .before .before .before .before .before .before .before .before .before .before .before .before .get-subject .ensures .gives) (c .before .before .before .before .before .before .before .before .before .before .before .before .before .before .get-subject .ensures .seen (c .before .before .before .before .before .before .before .before .before .before .shape .given .1) .0) (c .before .before .before .before .before .before .before .before .before .before .before .before .before .before .get-subject .ensures .seen (c .before .before .before .before .before .before .before .before .before .before .shape .given .1) .1) (c .before .before .before .before .before .before .shape2 .given .1) (c .before .before .before .before .before .before .before .before .before .before .before .before .before .before .before .before .before .before .before .pre .1) (c .before .before .put-under .ensures)
+put-split-returns-2 t c = split-under (c .before .before .before .before .before .before .before .before .before .before .before .before .before .before .before .before .before .before .before .before .before .pre .1 .base) (c .before .before .before .before .before .before .before .before .before .before .before .before .before .before .before .before .get-node .ensures) (c .before .before .before .before .before .before .before .before .before .before .before .before .look .ensures .seen (c .before .before .before .before .before .before .before .before .before .before .shape .given .1) .0) (c .before .before .before .before .before .before .before .before .before .before .before .before .look .ensures .seen (c .before .before .before .before .before .before .before .before .before .before .shape .given .1) .1) (c .before .before .before .before .before .before .shape2 .given .1) (c .before .before .before .before .before .before .before .before .before .before .before .before .before .before .before .before .before .before .before .before .before .pre .1) (c .before .before .put-under .ensures)
 
 put-split-returns-3 : (t : ℕ) → put-split-lts.Need-returns-3 (put-split-claims t) (put-split-at t) put-split.Post
-put-split-returns-3 t c = split-43 (c .before .before .before .before .before .before .before .before .before .before .before .before .pre .1 .base) (c .before .before .before .before .before .before .before .get-subject .ensures .gives) (c .before .before .before .before .before .before .before .get-subject .ensures .seen (c .before .before .before .shape .given .1) .0) (c .before .before .before .before .before .before .before .get-subject .ensures .seen (c .before .before .before .shape .given .1) .1) (tags.no-pair _ (c .match2 .keys2))
+put-split-returns-3 t c = split-43 (c .before .before .before .before .before .before .before .before .before .before .before .before .before .before .pre .1 .base) (c .before .before .before .before .before .before .before .before .before .get-node .ensures) (c .before .before .before .before .before .look .ensures .seen (c .before .before .before .shape .given .1) .0) (c .before .before .before .before .before .look .ensures .seen (c .before .before .before .shape .given .1) .1) (tags.no-pair _ (c .match2 .keys2))
 
 put-split-same-length : (t : ℕ) → put-split-lts.Need-same-length (put-split-claims t) (put-split-at t) put-split.Post
 put-split-same-length t c = put-split-returns t c .frame .long
@@ -950,8 +957,11 @@ put-switch-returns-5 t c = switch-under (c .before .before .before .before .befo
 put-switch-same-length-5 : (t : ℕ) → put-switch-lts.Need-same-length-5 (put-switch-claims t) (put-switch-at t) put-switch.Post
 put-switch-same-length-5 t c = put-switch-returns-5 t c .frame .long
 
-put-truth-case-get-subject-requires : (t : ℕ) → put-truth-case-lts.Need-get-subject-requires (put-truth-case-claims t) (put-truth-case-at t) put-truth-case.Post
-put-truth-case-get-subject-requires t c κs = subject-ready (c .before .before .before .before .pre .1) (c .before .before .before .before .pre .1 .known .1 .subject .inside)
+put-truth-case-get-node-requires : (t : ℕ) → put-truth-case-lts.Need-get-node-requires (put-truth-case-claims t) (put-truth-case-at t) put-truth-case.Post
+put-truth-case-get-node-requires t c κs = subject-ready (c .before .before .before .before .pre .1) (c .before .before .before .before .pre .1 .known .1 .subject .inside)
+
+put-truth-case-look-requires : (t : ℕ) → put-truth-case-lts.Need-look-requires (put-truth-case-claims t) (put-truth-case-at t) put-truth-case.Post
+put-truth-case-look-requires t c κs = got-whole (subject-ready (c .before .before .before .before .before .before .before .before .pre .1) (c .before .before .before .before .before .before .before .before .pre .1 .known .1 .subject .inside)) (c .before .before .before .get-node .ensures)
 
 put-truth-case-enum-known-c : (t : ℕ) → put-truth-case-lts.Need-enum-known-c (put-truth-case-claims t) (put-truth-case-at t) put-truth-case.Post
 put-truth-case-enum-known-c t c = search needs
@@ -959,11 +969,11 @@ put-truth-case-enum-known-c t c = search needs
 put-truth-case-enum-known-shape : (t : ℕ) → put-truth-case-lts.Need-enum-known-shape (put-truth-case-claims t) (put-truth-case-at t) put-truth-case.Post
 put-truth-case-enum-known-shape t c = search needs
 
-put-truth-case-sub-t28 : (t : ℕ) → put-truth-case-lts.Need-sub-t28 (put-truth-case-claims t) (put-truth-case-at t) put-truth-case.Post
-put-truth-case-sub-t28 t c = omega (arith, subject-few (c .before .before .before .before .before .before .before .before .before .before .before .pre .1 .base) (c .before .before .before .before .before .before .get-subject .ensures .gives) (c .before .before .before .before .before .before .get-subject .ensures .seen (c .before .before .shape .given .1) .0) (c .before .before .before .before .before .before .before .before .before .before .before .pre .1))
+put-truth-case-sub-t31 : (t : ℕ) → put-truth-case-lts.Need-sub-t31 (put-truth-case-claims t) (put-truth-case-at t) put-truth-case.Post
+put-truth-case-sub-t31 t c = omega (arith, subject-few (c .before .before .before .before .before .before .before .before .before .before .before .before .before .pre .1 .base) (c .before .before .before .before .before .before .before .before .get-node .ensures) (c .before .before .before .before .look .ensures .seen (c .before .before .shape .given .1) .0) (c .before .before .before .before .before .before .before .before .before .before .before .before .before .pre .1))
 
-put-truth-case-add-t29 : (t : ℕ) → put-truth-case-lts.Need-add-t29 (put-truth-case-claims t) (put-truth-case-at t) put-truth-case.Post
-put-truth-case-add-t29 t c = omega (arith, subject-few (c .before .before .before .before .before .before .before .before .before .before .before .pre .1 .base) (c .before .before .before .before .before .before .get-subject .ensures .gives) (c .before .before .before .before .before .before .get-subject .ensures .seen (c .before .before .shape .given .1) .0) (c .before .before .before .before .before .before .before .before .before .before .before .pre .1), c .before .before .before .before .before .before .before .before .before .before .before .pre .1 .room)
+put-truth-case-add-t32 : (t : ℕ) → put-truth-case-lts.Need-add-t32 (put-truth-case-claims t) (put-truth-case-at t) put-truth-case.Post
+put-truth-case-add-t32 t c = omega (arith, subject-few (c .before .before .before .before .before .before .before .before .before .before .before .before .before .pre .1 .base) (c .before .before .before .before .before .before .before .before .get-node .ensures) (c .before .before .before .before .look .ensures .seen (c .before .before .shape .given .1) .0) (c .before .before .before .before .before .before .before .before .before .before .before .before .before .pre .1), c .before .before .before .before .before .before .before .before .before .before .before .before .before .pre .1 .room)
 
 put-truth-case-enum-told : (t : ℕ) → put-truth-case-lts.Need-enum-told (put-truth-case-claims t) (put-truth-case-at t) put-truth-case.Post
 put-truth-case-enum-told t c = search needs
@@ -978,10 +988,10 @@ put-truth-case-slice-aggregate-put-both : (t : ℕ) → put-truth-case-lts.Need-
 put-truth-case-slice-aggregate-put-both t c = search needs
 
 put-truth-case-add-put-both : (t : ℕ) → put-truth-case-lts.Need-add-put-both (put-truth-case-claims t) (put-truth-case-at t) put-truth-case.Post
-put-truth-case-add-put-both t c = omega (arith, subject-few (c .before .before .before .before .before .before .before .before .before .before .before .before .before .before .before .before .before .before .before .pre .1 .base) (c .before .before .before .before .before .before .before .before .before .before .before .before .before .before .get-subject .ensures .gives) (c .before .before .before .before .before .before .before .before .before .before .before .before .before .before .get-subject .ensures .seen (c .before .before .before .before .before .before .before .before .before .before .shape .given .1) .0) (c .before .before .before .before .before .before .before .before .before .before .before .before .before .before .before .before .before .before .before .pre .1), c .before .before .before .before .before .before .before .before .before .before .before .before .before .before .before .before .before .before .before .pre .1 .few)
+put-truth-case-add-put-both t c = omega (arith, subject-few (c .before .before .before .before .before .before .before .before .before .before .before .before .before .before .before .before .before .before .before .before .before .pre .1 .base) (c .before .before .before .before .before .before .before .before .before .before .before .before .before .before .before .before .get-node .ensures) (c .before .before .before .before .before .before .before .before .before .before .before .before .look .ensures .seen (c .before .before .before .before .before .before .before .before .before .before .shape .given .1) .0) (c .before .before .before .before .before .before .before .before .before .before .before .before .before .before .before .before .before .before .before .before .before .pre .1), c .before .before .before .before .before .before .before .before .before .before .before .before .before .before .before .before .before .before .before .before .before .pre .1 .few)
 
 put-truth-case-put-both-requires : (t : ℕ) → put-truth-case-lts.Need-put-both-requires (put-truth-case-claims t) (put-truth-case-at t) put-truth-case.Post
-put-truth-case-put-both-requires t c κs = (omega (arith, c .before .before .before .before .before .before .before .before .before .before .before .before .before .before .before .before .before .before .before .pre .0), (after-subject (c .before .before .before .before .before .before .before .before .before .before .before .before .before .before .before .before .before .before .before .pre .1 .base) (c .before .before .before .before .before .before .before .before .before .before .before .before .before .before .get-subject .ensures .gives) (c .before .before .before .before .before .before .before .before .before .before .before .before .before .before .get-subject .ensures .seen (c .before .before .before .before .before .before .before .before .before .before .shape .given .1) .0) (c .before .before .before .before .before .before .before .before .before .before .before .before .before .before .before .before .before .before .before .pre .1) (c .before .before .before .before .before .before .before .before .before .before .before .before .before .before .before .before .before .before .before .pre .1 .known .1 .no .inside, c .before .before .before .before .before .before .before .before .before .before .before .before .before .before .before .before .before .before .before .pre .1 .known .1 .subject .inside) (omega (arith, subject-few (c .before .before .before .before .before .before .before .before .before .before .before .before .before .before .before .before .before .before .before .pre .1 .base) (c .before .before .before .before .before .before .before .before .before .before .before .before .before .before .get-subject .ensures .gives) (c .before .before .before .before .before .before .before .before .before .before .before .before .before .before .get-subject .ensures .seen (c .before .before .before .before .before .before .before .before .before .before .shape .given .1) .0) (c .before .before .before .before .before .before .before .before .before .before .before .before .before .before .before .before .before .before .before .pre .1))), view-false))
+put-truth-case-put-both-requires t c κs = (omega (arith, c .before .before .before .before .before .before .before .before .before .before .before .before .before .before .before .before .before .before .before .before .before .pre .0), (after-subject (c .before .before .before .before .before .before .before .before .before .before .before .before .before .before .before .before .before .before .before .before .before .pre .1 .base) (c .before .before .before .before .before .before .before .before .before .before .before .before .before .before .before .before .get-node .ensures) (c .before .before .before .before .before .before .before .before .before .before .before .before .look .ensures .seen (c .before .before .before .before .before .before .before .before .before .before .shape .given .1) .0) (c .before .before .before .before .before .before .before .before .before .before .before .before .before .before .before .before .before .before .before .before .before .pre .1) (c .before .before .before .before .before .before .before .before .before .before .before .before .before .before .before .before .before .before .before .before .before .pre .1 .known .1 .no .inside, c .before .before .before .before .before .before .before .before .before .before .before .before .before .before .before .before .before .before .before .before .before .pre .1 .known .1 .subject .inside) (omega (arith, subject-few (c .before .before .before .before .before .before .before .before .before .before .before .before .before .before .before .before .before .before .before .before .before .pre .1 .base) (c .before .before .before .before .before .before .before .before .before .before .before .before .before .before .before .before .get-node .ensures) (c .before .before .before .before .before .before .before .before .before .before .before .before .look .ensures .seen (c .before .before .before .before .before .before .before .before .before .before .shape .given .1) .0) (c .before .before .before .before .before .before .before .before .before .before .before .before .before .before .before .before .before .before .before .before .before .pre .1))), view-false))
 
 put-truth-case-enum-told-3 : (t : ℕ) → put-truth-case-lts.Need-enum-told-3 (put-truth-case-claims t) (put-truth-case-at t) put-truth-case.Post
 put-truth-case-enum-told-3 t c = search needs
@@ -990,10 +1000,10 @@ put-truth-case-slice-aggregate-put-both-2 : (t : ℕ) → put-truth-case-lts.Nee
 put-truth-case-slice-aggregate-put-both-2 t c = search needs
 
 put-truth-case-add-put-both-2 : (t : ℕ) → put-truth-case-lts.Need-add-put-both-2 (put-truth-case-claims t) (put-truth-case-at t) put-truth-case.Post
-put-truth-case-add-put-both-2 t c = omega (arith, subject-few (c .before .before .before .before .before .before .before .before .before .before .before .before .before .before .before .before .before .before .before .pre .1 .base) (c .before .before .before .before .before .before .before .before .before .before .before .before .before .before .get-subject .ensures .gives) (c .before .before .before .before .before .before .before .before .before .before .before .before .before .before .get-subject .ensures .seen (c .before .before .before .before .before .before .before .before .before .before .shape .given .1) .0) (c .before .before .before .before .before .before .before .before .before .before .before .before .before .before .before .before .before .before .before .pre .1), c .before .before .before .before .before .before .before .before .before .before .before .before .before .before .before .before .before .before .before .pre .1 .few)
+put-truth-case-add-put-both-2 t c = omega (arith, subject-few (c .before .before .before .before .before .before .before .before .before .before .before .before .before .before .before .before .before .before .before .before .before .pre .1 .base) (c .before .before .before .before .before .before .before .before .before .before .before .before .before .before .before .before .get-node .ensures) (c .before .before .before .before .before .before .before .before .before .before .before .before .look .ensures .seen (c .before .before .before .before .before .before .before .before .before .before .shape .given .1) .0) (c .before .before .before .before .before .before .before .before .before .before .before .before .before .before .before .before .before .before .before .before .before .pre .1), c .before .before .before .before .before .before .before .before .before .before .before .before .before .before .before .before .before .before .before .before .before .pre .1 .few)
 
 put-truth-case-put-both-requires-2 : (t : ℕ) → put-truth-case-lts.Need-put-both-requires-2 (put-truth-case-claims t) (put-truth-case-at t) put-truth-case.Post
-put-truth-case-put-both-requires-2 t c κs = (omega (arith, c .before .before .before .before .before .before .before .before .before .before .before .before .before .before .before .before .before .before .before .pre .0), (after-subject (c .before .before .before .before .before .before .before .before .before .before .before .before .before .before .before .before .before .before .before .pre .1 .base) (c .before .before .before .before .before .before .before .before .before .before .before .before .before .before .get-subject .ensures .gives) (c .before .before .before .before .before .before .before .before .before .before .before .before .before .before .get-subject .ensures .seen (c .before .before .before .before .before .before .before .before .before .before .shape .given .1) .0) (c .before .before .before .before .before .before .before .before .before .before .before .before .before .before .before .before .before .before .before .pre .1) (c .before .before .before .before .before .before .before .before .before .before .before .before .before .before .before .before .before .before .before .pre .1 .known .1 .yes .inside, c .before .before .before .before .before .before .before .before .before .before .before .before .before .before .before .before .before .before .before .pre .1 .known .1 .subject .inside) (omega (arith, subject-few (c .before .before .before .before .before .before .before .before .before .before .before .before .before .before .before .before .before .before .before .pre .1 .base) (c .before .before .before .before .before .before .before .before .before .before .before .before .before .before .get-subject .ensures .gives) (c .before .before .before .before .before .before .before .before .before .before .before .before .before .before .get-subject .ensures .seen (c .before .before .before .before .before .before .before .before .before .before .shape .given .1) .0) (c .before .before .before .before .before .before .before .before .before .before .before .before .before .before .before .before .before .before .before .pre .1))), view-true))
+put-truth-case-put-both-requires-2 t c κs = (omega (arith, c .before .before .before .before .before .before .before .before .before .before .before .before .before .before .before .before .before .before .before .before .before .pre .0), (after-subject (c .before .before .before .before .before .before .before .before .before .before .before .before .before .before .before .before .before .before .before .before .before .pre .1 .base) (c .before .before .before .before .before .before .before .before .before .before .before .before .before .before .before .before .get-node .ensures) (c .before .before .before .before .before .before .before .before .before .before .before .before .look .ensures .seen (c .before .before .before .before .before .before .before .before .before .before .shape .given .1) .0) (c .before .before .before .before .before .before .before .before .before .before .before .before .before .before .before .before .before .before .before .before .before .pre .1) (c .before .before .before .before .before .before .before .before .before .before .before .before .before .before .before .before .before .before .before .before .before .pre .1 .known .1 .yes .inside, c .before .before .before .before .before .before .before .before .before .before .before .before .before .before .before .before .before .before .before .before .before .pre .1 .known .1 .subject .inside) (omega (arith, subject-few (c .before .before .before .before .before .before .before .before .before .before .before .before .before .before .before .before .before .before .before .before .before .pre .1 .base) (c .before .before .before .before .before .before .before .before .before .before .before .before .before .before .before .before .get-node .ensures) (c .before .before .before .before .before .before .before .before .before .before .before .before .look .ensures .seen (c .before .before .before .before .before .before .before .before .before .before .shape .given .1) .0) (c .before .before .before .before .before .before .before .before .before .before .before .before .before .before .before .before .before .before .before .before .before .pre .1))), view-true))
 
 put-truth-case-enum-told-4 : (t : ℕ) → put-truth-case-lts.Need-enum-told-4 (put-truth-case-claims t) (put-truth-case-at t) put-truth-case.Post
 put-truth-case-enum-told-4 t c = search needs
@@ -1011,10 +1021,10 @@ put-truth-case-slice-aggregate-put-both-3 : (t : ℕ) → put-truth-case-lts.Nee
 put-truth-case-slice-aggregate-put-both-3 t c = search needs
 
 put-truth-case-add-put-both-3 : (t : ℕ) → put-truth-case-lts.Need-add-put-both-3 (put-truth-case-claims t) (put-truth-case-at t) put-truth-case.Post
-put-truth-case-add-put-both-3 t c = omega (arith, subject-few (c .before .before .before .before .before .before .before .before .before .before .before .before .before .before .before .before .before .before .before .pre .1 .base) (c .before .before .before .before .before .before .before .before .before .before .before .before .before .before .get-subject .ensures .gives) (c .before .before .before .before .before .before .before .before .before .before .before .before .before .before .get-subject .ensures .seen (c .before .before .before .before .before .before .before .before .before .before .shape .given .1) .0) (c .before .before .before .before .before .before .before .before .before .before .before .before .before .before .before .before .before .before .before .pre .1), c .before .before .before .before .before .before .before .before .before .before .before .before .before .before .before .before .before .before .before .pre .1 .few)
+put-truth-case-add-put-both-3 t c = omega (arith, subject-few (c .before .before .before .before .before .before .before .before .before .before .before .before .before .before .before .before .before .before .before .before .before .pre .1 .base) (c .before .before .before .before .before .before .before .before .before .before .before .before .before .before .before .before .get-node .ensures) (c .before .before .before .before .before .before .before .before .before .before .before .before .look .ensures .seen (c .before .before .before .before .before .before .before .before .before .before .shape .given .1) .0) (c .before .before .before .before .before .before .before .before .before .before .before .before .before .before .before .before .before .before .before .before .before .pre .1), c .before .before .before .before .before .before .before .before .before .before .before .before .before .before .before .before .before .before .before .before .before .pre .1 .few)
 
 put-truth-case-put-both-requires-3 : (t : ℕ) → put-truth-case-lts.Need-put-both-requires-3 (put-truth-case-claims t) (put-truth-case-at t) put-truth-case.Post
-put-truth-case-put-both-requires-3 t c κs = (omega (arith, c .before .before .before .before .before .before .before .before .before .before .before .before .before .before .before .before .before .before .before .pre .0), (after-subject (c .before .before .before .before .before .before .before .before .before .before .before .before .before .before .before .before .before .before .before .pre .1 .base) (c .before .before .before .before .before .before .before .before .before .before .before .before .before .before .get-subject .ensures .gives) (c .before .before .before .before .before .before .before .before .before .before .before .before .before .before .get-subject .ensures .seen (c .before .before .before .before .before .before .before .before .before .before .shape .given .1) .0) (c .before .before .before .before .before .before .before .before .before .before .before .before .before .before .before .before .before .before .before .pre .1) (c .before .before .before .before .before .before .before .before .before .before .before .before .before .before .before .before .before .before .before .pre .1 .known .1 .no .inside, c .before .before .before .before .before .before .before .before .before .before .before .before .before .before .before .before .before .before .before .pre .1 .known .1 .subject .inside) (omega (arith, subject-few (c .before .before .before .before .before .before .before .before .before .before .before .before .before .before .before .before .before .before .before .pre .1 .base) (c .before .before .before .before .before .before .before .before .before .before .before .before .before .before .get-subject .ensures .gives) (c .before .before .before .before .before .before .before .before .before .before .before .before .before .before .get-subject .ensures .seen (c .before .before .before .before .before .before .before .before .before .before .shape .given .1) .0) (c .before .before .before .before .before .before .before .before .before .before .before .before .before .before .before .before .before .before .before .pre .1))), view-false))
+put-truth-case-put-both-requires-3 t c κs = (omega (arith, c .before .before .before .before .before .before .before .before .before .before .before .before .before .before .before .before .before .before .before .before .before .pre .0), (after-subject (c .before .before .before .before .before .before .before .before .before .before .before .before .before .before .before .before .before .before .before .before .before .pre .1 .base) (c .before .before .before .before .before .before .before .before .before .before .before .before .before .before .before .before .get-node .ensures) (c .before .before .before .before .before .before .before .before .before .before .before .before .look .ensures .seen (c .before .before .before .before .before .before .before .before .before .before .shape .given .1) .0) (c .before .before .before .before .before .before .before .before .before .before .before .before .before .before .before .before .before .before .before .before .before .pre .1) (c .before .before .before .before .before .before .before .before .before .before .before .before .before .before .before .before .before .before .before .before .before .pre .1 .known .1 .no .inside, c .before .before .before .before .before .before .before .before .before .before .before .before .before .before .before .before .before .before .before .before .before .pre .1 .known .1 .subject .inside) (omega (arith, subject-few (c .before .before .before .before .before .before .before .before .before .before .before .before .before .before .before .before .before .before .before .before .before .pre .1 .base) (c .before .before .before .before .before .before .before .before .before .before .before .before .before .before .before .before .get-node .ensures) (c .before .before .before .before .before .before .before .before .before .before .before .before .look .ensures .seen (c .before .before .before .before .before .before .before .before .before .before .shape .given .1) .0) (c .before .before .before .before .before .before .before .before .before .before .before .before .before .before .before .before .before .before .before .before .before .pre .1))), view-false))
 
 put-truth-case-enum-told-7 : (t : ℕ) → put-truth-case-lts.Need-enum-told-7 (put-truth-case-claims t) (put-truth-case-at t) put-truth-case.Post
 put-truth-case-enum-told-7 t c = search needs
@@ -1023,37 +1033,37 @@ put-truth-case-slice-aggregate-put-both-4 : (t : ℕ) → put-truth-case-lts.Nee
 put-truth-case-slice-aggregate-put-both-4 t c = search needs
 
 put-truth-case-add-put-both-4 : (t : ℕ) → put-truth-case-lts.Need-add-put-both-4 (put-truth-case-claims t) (put-truth-case-at t) put-truth-case.Post
-put-truth-case-add-put-both-4 t c = omega (arith, subject-few (c .before .before .before .before .before .before .before .before .before .before .before .before .before .before .before .before .before .before .before .pre .1 .base) (c .before .before .before .before .before .before .before .before .before .before .before .before .before .before .get-subject .ensures .gives) (c .before .before .before .before .before .before .before .before .before .before .before .before .before .before .get-subject .ensures .seen (c .before .before .before .before .before .before .before .before .before .before .shape .given .1) .0) (c .before .before .before .before .before .before .before .before .before .before .before .before .before .before .before .before .before .before .before .pre .1), c .before .before .before .before .before .before .before .before .before .before .before .before .before .before .before .before .before .before .before .pre .1 .few)
+put-truth-case-add-put-both-4 t c = omega (arith, subject-few (c .before .before .before .before .before .before .before .before .before .before .before .before .before .before .before .before .before .before .before .before .before .pre .1 .base) (c .before .before .before .before .before .before .before .before .before .before .before .before .before .before .before .before .get-node .ensures) (c .before .before .before .before .before .before .before .before .before .before .before .before .look .ensures .seen (c .before .before .before .before .before .before .before .before .before .before .shape .given .1) .0) (c .before .before .before .before .before .before .before .before .before .before .before .before .before .before .before .before .before .before .before .before .before .pre .1), c .before .before .before .before .before .before .before .before .before .before .before .before .before .before .before .before .before .before .before .before .before .pre .1 .few)
 
 put-truth-case-put-both-requires-4 : (t : ℕ) → put-truth-case-lts.Need-put-both-requires-4 (put-truth-case-claims t) (put-truth-case-at t) put-truth-case.Post
-put-truth-case-put-both-requires-4 t c κs = (omega (arith, c .before .before .before .before .before .before .before .before .before .before .before .before .before .before .before .before .before .before .before .pre .0), (after-subject (c .before .before .before .before .before .before .before .before .before .before .before .before .before .before .before .before .before .before .before .pre .1 .base) (c .before .before .before .before .before .before .before .before .before .before .before .before .before .before .get-subject .ensures .gives) (c .before .before .before .before .before .before .before .before .before .before .before .before .before .before .get-subject .ensures .seen (c .before .before .before .before .before .before .before .before .before .before .shape .given .1) .0) (c .before .before .before .before .before .before .before .before .before .before .before .before .before .before .before .before .before .before .before .pre .1) (c .before .before .before .before .before .before .before .before .before .before .before .before .before .before .before .before .before .before .before .pre .1 .known .1 .yes .inside, c .before .before .before .before .before .before .before .before .before .before .before .before .before .before .before .before .before .before .before .pre .1 .known .1 .subject .inside) (omega (arith, subject-few (c .before .before .before .before .before .before .before .before .before .before .before .before .before .before .before .before .before .before .before .pre .1 .base) (c .before .before .before .before .before .before .before .before .before .before .before .before .before .before .get-subject .ensures .gives) (c .before .before .before .before .before .before .before .before .before .before .before .before .before .before .get-subject .ensures .seen (c .before .before .before .before .before .before .before .before .before .before .shape .given .1) .0) (c .before .before .before .before .before .before .before .before .before .before .before .before .before .before .before .before .before .before .before .pre .1))), view-true))
+put-truth-case-put-both-requires-4 t c κs = (omega (arith, c .before .before .before .before .before .before .before .before .before .before .before .before .before .before .before .before .before .before .before .before .before .pre .0), (after-subject (c .before .before .before .before .before .before .before .before .before .before .before .before .before .before .before .before .before .before .before .before .before .pre .1 .base) (c .before .before .before .before .before .before .before .before .before .before .before .before .before .before .before .before .get-node .ensures) (c .before .before .before .before .before .before .before .before .before .before .before .before .look .ensures .seen (c .before .before .before .before .before .before .before .before .before .before .shape .given .1) .0) (c .before .before .before .before .before .before .before .before .before .before .before .before .before .before .before .before .before .before .before .before .before .pre .1) (c .before .before .before .before .before .before .before .before .before .before .before .before .before .before .before .before .before .before .before .before .before .pre .1 .known .1 .yes .inside, c .before .before .before .before .before .before .before .before .before .before .before .before .before .before .before .before .before .before .before .before .before .pre .1 .known .1 .subject .inside) (omega (arith, subject-few (c .before .before .before .before .before .before .before .before .before .before .before .before .before .before .before .before .before .before .before .before .before .pre .1 .base) (c .before .before .before .before .before .before .before .before .before .before .before .before .before .before .before .before .get-node .ensures) (c .before .before .before .before .before .before .before .before .before .before .before .before .look .ensures .seen (c .before .before .before .before .before .before .before .before .before .before .shape .given .1) .0) (c .before .before .before .before .before .before .before .before .before .before .before .before .before .before .before .before .before .before .before .before .before .pre .1))), view-true))
 
 put-truth-case-enum-told-8 : (t : ℕ) → put-truth-case-lts.Need-enum-told-8 (put-truth-case-claims t) (put-truth-case-at t) put-truth-case.Post
 put-truth-case-enum-told-8 t c = search needs
 
 put-truth-case-returns : (t : ℕ) → put-truth-case-lts.Need-returns (put-truth-case-claims t) (put-truth-case-at t) put-truth-case.Post
-put-truth-case-returns t c = truth-refused (c .before .before .before .before .before .before .before .before .before .before .pre .1 .base) (c .before .before .before .before .before .get-subject .ensures .gives) (c .before .before .before .before .before .get-subject .ensures .unseen (c .before .c .given .1))
+put-truth-case-returns t c = truth-refused (c .before .before .before .before .before .before .before .before .before .before .before .before .pre .1 .base) (c .before .before .before .before .before .before .before .get-node .ensures) (c .before .before .before .look .ensures .unseen (c .before .c .given .1))
 
 put-truth-case-returns-2 : (t : ℕ) → put-truth-case-lts.Need-returns-2 (put-truth-case-claims t) (put-truth-case-at t) put-truth-case.Post
-put-truth-case-returns-2 t c = false-no (c .before .before .before .before .before .before .before .before .before .before .before .before .before .before .before .before .before .before .before .before .before .before .pre .1 .base) (c .before .before .before .before .before .before .before .before .before .before .before .before .before .before .before .before .before .get-subject .ensures .gives) (c .before .before .before .before .before .before .before .before .before .before .before .before .before .before .before .before .before .get-subject .ensures .seen (c .before .before .before .before .before .before .before .before .before .before .before .before .before .shape .given .1) .0) (c .before .before .before .before .before .before .before .before .before .before .before .before .before .before .before .before .before .get-subject .ensures .seen (c .before .before .before .before .before .before .before .before .before .before .before .before .before .shape .given .1) .1) (c .before .before .before .before .before .before .before .before .before .enum-told .given .1) refl (first-kept _ _ (c .before .before .before .before .before .before .before .before .choose .ensures) (c .before .before .before .before .before .before .enum-told2 .given .1)) (c .before .before .put-both .ensures)
+put-truth-case-returns-2 t c = false-no (c .before .before .before .before .before .before .before .before .before .before .before .before .before .before .before .before .before .before .before .before .before .before .before .before .pre .1 .base) (c .before .before .before .before .before .before .before .before .before .before .before .before .before .before .before .before .before .before .before .get-node .ensures) (c .before .before .before .before .before .before .before .before .before .before .before .before .before .before .before .look .ensures .seen (c .before .before .before .before .before .before .before .before .before .before .before .before .before .shape .given .1) .0) (c .before .before .before .before .before .before .before .before .before .before .before .before .before .before .before .look .ensures .seen (c .before .before .before .before .before .before .before .before .before .before .before .before .before .shape .given .1) .1) (c .before .before .before .before .before .before .before .before .before .enum-told .given .1) refl (first-kept _ _ (c .before .before .before .before .before .before .before .before .choose .ensures) (c .before .before .before .before .before .before .enum-told2 .given .1)) (c .before .before .put-both .ensures)
 
 put-truth-case-returns-3 : (t : ℕ) → put-truth-case-lts.Need-returns-3 (put-truth-case-claims t) (put-truth-case-at t) put-truth-case.Post
-put-truth-case-returns-3 t c = let w = first-left _ _ (c .before .before .before .before .before .before .before .before .choose .ensures) (c .before .before .before .before .before .before .enum-told3 .given .1) in false-yes (c .before .before .before .before .before .before .before .before .before .before .before .before .before .before .before .before .before .before .before .before .before .before .pre .1 .base) (c .before .before .before .before .before .before .before .before .before .before .before .before .before .before .before .before .before .get-subject .ensures .gives) (c .before .before .before .before .before .before .before .before .before .before .before .before .before .before .before .before .before .get-subject .ensures .seen (c .before .before .before .before .before .before .before .before .before .before .before .before .before .shape .given .1) .0) (c .before .before .before .before .before .before .before .before .before .before .before .before .before .before .before .before .before .get-subject .ensures .seen (c .before .before .before .before .before .before .before .before .before .before .before .before .before .shape .given .1) .1) (c .before .before .before .before .before .before .before .before .before .enum-told .given .1) refl (w .0) refl (w .1) (c .before .before .put-both2 .ensures)
+put-truth-case-returns-3 t c = let w = first-left _ _ (c .before .before .before .before .before .before .before .before .choose .ensures) (c .before .before .before .before .before .before .enum-told3 .given .1) in false-yes (c .before .before .before .before .before .before .before .before .before .before .before .before .before .before .before .before .before .before .before .before .before .before .before .before .pre .1 .base) (c .before .before .before .before .before .before .before .before .before .before .before .before .before .before .before .before .before .before .before .get-node .ensures) (c .before .before .before .before .before .before .before .before .before .before .before .before .before .before .before .look .ensures .seen (c .before .before .before .before .before .before .before .before .before .before .before .before .before .shape .given .1) .0) (c .before .before .before .before .before .before .before .before .before .before .before .before .before .before .before .look .ensures .seen (c .before .before .before .before .before .before .before .before .before .before .before .before .before .shape .given .1) .1) (c .before .before .before .before .before .before .before .before .before .enum-told .given .1) refl (w .0) refl (w .1) (c .before .before .put-both2 .ensures)
 
 put-truth-case-returns-4 : (t : ℕ) → put-truth-case-lts.Need-returns-4 (put-truth-case-claims t) (put-truth-case-at t) put-truth-case.Post
-put-truth-case-returns-4 t c = let w = none-says _ _ _ (c .before .before .choose .ensures) (c .enum-told4 .given .1) in false-53 (c .before .before .before .before .before .before .before .before .before .before .before .before .before .before .before .before .pre .1 .base) (c .before .before .before .before .before .before .before .before .before .before .before .get-subject .ensures .gives) (c .before .before .before .before .before .before .before .before .before .before .before .get-subject .ensures .seen (c .before .before .before .before .before .before .before .shape .given .1) .0) (c .before .before .before .before .before .before .before .before .before .before .before .get-subject .ensures .seen (c .before .before .before .before .before .before .before .shape .given .1) .1) (c .before .before .before .enum-told .given .1) refl (w .0) refl (w .1)
+put-truth-case-returns-4 t c = let w = none-says _ _ _ (c .before .before .choose .ensures) (c .enum-told4 .given .1) in false-53 (c .before .before .before .before .before .before .before .before .before .before .before .before .before .before .before .before .before .before .pre .1 .base) (c .before .before .before .before .before .before .before .before .before .before .before .before .before .get-node .ensures) (c .before .before .before .before .before .before .before .before .before .look .ensures .seen (c .before .before .before .before .before .before .before .shape .given .1) .0) (c .before .before .before .before .before .before .before .before .before .look .ensures .seen (c .before .before .before .before .before .before .before .shape .given .1) .1) (c .before .before .before .enum-told .given .1) refl (w .0) refl (w .1)
 
 put-truth-case-returns-5 : (t : ℕ) → put-truth-case-lts.Need-returns-5 (put-truth-case-claims t) (put-truth-case-at t) put-truth-case.Post
-put-truth-case-returns-5 t c = let w = second-left _ _ (c .before .before .before .before .before .before .before .before .choose2 .ensures) (c .before .before .before .before .before .before .enum-told6 .given .1) in true-no (c .before .before .before .before .before .before .before .before .before .before .before .before .before .before .before .before .before .before .before .before .before .before .pre .1 .base) (c .before .before .before .before .before .before .before .before .before .before .before .before .before .before .before .before .before .get-subject .ensures .gives) (c .before .before .before .before .before .before .before .before .before .before .before .before .before .before .before .before .before .get-subject .ensures .seen (c .before .before .before .before .before .before .before .before .before .before .before .before .before .shape .given .1) .0) (c .before .before .before .before .before .before .before .before .before .before .before .before .before .before .before .before .before .get-subject .ensures .seen (c .before .before .before .before .before .before .before .before .before .before .before .before .before .shape .given .1) .1) (c .before .before .before .before .before .before .before .before .before .enum-told5 .given .1) refl (w .0) refl (w .1) (c .before .before .put-both3 .ensures)
+put-truth-case-returns-5 t c = let w = second-left _ _ (c .before .before .before .before .before .before .before .before .choose2 .ensures) (c .before .before .before .before .before .before .enum-told6 .given .1) in true-no (c .before .before .before .before .before .before .before .before .before .before .before .before .before .before .before .before .before .before .before .before .before .before .before .before .pre .1 .base) (c .before .before .before .before .before .before .before .before .before .before .before .before .before .before .before .before .before .before .before .get-node .ensures) (c .before .before .before .before .before .before .before .before .before .before .before .before .before .before .before .look .ensures .seen (c .before .before .before .before .before .before .before .before .before .before .before .before .before .shape .given .1) .0) (c .before .before .before .before .before .before .before .before .before .before .before .before .before .before .before .look .ensures .seen (c .before .before .before .before .before .before .before .before .before .before .before .before .before .shape .given .1) .1) (c .before .before .before .before .before .before .before .before .before .enum-told5 .given .1) refl (w .0) refl (w .1) (c .before .before .put-both3 .ensures)
 
 put-truth-case-returns-6 : (t : ℕ) → put-truth-case-lts.Need-returns-6 (put-truth-case-claims t) (put-truth-case-at t) put-truth-case.Post
-put-truth-case-returns-6 t c = true-yes (c .before .before .before .before .before .before .before .before .before .before .before .before .before .before .before .before .before .before .before .before .before .before .pre .1 .base) (c .before .before .before .before .before .before .before .before .before .before .before .before .before .before .before .before .before .get-subject .ensures .gives) (c .before .before .before .before .before .before .before .before .before .before .before .before .before .before .before .before .before .get-subject .ensures .seen (c .before .before .before .before .before .before .before .before .before .before .before .before .before .shape .given .1) .0) (c .before .before .before .before .before .before .before .before .before .before .before .before .before .before .before .before .before .get-subject .ensures .seen (c .before .before .before .before .before .before .before .before .before .before .before .before .before .shape .given .1) .1) (c .before .before .before .before .before .before .before .before .before .enum-told5 .given .1) refl (second-kept _ _ (c .before .before .before .before .before .before .before .before .choose2 .ensures) (c .before .before .before .before .before .before .enum-told7 .given .1)) (c .before .before .put-both4 .ensures)
+put-truth-case-returns-6 t c = true-yes (c .before .before .before .before .before .before .before .before .before .before .before .before .before .before .before .before .before .before .before .before .before .before .before .before .pre .1 .base) (c .before .before .before .before .before .before .before .before .before .before .before .before .before .before .before .before .before .before .before .get-node .ensures) (c .before .before .before .before .before .before .before .before .before .before .before .before .before .before .before .look .ensures .seen (c .before .before .before .before .before .before .before .before .before .before .before .before .before .shape .given .1) .0) (c .before .before .before .before .before .before .before .before .before .before .before .before .before .before .before .look .ensures .seen (c .before .before .before .before .before .before .before .before .before .before .before .before .before .shape .given .1) .1) (c .before .before .before .before .before .before .before .before .before .enum-told5 .given .1) refl (second-kept _ _ (c .before .before .before .before .before .before .before .before .choose2 .ensures) (c .before .before .before .before .before .before .enum-told7 .given .1)) (c .before .before .put-both4 .ensures)
 
 put-truth-case-returns-7 : (t : ℕ) → put-truth-case-lts.Need-returns-7 (put-truth-case-claims t) (put-truth-case-at t) put-truth-case.Post
-put-truth-case-returns-7 t c = let w = none-says _ _ _ (c .before .before .choose2 .ensures) (c .enum-told8 .given .1) in true-53 (c .before .before .before .before .before .before .before .before .before .before .before .before .before .before .before .before .pre .1 .base) (c .before .before .before .before .before .before .before .before .before .before .before .get-subject .ensures .gives) (c .before .before .before .before .before .before .before .before .before .before .before .get-subject .ensures .seen (c .before .before .before .before .before .before .before .shape .given .1) .0) (c .before .before .before .before .before .before .before .before .before .before .before .get-subject .ensures .seen (c .before .before .before .before .before .before .before .shape .given .1) .1) (c .before .before .before .enum-told5 .given .1) refl (w .1) refl (w .0)
+put-truth-case-returns-7 t c = let w = none-says _ _ _ (c .before .before .choose2 .ensures) (c .enum-told8 .given .1) in true-53 (c .before .before .before .before .before .before .before .before .before .before .before .before .before .before .before .before .before .before .pre .1 .base) (c .before .before .before .before .before .before .before .before .before .before .before .before .before .get-node .ensures) (c .before .before .before .before .before .before .before .before .before .look .ensures .seen (c .before .before .before .before .before .before .before .shape .given .1) .0) (c .before .before .before .before .before .before .before .before .before .look .ensures .seen (c .before .before .before .before .before .before .before .shape .given .1) .1) (c .before .before .before .enum-told5 .given .1) refl (w .1) refl (w .0)
 
 put-truth-case-returns-8 : (t : ℕ) → put-truth-case-lts.Need-returns-8 (put-truth-case-claims t) (put-truth-case-at t) put-truth-case.Post
-put-truth-case-returns-8 t c = truth-43 (c .before .before .before .before .before .before .before .before .before .before .before .before .pre .1 .base) (c .before .before .before .before .before .before .before .get-subject .ensures .gives) (c .before .before .before .before .before .before .before .get-subject .ensures .seen (c .before .before .before .shape .given .1) .0) (c .before .before .before .before .before .before .before .get-subject .ensures .seen (c .before .before .before .shape .given .1) .1) (tags.not-false _ (c .match2 .keys3)) (tags.not-true _ (c .match2 .keys3))
+put-truth-case-returns-8 t c = truth-43 (c .before .before .before .before .before .before .before .before .before .before .before .before .before .before .pre .1 .base) (c .before .before .before .before .before .before .before .before .before .get-node .ensures) (c .before .before .before .before .before .look .ensures .seen (c .before .before .before .shape .given .1) .0) (c .before .before .before .before .before .look .ensures .seen (c .before .before .before .shape .given .1) .1) (tags.not-false _ (c .match2 .keys3)) (tags.not-true _ (c .match2 .keys3))
 
 put-truth-case-same-length : (t : ℕ) → put-truth-case-lts.Need-same-length (put-truth-case-claims t) (put-truth-case-at t) put-truth-case.Post
 put-truth-case-same-length t c = put-truth-case-returns t c .frame .long
@@ -1211,11 +1221,12 @@ pub +put-add+put-both+put-call+put-front+put-list-case+put-node+put-pair+put-reb
     (put-front-same-length t)
     (put-front-returns-2 t))
     (λ t. put-list-case-lts.spec (put-list-case-claims t) (put-list-case-at t) put-list-case.Post
-    (put-list-case-get-subject-requires t)
+    (put-list-case-get-node-requires t)
+    (put-list-case-look-requires t)
     (put-list-case-enum-known-c t)
     (put-list-case-enum-known-shape t)
-    (put-list-case-sub-t29 t)
-    (put-list-case-add-t30 t)
+    (put-list-case-sub-t32 t)
+    (put-list-case-add-t33 t)
     (put-list-case-enum-told t)
     (put-list-case-choose-requires t)
     (put-list-case-enum-told-2 t)
@@ -1351,11 +1362,12 @@ pub +put-add+put-both+put-call+put-front+put-list-case+put-node+put-pair+put-reb
     (put-rebuilt-same-length-2 t)
     (put-rebuilt-returns-4 t))
     (λ t. put-split-lts.spec (put-split-claims t) (put-split-at t) put-split.Post
-    (put-split-get-subject-requires t)
+    (put-split-get-node-requires t)
+    (put-split-look-requires t)
     (put-split-enum-known-c t)
     (put-split-enum-known-shape t)
-    (put-split-sub-t22 t)
-    (put-split-add-t23 t)
+    (put-split-sub-t25 t)
+    (put-split-add-t26 t)
     (put-split-enum-known-shape-2 t)
     (put-split-add-put-under t)
     (put-split-sub-put-under t)
@@ -1398,11 +1410,12 @@ pub +put-add+put-both+put-call+put-front+put-list-case+put-node+put-pair+put-reb
     (put-switch-same-length-5 t)
     (put-switch-returns-5 t))
     (λ t. put-truth-case-lts.spec (put-truth-case-claims t) (put-truth-case-at t) put-truth-case.Post
-    (put-truth-case-get-subject-requires t)
+    (put-truth-case-get-node-requires t)
+    (put-truth-case-look-requires t)
     (put-truth-case-enum-known-c t)
     (put-truth-case-enum-known-shape t)
-    (put-truth-case-sub-t28 t)
-    (put-truth-case-add-t29 t)
+    (put-truth-case-sub-t31 t)
+    (put-truth-case-add-t32 t)
     (put-truth-case-enum-told t)
     (put-truth-case-choose-requires t)
     (put-truth-case-enum-told-2 t)

@@ -6,8 +6,6 @@ use native.Mathlib.Omega.{arith}
 use Rattle.walk.specs.Gather.{Counting, counting-none, counting-more}
 use Rattle.walk.proofs.putter.first_cells.Statement.{statement}
 use Rattle.walk.proofs.putter.first_cells.Tie as tie
-use Rattle.walk.proofs.putter.first_cells.Reads as reads
-use Rattle.walk.proofs.putter.first_cells.Lts as lts
 
 abbrev Inv-loop : tie.InvT-loop
 Inv-loop k of₀ i₀ of i = (i ≤ k) × Counting i of
@@ -15,31 +13,24 @@ Inv-loop k of₀ i₀ of i = (i ≤ k) × Counting i of
 abbrev μ-loop : tie.MeasureT-loop
 μ-loop k of₀ i₀ of i = k - i
 
--- src/putter.rt:43:5
 loop-holds : tie.Need-loop-holds Inv-loop μ-loop
 loop-holds c = (omega arith, counting-none)
 
--- src/putter.rt:44:17
 cast-of : tie.Need-cast-of Inv-loop μ-loop
 cast-of c = omega (arith, c .before .before .pre, c .loop-test .taken)
 
--- src/putter.rt:44:9
 array-write-of : tie.Need-array-write-of Inv-loop μ-loop
 array-write-of c = omega (arith, c .before .before .pre, c .loop-test .taken)
 
--- src/putter.rt:45:9
 add-i : tie.Need-add-i Inv-loop μ-loop
 add-i c = omega (arith, c .before .before .pre, c .loop-test .taken)
 
--- src/putter.rt:43:5
 loop-less : tie.Need-loop-less Inv-loop μ-loop
 loop-less c = omega (arith, c .loop-test .taken)
 
--- src/putter.rt:43:5
 loop-again : tie.Need-loop-again Inv-loop μ-loop
 loop-again c = (omega (arith, c .loop-test .taken), counting-more (omega (arith, c .before .before .pre, c .loop-test .taken)) (c .before .loop .inv .1))
 
--- src/putter.rt:37:1
 returns : tie.Need-returns Inv-loop μ-loop
 returns c = record { count = refl; long = c .before .loop .inv .1 .long; each = λ i h. c .before .loop .inv .1 .same i (omega (arith, c .loop-test .left)) }
 

@@ -5,10 +5,6 @@ use Rattle.walk.specs.PutLeaf.{cell-few, slot-few, view-few, var-42, var
 use borrow.Author.Needs.{needs}
 use Rattle.walk.proofs.putter.put_var.Statement.{statement}
 use Rattle.walk.proofs.putter.put_var.Tie as tie
-use Rattle.walk.proofs.putter.put_var.Reads as reads
-use Rattle.walk.proofs.putter.put_var.Lts as lts
-use Rattle.step.proofs.put_again.Reads as put-again-reads
-use Rattle.walk.proofs.bytes.store.Reads as store-reads
 
 returns : tie.Need-returns
 returns c = λ s top left l. var-42 (c .if1 .taken)

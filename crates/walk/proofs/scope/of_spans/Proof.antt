@@ -7,8 +7,6 @@ use native.Mathlib.Omega.{arith}
 use Rattle.walk.specs.Scope.{Spanning, spanning-none, spanning-more}
 use Rattle.walk.proofs.scope.of_spans.Statement.{statement}
 use Rattle.walk.proofs.scope.of_spans.Tie as tie
-use Rattle.walk.proofs.scope.of_spans.Reads as reads
-use Rattle.walk.proofs.scope.of_spans.Lts as lts
 
 abbrev Inv-loop : tie.InvT-loop
 Inv-loop k spans starts₀ lens₀ i₀ starts lens i = (i ≤ k) × (Spanning i (spans .starts) starts × Spanning i (spans .lens) lens)
@@ -16,51 +14,39 @@ Inv-loop k spans starts₀ lens₀ i₀ starts lens i = (i ≤ k) × (Spanning i
 abbrev μ-loop : tie.MeasureT-loop
 μ-loop k spans starts₀ lens₀ i₀ starts lens i = k - i
 
--- src/scope.rt:72:5
 loop-holds : tie.Need-loop-holds Inv-loop μ-loop
 loop-holds c = (search needs, (spanning-none _, spanning-none _))
 
--- src/scope.rt:73:21
 mul-starts : tie.Need-mul-starts Inv-loop μ-loop
 mul-starts c = search needs
 
--- src/scope.rt:73:21
 element-copy-out-starts : tie.Need-element-copy-out-starts Inv-loop μ-loop
 element-copy-out-starts c = search needs
 
--- src/scope.rt:73:9
 mul-starts-2 : tie.Need-mul-starts-2 Inv-loop μ-loop
 mul-starts-2 c = search needs
 
--- src/scope.rt:73:9
 array-write-starts : tie.Need-array-write-starts Inv-loop μ-loop
 array-write-starts c = search needs
 
--- src/scope.rt:74:19
 mul-lens : tie.Need-mul-lens Inv-loop μ-loop
 mul-lens c = search needs
 
--- src/scope.rt:74:19
 element-copy-out-lens : tie.Need-element-copy-out-lens Inv-loop μ-loop
 element-copy-out-lens c = search needs
 
--- src/scope.rt:74:9
 mul-lens-2 : tie.Need-mul-lens-2 Inv-loop μ-loop
 mul-lens-2 c = search needs
 
--- src/scope.rt:74:9
 array-write-lens : tie.Need-array-write-lens Inv-loop μ-loop
 array-write-lens c = search needs
 
--- src/scope.rt:75:9
 add-i : tie.Need-add-i Inv-loop μ-loop
 add-i c = search needs
 
--- src/scope.rt:72:5
 loop-less : tie.Need-loop-less Inv-loop μ-loop
 loop-less c = search needs
 
--- src/scope.rt:72:5
 loop-again : tie.Need-loop-again Inv-loop μ-loop
 loop-again c =
     let s = c .before .before .before in
@@ -68,7 +54,6 @@ loop-again c =
     let p = s .before .pre in
     (omega arith, (spanning-more (omega arith) (s .loop .inv .1 .0), spanning-more (omega arith) (s .loop .inv .1 .1)))
 
--- src/scope.rt:65:1
 returns : tie.Need-returns Inv-loop μ-loop
 returns c =
     let n = c .loop-test .left in

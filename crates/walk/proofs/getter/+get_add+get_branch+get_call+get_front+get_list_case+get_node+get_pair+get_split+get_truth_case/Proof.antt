@@ -7,7 +7,7 @@ use lib.ListN.{length-set}
 use Rattle.walk.specs.Parts.{marked, down}
 use Rattle.walk.specs.GetReady.{ready-room, sizes}
 use Rattle.step.specs.StepLaws.{entered}
-use Rattle.walk.specs.Subjects.{looks-refused, looks-seen}
+use Rattle.walk.specs.Subjects.{got-whole}
 use Rattle.walk.specs.GetEnter.{enter-refused, enter-ready, enter-body, lent-few, lent-start}
 use Rattle.walk.specs.GetLeaf.{false-done, true-done, empty-done, number-done}
 use Rattle.walk.specs.GetTwo.{two-ready₁, two-ready₂, pair-refused₁, pair-refused₂, pair-44, pair-done, front-refused₁, front-refused₂, front-43, front-44, front-done}
@@ -21,34 +21,31 @@ use borrow.Fn.Kinds.{In}
 use borrow.Fn.PlainCycle.{Measures, is, falls, and}
 use Rattle.walk.proofs.getter.get_add.Reads as get-add
 use Rattle.walk.proofs.getter.get_add.Kinds as get-add-kinds
-use Rattle.walk.proofs.getter.+get_add+get_branch+get_call+get_front+get_list_case+get_node+get_pair+get_split+get_subject+get_truth_case.Lts-get_add as get-add-lts
+use Rattle.walk.proofs.getter.+get_add+get_branch+get_call+get_front+get_list_case+get_node+get_pair+get_split+get_truth_case.Lts-get_add as get-add-lts
 use Rattle.walk.proofs.getter.get_branch.Reads as get-branch
 use Rattle.walk.proofs.getter.get_branch.Kinds as get-branch-kinds
-use Rattle.walk.proofs.getter.+get_add+get_branch+get_call+get_front+get_list_case+get_node+get_pair+get_split+get_subject+get_truth_case.Lts-get_branch as get-branch-lts
+use Rattle.walk.proofs.getter.+get_add+get_branch+get_call+get_front+get_list_case+get_node+get_pair+get_split+get_truth_case.Lts-get_branch as get-branch-lts
 use Rattle.walk.proofs.getter.get_call.Reads as get-call
 use Rattle.walk.proofs.getter.get_call.Kinds as get-call-kinds
-use Rattle.walk.proofs.getter.+get_add+get_branch+get_call+get_front+get_list_case+get_node+get_pair+get_split+get_subject+get_truth_case.Lts-get_call as get-call-lts
+use Rattle.walk.proofs.getter.+get_add+get_branch+get_call+get_front+get_list_case+get_node+get_pair+get_split+get_truth_case.Lts-get_call as get-call-lts
 use Rattle.walk.proofs.getter.get_front.Reads as get-front
 use Rattle.walk.proofs.getter.get_front.Kinds as get-front-kinds
-use Rattle.walk.proofs.getter.+get_add+get_branch+get_call+get_front+get_list_case+get_node+get_pair+get_split+get_subject+get_truth_case.Lts-get_front as get-front-lts
+use Rattle.walk.proofs.getter.+get_add+get_branch+get_call+get_front+get_list_case+get_node+get_pair+get_split+get_truth_case.Lts-get_front as get-front-lts
 use Rattle.walk.proofs.getter.get_list_case.Reads as get-list-case
 use Rattle.walk.proofs.getter.get_list_case.Kinds as get-list-case-kinds
-use Rattle.walk.proofs.getter.+get_add+get_branch+get_call+get_front+get_list_case+get_node+get_pair+get_split+get_subject+get_truth_case.Lts-get_list_case as get-list-case-lts
+use Rattle.walk.proofs.getter.+get_add+get_branch+get_call+get_front+get_list_case+get_node+get_pair+get_split+get_truth_case.Lts-get_list_case as get-list-case-lts
 use Rattle.walk.proofs.getter.get_node.Reads as get-node
 use Rattle.walk.proofs.getter.get_node.Kinds as get-node-kinds
-use Rattle.walk.proofs.getter.+get_add+get_branch+get_call+get_front+get_list_case+get_node+get_pair+get_split+get_subject+get_truth_case.Lts-get_node as get-node-lts
+use Rattle.walk.proofs.getter.+get_add+get_branch+get_call+get_front+get_list_case+get_node+get_pair+get_split+get_truth_case.Lts-get_node as get-node-lts
 use Rattle.walk.proofs.getter.get_pair.Reads as get-pair
 use Rattle.walk.proofs.getter.get_pair.Kinds as get-pair-kinds
-use Rattle.walk.proofs.getter.+get_add+get_branch+get_call+get_front+get_list_case+get_node+get_pair+get_split+get_subject+get_truth_case.Lts-get_pair as get-pair-lts
+use Rattle.walk.proofs.getter.+get_add+get_branch+get_call+get_front+get_list_case+get_node+get_pair+get_split+get_truth_case.Lts-get_pair as get-pair-lts
 use Rattle.walk.proofs.getter.get_split.Reads as get-split
 use Rattle.walk.proofs.getter.get_split.Kinds as get-split-kinds
-use Rattle.walk.proofs.getter.+get_add+get_branch+get_call+get_front+get_list_case+get_node+get_pair+get_split+get_subject+get_truth_case.Lts-get_split as get-split-lts
-use Rattle.walk.proofs.getter.get_subject.Reads as get-subject
-use Rattle.walk.proofs.getter.get_subject.Kinds as get-subject-kinds
-use Rattle.walk.proofs.getter.+get_add+get_branch+get_call+get_front+get_list_case+get_node+get_pair+get_split+get_subject+get_truth_case.Lts-get_subject as get-subject-lts
+use Rattle.walk.proofs.getter.+get_add+get_branch+get_call+get_front+get_list_case+get_node+get_pair+get_split+get_truth_case.Lts-get_split as get-split-lts
 use Rattle.walk.proofs.getter.get_truth_case.Reads as get-truth-case
 use Rattle.walk.proofs.getter.get_truth_case.Kinds as get-truth-case-kinds
-use Rattle.walk.proofs.getter.+get_add+get_branch+get_call+get_front+get_list_case+get_node+get_pair+get_split+get_subject+get_truth_case.Lts-get_truth_case as get-truth-case-lts
+use Rattle.walk.proofs.getter.+get_add+get_branch+get_call+get_front+get_list_case+get_node+get_pair+get_split+get_truth_case.Lts-get_truth_case as get-truth-case-lts
 use Rattle.step.proofs.entry.Reads as entry-reads
 use Rattle.sheet.proofs.node_at.Reads as node-at-reads
 use Rattle.sheet.proofs.section_root.Reads as section-root-reads
@@ -56,16 +53,17 @@ use Rattle.value.proofs.high.Reads as high-reads
 use Rattle.value.proofs.low.Reads as low-reads
 use Rattle.value.proofs.passes.Reads as passes-reads
 use Rattle.value.proofs.shape_of.Reads as shape-of-reads
+use Rattle.walk.proofs.getter.look.Reads as look-reads
 use Rattle.walk.proofs.bytes.copy.Reads as copy-reads
 use Rattle.walk.proofs.getter.get_constant.Reads as get-constant-reads
 use Rattle.walk.proofs.getter.get_number.Reads as get-number-reads
 use Rattle.walk.proofs.getter.get_var.Reads as get-var-reads
 use Rattle.step.proofs.pick_two.Reads as pick-two-reads
 use Rattle.walk.proofs.scope.push_two.Reads as push-two-reads
-use Rattle.walk.proofs.getter.+get_add+get_branch+get_call+get_front+get_list_case+get_node+get_pair+get_split+get_subject+get_truth_case.{
+use Rattle.walk.proofs.getter.+get_add+get_branch+get_call+get_front+get_list_case+get_node+get_pair+get_split+get_truth_case.{
   statement,
 }
-use Rattle.walk.proofs.getter.+get_add+get_branch+get_call+get_front+get_list_case+get_node+get_pair+get_split+get_subject+get_truth_case.Tie.{
+use Rattle.walk.proofs.getter.+get_add+get_branch+get_call+get_front+get_list_case+get_node+get_pair+get_split+get_truth_case.Tie.{
   close,
 }
 
@@ -92,9 +90,6 @@ abbrev μ-get-pair : Measures 3 get-pair-kinds.ps ℕ
 
 abbrev μ-get-split : Measures 3 get-split-kinds.ps ℕ
 μ-get-split κs a = 3 * (a .1 .1 .1 .1 .1 .1 .0 .levels) + 2
-
-abbrev μ-get-subject : Measures 3 get-subject-kinds.ps ℕ
-μ-get-subject κs a = 3 * (a .1 .1 .1 .1 .1 .0 .levels) + 1
 
 abbrev μ-get-truth-case : Measures 3 get-truth-case-kinds.ps ℕ
 μ-get-truth-case κs a = 3 * (a .1 .1 .1 .1 .1 .1 .1 .1 .1 .0 .levels) + 2
@@ -160,13 +155,6 @@ abbrev get-split-below : ℕ → In 3 get-split-kinds.ps
 get-split-below t =
     and 3 get-split-kinds.ps (falls 3 get-split-kinds.ps _<_ μ-get-split t) get-split.Pre
 
-abbrev get-subject-at : ℕ → In 3 get-subject-kinds.ps
-get-subject-at t = and 3 get-subject-kinds.ps (is 3 get-subject-kinds.ps μ-get-subject t) get-subject.Pre
-
-abbrev get-subject-below : ℕ → In 3 get-subject-kinds.ps
-get-subject-below t =
-    and 3 get-subject-kinds.ps (falls 3 get-subject-kinds.ps _<_ μ-get-subject t) get-subject.Pre
-
 abbrev get-truth-case-at : ℕ → In 3 get-truth-case-kinds.ps
 get-truth-case-at t =
     and
@@ -196,7 +184,7 @@ abbrev get-front-claims : ℕ → get-front-lts.Claims
 get-front-claims t = (get-node-below t, get-node.Post)
 
 abbrev get-list-case-claims : ℕ → get-list-case-lts.Claims
-get-list-case-claims t = (get-subject-below t, get-subject.Post, get-branch-below t, get-branch.Post, push-two-reads.Asked, push-two-reads.Learnt)
+get-list-case-claims t = (get-node-below t, get-node.Post, look-reads.Asked, look-reads.Learnt, get-branch-below t, get-branch.Post, push-two-reads.Asked, push-two-reads.Learnt)
 
 abbrev get-node-claims : ℕ → get-node-lts.Claims
 get-node-claims t = (entry-reads.Asked, entry-reads.Learnt, node-at-reads.Asked, node-at-reads.Learnt, get-var-reads.Asked, get-var-reads.Learnt, get-constant-reads.Asked, get-constant-reads.Learnt, get-number-reads.Asked, get-number-reads.Learnt, get-front-below t, get-front.Post, get-pair-below t, get-pair.Post, get-list-case-below t, get-list-case.Post, get-truth-case-below t, get-truth-case.Post, get-split-below t, get-split.Post, get-call-below t, get-call.Post, get-add-below t, get-add.Post)
@@ -205,13 +193,10 @@ abbrev get-pair-claims : ℕ → get-pair-lts.Claims
 get-pair-claims t = (get-node-below t, get-node.Post)
 
 abbrev get-split-claims : ℕ → get-split-lts.Claims
-get-split-claims t = (get-subject-below t, get-subject.Post, push-two-reads.Asked, push-two-reads.Learnt, get-branch-below t, get-branch.Post)
-
-abbrev get-subject-claims : ℕ → get-subject-lts.Claims
-get-subject-claims t = (get-node-below t, get-node.Post, shape-of-reads.Asked, shape-of-reads.Learnt)
+get-split-claims t = (get-node-below t, get-node.Post, look-reads.Asked, look-reads.Learnt, push-two-reads.Asked, push-two-reads.Learnt, get-branch-below t, get-branch.Post)
 
 abbrev get-truth-case-claims : ℕ → get-truth-case-lts.Claims
-get-truth-case-claims t = (get-subject-below t, get-subject.Post, get-branch-below t, get-branch.Post)
+get-truth-case-claims t = (get-node-below t, get-node.Post, look-reads.Asked, look-reads.Learnt, get-branch-below t, get-branch.Post)
 
 get-add-get-node-requires : (t : ℕ) → get-add-lts.Need-get-node-requires (get-add-claims t) (get-add-at t) get-add.Post
 get-add-get-node-requires t c κs = (omega (arith, c .before .before .before .pre .0), (subject-ready (c .before .before .before .pre .1) ((c .before .before .before .pre .1) .known .1 .inside)))
@@ -465,8 +450,11 @@ get-front-returns-6 t c = front-done ((c .before .before .before .before .before
 get-front-same-length-6 : (t : ℕ) → get-front-lts.Need-same-length-6 (get-front-claims t) (get-front-at t) get-front.Post
 get-front-same-length-6 t c = get-front-returns-6 t c .kept .long
 
-get-list-case-get-subject-requires : (t : ℕ) → get-list-case-lts.Need-get-subject-requires (get-list-case-claims t) (get-list-case-at t) get-list-case.Post
-get-list-case-get-subject-requires t c κs = (omega (arith, c .before .before .before .pre .0), (subject-ready (c .before .before .before .pre .1) ((c .before .before .before .pre .1) .known .1 .subject .inside)))
+get-list-case-get-node-requires : (t : ℕ) → get-list-case-lts.Need-get-node-requires (get-list-case-claims t) (get-list-case-at t) get-list-case.Post
+get-list-case-get-node-requires t c κs = (omega (arith, c .before .before .before .pre .0), (subject-ready (c .before .before .before .pre .1) ((c .before .before .before .pre .1) .known .1 .subject .inside)))
+
+get-list-case-look-requires : (t : ℕ) → get-list-case-lts.Need-look-requires (get-list-case-claims t) (get-list-case-at t) get-list-case.Post
+get-list-case-look-requires t c κs = got-whole (subject-ready (c .before .before .before .before .before .before .before .pre .1) (c .before .before .before .before .before .before .before .pre .1 .known .1 .subject .inside)) (c .before .before .before .get-node .ensures)
 
 get-list-case-enum-known-c : (t : ℕ) → get-list-case-lts.Need-enum-known-c (get-list-case-claims t) (get-list-case-at t) get-list-case.Post
 get-list-case-enum-known-c t c = search needs
@@ -474,20 +462,20 @@ get-list-case-enum-known-c t c = search needs
 get-list-case-enum-known-shape : (t : ℕ) → get-list-case-lts.Need-enum-known-shape (get-list-case-claims t) (get-list-case-at t) get-list-case.Post
 get-list-case-enum-known-shape t c = search needs
 
-get-list-case-sub-t25 : (t : ℕ) → get-list-case-lts.Need-sub-t25 (get-list-case-claims t) (get-list-case-at t) get-list-case.Post
-get-list-case-sub-t25 t c = omega (arith, sizes (subject-ready (c .before .before .before .before .before .before .before .before .before .before .pre .1) (c .before .before .before .before .before .before .before .before .before .before .pre .1 .known .1 .subject .inside)) (c .before .before .before .before .before .before .get-subject .ensures .gives) (c .before .before .before .before .before .before .get-subject .ensures .seen (c .before .before .shape .given .1) .0) .steps)
+get-list-case-sub-t28 : (t : ℕ) → get-list-case-lts.Need-sub-t28 (get-list-case-claims t) (get-list-case-at t) get-list-case.Post
+get-list-case-sub-t28 t c = omega (arith, sizes (subject-ready (c .before .before .before .before .before .before .before .before .before .before .before .before .pre .1) (c .before .before .before .before .before .before .before .before .before .before .before .before .pre .1 .known .1 .subject .inside)) (c .before .before .before .before .before .before .before .before .get-node .ensures) (c .before .before .before .before .look .ensures .seen (c .before .before .shape .given .1) .0) .steps)
 
-get-list-case-add-t26 : (t : ℕ) → get-list-case-lts.Need-add-t26 (get-list-case-claims t) (get-list-case-at t) get-list-case.Post
-get-list-case-add-t26 t c = record { fits = omega (arith, c .before .before .before .before .before .before .before .before .before .before .pre .1 .room, sizes (subject-ready (c .before .before .before .before .before .before .before .before .before .before .pre .1) (c .before .before .before .before .before .before .before .before .before .before .pre .1 .known .1 .subject .inside)) (c .before .before .before .before .before .before .get-subject .ensures .gives) (c .before .before .before .before .before .before .get-subject .ensures .seen (c .before .before .shape .given .1) .0) .short) }
+get-list-case-add-t29 : (t : ℕ) → get-list-case-lts.Need-add-t29 (get-list-case-claims t) (get-list-case-at t) get-list-case.Post
+get-list-case-add-t29 t c = record { fits = omega (arith, c .before .before .before .before .before .before .before .before .before .before .before .before .pre .1 .room, sizes (subject-ready (c .before .before .before .before .before .before .before .before .before .before .before .before .pre .1) (c .before .before .before .before .before .before .before .before .before .before .before .before .pre .1 .known .1 .subject .inside)) (c .before .before .before .before .before .before .before .before .get-node .ensures) (c .before .before .before .before .look .ensures .seen (c .before .before .shape .given .1) .0) .short) }
 
 get-list-case-enum-told : (t : ℕ) → get-list-case-lts.Need-enum-told (get-list-case-claims t) (get-list-case-at t) get-list-case.Post
 get-list-case-enum-told t c = search needs
 
 get-list-case-add-get-branch : (t : ℕ) → get-list-case-lts.Need-add-get-branch (get-list-case-claims t) (get-list-case-at t) get-list-case.Post
-get-list-case-add-get-branch t c = record { fits = omega (arith, (c .before .before .before .before .before .before .before .before .before .before .before .before .before .pre .1) .few, (sizes ((subject-ready (c .before .before .before .before .before .before .before .before .before .before .before .before .before .pre .1) ((c .before .before .before .before .before .before .before .before .before .before .before .before .before .pre .1) .known .1 .subject .inside))) (c .before .before .before .before .before .before .before .before .before .get-subject .ensures .gives) (c .before .before .before .before .before .before .before .before .before .get-subject .ensures .seen (c .before .before .before .before .before .shape .given .1) .0)) .steps) }
+get-list-case-add-get-branch t c = record { fits = omega (arith, (c .before .before .before .before .before .before .before .before .before .before .before .before .before .before .before .pre .1) .few, (sizes ((subject-ready (c .before .before .before .before .before .before .before .before .before .before .before .before .before .before .before .pre .1) ((c .before .before .before .before .before .before .before .before .before .before .before .before .before .before .before .pre .1) .known .1 .subject .inside))) (c .before .before .before .before .before .before .before .before .before .before .before .get-node .ensures) (c .before .before .before .before .before .before .before .look .ensures .seen (c .before .before .before .before .before .shape .given .1) .0)) .steps) }
 
 get-list-case-get-branch-requires : (t : ℕ) → get-list-case-lts.Need-get-branch-requires (get-list-case-claims t) (get-list-case-at t) get-list-case.Post
-get-list-case-get-branch-requires t c κs = (omega (arith, c .before .before .before .before .before .before .before .before .before .before .before .before .before .pre .0), (case-ready (c .before .before .before .before .before .before .before .before .before .get-subject .ensures .gives) (c .before .before .before .before .before .before .before .before .before .get-subject .ensures .seen (c .before .before .before .before .before .shape .given .1) .0) (c .before .before .before .before .before .before .before .before .before .get-subject .ensures .seen (c .before .before .before .before .before .shape .given .1) .1) (c .before .before .before .before .before .before .before .before .before .before .before .before .before .pre .1) ((c .before .before .before .before .before .before .before .before .before .before .before .before .before .pre .1) .known .1 .subject .inside) ((c .before .before .before .before .before .before .before .before .before .before .before .before .before .pre .1) .known .1 .empty .inside), ((c .before .before .before .before .before .before .before .before .before .before .before .before .before .pre .1) .base, omega arith)))
+get-list-case-get-branch-requires t c κs = (omega (arith, c .before .before .before .before .before .before .before .before .before .before .before .before .before .before .before .pre .0), (case-ready (c .before .before .before .before .before .before .before .before .before .before .before .get-node .ensures) (c .before .before .before .before .before .before .before .look .ensures .seen (c .before .before .before .before .before .shape .given .1) .0) (c .before .before .before .before .before .before .before .look .ensures .seen (c .before .before .before .before .before .shape .given .1) .1) (c .before .before .before .before .before .before .before .before .before .before .before .before .before .before .before .pre .1) ((c .before .before .before .before .before .before .before .before .before .before .before .before .before .before .before .pre .1) .known .1 .subject .inside) ((c .before .before .before .before .before .before .before .before .before .before .before .before .before .before .before .pre .1) .known .1 .empty .inside), ((c .before .before .before .before .before .before .before .before .before .before .before .before .before .before .before .pre .1) .base, omega arith)))
 
 get-list-case-enum-known-shape-2 : (t : ℕ) → get-list-case-lts.Need-enum-known-shape-2 (get-list-case-claims t) (get-list-case-at t) get-list-case.Post
 get-list-case-enum-known-shape-2 t c = search needs
@@ -496,31 +484,31 @@ get-list-case-add-push-two : (t : ℕ) → get-list-case-lts.Need-add-push-two (
 get-list-case-add-push-two t c = search needs
 
 get-list-case-sub-push-two : (t : ℕ) → get-list-case-lts.Need-sub-push-two (get-list-case-claims t) (get-list-case-at t) get-list-case.Post
-get-list-case-sub-push-two t c = omega (arith, (front-mid (c .before .before .before .before .before .before .before .before .before .get-subject .ensures .gives) (c .before .before .before .before .before .before .before .before .before .get-subject .ensures .seen (c .before .before .before .before .before .shape .given .1) .0) (c .before .before .before .before .before .before .before .before .before .get-subject .ensures .seen (c .before .before .before .before .before .shape .given .1) .1) (c .before .shape2 .given .1) ((subject-ready (c .before .before .before .before .before .before .before .before .before .before .before .before .before .pre .1) ((c .before .before .before .before .before .before .before .before .before .before .before .before .before .pre .1) .known .1 .subject .inside)))))
+get-list-case-sub-push-two t c = omega (arith, (front-mid (c .before .before .before .before .before .before .before .before .before .before .before .get-node .ensures) (c .before .before .before .before .before .before .before .look .ensures .seen (c .before .before .before .before .before .shape .given .1) .0) (c .before .before .before .before .before .before .before .look .ensures .seen (c .before .before .before .before .before .shape .given .1) .1) (c .before .shape2 .given .1) ((subject-ready (c .before .before .before .before .before .before .before .before .before .before .before .before .before .before .before .pre .1) ((c .before .before .before .before .before .before .before .before .before .before .before .before .before .before .before .pre .1) .known .1 .subject .inside)))))
 
 get-list-case-sub-push-two-2 : (t : ℕ) → get-list-case-lts.Need-sub-push-two-2 (get-list-case-claims t) (get-list-case-at t) get-list-case.Post
-get-list-case-sub-push-two-2 t c = omega (arith, (front-mid (c .before .before .before .before .before .before .before .before .before .get-subject .ensures .gives) (c .before .before .before .before .before .before .before .before .before .get-subject .ensures .seen (c .before .before .before .before .before .shape .given .1) .0) (c .before .before .before .before .before .before .before .before .before .get-subject .ensures .seen (c .before .before .before .before .before .shape .given .1) .1) (c .before .shape2 .given .1) ((subject-ready (c .before .before .before .before .before .before .before .before .before .before .before .before .before .pre .1) ((c .before .before .before .before .before .before .before .before .before .before .before .before .before .pre .1) .known .1 .subject .inside)))))
+get-list-case-sub-push-two-2 t c = omega (arith, (front-mid (c .before .before .before .before .before .before .before .before .before .before .before .get-node .ensures) (c .before .before .before .before .before .before .before .look .ensures .seen (c .before .before .before .before .before .shape .given .1) .0) (c .before .before .before .before .before .before .before .look .ensures .seen (c .before .before .before .before .before .shape .given .1) .1) (c .before .shape2 .given .1) ((subject-ready (c .before .before .before .before .before .before .before .before .before .before .before .before .before .before .before .pre .1) ((c .before .before .before .before .before .before .before .before .before .before .before .before .before .before .before .pre .1) .known .1 .subject .inside)))))
 
 get-list-case-push-two-requires : (t : ℕ) → get-list-case-lts.Need-push-two-requires (get-list-case-claims t) (get-list-case-at t) get-list-case.Post
-get-list-case-push-two-requires t c κs = omega (arith, (c .before .before .before .before .before .before .before .before .before .before .before .before .before .pre .1) .room, (c .before .before .before .before .before .before .before .before .before .before .before .before .before .pre .1) .slots, (sizes ((subject-ready (c .before .before .before .before .before .before .before .before .before .before .before .before .before .pre .1) ((c .before .before .before .before .before .before .before .before .before .before .before .before .before .pre .1) .known .1 .subject .inside))) (c .before .before .before .before .before .before .before .before .before .get-subject .ensures .gives) (c .before .before .before .before .before .before .before .before .before .get-subject .ensures .seen (c .before .before .before .before .before .shape .given .1) .0)) .short, (sizes ((subject-ready (c .before .before .before .before .before .before .before .before .before .before .before .before .before .pre .1) ((c .before .before .before .before .before .before .before .before .before .before .before .before .before .pre .1) .known .1 .subject .inside))) (c .before .before .before .before .before .before .before .before .before .get-subject .ensures .gives) (c .before .before .before .before .before .before .before .before .before .get-subject .ensures .seen (c .before .before .before .before .before .shape .given .1) .0)) .deep, (front-mid (c .before .before .before .before .before .before .before .before .before .get-subject .ensures .gives) (c .before .before .before .before .before .before .before .before .before .get-subject .ensures .seen (c .before .before .before .before .before .shape .given .1) .0) (c .before .before .before .before .before .before .before .before .before .get-subject .ensures .seen (c .before .before .before .before .before .shape .given .1) .1) (c .before .shape2 .given .1) ((subject-ready (c .before .before .before .before .before .before .before .before .before .before .before .before .before .pre .1) ((c .before .before .before .before .before .before .before .before .before .before .before .before .before .pre .1) .known .1 .subject .inside)))))
+get-list-case-push-two-requires t c κs = omega (arith, (c .before .before .before .before .before .before .before .before .before .before .before .before .before .before .before .pre .1) .room, (c .before .before .before .before .before .before .before .before .before .before .before .before .before .before .before .pre .1) .slots, (sizes ((subject-ready (c .before .before .before .before .before .before .before .before .before .before .before .before .before .before .before .pre .1) ((c .before .before .before .before .before .before .before .before .before .before .before .before .before .before .before .pre .1) .known .1 .subject .inside))) (c .before .before .before .before .before .before .before .before .before .before .before .get-node .ensures) (c .before .before .before .before .before .before .before .look .ensures .seen (c .before .before .before .before .before .shape .given .1) .0)) .short, (sizes ((subject-ready (c .before .before .before .before .before .before .before .before .before .before .before .before .before .before .before .pre .1) ((c .before .before .before .before .before .before .before .before .before .before .before .before .before .before .before .pre .1) .known .1 .subject .inside))) (c .before .before .before .before .before .before .before .before .before .before .before .get-node .ensures) (c .before .before .before .before .before .before .before .look .ensures .seen (c .before .before .before .before .before .shape .given .1) .0)) .deep, (front-mid (c .before .before .before .before .before .before .before .before .before .before .before .get-node .ensures) (c .before .before .before .before .before .before .before .look .ensures .seen (c .before .before .before .before .before .shape .given .1) .0) (c .before .before .before .before .before .before .before .look .ensures .seen (c .before .before .before .before .before .shape .given .1) .1) (c .before .shape2 .given .1) ((subject-ready (c .before .before .before .before .before .before .before .before .before .before .before .before .before .before .before .pre .1) ((c .before .before .before .before .before .before .before .before .before .before .before .before .before .before .before .pre .1) .known .1 .subject .inside)))))
 
 get-list-case-add-get-branch-2 : (t : ℕ) → get-list-case-lts.Need-add-get-branch-2 (get-list-case-claims t) (get-list-case-at t) get-list-case.Post
-get-list-case-add-get-branch-2 t c = record { fits = omega (arith, (c .before .before .before .before .before .before .before .before .before .before .before .before .before .before .before .pre .1) .few, (sizes ((subject-ready (c .before .before .before .before .before .before .before .before .before .before .before .before .before .before .before .pre .1) ((c .before .before .before .before .before .before .before .before .before .before .before .before .before .before .before .pre .1) .known .1 .subject .inside))) (c .before .before .before .before .before .before .before .before .before .before .before .get-subject .ensures .gives) (c .before .before .before .before .before .before .before .before .before .before .before .get-subject .ensures .seen (c .before .before .before .before .before .before .before .shape .given .1) .0)) .steps) }
+get-list-case-add-get-branch-2 t c = record { fits = omega (arith, (c .before .before .before .before .before .before .before .before .before .before .before .before .before .before .before .before .before .pre .1) .few, (sizes ((subject-ready (c .before .before .before .before .before .before .before .before .before .before .before .before .before .before .before .before .before .pre .1) ((c .before .before .before .before .before .before .before .before .before .before .before .before .before .before .before .before .before .pre .1) .known .1 .subject .inside))) (c .before .before .before .before .before .before .before .before .before .before .before .before .before .get-node .ensures) (c .before .before .before .before .before .before .before .before .before .look .ensures .seen (c .before .before .before .before .before .before .before .shape .given .1) .0)) .steps) }
 
 get-list-case-get-branch-requires-2 : (t : ℕ) → get-list-case-lts.Need-get-branch-requires-2 (get-list-case-claims t) (get-list-case-at t) get-list-case.Post
-get-list-case-get-branch-requires-2 t c κs = (omega (arith, c .before .before .before .before .before .before .before .before .before .before .before .before .before .before .before .pre .0), (front-ready (c .before .before .before .before .before .before .before .before .before .before .before .get-subject .ensures .gives) (c .before .before .before .before .before .before .before .before .before .before .before .get-subject .ensures .seen (c .before .before .before .before .before .before .before .shape .given .1) .0) (c .before .before .before .before .before .before .before .before .before .before .before .get-subject .ensures .seen (c .before .before .before .before .before .before .before .shape .given .1) .1) (c .before .before .before .shape2 .given .1) (c .before .push-two .ensures) (c .before .before .before .before .before .before .before .before .before .before .before .before .before .before .before .pre .1) ((c .before .before .before .before .before .before .before .before .before .before .before .before .before .before .before .pre .1) .known .1 .subject .inside) ((c .before .before .before .before .before .before .before .before .before .before .before .before .before .before .before .pre .1) .known .1 .front .inside), ((c .before .before .before .before .before .before .before .before .before .before .before .before .before .before .before .pre .1) .base, omega arith)))
+get-list-case-get-branch-requires-2 t c κs = (omega (arith, c .before .before .before .before .before .before .before .before .before .before .before .before .before .before .before .before .before .pre .0), (front-ready (c .before .before .before .before .before .before .before .before .before .before .before .before .before .get-node .ensures) (c .before .before .before .before .before .before .before .before .before .look .ensures .seen (c .before .before .before .before .before .before .before .shape .given .1) .0) (c .before .before .before .before .before .before .before .before .before .look .ensures .seen (c .before .before .before .before .before .before .before .shape .given .1) .1) (c .before .before .before .shape2 .given .1) (c .before .push-two .ensures) (c .before .before .before .before .before .before .before .before .before .before .before .before .before .before .before .before .before .pre .1) ((c .before .before .before .before .before .before .before .before .before .before .before .before .before .before .before .before .before .pre .1) .known .1 .subject .inside) ((c .before .before .before .before .before .before .before .before .before .before .before .before .before .before .before .before .before .pre .1) .known .1 .front .inside), ((c .before .before .before .before .before .before .before .before .before .before .before .before .before .before .before .before .before .pre .1) .base, omega arith)))
 
 get-list-case-returns : (t : ℕ) → get-list-case-lts.Need-returns (get-list-case-claims t) (get-list-case-at t) get-list-case.Post
-get-list-case-returns t c = list-refused (c .before .before .before .before .before .get-subject .ensures .gives) (c .before .before .before .before .before .get-subject .ensures .unseen (c .before .c .given .1))
+get-list-case-returns t c = list-refused (c .before .before .before .before .before .before .before .get-node .ensures) (c .before .before .before .look .ensures .unseen (c .before .c .given .1))
 
 get-list-case-returns-2 : (t : ℕ) → get-list-case-lts.Need-returns-2 (get-list-case-claims t) (get-list-case-at t) get-list-case.Post
-get-list-case-returns-2 t c = list-empty (c .before .before .before .before .before .before .before .before .before .before .before .before .get-subject .ensures .gives) (c .before .before .before .before .before .before .before .before .before .before .before .before .get-subject .ensures .seen (c .before .before .before .before .before .before .before .before .shape .given .1) .0) (c .before .before .before .before .before .before .before .before .before .before .before .before .get-subject .ensures .seen (c .before .before .before .before .before .before .before .before .shape .given .1) .1) ((c .before .before .before .before .before .before .before .before .before .before .before .before .before .before .before .before .pre .1) .base) (c .before .before .before .before .enum-told .given .1) (c .before .before .get-branch .ensures)
+get-list-case-returns-2 t c = list-empty (c .before .before .before .before .before .before .before .before .before .before .before .before .before .before .get-node .ensures) (c .before .before .before .before .before .before .before .before .before .before .look .ensures .seen (c .before .before .before .before .before .before .before .before .shape .given .1) .0) (c .before .before .before .before .before .before .before .before .before .before .look .ensures .seen (c .before .before .before .before .before .before .before .before .shape .given .1) .1) ((c .before .before .before .before .before .before .before .before .before .before .before .before .before .before .before .before .before .before .pre .1) .base) (c .before .before .before .before .enum-told .given .1) (c .before .before .get-branch .ensures)
 
 get-list-case-returns-3 : (t : ℕ) → get-list-case-lts.Need-returns-3 (get-list-case-claims t) (get-list-case-at t) get-list-case.Post
-get-list-case-returns-3 t c = list-front (c .before .before .before .before .before .before .before .before .before .before .before .before .before .before .get-subject .ensures .gives) (c .before .before .before .before .before .before .before .before .before .before .before .before .before .before .get-subject .ensures .seen (c .before .before .before .before .before .before .before .before .before .before .shape .given .1) .0) (c .before .before .before .before .before .before .before .before .before .before .before .before .before .before .get-subject .ensures .seen (c .before .before .before .before .before .before .before .before .before .before .shape .given .1) .1) (c .before .before .before .before .before .before .shape2 .given .1) (c .before .before .before .before .push-two .ensures) ((c .before .before .before .before .before .before .before .before .before .before .before .before .before .before .before .before .before .before .pre .1) .base) (omega (arith, (c .before .before .before .before .before .before .before .before .before .before .before .before .before .before .before .before .before .before .pre .1) .slots, (sizes ((subject-ready (c .before .before .before .before .before .before .before .before .before .before .before .before .before .before .before .before .before .before .pre .1) ((c .before .before .before .before .before .before .before .before .before .before .before .before .before .before .before .before .before .before .pre .1) .known .1 .subject .inside))) (c .before .before .before .before .before .before .before .before .before .before .before .before .before .before .get-subject .ensures .gives) (c .before .before .before .before .before .before .before .before .before .before .before .before .before .before .get-subject .ensures .seen (c .before .before .before .before .before .before .before .before .before .before .shape .given .1) .0)) .deep)) (c .before .before .get-branch2 .ensures)
+get-list-case-returns-3 t c = list-front (c .before .before .before .before .before .before .before .before .before .before .before .before .before .before .before .before .get-node .ensures) (c .before .before .before .before .before .before .before .before .before .before .before .before .look .ensures .seen (c .before .before .before .before .before .before .before .before .before .before .shape .given .1) .0) (c .before .before .before .before .before .before .before .before .before .before .before .before .look .ensures .seen (c .before .before .before .before .before .before .before .before .before .before .shape .given .1) .1) (c .before .before .before .before .before .before .shape2 .given .1) (c .before .before .before .before .push-two .ensures) ((c .before .before .before .before .before .before .before .before .before .before .before .before .before .before .before .before .before .before .before .before .pre .1) .base) (omega (arith, (c .before .before .before .before .before .before .before .before .before .before .before .before .before .before .before .before .before .before .before .before .pre .1) .slots, (sizes ((subject-ready (c .before .before .before .before .before .before .before .before .before .before .before .before .before .before .before .before .before .before .before .before .pre .1) ((c .before .before .before .before .before .before .before .before .before .before .before .before .before .before .before .before .before .before .before .before .pre .1) .known .1 .subject .inside))) (c .before .before .before .before .before .before .before .before .before .before .before .before .before .before .before .before .get-node .ensures) (c .before .before .before .before .before .before .before .before .before .before .before .before .look .ensures .seen (c .before .before .before .before .before .before .before .before .before .before .shape .given .1) .0)) .deep)) (c .before .before .get-branch2 .ensures)
 
 get-list-case-returns-4 : (t : ℕ) → get-list-case-lts.Need-returns-4 (get-list-case-claims t) (get-list-case-at t) get-list-case.Post
-get-list-case-returns-4 t c = list-43 (c .before .before .before .before .before .before .before .get-subject .ensures .gives) (c .before .before .before .before .before .before .before .get-subject .ensures .seen (c .before .before .before .shape .given .1) .0) (c .before .before .before .before .before .before .before .get-subject .ensures .seen (c .before .before .before .shape .given .1) .1) (λ v s. no-list s (c .match2 .keys3))
+get-list-case-returns-4 t c = list-43 (c .before .before .before .before .before .before .before .before .before .get-node .ensures) (c .before .before .before .before .before .look .ensures .seen (c .before .before .before .shape .given .1) .0) (c .before .before .before .before .before .look .ensures .seen (c .before .before .before .shape .given .1) .1) (λ v s. no-list s (c .match2 .keys3))
 
 get-list-case-same-length : (t : ℕ) → get-list-case-lts.Need-same-length (get-list-case-claims t) (get-list-case-at t) get-list-case.Post
 get-list-case-same-length t c = get-list-case-returns t c .kept .long
@@ -777,8 +765,11 @@ get-pair-returns-4 t c = pair-done ((c .before .before .before .before .before .
 get-pair-same-length-4 : (t : ℕ) → get-pair-lts.Need-same-length-4 (get-pair-claims t) (get-pair-at t) get-pair.Post
 get-pair-same-length-4 t c = get-pair-returns-4 t c .kept .long
 
-get-split-get-subject-requires : (t : ℕ) → get-split-lts.Need-get-subject-requires (get-split-claims t) (get-split-at t) get-split.Post
-get-split-get-subject-requires t c κs = (omega (arith, c .before .before .before .pre .0), (subject-ready (c .before .before .before .pre .1) ((c .before .before .before .pre .1) .known .1 .0 .inside)))
+get-split-get-node-requires : (t : ℕ) → get-split-lts.Need-get-node-requires (get-split-claims t) (get-split-at t) get-split.Post
+get-split-get-node-requires t c κs = (omega (arith, c .before .before .before .pre .0), (subject-ready (c .before .before .before .pre .1) ((c .before .before .before .pre .1) .known .1 .0 .inside)))
+
+get-split-look-requires : (t : ℕ) → get-split-lts.Need-look-requires (get-split-claims t) (get-split-at t) get-split.Post
+get-split-look-requires t c κs = got-whole (subject-ready (c .before .before .before .before .before .before .before .pre .1) (c .before .before .before .before .before .before .before .pre .1 .known .1 .0 .inside)) (c .before .before .before .get-node .ensures)
 
 get-split-enum-known-c : (t : ℕ) → get-split-lts.Need-enum-known-c (get-split-claims t) (get-split-at t) get-split.Post
 get-split-enum-known-c t c = search needs
@@ -786,11 +777,11 @@ get-split-enum-known-c t c = search needs
 get-split-enum-known-shape : (t : ℕ) → get-split-lts.Need-enum-known-shape (get-split-claims t) (get-split-at t) get-split.Post
 get-split-enum-known-shape t c = search needs
 
-get-split-sub-t20 : (t : ℕ) → get-split-lts.Need-sub-t20 (get-split-claims t) (get-split-at t) get-split.Post
-get-split-sub-t20 t c = omega (arith, sizes (subject-ready (c .before .before .before .before .before .before .before .before .before .before .pre .1) (c .before .before .before .before .before .before .before .before .before .before .pre .1 .known .1 .0 .inside)) (c .before .before .before .before .before .before .get-subject .ensures .gives) (c .before .before .before .before .before .before .get-subject .ensures .seen (c .before .before .shape .given .1) .0) .steps)
+get-split-sub-t23 : (t : ℕ) → get-split-lts.Need-sub-t23 (get-split-claims t) (get-split-at t) get-split.Post
+get-split-sub-t23 t c = omega (arith, sizes (subject-ready (c .before .before .before .before .before .before .before .before .before .before .before .before .pre .1) (c .before .before .before .before .before .before .before .before .before .before .before .before .pre .1 .known .1 .0 .inside)) (c .before .before .before .before .before .before .before .before .get-node .ensures) (c .before .before .before .before .look .ensures .seen (c .before .before .shape .given .1) .0) .steps)
 
-get-split-add-t21 : (t : ℕ) → get-split-lts.Need-add-t21 (get-split-claims t) (get-split-at t) get-split.Post
-get-split-add-t21 t c = record { fits = omega (arith, c .before .before .before .before .before .before .before .before .before .before .pre .1 .room, sizes (subject-ready (c .before .before .before .before .before .before .before .before .before .before .pre .1) (c .before .before .before .before .before .before .before .before .before .before .pre .1 .known .1 .0 .inside)) (c .before .before .before .before .before .before .get-subject .ensures .gives) (c .before .before .before .before .before .before .get-subject .ensures .seen (c .before .before .shape .given .1) .0) .short) }
+get-split-add-t24 : (t : ℕ) → get-split-lts.Need-add-t24 (get-split-claims t) (get-split-at t) get-split.Post
+get-split-add-t24 t c = record { fits = omega (arith, c .before .before .before .before .before .before .before .before .before .before .before .before .pre .1 .room, sizes (subject-ready (c .before .before .before .before .before .before .before .before .before .before .before .before .pre .1) (c .before .before .before .before .before .before .before .before .before .before .before .before .pre .1 .known .1 .0 .inside)) (c .before .before .before .before .before .before .before .before .get-node .ensures) (c .before .before .before .before .look .ensures .seen (c .before .before .shape .given .1) .0) .short) }
 
 get-split-enum-known-shape-2 : (t : ℕ) → get-split-lts.Need-enum-known-shape-2 (get-split-claims t) (get-split-at t) get-split.Post
 get-split-enum-known-shape-2 t c = search needs
@@ -799,28 +790,28 @@ get-split-add-push-two : (t : ℕ) → get-split-lts.Need-add-push-two (get-spli
 get-split-add-push-two t c = search needs
 
 get-split-sub-push-two : (t : ℕ) → get-split-lts.Need-sub-push-two (get-split-claims t) (get-split-at t) get-split.Post
-get-split-sub-push-two t c = omega (arith, (pair-mid (c .before .before .before .before .before .before .before .before .before .get-subject .ensures .gives) (c .before .before .before .before .before .before .before .before .before .get-subject .ensures .seen (c .before .before .before .before .before .shape .given .1) .0) (c .before .before .before .before .before .before .before .before .before .get-subject .ensures .seen (c .before .before .before .before .before .shape .given .1) .1) (c .before .shape2 .given .1) ((subject-ready (c .before .before .before .before .before .before .before .before .before .before .before .before .before .pre .1) ((c .before .before .before .before .before .before .before .before .before .before .before .before .before .pre .1) .known .1 .0 .inside)))))
+get-split-sub-push-two t c = omega (arith, (pair-mid (c .before .before .before .before .before .before .before .before .before .before .before .get-node .ensures) (c .before .before .before .before .before .before .before .look .ensures .seen (c .before .before .before .before .before .shape .given .1) .0) (c .before .before .before .before .before .before .before .look .ensures .seen (c .before .before .before .before .before .shape .given .1) .1) (c .before .shape2 .given .1) ((subject-ready (c .before .before .before .before .before .before .before .before .before .before .before .before .before .before .before .pre .1) ((c .before .before .before .before .before .before .before .before .before .before .before .before .before .before .before .pre .1) .known .1 .0 .inside)))))
 
 get-split-sub-push-two-2 : (t : ℕ) → get-split-lts.Need-sub-push-two-2 (get-split-claims t) (get-split-at t) get-split.Post
-get-split-sub-push-two-2 t c = omega (arith, (pair-mid (c .before .before .before .before .before .before .before .before .before .get-subject .ensures .gives) (c .before .before .before .before .before .before .before .before .before .get-subject .ensures .seen (c .before .before .before .before .before .shape .given .1) .0) (c .before .before .before .before .before .before .before .before .before .get-subject .ensures .seen (c .before .before .before .before .before .shape .given .1) .1) (c .before .shape2 .given .1) ((subject-ready (c .before .before .before .before .before .before .before .before .before .before .before .before .before .pre .1) ((c .before .before .before .before .before .before .before .before .before .before .before .before .before .pre .1) .known .1 .0 .inside)))))
+get-split-sub-push-two-2 t c = omega (arith, (pair-mid (c .before .before .before .before .before .before .before .before .before .before .before .get-node .ensures) (c .before .before .before .before .before .before .before .look .ensures .seen (c .before .before .before .before .before .shape .given .1) .0) (c .before .before .before .before .before .before .before .look .ensures .seen (c .before .before .before .before .before .shape .given .1) .1) (c .before .shape2 .given .1) ((subject-ready (c .before .before .before .before .before .before .before .before .before .before .before .before .before .before .before .pre .1) ((c .before .before .before .before .before .before .before .before .before .before .before .before .before .before .before .pre .1) .known .1 .0 .inside)))))
 
 get-split-push-two-requires : (t : ℕ) → get-split-lts.Need-push-two-requires (get-split-claims t) (get-split-at t) get-split.Post
-get-split-push-two-requires t c κs = omega (arith, (c .before .before .before .before .before .before .before .before .before .before .before .before .before .pre .1) .room, (c .before .before .before .before .before .before .before .before .before .before .before .before .before .pre .1) .slots, (sizes ((subject-ready (c .before .before .before .before .before .before .before .before .before .before .before .before .before .pre .1) ((c .before .before .before .before .before .before .before .before .before .before .before .before .before .pre .1) .known .1 .0 .inside))) (c .before .before .before .before .before .before .before .before .before .get-subject .ensures .gives) (c .before .before .before .before .before .before .before .before .before .get-subject .ensures .seen (c .before .before .before .before .before .shape .given .1) .0)) .short, (sizes ((subject-ready (c .before .before .before .before .before .before .before .before .before .before .before .before .before .pre .1) ((c .before .before .before .before .before .before .before .before .before .before .before .before .before .pre .1) .known .1 .0 .inside))) (c .before .before .before .before .before .before .before .before .before .get-subject .ensures .gives) (c .before .before .before .before .before .before .before .before .before .get-subject .ensures .seen (c .before .before .before .before .before .shape .given .1) .0)) .deep, (pair-mid (c .before .before .before .before .before .before .before .before .before .get-subject .ensures .gives) (c .before .before .before .before .before .before .before .before .before .get-subject .ensures .seen (c .before .before .before .before .before .shape .given .1) .0) (c .before .before .before .before .before .before .before .before .before .get-subject .ensures .seen (c .before .before .before .before .before .shape .given .1) .1) (c .before .shape2 .given .1) ((subject-ready (c .before .before .before .before .before .before .before .before .before .before .before .before .before .pre .1) ((c .before .before .before .before .before .before .before .before .before .before .before .before .before .pre .1) .known .1 .0 .inside)))))
+get-split-push-two-requires t c κs = omega (arith, (c .before .before .before .before .before .before .before .before .before .before .before .before .before .before .before .pre .1) .room, (c .before .before .before .before .before .before .before .before .before .before .before .before .before .before .before .pre .1) .slots, (sizes ((subject-ready (c .before .before .before .before .before .before .before .before .before .before .before .before .before .before .before .pre .1) ((c .before .before .before .before .before .before .before .before .before .before .before .before .before .before .before .pre .1) .known .1 .0 .inside))) (c .before .before .before .before .before .before .before .before .before .before .before .get-node .ensures) (c .before .before .before .before .before .before .before .look .ensures .seen (c .before .before .before .before .before .shape .given .1) .0)) .short, (sizes ((subject-ready (c .before .before .before .before .before .before .before .before .before .before .before .before .before .before .before .pre .1) ((c .before .before .before .before .before .before .before .before .before .before .before .before .before .before .before .pre .1) .known .1 .0 .inside))) (c .before .before .before .before .before .before .before .before .before .before .before .get-node .ensures) (c .before .before .before .before .before .before .before .look .ensures .seen (c .before .before .before .before .before .shape .given .1) .0)) .deep, (pair-mid (c .before .before .before .before .before .before .before .before .before .before .before .get-node .ensures) (c .before .before .before .before .before .before .before .look .ensures .seen (c .before .before .before .before .before .shape .given .1) .0) (c .before .before .before .before .before .before .before .look .ensures .seen (c .before .before .before .before .before .shape .given .1) .1) (c .before .shape2 .given .1) ((subject-ready (c .before .before .before .before .before .before .before .before .before .before .before .before .before .before .before .pre .1) ((c .before .before .before .before .before .before .before .before .before .before .before .before .before .before .before .pre .1) .known .1 .0 .inside)))))
 
 get-split-add-get-branch : (t : ℕ) → get-split-lts.Need-add-get-branch (get-split-claims t) (get-split-at t) get-split.Post
-get-split-add-get-branch t c = record { fits = omega (arith, (c .before .before .before .before .before .before .before .before .before .before .before .before .before .before .before .pre .1) .few, (sizes ((subject-ready (c .before .before .before .before .before .before .before .before .before .before .before .before .before .before .before .pre .1) ((c .before .before .before .before .before .before .before .before .before .before .before .before .before .before .before .pre .1) .known .1 .0 .inside))) (c .before .before .before .before .before .before .before .before .before .before .before .get-subject .ensures .gives) (c .before .before .before .before .before .before .before .before .before .before .before .get-subject .ensures .seen (c .before .before .before .before .before .before .before .shape .given .1) .0)) .steps) }
+get-split-add-get-branch t c = record { fits = omega (arith, (c .before .before .before .before .before .before .before .before .before .before .before .before .before .before .before .before .before .pre .1) .few, (sizes ((subject-ready (c .before .before .before .before .before .before .before .before .before .before .before .before .before .before .before .before .before .pre .1) ((c .before .before .before .before .before .before .before .before .before .before .before .before .before .before .before .before .before .pre .1) .known .1 .0 .inside))) (c .before .before .before .before .before .before .before .before .before .before .before .before .before .get-node .ensures) (c .before .before .before .before .before .before .before .before .before .look .ensures .seen (c .before .before .before .before .before .before .before .shape .given .1) .0)) .steps) }
 
 get-split-get-branch-requires : (t : ℕ) → get-split-lts.Need-get-branch-requires (get-split-claims t) (get-split-at t) get-split.Post
-get-split-get-branch-requires t c κs = (omega (arith, c .before .before .before .before .before .before .before .before .before .before .before .before .before .before .before .pre .0), (pair-ready (c .before .before .before .before .before .before .before .before .before .before .before .get-subject .ensures .gives) (c .before .before .before .before .before .before .before .before .before .before .before .get-subject .ensures .seen (c .before .before .before .before .before .before .before .shape .given .1) .0) (c .before .before .before .before .before .before .before .before .before .before .before .get-subject .ensures .seen (c .before .before .before .before .before .before .before .shape .given .1) .1) (c .before .before .before .shape2 .given .1) (c .before .push-two .ensures) (c .before .before .before .before .before .before .before .before .before .before .before .before .before .before .before .pre .1) ((c .before .before .before .before .before .before .before .before .before .before .before .before .before .before .before .pre .1) .known .1 .0 .inside) ((c .before .before .before .before .before .before .before .before .before .before .before .before .before .before .before .pre .1) .known .1 .1 .inside), ((c .before .before .before .before .before .before .before .before .before .before .before .before .before .before .before .pre .1) .base, omega arith)))
+get-split-get-branch-requires t c κs = (omega (arith, c .before .before .before .before .before .before .before .before .before .before .before .before .before .before .before .before .before .pre .0), (pair-ready (c .before .before .before .before .before .before .before .before .before .before .before .before .before .get-node .ensures) (c .before .before .before .before .before .before .before .before .before .look .ensures .seen (c .before .before .before .before .before .before .before .shape .given .1) .0) (c .before .before .before .before .before .before .before .before .before .look .ensures .seen (c .before .before .before .before .before .before .before .shape .given .1) .1) (c .before .before .before .shape2 .given .1) (c .before .push-two .ensures) (c .before .before .before .before .before .before .before .before .before .before .before .before .before .before .before .before .before .pre .1) ((c .before .before .before .before .before .before .before .before .before .before .before .before .before .before .before .before .before .pre .1) .known .1 .0 .inside) ((c .before .before .before .before .before .before .before .before .before .before .before .before .before .before .before .before .before .pre .1) .known .1 .1 .inside), ((c .before .before .before .before .before .before .before .before .before .before .before .before .before .before .before .before .before .pre .1) .base, omega arith)))
 
 get-split-returns : (t : ℕ) → get-split-lts.Need-returns (get-split-claims t) (get-split-at t) get-split.Post
-get-split-returns t c = split-refused (c .before .before .before .before .before .get-subject .ensures .gives) (c .before .before .before .before .before .get-subject .ensures .unseen (c .before .c .given .1))
+get-split-returns t c = split-refused (c .before .before .before .before .before .before .before .get-node .ensures) (c .before .before .before .look .ensures .unseen (c .before .c .given .1))
 
 get-split-returns-2 : (t : ℕ) → get-split-lts.Need-returns-2 (get-split-claims t) (get-split-at t) get-split.Post
-get-split-returns-2 t c = split-done (c .before .before .before .before .before .before .before .before .before .before .before .before .before .before .get-subject .ensures .gives) (c .before .before .before .before .before .before .before .before .before .before .before .before .before .before .get-subject .ensures .seen (c .before .before .before .before .before .before .before .before .before .before .shape .given .1) .0) (c .before .before .before .before .before .before .before .before .before .before .before .before .before .before .get-subject .ensures .seen (c .before .before .before .before .before .before .before .before .before .before .shape .given .1) .1) (c .before .before .before .before .before .before .shape2 .given .1) (c .before .before .before .before .push-two .ensures) ((c .before .before .before .before .before .before .before .before .before .before .before .before .before .before .before .before .before .before .pre .1) .base) (omega (arith, (c .before .before .before .before .before .before .before .before .before .before .before .before .before .before .before .before .before .before .pre .1) .slots, (sizes ((subject-ready (c .before .before .before .before .before .before .before .before .before .before .before .before .before .before .before .before .before .before .pre .1) ((c .before .before .before .before .before .before .before .before .before .before .before .before .before .before .before .before .before .before .pre .1) .known .1 .0 .inside))) (c .before .before .before .before .before .before .before .before .before .before .before .before .before .before .get-subject .ensures .gives) (c .before .before .before .before .before .before .before .before .before .before .before .before .before .before .get-subject .ensures .seen (c .before .before .before .before .before .before .before .before .before .before .shape .given .1) .0)) .deep)) (c .before .before .get-branch .ensures)
+get-split-returns-2 t c = split-done (c .before .before .before .before .before .before .before .before .before .before .before .before .before .before .before .before .get-node .ensures) (c .before .before .before .before .before .before .before .before .before .before .before .before .look .ensures .seen (c .before .before .before .before .before .before .before .before .before .before .shape .given .1) .0) (c .before .before .before .before .before .before .before .before .before .before .before .before .look .ensures .seen (c .before .before .before .before .before .before .before .before .before .before .shape .given .1) .1) (c .before .before .before .before .before .before .shape2 .given .1) (c .before .before .before .before .push-two .ensures) ((c .before .before .before .before .before .before .before .before .before .before .before .before .before .before .before .before .before .before .before .before .pre .1) .base) (omega (arith, (c .before .before .before .before .before .before .before .before .before .before .before .before .before .before .before .before .before .before .before .before .pre .1) .slots, (sizes ((subject-ready (c .before .before .before .before .before .before .before .before .before .before .before .before .before .before .before .before .before .before .before .before .pre .1) ((c .before .before .before .before .before .before .before .before .before .before .before .before .before .before .before .before .before .before .before .before .pre .1) .known .1 .0 .inside))) (c .before .before .before .before .before .before .before .before .before .before .before .before .before .before .before .before .get-node .ensures) (c .before .before .before .before .before .before .before .before .before .before .before .before .look .ensures .seen (c .before .before .before .before .before .before .before .before .before .before .shape .given .1) .0)) .deep)) (c .before .before .get-branch .ensures)
 
 get-split-returns-3 : (t : ℕ) → get-split-lts.Need-returns-3 (get-split-claims t) (get-split-at t) get-split.Post
-get-split-returns-3 t c = split-43 (c .before .before .before .before .before .before .before .get-subject .ensures .gives) (c .before .before .before .before .before .before .before .get-subject .ensures .seen (c .before .before .before .shape .given .1) .0) (c .before .before .before .before .before .before .before .get-subject .ensures .seen (c .before .before .before .shape .given .1) .1) (λ v s. no-pair s (c .match2 .keys2))
+get-split-returns-3 t c = split-43 (c .before .before .before .before .before .before .before .before .before .get-node .ensures) (c .before .before .before .before .before .look .ensures .seen (c .before .before .before .shape .given .1) .0) (c .before .before .before .before .before .look .ensures .seen (c .before .before .before .shape .given .1) .1) (λ v s. no-pair s (c .match2 .keys2))
 
 get-split-same-length : (t : ℕ) → get-split-lts.Need-same-length (get-split-claims t) (get-split-at t) get-split.Post
 get-split-same-length t c = get-split-returns t c .kept .long
@@ -831,44 +822,11 @@ get-split-same-length-2 t c = get-split-returns-2 t c .kept .long
 get-split-same-length-3 : (t : ℕ) → get-split-lts.Need-same-length-3 (get-split-claims t) (get-split-at t) get-split.Post
 get-split-same-length-3 t c = get-split-returns-3 t c .kept .long
 
-get-subject-get-node-requires : (t : ℕ) → get-subject-lts.Need-get-node-requires (get-subject-claims t) (get-subject-at t) get-subject.Post
-get-subject-get-node-requires t c κs = (omega (arith, c .before .before .before .pre .0), c .before .before .before .pre .1)
+get-truth-case-get-node-requires : (t : ℕ) → get-truth-case-lts.Need-get-node-requires (get-truth-case-claims t) (get-truth-case-at t) get-truth-case.Post
+get-truth-case-get-node-requires t c κs = (omega (arith, c .before .before .before .pre .0), (subject-ready (c .before .before .before .pre .1) ((c .before .before .before .pre .1) .known .1 .subject .inside)))
 
-get-subject-enum-known-c : (t : ℕ) → get-subject-lts.Need-enum-known-c (get-subject-claims t) (get-subject-at t) get-subject.Post
-get-subject-enum-known-c t c = search needs
-
-get-subject-enum-known-len : (t : ℕ) → get-subject-lts.Need-enum-known-len (get-subject-claims t) (get-subject-at t) get-subject.Post
-get-subject-enum-known-len t c = search needs
-
-get-subject-add-end : (t : ℕ) → get-subject-lts.Need-add-end (get-subject-claims t) (get-subject-at t) get-subject.Post
-get-subject-add-end t c = record { fits = omega (arith, c .before .before .before .before .before .before .before .before .before .pre .1 .room, sizes (c .before .before .before .before .before .before .before .before .before .pre .1) (c .before .before .before .before .before .get-node .ensures) (c .before .len .given .1) .short) }
-
-get-subject-sub-shape-of : (t : ℕ) → get-subject-lts.Need-sub-shape-of (get-subject-claims t) (get-subject-at t) get-subject.Post
-get-subject-sub-shape-of t c = search needs
-
-get-subject-part-shape-of-start : (t : ℕ) → get-subject-lts.Need-part-shape-of-start (get-subject-claims t) (get-subject-at t) get-subject.Post
-get-subject-part-shape-of-start t c = search needs
-
-get-subject-part-shape-of-end : (t : ℕ) → get-subject-lts.Need-part-shape-of-end (get-subject-claims t) (get-subject-at t) get-subject.Post
-get-subject-part-shape-of-end t c = let z = sizes (c .before .before .before .before .before .before .before .before .before .before .pre .1) (c .before .before .before .before .before .before .get-node .ensures) (c .before .before .len .given .1) in omega (arith, c .before .before .before .before .before .before .before .before .before .before .pre .1 .room, c .before .before .before .before .before .before .before .before .before .before .pre .1 .long, z .short, z .deep, c .before .before .before .before .before .before .get-node .ensures .kept .long)
-
-get-subject-shape-of-requires : (t : ℕ) → get-subject-lts.Need-shape-of-requires (get-subject-claims t) (get-subject-at t) get-subject.Post
-get-subject-shape-of-requires t c κs = search needs
-
-get-subject-returns : (t : ℕ) → get-subject-lts.Need-returns (get-subject-claims t) (get-subject-at t) get-subject.Post
-get-subject-returns t c = looks-refused (c .before .before .before .before .before .get-node .ensures) (c .before .c .given .1)
-
-get-subject-returns-2 : (t : ℕ) → get-subject-lts.Need-returns-2 (get-subject-claims t) (get-subject-at t) get-subject.Post
-get-subject-returns-2 t c = looks-seen (c .before .before .before .before .before .before .before .before .get-node .ensures) (c .before .before .before .before .len .given .1) (c .shape-of .ensures)
-
-get-subject-same-length : (t : ℕ) → get-subject-lts.Need-same-length (get-subject-claims t) (get-subject-at t) get-subject.Post
-get-subject-same-length t c = get-subject-returns t c .gives .kept .long
-
-get-subject-same-length-2 : (t : ℕ) → get-subject-lts.Need-same-length-2 (get-subject-claims t) (get-subject-at t) get-subject.Post
-get-subject-same-length-2 t c = get-subject-returns-2 t c .gives .kept .long
-
-get-truth-case-get-subject-requires : (t : ℕ) → get-truth-case-lts.Need-get-subject-requires (get-truth-case-claims t) (get-truth-case-at t) get-truth-case.Post
-get-truth-case-get-subject-requires t c κs = (omega (arith, c .before .before .before .pre .0), (subject-ready (c .before .before .before .pre .1) ((c .before .before .before .pre .1) .known .1 .subject .inside)))
+get-truth-case-look-requires : (t : ℕ) → get-truth-case-lts.Need-look-requires (get-truth-case-claims t) (get-truth-case-at t) get-truth-case.Post
+get-truth-case-look-requires t c κs = got-whole (subject-ready (c .before .before .before .before .before .before .before .pre .1) (c .before .before .before .before .before .before .before .pre .1 .known .1 .subject .inside)) (c .before .before .before .get-node .ensures)
 
 get-truth-case-enum-known-c : (t : ℕ) → get-truth-case-lts.Need-enum-known-c (get-truth-case-claims t) (get-truth-case-at t) get-truth-case.Post
 get-truth-case-enum-known-c t c = search needs
@@ -876,41 +834,41 @@ get-truth-case-enum-known-c t c = search needs
 get-truth-case-enum-known-shape : (t : ℕ) → get-truth-case-lts.Need-enum-known-shape (get-truth-case-claims t) (get-truth-case-at t) get-truth-case.Post
 get-truth-case-enum-known-shape t c = search needs
 
-get-truth-case-sub-t21 : (t : ℕ) → get-truth-case-lts.Need-sub-t21 (get-truth-case-claims t) (get-truth-case-at t) get-truth-case.Post
-get-truth-case-sub-t21 t c = omega (arith, sizes (subject-ready (c .before .before .before .before .before .before .before .before .before .before .pre .1) (c .before .before .before .before .before .before .before .before .before .before .pre .1 .known .1 .subject .inside)) (c .before .before .before .before .before .before .get-subject .ensures .gives) (c .before .before .before .before .before .before .get-subject .ensures .seen (c .before .before .shape .given .1) .0) .steps)
+get-truth-case-sub-t24 : (t : ℕ) → get-truth-case-lts.Need-sub-t24 (get-truth-case-claims t) (get-truth-case-at t) get-truth-case.Post
+get-truth-case-sub-t24 t c = omega (arith, sizes (subject-ready (c .before .before .before .before .before .before .before .before .before .before .before .before .pre .1) (c .before .before .before .before .before .before .before .before .before .before .before .before .pre .1 .known .1 .subject .inside)) (c .before .before .before .before .before .before .before .before .get-node .ensures) (c .before .before .before .before .look .ensures .seen (c .before .before .shape .given .1) .0) .steps)
 
-get-truth-case-add-t22 : (t : ℕ) → get-truth-case-lts.Need-add-t22 (get-truth-case-claims t) (get-truth-case-at t) get-truth-case.Post
-get-truth-case-add-t22 t c = record { fits = omega (arith, c .before .before .before .before .before .before .before .before .before .before .pre .1 .room, sizes (subject-ready (c .before .before .before .before .before .before .before .before .before .before .pre .1) (c .before .before .before .before .before .before .before .before .before .before .pre .1 .known .1 .subject .inside)) (c .before .before .before .before .before .before .get-subject .ensures .gives) (c .before .before .before .before .before .before .get-subject .ensures .seen (c .before .before .shape .given .1) .0) .short) }
+get-truth-case-add-t25 : (t : ℕ) → get-truth-case-lts.Need-add-t25 (get-truth-case-claims t) (get-truth-case-at t) get-truth-case.Post
+get-truth-case-add-t25 t c = record { fits = omega (arith, c .before .before .before .before .before .before .before .before .before .before .before .before .pre .1 .room, sizes (subject-ready (c .before .before .before .before .before .before .before .before .before .before .before .before .pre .1) (c .before .before .before .before .before .before .before .before .before .before .before .before .pre .1 .known .1 .subject .inside)) (c .before .before .before .before .before .before .before .before .get-node .ensures) (c .before .before .before .before .look .ensures .seen (c .before .before .shape .given .1) .0) .short) }
 
 get-truth-case-enum-told : (t : ℕ) → get-truth-case-lts.Need-enum-told (get-truth-case-claims t) (get-truth-case-at t) get-truth-case.Post
 get-truth-case-enum-told t c = search needs
 
 get-truth-case-add-get-branch : (t : ℕ) → get-truth-case-lts.Need-add-get-branch (get-truth-case-claims t) (get-truth-case-at t) get-truth-case.Post
-get-truth-case-add-get-branch t c = record { fits = omega (arith, (c .before .before .before .before .before .before .before .before .before .before .before .before .before .pre .1) .few, (sizes ((subject-ready (c .before .before .before .before .before .before .before .before .before .before .before .before .before .pre .1) ((c .before .before .before .before .before .before .before .before .before .before .before .before .before .pre .1) .known .1 .subject .inside))) (c .before .before .before .before .before .before .before .before .before .get-subject .ensures .gives) (c .before .before .before .before .before .before .before .before .before .get-subject .ensures .seen (c .before .before .before .before .before .shape .given .1) .0)) .steps) }
+get-truth-case-add-get-branch t c = record { fits = omega (arith, (c .before .before .before .before .before .before .before .before .before .before .before .before .before .before .before .pre .1) .few, (sizes ((subject-ready (c .before .before .before .before .before .before .before .before .before .before .before .before .before .before .before .pre .1) ((c .before .before .before .before .before .before .before .before .before .before .before .before .before .before .before .pre .1) .known .1 .subject .inside))) (c .before .before .before .before .before .before .before .before .before .before .before .get-node .ensures) (c .before .before .before .before .before .before .before .look .ensures .seen (c .before .before .before .before .before .shape .given .1) .0)) .steps) }
 
 get-truth-case-get-branch-requires : (t : ℕ) → get-truth-case-lts.Need-get-branch-requires (get-truth-case-claims t) (get-truth-case-at t) get-truth-case.Post
-get-truth-case-get-branch-requires t c κs = (omega (arith, c .before .before .before .before .before .before .before .before .before .before .before .before .before .pre .0), (case-ready (c .before .before .before .before .before .before .before .before .before .get-subject .ensures .gives) (c .before .before .before .before .before .before .before .before .before .get-subject .ensures .seen (c .before .before .before .before .before .shape .given .1) .0) (c .before .before .before .before .before .before .before .before .before .get-subject .ensures .seen (c .before .before .before .before .before .shape .given .1) .1) (c .before .before .before .before .before .before .before .before .before .before .before .before .before .pre .1) ((c .before .before .before .before .before .before .before .before .before .before .before .before .before .pre .1) .known .1 .subject .inside) ((c .before .before .before .before .before .before .before .before .before .before .before .before .before .pre .1) .known .1 .no .inside), ((c .before .before .before .before .before .before .before .before .before .before .before .before .before .pre .1) .base, omega arith)))
+get-truth-case-get-branch-requires t c κs = (omega (arith, c .before .before .before .before .before .before .before .before .before .before .before .before .before .before .before .pre .0), (case-ready (c .before .before .before .before .before .before .before .before .before .before .before .get-node .ensures) (c .before .before .before .before .before .before .before .look .ensures .seen (c .before .before .before .before .before .shape .given .1) .0) (c .before .before .before .before .before .before .before .look .ensures .seen (c .before .before .before .before .before .shape .given .1) .1) (c .before .before .before .before .before .before .before .before .before .before .before .before .before .before .before .pre .1) ((c .before .before .before .before .before .before .before .before .before .before .before .before .before .before .before .pre .1) .known .1 .subject .inside) ((c .before .before .before .before .before .before .before .before .before .before .before .before .before .before .before .pre .1) .known .1 .no .inside), ((c .before .before .before .before .before .before .before .before .before .before .before .before .before .before .before .pre .1) .base, omega arith)))
 
 get-truth-case-enum-told-2 : (t : ℕ) → get-truth-case-lts.Need-enum-told-2 (get-truth-case-claims t) (get-truth-case-at t) get-truth-case.Post
 get-truth-case-enum-told-2 t c = search needs
 
 get-truth-case-add-get-branch-2 : (t : ℕ) → get-truth-case-lts.Need-add-get-branch-2 (get-truth-case-claims t) (get-truth-case-at t) get-truth-case.Post
-get-truth-case-add-get-branch-2 t c = record { fits = omega (arith, (c .before .before .before .before .before .before .before .before .before .before .before .before .before .pre .1) .few, (sizes ((subject-ready (c .before .before .before .before .before .before .before .before .before .before .before .before .before .pre .1) ((c .before .before .before .before .before .before .before .before .before .before .before .before .before .pre .1) .known .1 .subject .inside))) (c .before .before .before .before .before .before .before .before .before .get-subject .ensures .gives) (c .before .before .before .before .before .before .before .before .before .get-subject .ensures .seen (c .before .before .before .before .before .shape .given .1) .0)) .steps) }
+get-truth-case-add-get-branch-2 t c = record { fits = omega (arith, (c .before .before .before .before .before .before .before .before .before .before .before .before .before .before .before .pre .1) .few, (sizes ((subject-ready (c .before .before .before .before .before .before .before .before .before .before .before .before .before .before .before .pre .1) ((c .before .before .before .before .before .before .before .before .before .before .before .before .before .before .before .pre .1) .known .1 .subject .inside))) (c .before .before .before .before .before .before .before .before .before .before .before .get-node .ensures) (c .before .before .before .before .before .before .before .look .ensures .seen (c .before .before .before .before .before .shape .given .1) .0)) .steps) }
 
 get-truth-case-get-branch-requires-2 : (t : ℕ) → get-truth-case-lts.Need-get-branch-requires-2 (get-truth-case-claims t) (get-truth-case-at t) get-truth-case.Post
-get-truth-case-get-branch-requires-2 t c κs = (omega (arith, c .before .before .before .before .before .before .before .before .before .before .before .before .before .pre .0), (case-ready (c .before .before .before .before .before .before .before .before .before .get-subject .ensures .gives) (c .before .before .before .before .before .before .before .before .before .get-subject .ensures .seen (c .before .before .before .before .before .shape .given .1) .0) (c .before .before .before .before .before .before .before .before .before .get-subject .ensures .seen (c .before .before .before .before .before .shape .given .1) .1) (c .before .before .before .before .before .before .before .before .before .before .before .before .before .pre .1) ((c .before .before .before .before .before .before .before .before .before .before .before .before .before .pre .1) .known .1 .subject .inside) ((c .before .before .before .before .before .before .before .before .before .before .before .before .before .pre .1) .known .1 .yes .inside), ((c .before .before .before .before .before .before .before .before .before .before .before .before .before .pre .1) .base, omega arith)))
+get-truth-case-get-branch-requires-2 t c κs = (omega (arith, c .before .before .before .before .before .before .before .before .before .before .before .before .before .before .before .pre .0), (case-ready (c .before .before .before .before .before .before .before .before .before .before .before .get-node .ensures) (c .before .before .before .before .before .before .before .look .ensures .seen (c .before .before .before .before .before .shape .given .1) .0) (c .before .before .before .before .before .before .before .look .ensures .seen (c .before .before .before .before .before .shape .given .1) .1) (c .before .before .before .before .before .before .before .before .before .before .before .before .before .before .before .pre .1) ((c .before .before .before .before .before .before .before .before .before .before .before .before .before .before .before .pre .1) .known .1 .subject .inside) ((c .before .before .before .before .before .before .before .before .before .before .before .before .before .before .before .pre .1) .known .1 .yes .inside), ((c .before .before .before .before .before .before .before .before .before .before .before .before .before .before .before .pre .1) .base, omega arith)))
 
 get-truth-case-returns : (t : ℕ) → get-truth-case-lts.Need-returns (get-truth-case-claims t) (get-truth-case-at t) get-truth-case.Post
-get-truth-case-returns t c = truth-refused (c .before .before .before .before .before .get-subject .ensures .gives) (c .before .before .before .before .before .get-subject .ensures .unseen (c .before .c .given .1))
+get-truth-case-returns t c = truth-refused (c .before .before .before .before .before .before .before .get-node .ensures) (c .before .before .before .look .ensures .unseen (c .before .c .given .1))
 
 get-truth-case-returns-2 : (t : ℕ) → get-truth-case-lts.Need-returns-2 (get-truth-case-claims t) (get-truth-case-at t) get-truth-case.Post
-get-truth-case-returns-2 t c = truth-no (c .before .before .before .before .before .before .before .before .before .before .before .before .get-subject .ensures .gives) (c .before .before .before .before .before .before .before .before .before .before .before .before .get-subject .ensures .seen (c .before .before .before .before .before .before .before .before .shape .given .1) .0) (c .before .before .before .before .before .before .before .before .before .before .before .before .get-subject .ensures .seen (c .before .before .before .before .before .before .before .before .shape .given .1) .1) ((c .before .before .before .before .before .before .before .before .before .before .before .before .before .before .before .before .pre .1) .base) (c .before .before .before .before .enum-told .given .1) (c .before .before .get-branch .ensures)
+get-truth-case-returns-2 t c = truth-no (c .before .before .before .before .before .before .before .before .before .before .before .before .before .before .get-node .ensures) (c .before .before .before .before .before .before .before .before .before .before .look .ensures .seen (c .before .before .before .before .before .before .before .before .shape .given .1) .0) (c .before .before .before .before .before .before .before .before .before .before .look .ensures .seen (c .before .before .before .before .before .before .before .before .shape .given .1) .1) ((c .before .before .before .before .before .before .before .before .before .before .before .before .before .before .before .before .before .before .pre .1) .base) (c .before .before .before .before .enum-told .given .1) (c .before .before .get-branch .ensures)
 
 get-truth-case-returns-3 : (t : ℕ) → get-truth-case-lts.Need-returns-3 (get-truth-case-claims t) (get-truth-case-at t) get-truth-case.Post
-get-truth-case-returns-3 t c = truth-yes (c .before .before .before .before .before .before .before .before .before .before .before .before .get-subject .ensures .gives) (c .before .before .before .before .before .before .before .before .before .before .before .before .get-subject .ensures .seen (c .before .before .before .before .before .before .before .before .shape .given .1) .0) (c .before .before .before .before .before .before .before .before .before .before .before .before .get-subject .ensures .seen (c .before .before .before .before .before .before .before .before .shape .given .1) .1) ((c .before .before .before .before .before .before .before .before .before .before .before .before .before .before .before .before .pre .1) .base) (c .before .before .before .before .enum-told2 .given .1) (c .before .before .get-branch2 .ensures)
+get-truth-case-returns-3 t c = truth-yes (c .before .before .before .before .before .before .before .before .before .before .before .before .before .before .get-node .ensures) (c .before .before .before .before .before .before .before .before .before .before .look .ensures .seen (c .before .before .before .before .before .before .before .before .shape .given .1) .0) (c .before .before .before .before .before .before .before .before .before .before .look .ensures .seen (c .before .before .before .before .before .before .before .before .shape .given .1) .1) ((c .before .before .before .before .before .before .before .before .before .before .before .before .before .before .before .before .before .before .pre .1) .base) (c .before .before .before .before .enum-told2 .given .1) (c .before .before .get-branch2 .ensures)
 
 get-truth-case-returns-4 : (t : ℕ) → get-truth-case-lts.Need-returns-4 (get-truth-case-claims t) (get-truth-case-at t) get-truth-case.Post
-get-truth-case-returns-4 t c = truth-43 (c .before .before .before .before .before .before .before .get-subject .ensures .gives) (c .before .before .before .before .before .before .before .get-subject .ensures .seen (c .before .before .before .shape .given .1) .0) (c .before .before .before .before .before .before .before .get-subject .ensures .seen (c .before .before .before .shape .given .1) .1) (λ v s. no-truth s (c .match2 .keys3))
+get-truth-case-returns-4 t c = truth-43 (c .before .before .before .before .before .before .before .before .before .get-node .ensures) (c .before .before .before .before .before .look .ensures .seen (c .before .before .before .shape .given .1) .0) (c .before .before .before .before .before .look .ensures .seen (c .before .before .before .shape .given .1) .1) (λ v s. no-truth s (c .match2 .keys3))
 
 get-truth-case-same-length : (t : ℕ) → get-truth-case-lts.Need-same-length (get-truth-case-claims t) (get-truth-case-at t) get-truth-case.Post
 get-truth-case-same-length t c = get-truth-case-returns t c .kept .long
@@ -924,9 +882,9 @@ get-truth-case-same-length-3 t c = get-truth-case-returns-3 t c .kept .long
 get-truth-case-same-length-4 : (t : ℕ) → get-truth-case-lts.Need-same-length-4 (get-truth-case-claims t) (get-truth-case-at t) get-truth-case.Post
 get-truth-case-same-length-4 t c = get-truth-case-returns-4 t c .kept .long
 
-pub +get-add+get-branch+get-call+get-front+get-list-case+get-node+get-pair+get-split+get-subject+get-truth-case-spec :
+pub +get-add+get-branch+get-call+get-front+get-list-case+get-node+get-pair+get-split+get-truth-case-spec :
     {M : Type 1} → statement M
-+get-add+get-branch+get-call+get-front+get-list-case+get-node+get-pair+get-split+get-subject+get-truth-case-spec =
++get-add+get-branch+get-call+get-front+get-list-case+get-node+get-pair+get-split+get-truth-case-spec =
     close
     μ-get-add
     μ-get-branch
@@ -936,7 +894,6 @@ pub +get-add+get-branch+get-call+get-front+get-list-case+get-node+get-pair+get-s
     μ-get-node
     μ-get-pair
     μ-get-split
-    μ-get-subject
     μ-get-truth-case
     (λ t. get-add-lts.spec (get-add-claims t) (get-add-at t) get-add.Post
     (get-add-get-node-requires t)
@@ -1027,11 +984,12 @@ pub +get-add+get-branch+get-call+get-front+get-list-case+get-node+get-pair+get-s
     (get-front-same-length-6 t)
     (get-front-returns-6 t))
     (λ t. get-list-case-lts.spec (get-list-case-claims t) (get-list-case-at t) get-list-case.Post
-    (get-list-case-get-subject-requires t)
+    (get-list-case-get-node-requires t)
+    (get-list-case-look-requires t)
     (get-list-case-enum-known-c t)
     (get-list-case-enum-known-shape t)
-    (get-list-case-sub-t25 t)
-    (get-list-case-add-t26 t)
+    (get-list-case-sub-t28 t)
+    (get-list-case-add-t29 t)
     (get-list-case-enum-told t)
     (get-list-case-add-get-branch t)
     (get-list-case-get-branch-requires t)
@@ -1134,11 +1092,12 @@ pub +get-add+get-branch+get-call+get-front+get-list-case+get-node+get-pair+get-s
     (get-pair-same-length-4 t)
     (get-pair-returns-4 t))
     (λ t. get-split-lts.spec (get-split-claims t) (get-split-at t) get-split.Post
-    (get-split-get-subject-requires t)
+    (get-split-get-node-requires t)
+    (get-split-look-requires t)
     (get-split-enum-known-c t)
     (get-split-enum-known-shape t)
-    (get-split-sub-t20 t)
-    (get-split-add-t21 t)
+    (get-split-sub-t23 t)
+    (get-split-add-t24 t)
     (get-split-enum-known-shape-2 t)
     (get-split-add-push-two t)
     (get-split-sub-push-two t)
@@ -1152,25 +1111,13 @@ pub +get-add+get-branch+get-call+get-front+get-list-case+get-node+get-pair+get-s
     (get-split-returns-2 t)
     (get-split-same-length-3 t)
     (get-split-returns-3 t))
-    (λ t. get-subject-lts.spec (get-subject-claims t) (get-subject-at t) get-subject.Post
-    (get-subject-get-node-requires t)
-    (get-subject-enum-known-c t)
-    (get-subject-enum-known-len t)
-    (get-subject-add-end t)
-    (get-subject-sub-shape-of t)
-    (get-subject-part-shape-of-start t)
-    (get-subject-part-shape-of-end t)
-    (get-subject-shape-of-requires t)
-    (get-subject-same-length t)
-    (get-subject-returns t)
-    (get-subject-same-length-2 t)
-    (get-subject-returns-2 t))
     λ t. get-truth-case-lts.spec (get-truth-case-claims t) (get-truth-case-at t) get-truth-case.Post
-    (get-truth-case-get-subject-requires t)
+    (get-truth-case-get-node-requires t)
+    (get-truth-case-look-requires t)
     (get-truth-case-enum-known-c t)
     (get-truth-case-enum-known-shape t)
-    (get-truth-case-sub-t21 t)
-    (get-truth-case-add-t22 t)
+    (get-truth-case-sub-t24 t)
+    (get-truth-case-add-t25 t)
     (get-truth-case-enum-told t)
     (get-truth-case-add-get-branch t)
     (get-truth-case-get-branch-requires t)
