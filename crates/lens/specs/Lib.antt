@@ -3,6 +3,4 @@ pub mod Calls
 pub mod CallLaws
 pub mod Trips
 pub mod WalkCalls
-pub mod RoundTrips
 pub mod Packing
-pub mod TripCalls

@@ -10,28 +10,17 @@ ghost use Rattle.lens.specs.Trips.{Stands, Unmoved};
 
 mod buffers;
 mod exports;
-mod trips;
 
 use crate::buffers::clear;
 use crate::buffers::copy_out;
 pub use exports::lens_get;
 pub use exports::lens_put;
-pub use trips::get_then_put;
-pub use trips::put_then_get;
 use walk::Walked;
 
 /// What a call answers: the length of the output and the steps taken, or a refusal's number in document 01's table.
 pub enum Reply {
     Done { len: usize, steps: usize },
     Refused(u8),
-}
-
-/// What two calls one after the other answer: the steps of both, or a refusal of one of them. The third case is there to be
-/// ruled out: a list that was taken back and does not stand, or an unedited list that moved something.
-pub enum Trip {
-    Kept { first: usize, second: usize },
-    Stopped(u8),
-    Broken,
 }
 
 // A refusal behind the door: scratch is cleared.

@@ -10,12 +10,12 @@ use Rattle.value.specs.Parts.{sameBytes}
 use Rattle.value.specs.PartsLaws.{same-refl}
 use Rattle.rules.specs.Answer.{Answer, getAnswer, putAnswer}
 use Rattle.rules.specs.AnswerLaws.{Lent}
 use Rattle.lens.specs.declared.Reply.{Reply}
 use Rattle.lens.specs.declared.Reply.the-variants.{Done, Refused}
-use Rattle.lens.specs.declared.Trip.{Trip}
-use Rattle.lens.specs.declared.Trip.the-variants.{Kept, Stopped, Broken}
+use Rattle.trips.specs.declared.Trip.{Trip}
+use Rattle.trips.specs.declared.Trip.the-variants.{Kept, Stopped, Broken}
 use Rattle.lens.specs.Calls.{Answered}
-use Rattle.lens.specs.RoundTrips.{Tripped, backAndOut, outAndBack, first-refused, second-refused, second-done, Sure, put-then-get-sure, put-lent, get-then-put-sure, get-lent}
+use Rattle.trips.specs.RoundTrips.{Tripped, backAndOut, outAndBack, first-refused, second-refused, second-done, Sure, put-then-get-sure, put-lent, get-then-put-sure, get-lent}
 
 -- a front that is lent
 pub front-long : (n : ℕ) (xs : List ℕ) → n ≤ length xs → n ≡ length (take n xs)

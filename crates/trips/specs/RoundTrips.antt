@@ -11,13 +11,13 @@ use lib.Seq.{take-at, drop-at}
 use Rattle.rules.specs.Answer.{Answer, refusal, success, getAnswer, putAnswer}
 use Rattle.rules.specs.AnswerLaws.{Lent, get-shows, put-shows, get-steps}
 use Rattle.rules.specs.Trips.{consistency, acceptability}
 use Rattle.lens.specs.declared.Reply.{Reply}
 use Rattle.lens.specs.declared.Reply.the-variants.{Done, Refused}
-use Rattle.lens.specs.declared.Trip.{Trip}
-use Rattle.lens.specs.declared.Trip.the-variants.{Kept, Stopped, Broken}
+use Rattle.trips.specs.declared.Trip.{Trip}
+use Rattle.trips.specs.declared.Trip.the-variants.{Kept, Stopped, Broken}
 use Rattle.lens.specs.Buffers.{zeros, zeroed}
 use Rattle.lens.specs.Calls.{reply, written, cleared, afterRefusal, Answered}
 use Rattle.lens.specs.Trips.{success-of}
 
 -- the first call's refusal, or the second's; or the steps of both. No case of it is Broken
 unfoldable pub second : ℕ → Answer → Trip

@@ -1,12 +1,12 @@
 -- `get_then_put` meets its contract: an unedited list gives back the old plan. Assumes nothing.
 use mathlib.Core.Path.{sym, _∙_}
 use native.Mathlib.Omega.{arith}
 use Rattle.lens.specs.CallLaws.{done-inside}
-use Rattle.lens.specs.RoundTrips.{get-few}
-use Rattle.lens.specs.TripCalls.{front-long, get-stopped, again-stopped, again-kept, never-denied, never-moved}
+use Rattle.trips.specs.RoundTrips.{get-few}
+use Rattle.trips.specs.TripCalls.{front-long, get-stopped, again-stopped, again-kept, never-denied, never-moved}
 use borrow.Author.Needs.{needs}
-use Rattle.lens.proofs.trips.get_then_put.Statement.{statement}
-use Rattle.lens.proofs.trips.get_then_put.Tie as tie
+use Rattle.trips.proofs.get_then_put.Statement.{statement}
+use Rattle.trips.proofs.get_then_put.Tie as tie
 
 get-requires : tie.Need-get-requires
 get-requires c κs = search needs

@@ -2,11 +2,16 @@
 ghost use Prim.Native.Nat.{_*_};
 ghost use lib.ListN.{length};
 ghost use Rattle.rules.specs.Answer.{getAnswer, putAnswer};
-ghost use Rattle.lens.specs.RoundTrips.{Tripped, backAndOut, outAndBack};
-use crate::Reply;
-use crate::Trip;
-use crate::get;
-use crate::put;
+ghost use Rattle.trips.specs.RoundTrips.{Tripped, backAndOut, outAndBack};
+use lens::Reply;
+
+/// What two calls one after the other answer: the steps of both, or a refusal of one of them. The third case is there to be
+/// ruled out: a list that was taken back and does not stand, or an unedited list that moved something.
+pub enum Trip {
+    Kept { first: usize, second: usize },
+    Stopped(u8),
+    Broken,
+}
 
 /// Puts a list back and reads the new plan out again, under the same sheet and allowance. The new plan is at the front of
 /// `new`, the list read out at the front of `out`. It is never broken: the list read out is the one put back.
@@ -21,10 +26,10 @@ pub fn put_then_get(
 ) -> Trip
     ensures { λ r. ⌜ Tripped (putAnswer (now (sheet .entry)) (now (plan .entry)) (now (view .entry)) allowance (length (now (new .entry))) (length (now (scratch .entry)))) (backAndOut (now (sheet .entry)) allowance (length (now (out .entry))) (length (now (scratch .entry)))) r (now (new .entry)) (now (new .exit)) (now (out .entry)) (now (out .exit)) (now (scratch .entry)) (now (scratch .exit)) ⌝ }
 {
-    match put(sheet, plan, view, allowance, new, scratch) {
+    match lens::put(sheet, plan, view, allowance, new, scratch) {
         Reply::Refused(c) => Trip::Stopped(c),
         Reply::Done { len, steps } => {
-            match get(sheet, &new[..len], allowance, out, scratch) {
+            match lens::get(sheet, &new[..len], allowance, out, scratch) {
                 Reply::Refused(c) => {
                     if out.len() < rules::GET_OUTPUT {
                         return Trip::Stopped(c);
@@ -61,11 +66,11 @@ pub fn get_then_put(
 ) -> Trip
     ensures { λ r. ⌜ Tripped (getAnswer (now (sheet .entry)) (now (plan .entry)) allowance (length (now (view .entry))) (length (now (scratch .entry)))) (outAndBack (now (sheet .entry)) (now (plan .entry)) (length (now (out .entry))) (length (now (scratch .entry)))) r (now (view .entry)) (now (view .exit)) (now (out .entry)) (now (out .exit)) (now (scratch .entry)) (now (scratch .exit)) ⌝ }
 {
-    match get(sheet, plan, allowance, view, scratch) {
+    match lens::get(sheet, plan, allowance, view, scratch) {
         Reply::Refused(c) => Trip::Stopped(c),
         Reply::Done { len, steps } => {
             let again = 48 * steps;
-            match put(sheet, plan, &view[..len], again as u32, out, scratch) {
+            match lens::put(sheet, plan, &view[..len], again as u32, out, scratch) {
                 Reply::Refused(c) => {
                     if out.len() < rules::PUT_OUTPUT {
                         return Trip::Stopped(c);

@@ -1,11 +1,11 @@
 -- `put_then_get` meets its contract: a list put back is the list read out. Assumes nothing.
 use mathlib.Core.Path.{sym, _∙_}
 use native.Mathlib.Omega.{arith}
 use Rattle.lens.specs.CallLaws.{done-inside}
-use Rattle.lens.specs.TripCalls.{front-long, put-stopped, then-stopped, then-kept, never-refused, never-more, never-other}
+use Rattle.trips.specs.TripCalls.{front-long, put-stopped, then-stopped, then-kept, never-refused, never-more, never-other}
 use borrow.Author.Needs.{needs}
-use Rattle.lens.proofs.trips.put_then_get.Statement.{statement}
-use Rattle.lens.proofs.trips.put_then_get.Tie as tie
+use Rattle.trips.proofs.put_then_get.Statement.{statement}
+use Rattle.trips.proofs.put_then_get.Tie as tie
 
 put-requires : tie.Need-put-requires
 put-requires c κs = search needs
