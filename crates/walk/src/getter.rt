@@ -165,33 +165,21 @@ fn get_front(
     let top = at.top;
     let left = at.left;
     arena[top] = 3;
-    match get_node(
-        sheet,
-        starts,
-        arena,
-        scope,
-        first,
-        At {
-            levels: at.levels,
-            left: left,
-            top: top + 1,
-        },
-    ) {
+    let one = At {
+        levels: at.levels,
+        left,
+        top: top + 1,
+    };
+    match get_node(sheet, starts, arena, scope, first, one) {
         Walked::Refused(c) => Walked::Refused(c),
         Walked::Done { len: f, steps: s } => {
             let mid = top + 1 + f;
-            match get_node(
-                sheet,
-                starts,
-                arena,
-                scope,
-                rest,
-                At {
-                    levels: at.levels,
-                    left: left - s,
-                    top: mid,
-                },
-            ) {
+            let two = At {
+                levels: at.levels,
+                left: left - s,
+                top: mid,
+            };
+            match get_node(sheet, starts, arena, scope, rest, two) {
                 Walked::Refused(c) => Walked::Refused(c),
                 Walked::Done { len: r, steps: t } => {
                     let kind = arena[mid];
@@ -229,33 +217,21 @@ fn get_pair(
     let top = at.top;
     let left = at.left;
     arena[top] = 5;
-    match get_node(
-        sheet,
-        starts,
-        arena,
-        scope,
-        a,
-        At {
-            levels: at.levels,
-            left: left,
-            top: top + 1,
-        },
-    ) {
+    let one = At {
+        levels: at.levels,
+        left,
+        top: top + 1,
+    };
+    match get_node(sheet, starts, arena, scope, a, one) {
         Walked::Refused(c) => Walked::Refused(c),
         Walked::Done { len: f, steps: s } => {
             let mid = top + 1 + f;
-            match get_node(
-                sheet,
-                starts,
-                arena,
-                scope,
-                b,
-                At {
-                    levels: at.levels,
-                    left: left - s,
-                    top: mid,
-                },
-            ) {
+            let two = At {
+                levels: at.levels,
+                left: left - s,
+                top: mid,
+            };
+            match get_node(sheet, starts, arena, scope, b, two) {
                 Walked::Refused(c) => Walked::Refused(c),
                 Walked::Done { len: r, steps: t } => {
                     if 256 < 1 + f + r {
@@ -336,16 +312,15 @@ fn get_list_case(
     requires { ⌜ Ready (now sheet) (now starts) (now arena) scope (at .top) (suc (at .levels)) (suc (at .left)) (body (Node.ListCase subject empty «empty_test» front «front_test» first rest)) ⌝ }
     ensures { λ r. ⌜ Gives (now (arena .entry)) (now (arena .exit)) (now (sheet .entry)) scope (at .top) (at .top) (at .left) 1 r (at .levels) (body (Node.ListCase subject empty «empty_test» front «front_test» first rest)) ⌝ }
 {
-    let top = at.top;
+    let base = at.top;
     let got = get_node(sheet, starts, arena, scope, subject, at);
-    match look(arena, top, got) {
+    match look(arena, base, got) {
         Subject::Refused(c) => Walked::Refused(c),
         Subject::Seen { shape, len, steps } => {
-            let inner = At {
-                levels: at.levels,
-                left: at.left - steps,
-                top: top + len,
-            };
+            let levels = at.levels;
+            let left = at.left - steps;
+            let top = base + len;
+            let inner = At { levels, left, top };
             match shape {
                 Shape::Empty => get_branch(
                     sheet,
@@ -355,11 +330,11 @@ fn get_list_case(
                     empty,
                     empty_test,
                     1 + steps,
-                    top,
+                    base,
                     inner,
                 ),
                 Shape::Front(mid) => {
-                    let more = push_two(scope, top + 1, mid - 1, len - mid);
+                    let more = push_two(scope, base + 1, mid - 1, len - mid);
                     get_branch(
                         sheet,
                         starts,
@@ -368,7 +343,7 @@ fn get_list_case(
                         front,
                         front_test,
                         1 + steps,
-                        top,
+                        base,
                         inner,
                     )
                 }
@@ -393,16 +368,15 @@ fn get_truth_case(
     requires { ⌜ Ready (now sheet) (now starts) (now arena) scope (at .top) (suc (at .levels)) (suc (at .left)) (body (Node.TruthCase subject no «no_test» yes «yes_test»)) ⌝ }
     ensures { λ r. ⌜ Gives (now (arena .entry)) (now (arena .exit)) (now (sheet .entry)) scope (at .top) (at .top) (at .left) 1 r (at .levels) (body (Node.TruthCase subject no «no_test» yes «yes_test»)) ⌝ }
 {
-    let top = at.top;
+    let base = at.top;
     let got = get_node(sheet, starts, arena, scope, subject, at);
-    match look(arena, top, got) {
+    match look(arena, base, got) {
         Subject::Refused(c) => Walked::Refused(c),
         Subject::Seen { shape, len, steps } => {
-            let inner = At {
-                levels: at.levels,
-                left: at.left - steps,
-                top: top + len,
-            };
+            let levels = at.levels;
+            let left = at.left - steps;
+            let top = base + len;
+            let inner = At { levels, left, top };
             match shape {
                 Shape::False => get_branch(
                     sheet,
@@ -412,7 +386,7 @@ fn get_truth_case(
                     no,
                     no_test,
                     1 + steps,
-                    top,
+                    base,
                     inner,
                 ),
                 Shape::True => get_branch(
@@ -423,7 +397,7 @@ fn get_truth_case(
                     yes,
                     yes_test,
                     1 + steps,
-                    top,
+                    base,
                     inner,
                 ),
                 _ => Walked::Refused(43),
@@ -445,20 +419,19 @@ fn get_split(
     requires { ⌜ Ready (now sheet) (now starts) (now arena) scope (at .top) (suc (at .levels)) (suc (at .left)) (body (Node.Split subject node)) ⌝ }
     ensures { λ r. ⌜ Gives (now (arena .entry)) (now (arena .exit)) (now (sheet .entry)) scope (at .top) (at .top) (at .left) 1 r (at .levels) (body (Node.Split subject node)) ⌝ }
 {
-    let top = at.top;
+    let base = at.top;
     let got = get_node(sheet, starts, arena, scope, subject, at);
-    match look(arena, top, got) {
+    match look(arena, base, got) {
         Subject::Refused(c) => Walked::Refused(c),
         Subject::Seen { shape, len, steps } => {
-            let inner = At {
-                levels: at.levels,
-                left: at.left - steps,
-                top: top + len,
-            };
+            let levels = at.levels;
+            let left = at.left - steps;
+            let top = base + len;
+            let inner = At { levels, left, top };
             match shape {
                 Shape::Pair(mid) => {
-                    let more = push_two(scope, top + 1, mid - 1, len - mid);
-                    get_branch(sheet, starts, arena, more, node, 0, 1 + steps, top, inner)
+                    let more = push_two(scope, base + 1, mid - 1, len - mid);
+                    get_branch(sheet, starts, arena, more, node, 0, 1 + steps, base, inner)
                 }
                 _ => Walked::Refused(43),
             }

@@ -441,16 +441,15 @@ fn put_list_case(
     requires { ⌜ Ready (now sheet) (now starts) (now arena) (now lens) (Shown (now view)) scope cells (cells .count) (at .top) (suc (at .levels)) (suc (at .left)) (body (Node.ListCase subject empty «empty_test» front «front_test» first rest)) ⌝ }
     ensures { λ r. ⌜ Gives (now (arena .entry)) (now (arena .exit)) (now (lens .entry)) (now (lens .exit)) (now (sheet .entry)) (Shown (now (view .entry))) scope cells (cells .count) (at .top) (at .left) 1 r (at .levels) (body (Node.ListCase subject empty «empty_test» front «front_test» first rest)) ⌝ }
 {
-    let top = at.top;
+    let base = at.top;
     let got = get_node(sheet, starts, arena, scope, subject, at);
-    match look(arena, top, got) {
+    match look(arena, base, got) {
         Subject::Refused(c) => Put::Refused(c),
         Subject::Seen { shape, len, steps } => {
-            let then = At {
-                levels: at.levels,
-                left: at.left - steps,
-                top: top + len,
-            };
+            let levels = at.levels;
+            let left = at.left - steps;
+            let top = base + len;
+            let then = At { levels, left, top };
             match shape {
                 Shape::Empty => match step::choose(false, empty_test, front_test, view) {
                     Branch::First => put_both(
@@ -509,7 +508,7 @@ fn put_list_case(
                         front,
                         subject,
                         3,
-                        top + 1,
+                        base + 1,
                         mid - 1,
                         len - mid,
                         view,
@@ -551,18 +550,12 @@ fn put_switch(
         Walked::Done { len: f, steps: s } => {
             let mid = top + f;
             let left = at.left - s;
-            match get_node(
-                sheet,
-                starts,
-                arena,
-                empty(),
-                rest,
-                At {
-                    levels: at.levels,
-                    left,
-                    top: mid,
-                },
-            ) {
+            let two = At {
+                levels: at.levels,
+                left,
+                top: mid,
+            };
+            match get_node(sheet, starts, arena, empty(), rest, two) {
                 Walked::Refused(c) => Put::Refused(c),
                 Walked::Done { len: r, steps: t } => {
                     let kind = arena[mid];
@@ -618,16 +611,15 @@ fn put_truth_case(
     requires { ⌜ Ready (now sheet) (now starts) (now arena) (now lens) (Shown (now view)) scope cells (cells .count) (at .top) (suc (at .levels)) (suc (at .left)) (body (Node.TruthCase subject no «no_test» yes «yes_test»)) ⌝ }
     ensures { λ r. ⌜ Gives (now (arena .entry)) (now (arena .exit)) (now (lens .entry)) (now (lens .exit)) (now (sheet .entry)) (Shown (now (view .entry))) scope cells (cells .count) (at .top) (at .left) 1 r (at .levels) (body (Node.TruthCase subject no «no_test» yes «yes_test»)) ⌝ }
 {
-    let top = at.top;
+    let base = at.top;
     let got = get_node(sheet, starts, arena, scope, subject, at);
-    match look(arena, top, got) {
+    match look(arena, base, got) {
         Subject::Refused(c) => Put::Refused(c),
         Subject::Seen { shape, len, steps } => {
-            let then = At {
-                levels: at.levels,
-                left: at.left - steps,
-                top: top + len,
-            };
+            let levels = at.levels;
+            let left = at.left - steps;
+            let top = base + len;
+            let then = At { levels, left, top };
             match shape {
                 Shape::False => match step::choose(false, no_test, yes_test, view) {
                     Branch::First => put_both(
@@ -712,16 +704,15 @@ fn put_split(
     requires { ⌜ Ready (now sheet) (now starts) (now arena) (now lens) (Shown (now view)) scope cells (cells .count) (at .top) (suc (at .levels)) (suc (at .left)) (body (Node.Split subject node)) ⌝ }
     ensures { λ r. ⌜ Gives (now (arena .entry)) (now (arena .exit)) (now (lens .entry)) (now (lens .exit)) (now (sheet .entry)) (Shown (now (view .entry))) scope cells (cells .count) (at .top) (at .left) 1 r (at .levels) (body (Node.Split subject node)) ⌝ }
 {
-    let top = at.top;
+    let base = at.top;
     let got = get_node(sheet, starts, arena, scope, subject, at);
-    match look(arena, top, got) {
+    match look(arena, base, got) {
         Subject::Refused(c) => Put::Refused(c),
         Subject::Seen { shape, len, steps } => {
-            let then = At {
-                levels: at.levels,
-                left: at.left - steps,
-                top: top + len,
-            };
+            let levels = at.levels;
+            let left = at.left - steps;
+            let top = base + len;
+            let then = At { levels, left, top };
             match shape {
                 Shape::Pair(mid) => put_under(
                     sheet,
@@ -733,7 +724,7 @@ fn put_split(
                     node,
                     subject,
                     5,
-                    top + 1,
+                    base + 1,
                     mid - 1,
                     len - mid,
                     view,

@@ -363,8 +363,8 @@ get-call-same-length-2 t c = get-call-returns-4 t c .kept .long
 get-front-slice-write-arena : (t : ℕ) → get-front-lts.Need-slice-write-arena (get-front-claims t) (get-front-at t) get-front.Post
 get-front-slice-write-arena t c = search needs
 
-get-front-add-t22 : (t : ℕ) → get-front-lts.Need-add-t22 (get-front-claims t) (get-front-at t) get-front.Post
-get-front-add-t22 t c = search needs
+get-front-add-t21 : (t : ℕ) → get-front-lts.Need-add-t21 (get-front-claims t) (get-front-at t) get-front.Post
+get-front-add-t21 t c = search needs
 
 get-front-get-node-requires : (t : ℕ) → get-front-lts.Need-get-node-requires (get-front-claims t) (get-front-at t) get-front.Post
 get-front-get-node-requires t c κs = (omega (arith, c .before .before .before .pre .0), (two-ready₁ (c .before .before .before .pre .1) (marked 3 (c .before .before .before .args .at .top) (c .before .before .before .args .arena .now) (omega (arith, (c .before .before .before .pre .1) .long, (c .before .before .before .pre .1) .room))) ((c .before .before .before .pre .1) .known .1 .0 .inside)))
@@ -381,8 +381,8 @@ get-front-add-mid t c = search needs
 get-front-add-mid-2 : (t : ℕ) → get-front-lts.Need-add-mid-2 (get-front-claims t) (get-front-at t) get-front.Post
 get-front-add-mid-2 t c = record { fits = omega (arith, (c .before .before .before .before .before .before .before .before .before .pre .1) .room, (sizes ((two-ready₁ (c .before .before .before .before .before .before .before .before .before .pre .1) (marked 3 (c .before .before .before .before .before .before .before .before .before .args .at .top) (c .before .before .before .before .before .before .before .before .before .args .arena .now) (omega (arith, (c .before .before .before .before .before .before .before .before .before .pre .1) .long, (c .before .before .before .before .before .before .before .before .before .pre .1) .room))) ((c .before .before .before .before .before .before .before .before .before .pre .1) .known .1 .0 .inside))) (c .before .before .before .before .before .get-node .ensures) (c .before .f .given .1)) .short) }
 
-get-front-sub-t25 : (t : ℕ) → get-front-lts.Need-sub-t25 (get-front-claims t) (get-front-at t) get-front.Post
-get-front-sub-t25 t c = omega (arith, (sizes ((two-ready₁ (c .before .before .before .before .before .before .before .before .before .before .pre .1) (marked 3 (c .before .before .before .before .before .before .before .before .before .before .args .at .top) (c .before .before .before .before .before .before .before .before .before .before .args .arena .now) (omega (arith, (c .before .before .before .before .before .before .before .before .before .before .pre .1) .long, (c .before .before .before .before .before .before .before .before .before .before .pre .1) .room))) ((c .before .before .before .before .before .before .before .before .before .before .pre .1) .known .1 .0 .inside))) (c .before .before .before .before .before .before .get-node .ensures) (c .before .before .f .given .1)) .steps)
+get-front-sub-t26 : (t : ℕ) → get-front-lts.Need-sub-t26 (get-front-claims t) (get-front-at t) get-front.Post
+get-front-sub-t26 t c = omega (arith, (sizes ((two-ready₁ (c .before .before .before .before .before .before .before .before .before .pre .1) (marked 3 (c .before .before .before .before .before .before .before .before .before .args .at .top) (c .before .before .before .before .before .before .before .before .before .args .arena .now) (omega (arith, (c .before .before .before .before .before .before .before .before .before .pre .1) .long, (c .before .before .before .before .before .before .before .before .before .pre .1) .room))) ((c .before .before .before .before .before .before .before .before .before .pre .1) .known .1 .0 .inside))) (c .before .before .before .before .before .get-node .ensures) (c .before .f .given .1)) .steps)
 
 get-front-get-node-requires-2 : (t : ℕ) → get-front-lts.Need-get-node-requires-2 (get-front-claims t) (get-front-at t) get-front.Post
 get-front-get-node-requires-2 t c κs = (omega (arith, c .before .before .before .before .before .before .before .before .before .before .pre .0), (two-ready₂ (c .before .before .before .before .before .before .before .before .before .before .pre .1) (marked 3 (c .before .before .before .before .before .before .before .before .before .before .args .at .top) (c .before .before .before .before .before .before .before .before .before .before .args .arena .now) (omega (arith, (c .before .before .before .before .before .before .before .before .before .before .pre .1) .long, (c .before .before .before .before .before .before .before .before .before .before .pre .1) .room))) ((c .before .before .before .before .before .before .before .before .before .before .pre .1) .known .1 .0 .inside) (c .before .before .before .before .before .before .get-node .ensures) (c .before .before .f .given .1) ((c .before .before .before .before .before .before .before .before .before .before .pre .1) .known .1 .1 .inside)))
@@ -399,14 +399,8 @@ get-front-slice-read-kind t c = omega (arith, (c .before .before .before .before
 get-front-returns : (t : ℕ) → get-front-lts.Need-returns (get-front-claims t) (get-front-at t) get-front.Post
 get-front-returns t c = front-43 ((c .before .before .before .before .before .before .before .before .before .before .before .before .before .before .before .before .before .before .pre .1) .base) (marked 3 (c .before .before .before .before .before .before .before .before .before .before .before .before .before .before .before .before .before .before .args .at .top) (c .before .before .before .before .before .before .before .before .before .before .before .before .before .before .before .before .before .before .args .arena .now) (omega (arith, (c .before .before .before .before .before .before .before .before .before .before .before .before .before .before .before .before .before .before .pre .1) .long, (c .before .before .before .before .before .before .before .before .before .before .before .before .before .before .before .before .before .before .pre .1) .room))) (c .before .before .before .before .before .before .before .before .before .before .before .before .before .before .get-node .ensures) (c .before .before .before .before .before .before .before .before .before .before .f .given .1) (c .before .before .before .before .before .before .before .get-node2 .ensures) (c .before .before .before .r .given .1) (λ p q. omega (arith, c .if1 .taken))
 
-get-front-same-length : (t : ℕ) → get-front-lts.Need-same-length (get-front-claims t) (get-front-at t) get-front.Post
-get-front-same-length t c = get-front-returns t c .kept .long
-
 get-front-returns-2 : (t : ℕ) → get-front-lts.Need-returns-2 (get-front-claims t) (get-front-at t) get-front.Post
 get-front-returns-2 t c = front-43 ((c .before .before .before .before .before .before .before .before .before .before .before .before .before .before .before .before .before .before .before .pre .1) .base) (marked 3 (c .before .before .before .before .before .before .before .before .before .before .before .before .before .before .before .before .before .before .before .args .at .top) (c .before .before .before .before .before .before .before .before .before .before .before .before .before .before .before .before .before .before .before .args .arena .now) (omega (arith, (c .before .before .before .before .before .before .before .before .before .before .before .before .before .before .before .before .before .before .before .pre .1) .long, (c .before .before .before .before .before .before .before .before .before .before .before .before .before .before .before .before .before .before .before .pre .1) .room))) (c .before .before .before .before .before .before .before .before .before .before .before .before .before .before .before .get-node .ensures) (c .before .before .before .before .before .before .before .before .before .before .before .f .given .1) (c .before .before .before .before .before .before .before .before .get-node2 .ensures) (c .before .before .before .before .r .given .1) (λ p q. omega (arith, c .if2 .taken))
-
-get-front-same-length-2 : (t : ℕ) → get-front-lts.Need-same-length-2 (get-front-claims t) (get-front-at t) get-front.Post
-get-front-same-length-2 t c = get-front-returns-2 t c .kept .long
 
 get-front-add-if3 : (t : ℕ) → get-front-lts.Need-add-if3 (get-front-claims t) (get-front-at t) get-front.Post
 get-front-add-if3 t c = record { fits = omega (arith, (sizes ((two-ready₁ (c .before .before .before .before .before .before .before .before .before .before .before .before .before .before .before .before .before .before .before .pre .1) (marked 3 (c .before .before .before .before .before .before .before .before .before .before .before .before .before .before .before .before .before .before .before .args .at .top) (c .before .before .before .before .before .before .before .before .before .before .before .before .before .before .before .before .before .before .before .args .arena .now) (omega (arith, (c .before .before .before .before .before .before .before .before .before .before .before .before .before .before .before .before .before .before .before .pre .1) .long, (c .before .before .before .before .before .before .before .before .before .before .before .before .before .before .before .before .before .before .before .pre .1) .room))) ((c .before .before .before .before .before .before .before .before .before .before .before .before .before .before .before .before .before .before .before .pre .1) .known .1 .0 .inside))) (c .before .before .before .before .before .before .before .before .before .before .before .before .before .before .before .get-node .ensures) (c .before .before .before .before .before .before .before .before .before .before .before .f .given .1)) .short) }
@@ -416,9 +410,6 @@ get-front-add-if3-2 t c = record { fits = omega (arith, (sizes ((two-ready₁ (c
 
 get-front-returns-3 : (t : ℕ) → get-front-lts.Need-returns-3 (get-front-claims t) (get-front-at t) get-front.Post
 get-front-returns-3 t c = front-44 ((c .before .before .before .before .before .before .before .before .before .before .before .before .before .before .before .before .before .before .before .before .pre .1) .base) (marked 3 (c .before .before .before .before .before .before .before .before .before .before .before .before .before .before .before .before .before .before .before .before .args .at .top) (c .before .before .before .before .before .before .before .before .before .before .before .before .before .before .before .before .before .before .before .before .args .arena .now) (omega (arith, (c .before .before .before .before .before .before .before .before .before .before .before .before .before .before .before .before .before .before .before .before .pre .1) .long, (c .before .before .before .before .before .before .before .before .before .before .before .before .before .before .before .before .before .before .before .before .pre .1) .room))) (c .before .before .before .before .before .before .before .before .before .before .before .before .before .before .before .before .get-node .ensures) (c .before .before .before .before .before .before .before .before .before .before .before .before .f .given .1) (c .before .before .before .before .before .before .before .before .before .get-node2 .ensures) (c .before .before .before .before .before .r .given .1) (omega (arith, c .before .before .if1 .left)) (omega (arith, c .before .if2 .left)) (c .if3 .taken)
-
-get-front-same-length-3 : (t : ℕ) → get-front-lts.Need-same-length-3 (get-front-claims t) (get-front-at t) get-front.Post
-get-front-same-length-3 t c = get-front-returns-3 t c .kept .long
 
 get-front-add-t34 : (t : ℕ) → get-front-lts.Need-add-t34 (get-front-claims t) (get-front-at t) get-front.Post
 get-front-add-t34 t c = search needs
@@ -435,17 +426,26 @@ get-front-add-t37 t c = record { fits = omega (arith, (c .before .before .before
 get-front-returns-4 : (t : ℕ) → get-front-lts.Need-returns-4 (get-front-claims t) (get-front-at t) get-front.Post
 get-front-returns-4 t c = front-refused₁ ((c .before .before .before .before .before .before .before .before .before .pre .1) .base) (marked 3 (c .before .before .before .before .before .before .before .before .before .args .at .top) (c .before .before .before .before .before .before .before .before .before .args .arena .now) (omega (arith, (c .before .before .before .before .before .before .before .before .before .pre .1) .long, (c .before .before .before .before .before .before .before .before .before .pre .1) .room))) (c .before .before .before .before .before .get-node .ensures) (c .before .c .given .1)
 
-get-front-same-length-4 : (t : ℕ) → get-front-lts.Need-same-length-4 (get-front-claims t) (get-front-at t) get-front.Post
-get-front-same-length-4 t c = get-front-returns-4 t c .kept .long
-
 get-front-returns-5 : (t : ℕ) → get-front-lts.Need-returns-5 (get-front-claims t) (get-front-at t) get-front.Post
 get-front-returns-5 t c = front-refused₂ ((c .before .before .before .before .before .before .before .before .before .before .before .before .before .before .before .before .pre .1) .base) (marked 3 (c .before .before .before .before .before .before .before .before .before .before .before .before .before .before .before .before .args .at .top) (c .before .before .before .before .before .before .before .before .before .before .before .before .before .before .before .before .args .arena .now) (omega (arith, (c .before .before .before .before .before .before .before .before .before .before .before .before .before .before .before .before .pre .1) .long, (c .before .before .before .before .before .before .before .before .before .before .before .before .before .before .before .before .pre .1) .room))) (c .before .before .before .before .before .before .before .before .before .before .before .before .get-node .ensures) (c .before .before .before .before .before .before .before .before .f .given .1) (c .before .before .before .before .before .get-node2 .ensures) (c .before .c2 .given .1)
 
-get-front-same-length-5 : (t : ℕ) → get-front-lts.Need-same-length-5 (get-front-claims t) (get-front-at t) get-front.Post
-get-front-same-length-5 t c = get-front-returns-5 t c .kept .long
-
 get-front-returns-6 : (t : ℕ) → get-front-lts.Need-returns-6 (get-front-claims t) (get-front-at t) get-front.Post
 get-front-returns-6 t c = front-done ((c .before .before .before .before .before .before .before .before .before .before .before .before .before .before .before .before .before .before .before .before .pre .1) .base) (marked 3 (c .before .before .before .before .before .before .before .before .before .before .before .before .before .before .before .before .before .before .before .before .args .at .top) (c .before .before .before .before .before .before .before .before .before .before .before .before .before .before .before .before .before .before .before .before .args .arena .now) (omega (arith, (c .before .before .before .before .before .before .before .before .before .before .before .before .before .before .before .before .before .before .before .before .pre .1) .long, (c .before .before .before .before .before .before .before .before .before .before .before .before .before .before .before .before .before .before .before .before .pre .1) .room))) (c .before .before .before .before .before .before .before .before .before .before .before .before .before .before .before .before .get-node .ensures) (c .before .before .before .before .before .before .before .before .before .before .before .before .f .given .1) (c .before .before .before .before .before .before .before .before .before .get-node2 .ensures) (c .before .before .before .before .before .r .given .1) (omega (arith, c .before .before .if1 .left)) (omega (arith, c .before .if2 .left)) refl (omega (arith, c .if3 .left))
+
+get-front-same-length : (t : ℕ) → get-front-lts.Need-same-length (get-front-claims t) (get-front-at t) get-front.Post
+get-front-same-length t c = get-front-returns t c .kept .long
+
+get-front-same-length-2 : (t : ℕ) → get-front-lts.Need-same-length-2 (get-front-claims t) (get-front-at t) get-front.Post
+get-front-same-length-2 t c = get-front-returns-2 t c .kept .long
+
+get-front-same-length-3 : (t : ℕ) → get-front-lts.Need-same-length-3 (get-front-claims t) (get-front-at t) get-front.Post
+get-front-same-length-3 t c = get-front-returns-3 t c .kept .long
+
+get-front-same-length-4 : (t : ℕ) → get-front-lts.Need-same-length-4 (get-front-claims t) (get-front-at t) get-front.Post
+get-front-same-length-4 t c = get-front-returns-4 t c .kept .long
+
+get-front-same-length-5 : (t : ℕ) → get-front-lts.Need-same-length-5 (get-front-claims t) (get-front-at t) get-front.Post
+get-front-same-length-5 t c = get-front-returns-5 t c .kept .long
 
 get-front-same-length-6 : (t : ℕ) → get-front-lts.Need-same-length-6 (get-front-claims t) (get-front-at t) get-front.Post
 get-front-same-length-6 t c = get-front-returns-6 t c .kept .long
@@ -462,11 +462,11 @@ get-list-case-enum-known-c t c = search needs
 get-list-case-enum-known-shape : (t : ℕ) → get-list-case-lts.Need-enum-known-shape (get-list-case-claims t) (get-list-case-at t) get-list-case.Post
 get-list-case-enum-known-shape t c = search needs
 
-get-list-case-sub-t28 : (t : ℕ) → get-list-case-lts.Need-sub-t28 (get-list-case-claims t) (get-list-case-at t) get-list-case.Post
-get-list-case-sub-t28 t c = omega (arith, sizes (subject-ready (c .before .before .before .before .before .before .before .before .before .before .before .before .pre .1) (c .before .before .before .before .before .before .before .before .before .before .before .before .pre .1 .known .1 .subject .inside)) (c .before .before .before .before .before .before .before .before .get-node .ensures) (c .before .before .before .before .look .ensures .seen (c .before .before .shape .given .1) .0) .steps)
+get-list-case-sub-left : (t : ℕ) → get-list-case-lts.Need-sub-left (get-list-case-claims t) (get-list-case-at t) get-list-case.Post
+get-list-case-sub-left t c = omega (arith, sizes (subject-ready (c .before .before .before .before .before .before .before .before .before .before .before .before .pre .1) (c .before .before .before .before .before .before .before .before .before .before .before .before .pre .1 .known .1 .subject .inside)) (c .before .before .before .before .before .before .before .before .get-node .ensures) (c .before .before .before .before .look .ensures .seen (c .before .before .shape .given .1) .0) .steps)
 
-get-list-case-add-t29 : (t : ℕ) → get-list-case-lts.Need-add-t29 (get-list-case-claims t) (get-list-case-at t) get-list-case.Post
-get-list-case-add-t29 t c = record { fits = omega (arith, c .before .before .before .before .before .before .before .before .before .before .before .before .pre .1 .room, sizes (subject-ready (c .before .before .before .before .before .before .before .before .before .before .before .before .pre .1) (c .before .before .before .before .before .before .before .before .before .before .before .before .pre .1 .known .1 .subject .inside)) (c .before .before .before .before .before .before .before .before .get-node .ensures) (c .before .before .before .before .look .ensures .seen (c .before .before .shape .given .1) .0) .short) }
+get-list-case-add-top : (t : ℕ) → get-list-case-lts.Need-add-top (get-list-case-claims t) (get-list-case-at t) get-list-case.Post
+get-list-case-add-top t c = record { fits = omega (arith, c .before .before .before .before .before .before .before .before .before .before .before .before .pre .1 .room, sizes (subject-ready (c .before .before .before .before .before .before .before .before .before .before .before .before .pre .1) (c .before .before .before .before .before .before .before .before .before .before .before .before .pre .1 .known .1 .subject .inside)) (c .before .before .before .before .before .before .before .before .get-node .ensures) (c .before .before .before .before .look .ensures .seen (c .before .before .shape .given .1) .0) .short) }
 
 get-list-case-enum-told : (t : ℕ) → get-list-case-lts.Need-enum-told (get-list-case-claims t) (get-list-case-at t) get-list-case.Post
 get-list-case-enum-told t c = search needs
@@ -693,8 +693,8 @@ get-node-same-length-12 t c = get-node-returns-13 t c .kept .long
 get-pair-slice-write-arena : (t : ℕ) → get-pair-lts.Need-slice-write-arena (get-pair-claims t) (get-pair-at t) get-pair.Post
 get-pair-slice-write-arena t c = search needs
 
-get-pair-add-t21 : (t : ℕ) → get-pair-lts.Need-add-t21 (get-pair-claims t) (get-pair-at t) get-pair.Post
-get-pair-add-t21 t c = search needs
+get-pair-add-t20 : (t : ℕ) → get-pair-lts.Need-add-t20 (get-pair-claims t) (get-pair-at t) get-pair.Post
+get-pair-add-t20 t c = search needs
 
 get-pair-get-node-requires : (t : ℕ) → get-pair-lts.Need-get-node-requires (get-pair-claims t) (get-pair-at t) get-pair.Post
 get-pair-get-node-requires t c κs = (omega (arith, c .before .before .before .pre .0), (two-ready₁ (c .before .before .before .pre .1) (marked 5 (c .before .before .before .args .at .top) (c .before .before .before .args .arena .now) (omega (arith, (c .before .before .before .pre .1) .long, (c .before .before .before .pre .1) .room))) ((c .before .before .before .pre .1) .known .1 .0 .inside)))
@@ -711,8 +711,8 @@ get-pair-add-mid t c = search needs
 get-pair-add-mid-2 : (t : ℕ) → get-pair-lts.Need-add-mid-2 (get-pair-claims t) (get-pair-at t) get-pair.Post
 get-pair-add-mid-2 t c = record { fits = omega (arith, (c .before .before .before .before .before .before .before .before .before .pre .1) .room, (sizes ((two-ready₁ (c .before .before .before .before .before .before .before .before .before .pre .1) (marked 5 (c .before .before .before .before .before .before .before .before .before .args .at .top) (c .before .before .before .before .before .before .before .before .before .args .arena .now) (omega (arith, (c .before .before .before .before .before .before .before .before .before .pre .1) .long, (c .before .before .before .before .before .before .before .before .before .pre .1) .room))) ((c .before .before .before .before .before .before .before .before .before .pre .1) .known .1 .0 .inside))) (c .before .before .before .before .before .get-node .ensures) (c .before .f .given .1)) .short) }
 
-get-pair-sub-t24 : (t : ℕ) → get-pair-lts.Need-sub-t24 (get-pair-claims t) (get-pair-at t) get-pair.Post
-get-pair-sub-t24 t c = omega (arith, (sizes ((two-ready₁ (c .before .before .before .before .before .before .before .before .before .before .pre .1) (marked 5 (c .before .before .before .before .before .before .before .before .before .before .args .at .top) (c .before .before .before .before .before .before .before .before .before .before .args .arena .now) (omega (arith, (c .before .before .before .before .before .before .before .before .before .before .pre .1) .long, (c .before .before .before .before .before .before .before .before .before .before .pre .1) .room))) ((c .before .before .before .before .before .before .before .before .before .before .pre .1) .known .1 .0 .inside))) (c .before .before .before .before .before .before .get-node .ensures) (c .before .before .f .given .1)) .steps)
+get-pair-sub-t25 : (t : ℕ) → get-pair-lts.Need-sub-t25 (get-pair-claims t) (get-pair-at t) get-pair.Post
+get-pair-sub-t25 t c = omega (arith, (sizes ((two-ready₁ (c .before .before .before .before .before .before .before .before .before .pre .1) (marked 5 (c .before .before .before .before .before .before .before .before .before .args .at .top) (c .before .before .before .before .before .before .before .before .before .args .arena .now) (omega (arith, (c .before .before .before .before .before .before .before .before .before .pre .1) .long, (c .before .before .before .before .before .before .before .before .before .pre .1) .room))) ((c .before .before .before .before .before .before .before .before .before .pre .1) .known .1 .0 .inside))) (c .before .before .before .before .before .get-node .ensures) (c .before .f .given .1)) .steps)
 
 get-pair-get-node-requires-2 : (t : ℕ) → get-pair-lts.Need-get-node-requires-2 (get-pair-claims t) (get-pair-at t) get-pair.Post
 get-pair-get-node-requires-2 t c κs = (omega (arith, c .before .before .before .before .before .before .before .before .before .before .pre .0), (two-ready₂ (c .before .before .before .before .before .before .before .before .before .before .pre .1) (marked 5 (c .before .before .before .before .before .before .before .before .before .before .args .at .top) (c .before .before .before .before .before .before .before .before .before .before .args .arena .now) (omega (arith, (c .before .before .before .before .before .before .before .before .before .before .pre .1) .long, (c .before .before .before .before .before .before .before .before .before .before .pre .1) .room))) ((c .before .before .before .before .before .before .before .before .before .before .pre .1) .known .1 .0 .inside) (c .before .before .before .before .before .before .get-node .ensures) (c .before .before .f .given .1) ((c .before .before .before .before .before .before .before .before .before .before .pre .1) .known .1 .1 .inside)))
@@ -732,9 +732,6 @@ get-pair-add-if1-2 t c = record { fits = omega (arith, (sizes ((two-ready₁ (c 
 get-pair-returns : (t : ℕ) → get-pair-lts.Need-returns (get-pair-claims t) (get-pair-at t) get-pair.Post
 get-pair-returns t c = pair-44 ((c .before .before .before .before .before .before .before .before .before .before .before .before .before .before .before .before .before .pre .1) .base) (marked 5 (c .before .before .before .before .before .before .before .before .before .before .before .before .before .before .before .before .before .args .at .top) (c .before .before .before .before .before .before .before .before .before .before .before .before .before .before .before .before .before .args .arena .now) (omega (arith, (c .before .before .before .before .before .before .before .before .before .before .before .before .before .before .before .before .before .pre .1) .long, (c .before .before .before .before .before .before .before .before .before .before .before .before .before .before .before .before .before .pre .1) .room))) (c .before .before .before .before .before .before .before .before .before .before .before .before .before .get-node .ensures) (c .before .before .before .before .before .before .before .before .before .f .given .1) (c .before .before .before .before .before .before .get-node2 .ensures) (c .before .before .r .given .1) (c .if1 .taken)
 
-get-pair-same-length : (t : ℕ) → get-pair-lts.Need-same-length (get-pair-claims t) (get-pair-at t) get-pair.Post
-get-pair-same-length t c = get-pair-returns t c .kept .long
-
 get-pair-add-t30 : (t : ℕ) → get-pair-lts.Need-add-t30 (get-pair-claims t) (get-pair-at t) get-pair.Post
 get-pair-add-t30 t c = search needs
 
@@ -750,17 +747,20 @@ get-pair-add-t34 t c = record { fits = omega (arith, (c .before .before .before 
 get-pair-returns-2 : (t : ℕ) → get-pair-lts.Need-returns-2 (get-pair-claims t) (get-pair-at t) get-pair.Post
 get-pair-returns-2 t c = pair-refused₁ ((c .before .before .before .before .before .before .before .before .before .pre .1) .base) (marked 5 (c .before .before .before .before .before .before .before .before .before .args .at .top) (c .before .before .before .before .before .before .before .before .before .args .arena .now) (omega (arith, (c .before .before .before .before .before .before .before .before .before .pre .1) .long, (c .before .before .before .before .before .before .before .before .before .pre .1) .room))) (c .before .before .before .before .before .get-node .ensures) (c .before .c .given .1)
 
-get-pair-same-length-2 : (t : ℕ) → get-pair-lts.Need-same-length-2 (get-pair-claims t) (get-pair-at t) get-pair.Post
-get-pair-same-length-2 t c = get-pair-returns-2 t c .kept .long
-
 get-pair-returns-3 : (t : ℕ) → get-pair-lts.Need-returns-3 (get-pair-claims t) (get-pair-at t) get-pair.Post
 get-pair-returns-3 t c = pair-refused₂ ((c .before .before .before .before .before .before .before .before .before .before .before .before .before .before .before .before .pre .1) .base) (marked 5 (c .before .before .before .before .before .before .before .before .before .before .before .before .before .before .before .before .args .at .top) (c .before .before .before .before .before .before .before .before .before .before .before .before .before .before .before .before .args .arena .now) (omega (arith, (c .before .before .before .before .before .before .before .before .before .before .before .before .before .before .before .before .pre .1) .long, (c .before .before .before .before .before .before .before .before .before .before .before .before .before .before .before .before .pre .1) .room))) (c .before .before .before .before .before .before .before .before .before .before .before .before .get-node .ensures) (c .before .before .before .before .before .before .before .before .f .given .1) (c .before .before .before .before .before .get-node2 .ensures) (c .before .c2 .given .1)
 
-get-pair-same-length-3 : (t : ℕ) → get-pair-lts.Need-same-length-3 (get-pair-claims t) (get-pair-at t) get-pair.Post
-get-pair-same-length-3 t c = get-pair-returns-3 t c .kept .long
-
 get-pair-returns-4 : (t : ℕ) → get-pair-lts.Need-returns-4 (get-pair-claims t) (get-pair-at t) get-pair.Post
 get-pair-returns-4 t c = pair-done ((c .before .before .before .before .before .before .before .before .before .before .before .before .before .before .before .before .before .pre .1) .base) (marked 5 (c .before .before .before .before .before .before .before .before .before .before .before .before .before .before .before .before .before .args .at .top) (c .before .before .before .before .before .before .before .before .before .before .before .before .before .before .before .before .before .args .arena .now) (omega (arith, (c .before .before .before .before .before .before .before .before .before .before .before .before .before .before .before .before .before .pre .1) .long, (c .before .before .before .before .before .before .before .before .before .before .before .before .before .before .before .before .before .pre .1) .room))) (c .before .before .before .before .before .before .before .before .before .before .before .before .before .get-node .ensures) (c .before .before .before .before .before .before .before .before .before .f .given .1) (c .before .before .before .before .before .before .get-node2 .ensures) (c .before .before .r .given .1) refl (omega (arith, c .if1 .left))
+
+get-pair-same-length : (t : ℕ) → get-pair-lts.Need-same-length (get-pair-claims t) (get-pair-at t) get-pair.Post
+get-pair-same-length t c = get-pair-returns t c .kept .long
+
+get-pair-same-length-2 : (t : ℕ) → get-pair-lts.Need-same-length-2 (get-pair-claims t) (get-pair-at t) get-pair.Post
+get-pair-same-length-2 t c = get-pair-returns-2 t c .kept .long
+
+get-pair-same-length-3 : (t : ℕ) → get-pair-lts.Need-same-length-3 (get-pair-claims t) (get-pair-at t) get-pair.Post
+get-pair-same-length-3 t c = get-pair-returns-3 t c .kept .long
 
 get-pair-same-length-4 : (t : ℕ) → get-pair-lts.Need-same-length-4 (get-pair-claims t) (get-pair-at t) get-pair.Post
 get-pair-same-length-4 t c = get-pair-returns-4 t c .kept .long
@@ -777,11 +777,11 @@ get-split-enum-known-c t c = search needs
 get-split-enum-known-shape : (t : ℕ) → get-split-lts.Need-enum-known-shape (get-split-claims t) (get-split-at t) get-split.Post
 get-split-enum-known-shape t c = search needs
 
-get-split-sub-t23 : (t : ℕ) → get-split-lts.Need-sub-t23 (get-split-claims t) (get-split-at t) get-split.Post
-get-split-sub-t23 t c = omega (arith, sizes (subject-ready (c .before .before .before .before .before .before .before .before .before .before .before .before .pre .1) (c .before .before .before .before .before .before .before .before .before .before .before .before .pre .1 .known .1 .0 .inside)) (c .before .before .before .before .before .before .before .before .get-node .ensures) (c .before .before .before .before .look .ensures .seen (c .before .before .shape .given .1) .0) .steps)
+get-split-sub-left : (t : ℕ) → get-split-lts.Need-sub-left (get-split-claims t) (get-split-at t) get-split.Post
+get-split-sub-left t c = omega (arith, sizes (subject-ready (c .before .before .before .before .before .before .before .before .before .before .before .before .pre .1) (c .before .before .before .before .before .before .before .before .before .before .before .before .pre .1 .known .1 .0 .inside)) (c .before .before .before .before .before .before .before .before .get-node .ensures) (c .before .before .before .before .look .ensures .seen (c .before .before .shape .given .1) .0) .steps)
 
-get-split-add-t24 : (t : ℕ) → get-split-lts.Need-add-t24 (get-split-claims t) (get-split-at t) get-split.Post
-get-split-add-t24 t c = record { fits = omega (arith, c .before .before .before .before .before .before .before .before .before .before .before .before .pre .1 .room, sizes (subject-ready (c .before .before .before .before .before .before .before .before .before .before .before .before .pre .1) (c .before .before .before .before .before .before .before .before .before .before .before .before .pre .1 .known .1 .0 .inside)) (c .before .before .before .before .before .before .before .before .get-node .ensures) (c .before .before .before .before .look .ensures .seen (c .before .before .shape .given .1) .0) .short) }
+get-split-add-top : (t : ℕ) → get-split-lts.Need-add-top (get-split-claims t) (get-split-at t) get-split.Post
+get-split-add-top t c = record { fits = omega (arith, c .before .before .before .before .before .before .before .before .before .before .before .before .pre .1 .room, sizes (subject-ready (c .before .before .before .before .before .before .before .before .before .before .before .before .pre .1) (c .before .before .before .before .before .before .before .before .before .before .before .before .pre .1 .known .1 .0 .inside)) (c .before .before .before .before .before .before .before .before .get-node .ensures) (c .before .before .before .before .look .ensures .seen (c .before .before .shape .given .1) .0) .short) }
 
 get-split-enum-known-shape-2 : (t : ℕ) → get-split-lts.Need-enum-known-shape-2 (get-split-claims t) (get-split-at t) get-split.Post
 get-split-enum-known-shape-2 t c = search needs
@@ -834,11 +834,11 @@ get-truth-case-enum-known-c t c = search needs
 get-truth-case-enum-known-shape : (t : ℕ) → get-truth-case-lts.Need-enum-known-shape (get-truth-case-claims t) (get-truth-case-at t) get-truth-case.Post
 get-truth-case-enum-known-shape t c = search needs
 
-get-truth-case-sub-t24 : (t : ℕ) → get-truth-case-lts.Need-sub-t24 (get-truth-case-claims t) (get-truth-case-at t) get-truth-case.Post
-get-truth-case-sub-t24 t c = omega (arith, sizes (subject-ready (c .before .before .before .before .before .before .before .before .before .before .before .before .pre .1) (c .before .before .before .before .before .before .before .before .before .before .before .before .pre .1 .known .1 .subject .inside)) (c .before .before .before .before .before .before .before .before .get-node .ensures) (c .before .before .before .before .look .ensures .seen (c .before .before .shape .given .1) .0) .steps)
+get-truth-case-sub-left : (t : ℕ) → get-truth-case-lts.Need-sub-left (get-truth-case-claims t) (get-truth-case-at t) get-truth-case.Post
+get-truth-case-sub-left t c = omega (arith, sizes (subject-ready (c .before .before .before .before .before .before .before .before .before .before .before .before .pre .1) (c .before .before .before .before .before .before .before .before .before .before .before .before .pre .1 .known .1 .subject .inside)) (c .before .before .before .before .before .before .before .before .get-node .ensures) (c .before .before .before .before .look .ensures .seen (c .before .before .shape .given .1) .0) .steps)
 
-get-truth-case-add-t25 : (t : ℕ) → get-truth-case-lts.Need-add-t25 (get-truth-case-claims t) (get-truth-case-at t) get-truth-case.Post
-get-truth-case-add-t25 t c = record { fits = omega (arith, c .before .before .before .before .before .before .before .before .before .before .before .before .pre .1 .room, sizes (subject-ready (c .before .before .before .before .before .before .before .before .before .before .before .before .pre .1) (c .before .before .before .before .before .before .before .before .before .before .before .before .pre .1 .known .1 .subject .inside)) (c .before .before .before .before .before .before .before .before .get-node .ensures) (c .before .before .before .before .look .ensures .seen (c .before .before .shape .given .1) .0) .short) }
+get-truth-case-add-top : (t : ℕ) → get-truth-case-lts.Need-add-top (get-truth-case-claims t) (get-truth-case-at t) get-truth-case.Post
+get-truth-case-add-top t c = record { fits = omega (arith, c .before .before .before .before .before .before .before .before .before .before .before .before .pre .1 .room, sizes (subject-ready (c .before .before .before .before .before .before .before .before .before .before .before .before .pre .1) (c .before .before .before .before .before .before .before .before .before .before .before .before .pre .1 .known .1 .subject .inside)) (c .before .before .before .before .before .before .before .before .get-node .ensures) (c .before .before .before .before .look .ensures .seen (c .before .before .shape .given .1) .0) .short) }
 
 get-truth-case-enum-told : (t : ℕ) → get-truth-case-lts.Need-enum-told (get-truth-case-claims t) (get-truth-case-at t) get-truth-case.Post
 get-truth-case-enum-told t c = search needs
@@ -954,13 +954,13 @@ pub +get-add+get-branch+get-call+get-front+get-list-case+get-node+get-pair+get-s
     (get-call-returns-4 t))
     (λ t. get-front-lts.spec (get-front-claims t) (get-front-at t) get-front.Post
     (get-front-slice-write-arena t)
-    (get-front-add-t22 t)
+    (get-front-add-t21 t)
     (get-front-get-node-requires t)
     (get-front-enum-known-c t)
     (get-front-enum-known-f t)
     (get-front-add-mid t)
     (get-front-add-mid-2 t)
-    (get-front-sub-t25 t)
+    (get-front-sub-t26 t)
     (get-front-get-node-requires-2 t)
     (get-front-enum-known-c-2 t)
     (get-front-enum-known-r t)
@@ -988,8 +988,8 @@ pub +get-add+get-branch+get-call+get-front+get-list-case+get-node+get-pair+get-s
     (get-list-case-look-requires t)
     (get-list-case-enum-known-c t)
     (get-list-case-enum-known-shape t)
-    (get-list-case-sub-t28 t)
-    (get-list-case-add-t29 t)
+    (get-list-case-sub-left t)
+    (get-list-case-add-top t)
     (get-list-case-enum-told t)
     (get-list-case-add-get-branch t)
     (get-list-case-get-branch-requires t)
@@ -1067,13 +1067,13 @@ pub +get-add+get-branch+get-call+get-front+get-list-case+get-node+get-pair+get-s
     (get-node-returns-13 t))
     (λ t. get-pair-lts.spec (get-pair-claims t) (get-pair-at t) get-pair.Post
     (get-pair-slice-write-arena t)
-    (get-pair-add-t21 t)
+    (get-pair-add-t20 t)
     (get-pair-get-node-requires t)
     (get-pair-enum-known-c t)
     (get-pair-enum-known-f t)
     (get-pair-add-mid t)
     (get-pair-add-mid-2 t)
-    (get-pair-sub-t24 t)
+    (get-pair-sub-t25 t)
     (get-pair-get-node-requires-2 t)
     (get-pair-enum-known-c-2 t)
     (get-pair-enum-known-r t)
@@ -1096,8 +1096,8 @@ pub +get-add+get-branch+get-call+get-front+get-list-case+get-node+get-pair+get-s
     (get-split-look-requires t)
     (get-split-enum-known-c t)
     (get-split-enum-known-shape t)
-    (get-split-sub-t23 t)
-    (get-split-add-t24 t)
+    (get-split-sub-left t)
+    (get-split-add-top t)
     (get-split-enum-known-shape-2 t)
     (get-split-add-push-two t)
     (get-split-sub-push-two t)
@@ -1116,8 +1116,8 @@ pub +get-add+get-branch+get-call+get-front+get-list-case+get-node+get-pair+get-s
     (get-truth-case-look-requires t)
     (get-truth-case-enum-known-c t)
     (get-truth-case-enum-known-shape t)
-    (get-truth-case-sub-t24 t)
-    (get-truth-case-add-t25 t)
+    (get-truth-case-sub-left t)
+    (get-truth-case-add-top t)
     (get-truth-case-enum-told t)
     (get-truth-case-add-get-branch t)
     (get-truth-case-get-branch-requires t)

@@ -444,11 +444,11 @@ put-list-case-enum-known-c t c = search needs
 put-list-case-enum-known-shape : (t : ℕ) → put-list-case-lts.Need-enum-known-shape (put-list-case-claims t) (put-list-case-at t) put-list-case.Post
 put-list-case-enum-known-shape t c = search needs
 
-put-list-case-sub-t32 : (t : ℕ) → put-list-case-lts.Need-sub-t32 (put-list-case-claims t) (put-list-case-at t) put-list-case.Post
-put-list-case-sub-t32 t c = omega (arith, subject-few (c .before .before .before .before .before .before .before .before .before .before .before .before .before .pre .1 .base) (c .before .before .before .before .before .before .before .before .get-node .ensures) (c .before .before .before .before .look .ensures .seen (c .before .before .shape .given .1) .0) (c .before .before .before .before .before .before .before .before .before .before .before .before .before .pre .1))
+put-list-case-sub-left : (t : ℕ) → put-list-case-lts.Need-sub-left (put-list-case-claims t) (put-list-case-at t) put-list-case.Post
+put-list-case-sub-left t c = omega (arith, subject-few (c .before .before .before .before .before .before .before .before .before .before .before .before .before .pre .1 .base) (c .before .before .before .before .before .before .before .before .get-node .ensures) (c .before .before .before .before .look .ensures .seen (c .before .before .shape .given .1) .0) (c .before .before .before .before .before .before .before .before .before .before .before .before .before .pre .1))
 
-put-list-case-add-t33 : (t : ℕ) → put-list-case-lts.Need-add-t33 (put-list-case-claims t) (put-list-case-at t) put-list-case.Post
-put-list-case-add-t33 t c = omega (arith, subject-few (c .before .before .before .before .before .before .before .before .before .before .before .before .before .pre .1 .base) (c .before .before .before .before .before .before .before .before .get-node .ensures) (c .before .before .before .before .look .ensures .seen (c .before .before .shape .given .1) .0) (c .before .before .before .before .before .before .before .before .before .before .before .before .before .pre .1), c .before .before .before .before .before .before .before .before .before .before .before .before .before .pre .1 .room)
+put-list-case-add-top : (t : ℕ) → put-list-case-lts.Need-add-top (put-list-case-claims t) (put-list-case-at t) put-list-case.Post
+put-list-case-add-top t c = omega (arith, subject-few (c .before .before .before .before .before .before .before .before .before .before .before .before .before .pre .1 .base) (c .before .before .before .before .before .before .before .before .get-node .ensures) (c .before .before .before .before .look .ensures .seen (c .before .before .shape .given .1) .0) (c .before .before .before .before .before .before .before .before .before .before .before .before .before .pre .1), c .before .before .before .before .before .before .before .before .before .before .before .before .before .pre .1 .room)
 
 put-list-case-enum-told : (t : ℕ) → put-list-case-lts.Need-enum-told (put-list-case-claims t) (put-list-case-at t) put-list-case.Post
 put-list-case-enum-told t c = search needs
@@ -837,11 +837,11 @@ put-split-enum-known-c t c = search needs
 put-split-enum-known-shape : (t : ℕ) → put-split-lts.Need-enum-known-shape (put-split-claims t) (put-split-at t) put-split.Post
 put-split-enum-known-shape t c = search needs
 
-put-split-sub-t25 : (t : ℕ) → put-split-lts.Need-sub-t25 (put-split-claims t) (put-split-at t) put-split.Post
-put-split-sub-t25 t c = omega (arith, subject-few (c .before .before .before .before .before .before .before .before .before .before .before .before .before .pre .1 .base) (c .before .before .before .before .before .before .before .before .get-node .ensures) (c .before .before .before .before .look .ensures .seen (c .before .before .shape .given .1) .0) (c .before .before .before .before .before .before .before .before .before .before .before .before .before .pre .1))
+put-split-sub-left : (t : ℕ) → put-split-lts.Need-sub-left (put-split-claims t) (put-split-at t) put-split.Post
+put-split-sub-left t c = omega (arith, subject-few (c .before .before .before .before .before .before .before .before .before .before .before .before .before .pre .1 .base) (c .before .before .before .before .before .before .before .before .get-node .ensures) (c .before .before .before .before .look .ensures .seen (c .before .before .shape .given .1) .0) (c .before .before .before .before .before .before .before .before .before .before .before .before .before .pre .1))
 
-put-split-add-t26 : (t : ℕ) → put-split-lts.Need-add-t26 (put-split-claims t) (put-split-at t) put-split.Post
-put-split-add-t26 t c = omega (arith, subject-few (c .before .before .before .before .before .before .before .before .before .before .before .before .before .pre .1 .base) (c .before .before .before .before .before .before .before .before .get-node .ensures) (c .before .before .before .before .look .ensures .seen (c .before .before .shape .given .1) .0) (c .before .before .before .before .before .before .before .before .before .before .before .before .before .pre .1), c .before .before .before .before .before .before .before .before .before .before .before .before .before .pre .1 .room)
+put-split-add-top : (t : ℕ) → put-split-lts.Need-add-top (put-split-claims t) (put-split-at t) put-split.Post
+put-split-add-top t c = omega (arith, subject-few (c .before .before .before .before .before .before .before .before .before .before .before .before .before .pre .1 .base) (c .before .before .before .before .before .before .before .before .get-node .ensures) (c .before .before .before .before .look .ensures .seen (c .before .before .shape .given .1) .0) (c .before .before .before .before .before .before .before .before .before .before .before .before .before .pre .1), c .before .before .before .before .before .before .before .before .before .before .before .before .before .pre .1 .room)
 
 put-split-enum-known-shape-2 : (t : ℕ) → put-split-lts.Need-enum-known-shape-2 (put-split-claims t) (put-split-at t) put-split.Post
 put-split-enum-known-shape-2 t c = search needs
@@ -915,14 +915,8 @@ put-switch-slice-read-kind t c = omega (arith, switch-few₁ (c .before .before 
 put-switch-returns : (t : ℕ) → put-switch-lts.Need-returns (put-switch-claims t) (put-switch-at t) put-switch.Post
 put-switch-returns t c = switch-43 (c .before .before .before .before .before .before .before .before .before .before .before .before .before .before .before .before .before .before .before .before .before .before .pre .1 .0 .base) (c .before .before .before .before .before .before .before .before .before .before .before .before .before .before .before .before .before .empty .ensures) (c .before .before .before .before .before .before .before .before .before .before .before .before .before .before .before .before .get-node .ensures) (c .before .before .before .before .before .before .before .before .before .before .before .before .f .given .1) (c .before .before .before .before .before .before .before .before .empty2 .ensures) (c .before .before .before .before .before .before .before .get-node2 .ensures) (c .before .before .before .r .given .1) (λ lo hi. omega (arith, c .if1 .taken))
 
-put-switch-same-length : (t : ℕ) → put-switch-lts.Need-same-length (put-switch-claims t) (put-switch-at t) put-switch.Post
-put-switch-same-length t c = put-switch-returns t c .frame .long
-
 put-switch-returns-2 : (t : ℕ) → put-switch-lts.Need-returns-2 (put-switch-claims t) (put-switch-at t) put-switch.Post
 put-switch-returns-2 t c = switch-43 (c .before .before .before .before .before .before .before .before .before .before .before .before .before .before .before .before .before .before .before .before .before .before .before .pre .1 .0 .base) (c .before .before .before .before .before .before .before .before .before .before .before .before .before .before .before .before .before .before .empty .ensures) (c .before .before .before .before .before .before .before .before .before .before .before .before .before .before .before .before .before .get-node .ensures) (c .before .before .before .before .before .before .before .before .before .before .before .before .before .f .given .1) (c .before .before .before .before .before .before .before .before .before .empty2 .ensures) (c .before .before .before .before .before .before .before .before .get-node2 .ensures) (c .before .before .before .before .r .given .1) (λ lo hi. omega (arith, c .if2 .taken))
-
-put-switch-same-length-2 : (t : ℕ) → put-switch-lts.Need-same-length-2 (put-switch-claims t) (put-switch-at t) put-switch.Post
-put-switch-same-length-2 t c = put-switch-returns-2 t c .frame .long
 
 put-switch-sub-put-under : (t : ℕ) → put-switch-lts.Need-sub-put-under (put-switch-claims t) (put-switch-at t) put-switch.Post
 put-switch-sub-put-under t c = omega (arith, switch-few₂ (c .before .before .before .before .before .before .before .before .before .before .before .before .before .before .before .before .before .before .before .before .before .before .before .pre .1 .0 .base) (c .before .before .before .before .before .before .before .before .before .before .before .before .before .before .before .before .before .before .empty .ensures) (c .before .before .before .before .before .before .before .before .before .before .before .before .before .before .before .before .before .get-node .ensures) (c .before .before .before .before .before .before .before .before .before .before .before .before .before .f .given .1) (c .before .before .before .before .before .before .before .before .before .empty2 .ensures) (c .before .before .before .before .before .before .before .before .get-node2 .ensures) (c .before .before .before .before .r .given .1) (c .before .before .before .before .before .before .before .before .before .before .before .before .before .before .before .before .before .before .before .before .before .before .before .pre .1 .0))
@@ -942,17 +936,23 @@ put-switch-put-under-requires t c κs = (omega (arith, c .before .before .before
 put-switch-returns-3 : (t : ℕ) → put-switch-lts.Need-returns-3 (put-switch-claims t) (put-switch-at t) put-switch.Post
 put-switch-returns-3 t c = switch-refused₁ (c .before .before .before .before .before .before .before .before .before .before .before .pre .1 .0 .base) (c .before .before .before .before .before .before .empty .ensures) (c .before .before .before .before .before .get-node .ensures) (c .before .c .given .1)
 
-put-switch-same-length-3 : (t : ℕ) → put-switch-lts.Need-same-length-3 (put-switch-claims t) (put-switch-at t) put-switch.Post
-put-switch-same-length-3 t c = put-switch-returns-3 t c .frame .long
-
 put-switch-returns-4 : (t : ℕ) → put-switch-lts.Need-returns-4 (put-switch-claims t) (put-switch-at t) put-switch.Post
 put-switch-returns-4 t c = switch-refused₂ (c .before .before .before .before .before .before .before .before .before .before .before .before .before .before .before .before .before .before .before .before .pre .1 .0 .base) (c .before .before .before .before .before .before .before .before .before .before .before .before .before .before .before .empty .ensures) (c .before .before .before .before .before .before .before .before .before .before .before .before .before .before .get-node .ensures) (c .before .before .before .before .before .before .before .before .before .before .f .given .1) (c .before .before .before .before .before .before .empty2 .ensures) (c .before .before .before .before .before .get-node2 .ensures) (c .before .c2 .given .1)
 
-put-switch-same-length-4 : (t : ℕ) → put-switch-lts.Need-same-length-4 (put-switch-claims t) (put-switch-at t) put-switch.Post
-put-switch-same-length-4 t c = put-switch-returns-4 t c .frame .long
-
 put-switch-returns-5 : (t : ℕ) → put-switch-lts.Need-returns-5 (put-switch-claims t) (put-switch-at t) put-switch.Post
 put-switch-returns-5 t c = switch-under (c .before .before .before .before .before .before .before .before .before .before .before .before .before .before .before .before .before .before .before .before .before .before .before .before .before .before .before .before .pre .1 .0 .base) (c .before .before .before .before .before .before .before .before .before .before .before .before .before .before .before .before .before .before .before .before .before .before .before .empty .ensures) (c .before .before .before .before .before .before .before .before .before .before .before .before .before .before .before .before .before .before .before .before .before .before .get-node .ensures) (c .before .before .before .before .before .before .before .before .before .before .before .before .before .before .before .before .before .before .f .given .1) (c .before .before .before .before .before .before .before .before .before .before .before .before .before .before .empty2 .ensures) (c .before .before .before .before .before .before .before .before .before .before .before .before .before .get-node2 .ensures) (c .before .before .before .before .before .before .before .before .before .r .given .1) (c .before .before .before .before .before .before .if1 .left) (c .before .before .before .before .before .if2 .left) (c .before .before .before .before .before .before .before .before .before .before .before .before .before .before .before .before .before .before .before .before .before .before .before .before .before .before .before .before .pre .1 .0) (c .before .before .put-under .ensures)
+
+put-switch-same-length : (t : ℕ) → put-switch-lts.Need-same-length (put-switch-claims t) (put-switch-at t) put-switch.Post
+put-switch-same-length t c = put-switch-returns t c .frame .long
+
+put-switch-same-length-2 : (t : ℕ) → put-switch-lts.Need-same-length-2 (put-switch-claims t) (put-switch-at t) put-switch.Post
+put-switch-same-length-2 t c = put-switch-returns-2 t c .frame .long
+
+put-switch-same-length-3 : (t : ℕ) → put-switch-lts.Need-same-length-3 (put-switch-claims t) (put-switch-at t) put-switch.Post
+put-switch-same-length-3 t c = put-switch-returns-3 t c .frame .long
+
+put-switch-same-length-4 : (t : ℕ) → put-switch-lts.Need-same-length-4 (put-switch-claims t) (put-switch-at t) put-switch.Post
+put-switch-same-length-4 t c = put-switch-returns-4 t c .frame .long
 
 put-switch-same-length-5 : (t : ℕ) → put-switch-lts.Need-same-length-5 (put-switch-claims t) (put-switch-at t) put-switch.Post
 put-switch-same-length-5 t c = put-switch-returns-5 t c .frame .long
@@ -969,11 +969,11 @@ put-truth-case-enum-known-c t c = search needs
 put-truth-case-enum-known-shape : (t : ℕ) → put-truth-case-lts.Need-enum-known-shape (put-truth-case-claims t) (put-truth-case-at t) put-truth-case.Post
 put-truth-case-enum-known-shape t c = search needs
 
-put-truth-case-sub-t31 : (t : ℕ) → put-truth-case-lts.Need-sub-t31 (put-truth-case-claims t) (put-truth-case-at t) put-truth-case.Post
-put-truth-case-sub-t31 t c = omega (arith, subject-few (c .before .before .before .before .before .before .before .before .before .before .before .before .before .pre .1 .base) (c .before .before .before .before .before .before .before .before .get-node .ensures) (c .before .before .before .before .look .ensures .seen (c .before .before .shape .given .1) .0) (c .before .before .before .before .before .before .before .before .before .before .before .before .before .pre .1))
+put-truth-case-sub-left : (t : ℕ) → put-truth-case-lts.Need-sub-left (put-truth-case-claims t) (put-truth-case-at t) put-truth-case.Post
+put-truth-case-sub-left t c = omega (arith, subject-few (c .before .before .before .before .before .before .before .before .before .before .before .before .before .pre .1 .base) (c .before .before .before .before .before .before .before .before .get-node .ensures) (c .before .before .before .before .look .ensures .seen (c .before .before .shape .given .1) .0) (c .before .before .before .before .before .before .before .before .before .before .before .before .before .pre .1))
 
-put-truth-case-add-t32 : (t : ℕ) → put-truth-case-lts.Need-add-t32 (put-truth-case-claims t) (put-truth-case-at t) put-truth-case.Post
-put-truth-case-add-t32 t c = omega (arith, subject-few (c .before .before .before .before .before .before .before .before .before .before .before .before .before .pre .1 .base) (c .before .before .before .before .before .before .before .before .get-node .ensures) (c .before .before .before .before .look .ensures .seen (c .before .before .shape .given .1) .0) (c .before .before .before .before .before .before .before .before .before .before .before .before .before .pre .1), c .before .before .before .before .before .before .before .before .before .before .before .before .before .pre .1 .room)
+put-truth-case-add-top : (t : ℕ) → put-truth-case-lts.Need-add-top (put-truth-case-claims t) (put-truth-case-at t) put-truth-case.Post
+put-truth-case-add-top t c = omega (arith, subject-few (c .before .before .before .before .before .before .before .before .before .before .before .before .before .pre .1 .base) (c .before .before .before .before .before .before .before .before .get-node .ensures) (c .before .before .before .before .look .ensures .seen (c .before .before .shape .given .1) .0) (c .before .before .before .before .before .before .before .before .before .before .before .before .before .pre .1), c .before .before .before .before .before .before .before .before .before .before .before .before .before .pre .1 .room)
 
 put-truth-case-enum-told : (t : ℕ) → put-truth-case-lts.Need-enum-told (put-truth-case-claims t) (put-truth-case-at t) put-truth-case.Post
 put-truth-case-enum-told t c = search needs
@@ -1225,8 +1225,8 @@ pub +put-add+put-both+put-call+put-front+put-list-case+put-node+put-pair+put-reb
     (put-list-case-look-requires t)
     (put-list-case-enum-known-c t)
     (put-list-case-enum-known-shape t)
-    (put-list-case-sub-t32 t)
-    (put-list-case-add-t33 t)
+    (put-list-case-sub-left t)
+    (put-list-case-add-top t)
     (put-list-case-enum-told t)
     (put-list-case-choose-requires t)
     (put-list-case-enum-told-2 t)
@@ -1366,8 +1366,8 @@ pub +put-add+put-both+put-call+put-front+put-list-case+put-node+put-pair+put-reb
     (put-split-look-requires t)
     (put-split-enum-known-c t)
     (put-split-enum-known-shape t)
-    (put-split-sub-t25 t)
-    (put-split-add-t26 t)
+    (put-split-sub-left t)
+    (put-split-add-top t)
     (put-split-enum-known-shape-2 t)
     (put-split-add-put-under t)
     (put-split-sub-put-under t)
@@ -1380,9 +1380,7 @@ pub +put-add+put-both+put-call+put-front+put-list-case+put-node+put-pair+put-reb
     (put-split-returns-2 t)
     (put-split-same-length-3 t)
     (put-split-returns-3 t))
-    (λ t. put-switch-lts.spec (put-switch-claims t)
-    (put-switch-at t)
-    put-switch.Post
+    (λ t. put-switch-lts.spec (put-switch-claims t) (put-switch-at t) put-switch.Post
     (put-switch-empty-requires t)
     (put-switch-get-node-requires t)
     (put-switch-enum-known-c t)
@@ -1414,8 +1412,8 @@ pub +put-add+put-both+put-call+put-front+put-list-case+put-node+put-pair+put-reb
     (put-truth-case-look-requires t)
     (put-truth-case-enum-known-c t)
     (put-truth-case-enum-known-shape t)
-    (put-truth-case-sub-t31 t)
-    (put-truth-case-add-t32 t)
+    (put-truth-case-sub-left t)
+    (put-truth-case-add-top t)
     (put-truth-case-enum-told t)
     (put-truth-case-choose-requires t)
     (put-truth-case-enum-told-2 t)
