@@ -7,6 +7,7 @@ pub mod Reading
 pub mod Encoding
 pub mod Laws
 pub mod Reader
+pub mod Turns
 pub mod Parts
 pub mod Answers
 pub mod PartsLaws

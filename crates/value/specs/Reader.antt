@@ -1,10 +1,12 @@
 -- The reader's contracts: what a reading function answers, and what then holds of the bytes.
 use mathlib.Core.Path.{_≡_, refl, sym, ap, ap₂, _∙_}
+use mathlib.Core.Bool.{Bool, true, false}
 use mathlib.Core.List.{List, [], _∷_}
+use lib.Dec.{eqb}
 use Prim.Native.Nat.{ℕ, zero, suc, _+_, _-_, _*_, _≤_, _<_}
 use native.Mathlib.Omega.{arith}
 use native.Mathlib.Nat.{le-refl}
-use borrow.Author.Tests.{lt-ltb}
+use borrow.Author.Tests.{lt-ltb, ne-eqb}
 use lib.ListN.{length, getD, take, drop, length-append, length-drop, List·getD-eq-default}
 use lib.Seq.{drop-cons, drop-drop, take-all, getD-drop}
 use Rattle.value.specs.Value.{vfalse, vtrue, list, number, nil, encode, size}
@@ -27,6 +29,27 @@ pub data Reads (o : Owed) (bs : List ℕ) (room : ℕ) : Read → Type 0 where
   rMalformed : ((os : List Owed) → read bs room (o ∷ os) ≡ malformed) → Reads o bs room Malformed
   rTooLong : ((os : List Owed) → read bs room (o ∷ os) ≡ tooLong) → Reads o bs room TooLong
 
+-- the answer as a number: a length of 1 to 256, 0 malformed, 257 too long
+abbrev pub tooLongOr : Bool → ℕ → Read
+tooLongOr true n = TooLong
+tooLongOr false n = Whole n
+
+abbrev pub answer : ℕ → Read
+answer zero = Malformed
+answer (suc n) = tooLongOr (eqb n 256) (suc n)
+
+pub answer-whole : (n : ℕ) → (n ≡ 0 → ⊥) → (n ≡ 257 → ⊥) → answer n ≡ Whole n
+answer-whole zero h k = absurd (h refl)
+answer-whole (suc n) h k = rw (ne-eqb n 256 (λ e. k (ap suc e)))
+
+-- a thing begins here that is no truth value and no pair
+pub record PartBegins (bs : List ℕ) (room : ℕ) : Type 0 where
+  pub byte : 0 < length bs
+  pub some : 0 < room
+  pub most : room ≤ 256
+  pub kind : 2 ≤ getD bs 0 0
+  pub no-pair : getD bs 0 0 ≡ 5 → ⊥
+
 -- a number begins here, and its two bytes, where they are there, are bytes
 pub record NumberBegins (bs : List ℕ) (room : ℕ) : Type 0 where
   pub kind : getD bs 0 0 ≡ 4
@@ -45,9 +68,6 @@ from a s = take (length s - a) (drop a s)
 
 pub from-drop : (a : ℕ) (s : List ℕ) → from a s ≡ drop a s
 from-drop a s = take-all (length s - a) (drop a s) (rw length-drop (le-refl (length s - a)))
-
-pub within : (a : ℕ) (s : List ℕ) {o : Owed} {room n : ℕ} → Reads o (from a s) room (Whole n) → (n ≤ length s - a) × (n ≤ room)
-within a s (rWhole f h k e) = (rw (from-drop, length-drop) at h, k)
 
 -- each thing that is owed is judged in turn: the input ended, then no room
 ended : {o : Owed} (s : List ℕ) (room : ℕ) (os : List Owed) → length s ≡ 0 → read s room (o ∷ os) ≡ malformed
@@ -160,38 +180,6 @@ pub front-begins : {s : List ℕ} {room : ℕ} → (length s ≡ 0 → ⊥) → 
 unfolding read beginRest kindOf
 front-begins {s} {room} hs hr e = record { make = λ os. makeRest; begun = λ os. begins s room hs hr e (rest ∷ os); byte = omega arith; some = omega arith }
 
-module _ {o first second : Owed} {s : List ℕ} {room : ℕ} (p : TwoParts o first second s room) where
-  -- the first part is refused
-  pub first-refused : {r : Read} → Refused r → Reads first (from 1 s) (room - 1) r → Reads o s room r
-  unfolding onWhole
-  first-refused h w = go h (rw from-drop at w)
-    where
-      go : {r : Read} → Refused r → Reads first (drop 1 s) (room - 1) r → Reads o s room r
-      go isMalformed (rMalformed e) = rMalformed (λ os. p .begun os ∙ ap (onWhole (p .make os)) (e (second ∷ os)))
-      go isTooLong (rTooLong e) = rTooLong (λ os. p .begun os ∙ ap (onWhole (p .make os)) (e (second ∷ os)))
-
-  -- the second part is refused
-  pub second-refused : {n : ℕ} {r : Read} → Reads first (from 1 s) (room - 1) (Whole n) → Refused r → Reads second (from (1 + n) s) (room - 1 - n) r → Reads o s room r
-  unfolding onWhole
-  second-refused {n} w h u = go (rw from-drop at w) h (rw (from-drop, ← drop-drop) at u)
-    where
-      go : {r : Read} → Reads first (drop 1 s) (room - 1) (Whole n) → Refused r → Reads second (drop n (drop 1 s)) (room - 1 - n) r → Reads o s room r
-      go (rWhole f l m e) isMalformed (rMalformed e′) = rMalformed (λ os. p .begun os ∙ ap (onWhole (p .make os)) (e (second ∷ os) ∙ ap (onWhole (f (second ∷ os))) (e′ os)))
-      go (rWhole f l m e) isTooLong (rTooLong e′) = rTooLong (λ os. p .begun os ∙ ap (onWhole (p .make os)) (e (second ∷ os) ∙ ap (onWhole (f (second ∷ os))) (e′ os)))
-
-  -- both are there
-  pub both-read : {n m : ℕ} → Reads first (from 1 s) (room - 1) (Whole n) → Reads second (from (1 + n) s) (room - 1 - n) (Whole m) → Reads o s room (Whole (1 + n + m))
-  both-read {n} {m} w u = go (rw from-drop at w) (rw (from-drop, ← drop-drop) at u)
-    where
-      go : Reads first (drop 1 s) (room - 1) (Whole n) → Reads second (drop n (drop 1 s)) (room - 1 - n) (Whole m) → Reads o s room (Whole (1 + n + m))
-      go (rWhole f l k e) (rWhole g l′ k′ e′) =
-          let a : 1 + (n + m) ≡ 1 + n + m = omega arith in
-          let d : drop m (drop n (drop 1 s)) ≡ drop (1 + n + m) s = drop-drop m n (drop 1 s) ∙ drop-drop (n + m) 1 s ∙ ap (λ (i : ℕ). drop i s) a in
-          let q : room - 1 - n - m ≡ room - (1 + n + m) = omega arith in
-          rWhole {n = 1 + n + m} (λ os t. p .make os (f (second ∷ os) (g os t))) (omega (arith, l, l′, length-drop 1 s, length-drop n (drop 1 s))) (omega (arith, k, k′, p .some))
-          (λ os. p .begun os ∙ ap (onWhole (p .make os)) (e (second ∷ os) ∙ ap (onWhole (f (second ∷ os))) (e′ os))
-          ∙ made-of-two (p .make os) (f (second ∷ os)) (g os) (λ t. p .make os (f (second ∷ os) (g os t))) (λ t. refl) _ ∙ rw (d, q))
-
 -- a number: its two bytes, each judged in turn
 byte-taken : (s : List ℕ) (room : ℕ) (os : List Owed) → (length s ≡ 0 → ⊥) → (room ≡ 0 → ⊥) → getD s 0 0 < 256 →
     read s room (byte ∷ os) ≡ onWhole (aByte (getD s 0 0)) (read (drop 1 s) (room - 1) os)
@@ -259,6 +247,3 @@ answers {bs} (rWhole {n} f l m e) = go (f [] nothing) (e [] ∙ rw nothing-owed)
         ap Whole i ∙ sym (ap outcome e)
 answers (rMalformed e) = sym (ap outcome (e []))
 answers (rTooLong e) = sym (ap outcome (e []))
-
-pub is-whole : {o : Owed} {bs : List ℕ} {room n : ℕ} {r : Read} → Reads o bs room r → r ≡ Whole n → Reads o bs room (Whole n)
-is-whole {o} {bs} {room} w e = rw e at w

@@ -1,7 +1,7 @@
 //! Values and their bytes (document 01, "Values").
 ghost use mathlib.Core.Path.{_≡_};
-ghost use Prim.Native.Nat.{_+_, _*_, _/_, _%_};
-ghost use Rattle.value.specs.Reader.{Reads, NumberBegins, outcome};
+ghost use Prim.Native.Nat.{_+_, _*_, _/_, _%_, _≤_};
+ghost use Rattle.value.specs.Reader.{Reads, PartBegins, NumberBegins, outcome, answer};
 ghost use Rattle.value.specs.Reading.{readValue, value, rest};
 ghost use Rattle.value.specs.Result.{refusal};
 ghost use Rattle.value.specs.Spans.{nextOf, spans, spansOf, viewCode};
@@ -18,85 +18,120 @@ pub enum Read {
 pub fn read_value(s: &[u8]) -> Read
     ensures { λ r. ⌜ r ≡ outcome (readValue (now (s .entry))) ⌝ }
 {
-    value(s, 256)
-}
-
-// A value of any kind, of at most `room` bytes.
-fn value(s: &[u8], room: usize) -> Read
-    ensures { λ r. ⌜ Reads value (now (s .entry)) room r ⌝ }
-{
-    if s.len() == 0 {
+    let n = value(s, 256);
+    if n == 0 {
         return Read::Malformed;
     }
-    if room == 0 {
+    if n == TOO_LONG {
         return Read::TooLong;
     }
-    let kind = s[0];
-    match kind {
-        0 | 1 => Read::Whole(1),
-        2 | 3 => list(s, room),
-        4 => body(s, room),
-        5 => {
-            let left = value(&s[1..], room - 1);
-            let Read::Whole(a) = left else {
-                return left;
-            };
-            let right = value(&s[1 + a..], room - 1 - a);
-            let Read::Whole(b) = right else {
-                return right;
-            };
-            Read::Whole(1 + a + b)
-        }
-        _ => Read::Malformed,
-    }
+    Read::Whole(n)
 }
 
-// A list, of at most `room` bytes: empty, or a first member and the rest.
-fn list(s: &[u8], room: usize) -> Read
-    ensures { λ r. ⌜ Reads rest (now (s .entry)) room r ⌝ }
+// The readers below answer a length of 1 to 256, 0 for malformed bytes, and this for more bytes than may be taken.
+const TOO_LONG: usize = 257;
+
+// A value of any kind, of at most `room` bytes. A pair owes two values in place of one.
+fn value(s: &[u8], room: usize) -> usize
+    requires { ⌜ room ≤ 256 ⌝ }
+    ensures { λ r. ⌜ Reads value (now (s .entry)) room (answer r) ⌝ }
 {
-    if s.len() == 0 {
-        return Read::Malformed;
-    }
-    if room == 0 {
-        return Read::TooLong;
-    }
-    let kind = s[0];
-    match kind {
-        2 => Read::Whole(1),
-        3 => {
-            let first = value(&s[1..], room - 1);
-            let Read::Whole(f) = first else {
-                return first;
-            };
-            let more = list(&s[1 + f..], room - 1 - f);
-            let Read::Whole(r) = more else {
-                return more;
-            };
-            Read::Whole(1 + f + r)
+    let mut at = 0;
+    let mut owed: usize = 1;
+    while owed != 0 {
+        if s.len() <= at {
+            return 0;
         }
-        _ => Read::Malformed,
+        if room <= at {
+            return TOO_LONG;
+        }
+        let kind = s[at];
+        if kind < 2 {
+            at += 1;
+            owed -= 1;
+            continue;
+        }
+        if kind == 5 {
+            at += 1;
+            owed += 1;
+            continue;
+        }
+        let n = part(&s[at..], room - at);
+        if n == 0 {
+            return 0;
+        }
+        if n == TOO_LONG {
+            return TOO_LONG;
+        }
+        at += n;
+        owed -= 1;
     }
+    at
+}
+
+// A list or a number, of at most `room` bytes.
+fn part(s: &[u8], room: usize) -> usize
+    requires { ⌜ PartBegins (now s) room ⌝ }
+    ensures { λ r. ⌜ Reads value (now (s .entry)) room (answer r) ⌝ }
+{
+    let kind = s[0];
+    if kind == 4 {
+        return body(s, room);
+    }
+    if kind < 4 {
+        return list(s, room);
+    }
+    0
+}
+
+// A list, of at most `room` bytes, member by member.
+fn list(s: &[u8], room: usize) -> usize
+    requires { ⌜ room ≤ 256 ⌝ }
+    ensures { λ r. ⌜ Reads rest (now (s .entry)) room (answer r) ⌝ }
+{
+    let mut at = 0;
+    while at < s.len() {
+        if room <= at {
+            return TOO_LONG;
+        }
+        let kind = s[at];
+        if kind == 2 {
+            return at + 1;
+        }
+        if kind != 3 {
+            return 0;
+        }
+        at += 1;
+        let n = value(&s[at..], room - at);
+        if n == 0 {
+            return 0;
+        }
+        if n == TOO_LONG {
+            return TOO_LONG;
+        }
+        at += n;
+    }
+    0
 }
 
 // A number of kind 04: the kind byte and two bytes, each judged in turn.
-fn body(s: &[u8], room: usize) -> Read
+fn body(s: &[u8], room: usize) -> usize
     requires { ⌜ NumberBegins (now s) room ⌝ }
-    ensures { λ r. ⌜ Reads value (now (s .entry)) room r ⌝ }
+    ensures { λ r. ⌜ Reads value (now (s .entry)) room (answer r) ⌝ }
 {
     if s.len() <= 1 {
-        return Read::Malformed;
+        return 0;
     }
     if room <= 1 {
-        return Read::TooLong;
+        return TOO_LONG;
     }
     if s.len() == 2 {
-        return Read::Malformed;
+        return 0;
     }
     if room == 2 {
-        return Read::TooLong;
+        return TOO_LONG;
     }
-    Read::Whole(3)
+    3
 }
 
 // The next of several values: its length, or 0 malformed, 1 over 256 bytes, 2 the bytes end where it should begin.
