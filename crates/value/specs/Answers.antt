@@ -1,6 +1,7 @@
 -- What the code's tests say of the definitions of `Parts`: a lemma for each way to answer.
 use mathlib.Core.Path.{_≡_, refl, sym, ap, _∙_}
 use mathlib.Core.Bool.{Bool, true, false}
+use mathlib.Core.Logic.{_⊎_, inl, inr, ⊎-elim}
 use mathlib.Core.List.{List, [], _∷_}
 use Prim.Native.Nat.{ℕ, zero, suc, _+_, _-_, _*_, _≤_, _<_}
 use native.Mathlib.Omega.{arith}
@@ -9,43 +10,39 @@ use borrow.Author.Tests.{le-leb, lt-leb, eq-eqb, ne-eqb}
 use lib.Dec.{eqb}
 use lib.ListN.{length, getD, take, drop, length-append, drop-of-length-le, List·getD-eq-default}
 use lib.Seq.{drop-cons}
-use Rattle.value.specs.Value.{Value, encode, size}
-use Rattle.value.specs.Encoding.{size-encode}
-use Rattle.value.specs.Reading.{Found, whole, malformed, tooLong, value, nothing, aValue, kindOf, readValue}
-use Rattle.value.specs.Laws.{read-sound}
-use Rattle.value.specs.Reader.{outcome, Refused, isMalformed, isTooLong, from, from-drop}
-use Rattle.value.specs.Parts.{behind, numberIn, shapeAs, shapeOf, partWhere, firstPart, kindAt, restKind, passesBytes, both, sameBytes}
+use Rattle.value.specs.Reading.{Kind, value, kindOf, readValue}
+use Rattle.value.specs.Laws.{Names, names, is0, is1, is2, is3, is4, is5, isOther}
+use Rattle.value.specs.Reader.{Reads, outcome, answers, from, from-drop}
+use Rattle.value.specs.Parts.{behind, numberIn, shapeAs, shapeOf, middleOf, partWhere, firstPart, kindAt, kindBehind, restKind, passesBytes, both, sameBytes}
 use Rattle.value.specs.declared.Read.{Read}
-use Rattle.value.specs.declared.Read.the-variants.{Whole}
+use Rattle.value.specs.declared.Read.the-variants.{Whole, Malformed as NotRead, TooLong}
 use Rattle.value.specs.declared.Shape.{Shape}
-use Rattle.value.specs.declared.Shape.the-variants.{Number, Malformed}
-
--- the reader said that a value of n bytes stands there
-pub record Taken (bs : List ℕ) (n : ℕ) : Type 0 where
-  pub val : Value
-  pub more : List ℕ
-  pub found : readValue bs ≡ whole (aValue val nothing) more
-  pub long : size val ≡ n
-
-pub taken : (bs : List ℕ) {r : Read} {n : ℕ} → r ≡ outcome (readValue bs) → r ≡ Whole n → Taken bs n
-unfolding outcome
-taken bs {n} e w = go (readValue bs) refl (sym e ∙ w)
-  where
-    go : (x : Found (value ∷ [])) → readValue bs ≡ x → outcome x ≡ Whole n → Taken bs n
-    go (whole (aValue v nothing) more) e h = record { val = v; more = more; found = e; long = cc }
-    go malformed e h = absurd (let z : _≡_ {A = ℕ} 0 1 = cc in omega arith)
-    go tooLong e h = absurd (let z : _≡_ {A = ℕ} 0 1 = cc in omega arith)
-
-pub taken-short : {bs : List ℕ} {n : ℕ} → Taken bs n → (n ≤ length bs) × (n ≤ 256)
-taken-short {bs} t =
-    let s = read-sound bs (t .found) in
-    (omega (arith, ap length (s .0), length-append (encode (t .val)) (t .more), size-encode (t .val), t .long), omega (arith, s .1 .fits, t .long))
+use Rattle.value.specs.declared.Shape.the-variants.{Front, Number, Pair, Malformed}
 
 -- shape_of
 pub shape-none : (v : List ℕ) → length v ≡ 0 → Malformed ≡ shapeOf v
 unfolding shapeOf
 shape-none [] e = refl
 shape-none (b ∷ v) e = absurd (omega arith)
+
+-- of two parts, what is known by the position where the second starts
+split : (two : ℕ → Shape) → ((n : ℕ) → middleOf (two n) ≡ n) → (r : Read) {m : ℕ} → m ≡ middleOf (behind two r) → (m ≡ 0 → ⊥) → behind two r ≡ two m
+unfolding behind middleOf
+split two f (Whole n) e h = ap two (sym (e ∙ f (1 + n)))
+split two f NotRead e h = absurd (h e)
+split two f TooLong e h = absurd (h e)
+
+unsplit : (two : ℕ → Shape) → ((n : ℕ) → middleOf (two n) ≡ n) → (r : Read) {m : ℕ} → m ≡ middleOf (behind two r) → m ≡ 0 → behind two r ≡ Malformed
+unfolding behind middleOf
+unsplit two f (Whole n) e z = absurd (omega (arith, f (1 + n)))
+unsplit two f NotRead e z = refl
+unsplit two f TooLong e z = refl
+
+as-front : (r : Read) → middleOf (behind Pair r) ≡ middleOf (behind Front r)
+unfolding middleOf behind
+as-front (Whole n) = refl
+as-front NotRead = refl
+as-front TooLong = refl
 
 module _ (v : List ℕ) (h : length v ≡ 0 → ⊥) where
   pub shape-at : {k : ℕ} → getD v 0 0 ≡ k → shapeOf v ≡ shapeAs (drop 1 v) (kindOf k)
@@ -54,14 +51,35 @@ module _ (v : List ℕ) (h : length v ≡ 0 → ⊥) where
       let d : v ≡ getD v 0 0 ∷ drop 1 v = drop-cons v 0 0 (omega arith) in
       ap shapeOf d ∙ ap (λ (b : ℕ). shapeAs (drop 1 v) (kindOf b)) e
 
-  pub shape-two : (two : ℕ → Shape) {k : ℕ} → ((bs : List ℕ) → shapeAs bs (kindOf k) ≡ behind two (outcome (readValue bs))) → getD v 0 0 ≡ k →
-      {r : Read} → r ≡ outcome (readValue (from 1 v)) → shapeOf v ≡ behind two r
-  shape-two two s e f = shape-at e ∙ s (drop 1 v) ∙ ap (λ (l : List ℕ). behind two (outcome (readValue l))) (sym (from-drop 1 v)) ∙ ap (behind two) (sym f)
+  front : getD v 0 0 ≡ 3 → shapeOf v ≡ behind Front (outcome (readValue (drop 1 v)))
+  unfolding kindOf shapeAs
+  front e = shape-at e
 
-pub behind-refused : (two : ℕ → Shape) {r : Read} → Refused r → behind two r ≡ Malformed
-unfolding behind
-behind-refused two isMalformed = refl
-behind-refused two isTooLong = refl
+  pair : getD v 0 0 ≡ 5 → shapeOf v ≡ behind Pair (outcome (readValue (drop 1 v)))
+  unfolding kindOf shapeAs
+  pair e = shape-at e
+
+  pub front-found : getD v 0 0 ≡ 3 → {m : ℕ} → m ≡ middleOf (shapeOf v) → (m ≡ 0 → ⊥) → Front m ≡ shapeOf v
+  unfolding middleOf
+  front-found k e n = sym (front k ∙ split Front (λ n. refl) (outcome (readValue (drop 1 v))) (e ∙ ap middleOf (front k)) n)
+
+  pub front-lost : getD v 0 0 ≡ 3 → {m : ℕ} → m ≡ middleOf (shapeOf v) → m ≡ 0 → Malformed ≡ shapeOf v
+  unfolding middleOf
+  front-lost k e z = sym (front k ∙ unsplit Front (λ n. refl) (outcome (readValue (drop 1 v))) (e ∙ ap middleOf (front k)) z)
+
+  pub pair-found : getD v 0 0 ≡ 5 → {m : ℕ} → m ≡ middleOf (shapeOf v) → (m ≡ 0 → ⊥) → Pair m ≡ shapeOf v
+  unfolding middleOf
+  pair-found k e n = sym (pair k ∙ split Pair (λ n. refl) (outcome (readValue (drop 1 v))) (e ∙ ap middleOf (pair k)) n)
+
+  pub pair-lost : getD v 0 0 ≡ 5 → {m : ℕ} → m ≡ middleOf (shapeOf v) → m ≡ 0 → Malformed ≡ shapeOf v
+  unfolding middleOf
+  pair-lost k e z = sym (pair k ∙ unsplit Pair (λ n. refl) (outcome (readValue (drop 1 v))) (e ∙ ap middleOf (pair k)) z)
+
+  -- middle
+  pub middle-behind : (getD v 0 0 ≡ 3) ⊎ (getD v 0 0 ≡ 5) → {r : Read} → Reads value (from 1 v) 256 r → middleOf (shapeOf v) ≡ middleOf (behind Front r)
+  middle-behind k w =
+      let e = ap (λ (r : Read). middleOf (behind Front r)) (sym (answers (rw from-drop at w))) in
+      ⊎-elim (λ k. ap middleOf (front k) ∙ e) (λ k. ap middleOf (pair k) ∙ as-front (outcome (readValue (drop 1 v))) ∙ e) k
 
 pub number-short : (v : List ℕ) → length v < 3 → numberIn (drop 1 v) ≡ Malformed
 unfolding numberIn
@@ -76,6 +94,25 @@ number-there [] h = absurd (omega arith)
 number-there (a ∷ []) h = absurd (omega arith)
 number-there (a ∷ b ∷ []) h = absurd (omega arith)
 number-there (a ∷ b ∷ c ∷ v) h = refl
+
+pub middle-none : (v : List ℕ) → ((getD v 0 0 ≡ 3) ⊎ (getD v 0 0 ≡ 5) → ⊥) → 0 ≡ middleOf (shapeOf v)
+unfolding middleOf shapeOf shapeAs numberIn
+middle-none [] h = refl
+middle-none (b ∷ bs) h = go (names b) h
+  where
+    no-part : (bs : List ℕ) → 0 ≡ middleOf (numberIn bs)
+    no-part [] = refl
+    no-part (x ∷ []) = refl
+    no-part (x ∷ y ∷ bs) = refl
+
+    go : {b : ℕ} {k : Kind} → Names b k → ((b ≡ 3) ⊎ (b ≡ 5) → ⊥) → 0 ≡ middleOf (shapeAs bs k)
+    go is0 h = refl
+    go is1 h = refl
+    go is2 h = refl
+    go is3 h = absurd (h (inl refl))
+    go is4 h = no-part bs
+    go is5 h = absurd (h (inr refl))
+    go isOther h = refl
 
 -- first_part
 pub first-none : (v : List ℕ) (at : ℕ) → at ≡ 0 → [] ≡ firstPart v at
@@ -99,36 +136,94 @@ unfolding passesBytes
 no-test t v h = List·getD-eq-default (true ∷ eqb (kindAt v 0) 2 ∷ eqb (kindAt v 0) 3 ∷ eqb (kindAt v 0) 0 ∷ eqb (kindAt v 0) 1 ∷ eqb (restKind v) 2 ∷ eqb (restKind v) 3 ∷ []) false h
 
 -- same
+both-false : (c : Bool) → both c false ≡ false
+unfolding both
+both-false true = refl
+both-false false = refl
+
+both-true : (c : Bool) → both c true ≡ c
+unfolding both
+both-true true = refl
+both-true false = refl
+
 pub same-long : (a b : List ℕ) → (length a ≡ length b → ⊥) → sameBytes a b ≡ false
 unfolding sameBytes both
 same-long [] [] h = absurd (h refl)
 same-long [] (y ∷ b) h = refl
 same-long (x ∷ a) [] h = refl
-same-long (x ∷ a) (y ∷ b) h = rw (same-long a b (λ e. h (ap suc e))) (never (eqb x y))
-  where
-    never : (c : Bool) → both c false ≡ false
-    never true = refl
-    never false = refl
+same-long (x ∷ a) (y ∷ b) h = rw (same-long a b (λ e. h (ap suc e))) (both-false (eqb x y))
 
-module _ (a b : List ℕ) (i : ℕ) (h : i < length a) (k : i < length b) where
-  same-at : sameBytes (drop i a) (drop i b) ≡ both (eqb (getD a i 0) (getD b i 0)) (sameBytes (drop (suc i) a) (drop (suc i) b))
+-- the first i bytes are compared: equal or not, and what is left decides
+pub record Compared (a b : List ℕ) (equal : Bool) (i : ℕ) : Type 0 where
+  pub inside : i ≤ length a
+  pub so-far : sameBytes a b ≡ both equal (sameBytes (drop i a) (drop i b))
+
+pub same-start : (a b : List ℕ) → Compared a b true 0
+unfolding both
+same-start a b = record { inside = omega arith; so-far = refl }
+
+module _ {a b : List ℕ} {equal : Bool} {i : ℕ} (p : Compared a b equal i) where
+  pub same-done : length a ≤ i → length b ≤ i → equal ≡ sameBytes a b
   unfolding sameBytes
-  same-at = rw (drop-cons a i 0 h, drop-cons b i 0 k)
+  same-done h k = sym (p .so-far ∙ rw (drop-of-length-le a h, drop-of-length-le b k) (both-true equal))
 
-  pub same-not : (getD a i 0 ≡ getD b i 0 → ⊥) → sameBytes (drop i a) (drop i b) ≡ false
-  unfolding both
-  same-not n = same-at ∙ rw (ne-eqb (getD a i 0) (getD b i 0) n)
+  module _ (h : i < length a) (k : i < length b) where
+    same-at : sameBytes (drop i a) (drop i b) ≡ both (eqb (getD a i 0) (getD b i 0)) (sameBytes (drop (suc i) a) (drop (suc i) b))
+    unfolding sameBytes
+    same-at = rw (drop-cons a i 0 h, drop-cons b i 0 k)
 
-  pub same-more : getD a i 0 ≡ getD b i 0 → sameBytes (drop i a) (drop i b) ≡ sameBytes (drop (i + 1) a) (drop (i + 1) b)
-  unfolding both
-  same-more e = same-at ∙ rw (eq-eqb (getD a i 0) (getD b i 0) e, add-one)
+    pub same-not : (getD a i 0 ≡ getD b i 0 → ⊥) → {now : Bool} → now ≡ false → Compared a b now (i + 1)
+    unfolding both
+    same-not n z =
+        let e : sameBytes (drop i a) (drop i b) ≡ false = same-at ∙ rw (ne-eqb (getD a i 0) (getD b i 0) n) in
+        record { inside = omega arith; so-far = rw z (p .so-far ∙ rw e (both-false equal)) }
 
-pub same-end : (a b : List ℕ) (i : ℕ) → length a ≤ i → length b ≤ i → sameBytes (drop i a) (drop i b) ≡ true
-unfolding sameBytes
-same-end a b i h k = rw (drop-of-length-le a h, drop-of-length-le b k)
+    pub same-more : getD a i 0 ≡ getD b i 0 → {now : Bool} → now ≡ equal → Compared a b now (i + 1)
+    unfolding both
+    same-more e z =
+        let f : sameBytes (drop i a) (drop i b) ≡ sameBytes (drop (i + 1) a) (drop (i + 1) b) = same-at ∙ rw (eq-eqb (getD a i 0) (getD b i 0) e, add-one) in
+        record { inside = omega arith; so-far = rw z (p .so-far ∙ ap (both equal) f) }
 
 -- kind_at
 pub kind-there : (v : List ℕ) (at : ℕ) → at < length v → getD v at 0 ≡ kindAt v at
 kind-there [] at h = absurd (omega arith)
 kind-there (b ∷ v) zero h = refl
 kind-there (b ∷ v) (suc at) h = kind-there v at (omega arith)
+
+-- rest_kind: no list with members, one whose first member is refused, and one that is read
+pub rest-none : (v : List ℕ) → (kindAt v 0 ≡ 3 → ⊥) → 255 ≡ restKind v
+unfolding restKind kindBehind shapeOf shapeAs numberIn behind
+rest-none [] h = refl
+rest-none (b ∷ bs) h = go (names b) h
+  where
+    of-number : (l bs : List ℕ) → 255 ≡ kindBehind l (numberIn bs)
+    of-number l [] = refl
+    of-number l (x ∷ []) = refl
+    of-number l (x ∷ y ∷ bs) = refl
+
+    of-pair : (l : List ℕ) (r : Read) → 255 ≡ kindBehind l (behind Pair r)
+    of-pair l (Whole n) = refl
+    of-pair l NotRead = refl
+    of-pair l TooLong = refl
+
+    go : {b : ℕ} {k : Kind} → Names b k → (b ≡ 3 → ⊥) → 255 ≡ kindBehind (b ∷ bs) (shapeAs bs k)
+    go is0 h = refl
+    go is1 h = refl
+    go is2 h = refl
+    go is3 h = absurd (h refl)
+    go is4 h = of-number (4 ∷ bs) bs
+    go is5 h = of-pair (5 ∷ bs) (outcome (readValue bs))
+    go isOther h = refl
+
+front-there : (v : List ℕ) → kindAt v 0 ≡ 3 → (length v ≡ 0 → ⊥) × (getD v 0 0 ≡ 3)
+front-there [] e = absurd (omega arith)
+front-there (b ∷ v) e = (λ z. omega arith, e)
+
+module _ (v : List ℕ) (k : kindAt v 0 ≡ 3) {m : ℕ} (e : m ≡ middleOf (shapeOf v)) where
+  pub rest-lost : m ≡ 0 → 255 ≡ restKind v
+  unfolding restKind kindBehind
+  rest-lost z = let f = front-there v k in ap (kindBehind v) (front-lost v (f .0) (f .1) e z)
+
+  pub rest-found : (m ≡ 0 → ⊥) → kindAt v m ≡ restKind v
+  unfolding restKind kindBehind
+  rest-found n = let f = front-there v k in ap (kindBehind v) (front-found v (f .0) (f .1) e n)

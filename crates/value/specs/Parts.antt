@@ -36,6 +36,16 @@ unfoldable pub shapeOf : List ℕ → Shape
 shapeOf [] = Malformed
 shapeOf (b ∷ bs) = shapeAs bs (kindOf b)
 
+-- where the second part of a list with members or of a pair starts; 0 where a value has no two parts
+unfoldable pub middleOf : Shape → ℕ
+middleOf False = 0
+middleOf True = 0
+middleOf Empty = 0
+middleOf (Front at) = at
+middleOf (Number n) = 0
+middleOf (Pair at) = at
+middleOf Malformed = 0
+
 unfoldable pub partWhere : Bool → List ℕ → List ℕ
 partWhere true part = part
 partWhere false part = []

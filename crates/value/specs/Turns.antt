@@ -77,6 +77,9 @@ module _ (s : List ℕ) (at : ℕ) {o : Owed} {room n : ℕ} (w : Reads o (from 
   pub is-whole : (n ≡ 0 → ⊥) → (n ≡ 257 → ⊥) → Reads o (drop at s) room (Whole n)
   is-whole h k = rw (from-drop, answer-whole n h k) at w
 
+pub short : {o : Owed} {s : List ℕ} {room n : ℕ} → Reads o s room (Whole n) → n ≤ room
+short (rWhole f l k e) = k
+
 -- the byte at `at` is there
 module _ (s : List ℕ) (at : ℕ) (hs : at < length s) where
   there : length (drop at s) ≡ 0 → ⊥

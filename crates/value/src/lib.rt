@@ -5,7 +5,7 @@ ghost use Rattle.value.specs.Reader.{Reads, PartBegins, NumberBegins, ou
 ghost use Rattle.value.specs.Reading.{readValue, value, rest};
 ghost use Rattle.value.specs.Result.{refusal};
 ghost use Rattle.value.specs.Spans.{nextOf, spans, spansOf, viewCode};
-ghost use Rattle.value.specs.Parts.{shapeOf, firstPart, secondPart, kindAt, restKind, passesBytes, sameBytes};
+ghost use Rattle.value.specs.Parts.{shapeOf, middleOf, firstPart, secondPart, kindAt, restKind, passesBytes, sameBytes};
 
 // What the bytes begin with: a whole value and its length, or why none.
 pub enum Read {
@@ -14,11 +14,17 @@ pub enum Read {
     TooLong,
 }
 
+// The most bytes that a value has.
+const MOST: usize = 256;
+
+// What the readers answer for a value of more bytes than they may take; they answer 0 for malformed bytes, and else the length.
+const TOO_LONG: usize = 257;
+
 // The value that the bytes begin with, of at most 256 bytes.
 pub fn read_value(s: &[u8]) -> Read
     ensures { λ r. ⌜ r ≡ outcome (readValue (now (s .entry))) ⌝ }
 {
-    let n = value(s, 256);
+    let n = value(s, MOST);
     if n == 0 {
         return Read::Malformed;
     }
@@ -27,9 +33,6 @@ pub fn read_value(s: &[u8]) -> Read
     }
     Read::Whole(n)
 }
-
-// The readers below answer a length of 1 to 256, 0 for malformed bytes, and this for more bytes than may be taken.
-const TOO_LONG: usize = 257;
 
 // A value of any kind, of at most `room` bytes. A pair owes two values in place of one.
 fn value(s: &[u8], room: usize) -> usize
@@ -147,11 +150,14 @@ fn next_value(s: &[u8]) -> Next
     if s.len() == 0 {
         return Next::Refused(2);
     }
-    match read_value(s) {
-        Read::Whole(n) => Next::Value(n),
-        Read::Malformed => Next::Refused(0),
-        Read::TooLong => Next::Refused(1),
+    let n = value(s, MOST);
+    if n == 0 {
+        return Next::Refused(0);
     }
+    if n == TOO_LONG {
+        return Next::Refused(1);
+    }
+    Next::Value(n)
 }
 
 // Where the values of a plan stand: refusal 0, and the start and the length of each; or a refusal and zeros.
@@ -243,10 +249,11 @@ pub fn shape_of(v: &[u8]) -> Shape
         1 => Shape::True,
         2 => Shape::Empty,
         3 => {
-            let Read::Whole(f) = read_value(&v[1..]) else {
+            let at = middle(v);
+            if at == 0 {
                 return Shape::Malformed;
-            };
-            Shape::Front(1 + f)
+            }
+            Shape::Front(at)
         }
         4 => {
             if v.len() < 3 {
@@ -255,12 +262,36 @@ pub fn shape_of(v: &[u8]) -> Shape
             Shape::Number(number(v[1], v[2]))
         }
         5 => {
-            let Read::Whole(a) = read_value(&v[1..]) else {
+            let at = middle(v);
+            if at == 0 {
                 return Shape::Malformed;
-            };
-            Shape::Pair(1 + a)
+            }
+            Shape::Pair(at)
         }
         _ => Shape::Malformed,
+    }
+}
+
+// Where the second part of a list with members or of a pair starts; 0 where the bytes begin with neither.
+pub fn middle(v: &[u8]) -> usize
+    ensures { λ r. ⌜ r ≡ middleOf (shapeOf (now (v .entry))) ⌝ }
+{
+    if v.len() == 0 {
+        return 0;
+    }
+    let kind = v[0];
+    match kind {
+        3 | 5 => {
+            let n = value(&v[1..], MOST);
+            if n == 0 {
+                return 0;
+            }
+            if n == TOO_LONG {
+                return 0;
+            }
+            1 + n
+        }
+        _ => 0,
     }
 }
 
@@ -292,9 +323,13 @@ fn kind_at(v: &[u8], at: usize) -> u8
 fn rest_kind(v: &[u8]) -> u8
     ensures { λ r. ⌜ r ≡ restKind (now (v .entry)) ⌝ }
 {
-    let Shape::Front(at) = shape_of(v) else {
+    if kind_at(v, 0) != 3 {
         return 255;
-    };
+    }
+    let at = middle(v);
+    if at == 0 {
+        return 255;
+    }
     kind_at(v, at)
 }
 
@@ -322,14 +357,15 @@ pub fn same(a: &[u8], b: &[u8]) -> bool
     if a.len() != b.len() {
         return false;
     }
+    let mut equal = true;
     let mut i = 0;
     while i < a.len() {
         if a[i] != b[i] {
-            return false;
+            equal = false;
         }
         i += 1;
     }
-    true
+    equal
 }
 
 // A number of kind 04 from its two bytes, high byte first.

@@ -1,35 +1,32 @@
--- `value::same` meets its contract. The loop's invariant: what is left decides.
+-- `value::same` meets its contract. The loop's invariant is `Compared`: what is left decides.
 use borrow.Author.Needs.{needs}
 use native.Mathlib.Omega.{arith}
 use denote.Ref.{now}
-use mathlib.Core.Path.{_≡_, refl, sym, _∙_}
-use Prim.Native.Nat.{_≤_, _-_}
-use lib.ListN.{length, drop}
-use Rattle.value.specs.Parts.{sameBytes}
-use Rattle.value.specs.Answers.{same-long, same-not, same-more, same-end}
+use mathlib.Core.Path.{sym}
+use mathlib.Core.Logic.{⊎-elim}
+use Prim.Native.Nat.{_-_}
+use lib.ListN.{length}
+use Rattle.value.specs.Answers.{same-long, Compared, same-start, same-not, same-more, same-done}
 use Rattle.value.proofs.same.Statement.{statement}
 use Rattle.value.proofs.same.Tie as tie
 
 abbrev Inv-loop : tie.InvT-loop
-Inv-loop a b i₀ i = (i ≤ length a) × (sameBytes a b ≡ sameBytes (drop i a) (drop i b))
+Inv-loop a b equal₀ i₀ equal i = Compared a b equal i
 
 abbrev μ-loop : tie.MeasureT-loop
-μ-loop a b i₀ i = length a - i
+μ-loop a b equal₀ i₀ equal i = length a - i
 
 returns : tie.Need-returns Inv-loop μ-loop
 returns c = sym (same-long (now (c .before .args .a)) (now (c .before .args .b)) (c .if1 .taken))
 
 loop-holds : tie.Need-loop-holds Inv-loop μ-loop
-loop-holds c = (search needs, refl)
+loop-holds c = same-start (now (c .before .args .a)) (now (c .before .args .b))
 
 shared-slice-read-if2 : tie.Need-shared-slice-read-if2 Inv-loop μ-loop
 shared-slice-read-if2 c = omega arith
 
 shared-slice-read-if2-2 : tie.Need-shared-slice-read-if2-2 Inv-loop μ-loop
 shared-slice-read-if2-2 c = omega arith
-
-returns-2 : tie.Need-returns-2 Inv-loop μ-loop
-returns-2 c = sym (c .before .before .before .before .loop .inv .1 ∙ same-not (now (c .before .before .before .before .before .before .args .a)) (now (c .before .before .before .before .before .before .args .b)) (c .before .before .before .before .loop .i) (omega arith) (omega arith) (c .if2 .taken))
 
 add-i : tie.Need-add-i Inv-loop μ-loop
 add-i c = omega arith
@@ -38,10 +35,10 @@ loop-less : tie.Need-loop-less Inv-loop μ-loop
 loop-less c = omega arith
 
 loop-again : tie.Need-loop-again Inv-loop μ-loop
-loop-again c = (omega arith, c .before .before .before .before .loop .inv .1 ∙ same-more (now (c .before .before .before .before .before .before .args .a)) (now (c .before .before .before .before .before .before .args .b)) (c .before .before .before .before .loop .i) (omega arith) (omega arith) (c .if2 .left))
+loop-again c = ⊎-elim (λ w. same-not (c .before .before .before .before .loop .inv) (omega arith) (omega arith) (w .0 .taken) (w .1)) (λ w. same-more (c .before .before .before .before .loop .inv) (omega arith) (omega arith) (w .0 .left) (w .1)) (c .if2 .came)
 
-returns-3 : tie.Need-returns-3 Inv-loop μ-loop
-returns-3 c = sym (c .before .loop .inv .1 ∙ same-end (now (c .before .before .before .args .a)) (now (c .before .before .before .args .b)) (c .before .loop .i) (omega arith) (omega arith))
+returns-2 : tie.Need-returns-2 Inv-loop μ-loop
+returns-2 c = same-done (c .before .loop .inv) (omega arith) (omega arith)
 
 pub same-spec : {M : Type 1} → statement M
 same-spec =
@@ -53,8 +50,7 @@ same-spec =
     loop-holds
     shared-slice-read-if2
     shared-slice-read-if2-2
-    returns-2
     add-i
     loop-less
     loop-again
-    returns-3)
+    returns-2)
