@@ -77,21 +77,21 @@ module _ (s : List ℕ) (at : ℕ) {o : Owed} {room n : ℕ} (w : Reads o (from 
   pub is-whole : (n ≡ 0 → ⊥) → (n ≡ 257 → ⊥) → Reads o (drop at s) room (Whole n)
   is-whole h k = rw (from-drop, answer-whole n h k) at w
 
+-- no more bytes than may be taken
 pub short : {o : Owed} {s : List ℕ} {room n : ℕ} → Reads o s room (Whole n) → n ≤ room
 short (rWhole f l k e) = k
 
--- the byte at `at` is there
-module _ (s : List ℕ) (at : ℕ) (hs : at < length s) where
-  there : length (drop at s) ≡ 0 → ⊥
-  there e = omega (arith, length-drop at s)
+-- the byte at `at`
+there : (s : List ℕ) (at : ℕ) → at < length s → length (drop at s) ≡ 0 → ⊥
+there s at h e = omega (arith, length-drop at s)
 
-  kind : getD (drop at s) 0 0 ≡ getD s at 0
-  kind = getD-drop at s 0 0 ∙ rw add-zero
+kind : (s : List ℕ) (at : ℕ) → getD (drop at s) 0 0 ≡ getD s at 0
+kind s at = getD-drop at s 0 0 ∙ rw add-zero
 
 -- a list or a number, or no value, stands there
 pub part-begins : (s : List ℕ) (room at : ℕ) → at < length s → at < room → room ≤ 256 → 2 ≤ getD s at 0 → (getD s at 0 ≡ 5 → ⊥) → PartBegins (from at s) (room - at)
 part-begins s room at hs hr m k l =
-    rw from-drop record { byte = rw length-drop (omega arith); some = omega arith; most = omega arith; kind = rw (kind s at hs) k; no-pair = λ e. l (sym (kind s at hs) ∙ e) }
+    rw from-drop record { byte = rw length-drop (omega arith); some = omega arith; most = omega arith; kind = rw (kind s at) k; no-pair = λ e. l (sym (kind s at) ∙ e) }
 
 -- so many values are owed: as many as bytes were read and one more at most, and one where no byte was
 pub record Values (s : List ℕ) (room at owed : ℕ) : Type 0 where
@@ -122,12 +122,12 @@ module _ {s : List ℕ} {room at owed : ℕ} (v : Values s room at owed) (h : ow
   value-refused = refused next
 
   pub value-plain : at < length s → at < room → getD s at 0 < 2 → Values s room (at + 1) (owed - 1)
-  value-plain hs hr k = value-taken (reads-plain (there s at hs) (λ e. omega arith) (rw (kind s at hs) k)) (omega arith)
+  value-plain hs hr k = value-taken (reads-plain (there s at hs) (λ e. omega arith) (rw (kind s at) k)) (omega arith)
 
   pub value-pair : at < length s → at < room → getD s at 0 ≡ 5 → Values s room (at + 1) (owed + 1)
   value-pair hs hr k =
       let e : owed + 1 ≡ suc (suc (owed - 1)) = omega arith in
-      record { begun = rw e (opened next (pair-begins (there s at hs) (λ e. omega arith) (kind s at hs ∙ k))); few = omega (arith, v .few); some = omega arith }
+      record { begun = rw e (opened next (pair-begins (there s at hs) (λ e. omega arith) (kind s at ∙ k))); few = omega (arith, v .few); some = omega arith }
 
 -- a list is owed, and `at` bytes of it are read
 module _ {s : List ℕ} {room at : ℕ} (b : Begun rest s room at (rest ∷ [])) where
@@ -138,11 +138,11 @@ module _ {s : List ℕ} {room at : ℕ} (b : Begun rest s room at (rest ∷ []))
   list-full hs e = refused b isTooLong (reads-full (there s at hs) (omega arith))
 
   pub list-empty : at < length s → at < room → room ≤ 256 → getD s at 0 ≡ 2 → Reads rest s room (answer (at + 1))
-  list-empty hs hr m k = answered (finished (taken b (reads-empty (there s at hs) (λ e. omega arith) (kind s at hs ∙ k)))) (omega arith) (omega arith)
+  list-empty hs hr m k = answered (finished (taken b (reads-empty (there s at hs) (λ e. omega arith) (kind s at ∙ k)))) (omega arith) (omega arith)
 
   pub no-list-there : at < length s → at < room → (getD s at 0 ≡ 2 → ⊥) → (getD s at 0 ≡ 3 → ⊥) → Reads rest s room Malformed
   no-list-there hs hr k l =
-      refused b isMalformed (reads-no-list (there s at hs) (λ e. omega arith) (λ e. k (sym (kind s at hs) ∙ e)) (λ e. l (sym (kind s at hs) ∙ e)))
+      refused b isMalformed (reads-no-list (there s at hs) (λ e. omega arith) (λ e. k (sym (kind s at) ∙ e)) (λ e. l (sym (kind s at) ∙ e)))
 
   pub member-owed : at < length s → at < room → getD s at 0 ≡ 3 → Begun rest s room (at + 1) (value ∷ rest ∷ [])
-  member-owed hs hr k = opened b (front-begins (there s at hs) (λ e. omega arith) (kind s at hs ∙ k))
+  member-owed hs hr k = opened b (front-begins (there s at hs) (λ e. omega arith) (kind s at ∙ k))

@@ -1,5 +1,4 @@
 -- `value::same` meets its contract. The loop's invariant is `Compared`: what is left decides.
-use borrow.Author.Needs.{needs}
 use native.Mathlib.Omega.{arith}
 use denote.Ref.{now}
 use mathlib.Core.Path.{sym}
