@@ -9,9 +9,13 @@ use lib.Dec.{leb, ltb}
 use lib.ListN.{length, getD, replicate, List·getD-append}
 use borrow.Author.Tests.{leb-true, ltb-true}
 use Rattle.value.specs.Result.{Result, ok, refusal}
-use Rattle.sheet.specs.Sheet.{Sheet, nodeInRange, nodesInRange, rootsInRange, inRange, readSheet}
+use mathlib.Core.Logic.{inl, inr}
+use mathlib.Core.Option.{none, some}
+use native.Mathlib.Decide.{decLt}
+use Rattle.sheet.specs.Forms.{no-form}
+use Rattle.sheet.specs.Sheet.{Sheet, Form, formOf, nodeInRange, nodesInRange, rootsInRange, inRange, readSheet}
 use Rattle.sheet.specs.Table.{width, offsets, firstNode, nodeAt, sectionAt, tableOf}
-use Rattle.sheet.specs.Reading.{Fine, fine, refused, fine-ok, placed-at, rooted-at, HeaderRead, SheetRead, sheet-fine}
+use Rattle.sheet.specs.Reading.{Fine, fine, refused, fine-ok, Made, placed-at, made-at, rooted-at, HeaderRead, SheetRead, sheet-fine}
 use Rattle.sheet.specs.declared.Node.{Node}
 use Rattle.sheet.specs.declared.Table.{Table}
 use Rattle.sheet.specs.declared.Node.the-variants.{Var, False, True, Empty, Number, Front, Pair, ListCase, TruthCase, Split, Call, Add}
@@ -30,6 +34,27 @@ header-section h i l = rooted-at (h .rooted) i l
 
 pub node-read : (s : List ℕ) {sh : Sheet} → readSheet s ≡ ok sh → (i : ℕ) → i < length (sh .nodes) → nodeAt s (getD (offsets (3 + 2 * length (sh .sections)) (sh .nodes)) i 0) ≡ getD (sh .nodes) i False
 node-read s e = header-node (sheet-read s e .header)
+
+-- the bytes of a record tell its node
+pub node-made : (s : List ℕ) {sh : Sheet} → readSheet s ≡ ok sh → (i : ℕ) → i < length (sh .nodes) → Made s (getD (offsets (3 + 2 * length (sh .sections)) (sh .nodes)) i 0) (getD (sh .nodes) i False)
+node-made s e i h = made-at (sheet-read s e .header .placed) i h
+
+pub made-as : {s : List ℕ} {p k : ℕ} {n : Node} {f : Form} → Made s p n → getD s (p + 0) 0 ≡ k → formOf k ≡ some f → n ≡ f .make (λ i. getD s (p + suc i) 0)
+made-as {f = f} m e q = let z : m .form ≡ f = let x = m .known in cc in rw z at (m .node)
+
+pub made-kind : {s : List ℕ} {p : ℕ} {n : Node} → Made s p n → (16 ≤ getD s (p + 0) 0) × (getD s (p + 0) 0 < 28)
+made-kind {s} {p} m = (go (decLt (getD s (p + 0) 0) 16), go′ (decLt (getD s (p + 0) 0) 28))
+  where
+    none-some : formOf (getD s (p + 0) 0) ≡ none → ⊥
+    none-some e = let x = m .known in let z : _≡_ {A = ℕ} 0 1 = cc in omega arith
+
+    go : Dec (getD s (p + 0) 0 < 16) → 16 ≤ getD s (p + 0) 0
+    go (yes h) = absurd (none-some (no-form (getD s (p + 0) 0) (inl h)))
+    go (no h) = omega arith
+
+    go′ : Dec (getD s (p + 0) 0 < 28) → getD s (p + 0) 0 < 28
+    go′ (yes h) = h
+    go′ (no h) = absurd (none-some (no-form (getD s (p + 0) 0) (inr (omega arith))))
 
 pub section-read : (s : List ℕ) {sh : Sheet} → readSheet s ≡ ok sh → (i : ℕ) → i < length (sh .sections) → sectionAt s i ≡ getD (sh .sections) i 0
 section-read s e = header-section (sheet-read s e .header)

@@ -1,5 +1,5 @@
 -- What is known of a sheet whose records were read: where each record stands, and how many there are.
-use mathlib.Core.Path.{_≡_, refl, sym, ap, _∙_}
+use mathlib.Core.Path.{_≡_, refl, sym, ap, _∙_, fun-ext}
 use mathlib.Core.Bool.{Bool, true, false}
 use mathlib.Core.Option.{Option, none, some}
 use mathlib.Core.List.{List, [], _∷_}
@@ -49,10 +49,16 @@ fine-or c (some a) f h g = g a refl
 
 -- THE NODE RECORDS
 
+-- the node is made of the bytes from p on, by the form of their kind byte
+pub record Made (s : List ℕ) (p : ℕ) (n : Node) : Type 0 where
+  pub form : Form
+  pub known : formOf (getD s (p + 0) 0) ≡ some form
+  pub node : n ≡ form .make (λ i. getD s (p + suc i) 0)
+
 -- from byte p on, one behind the other
 pub data Placed (s : List ℕ) : ℕ → List Node → Type 0 where
   end : {p : ℕ} → Placed s p []
-  node : {p : ℕ} {n : Node} {ns : List Node} → nodeAt s p ≡ n → Placed s (p + width n) ns → Placed s p (n ∷ ns)
+  node : {p : ℕ} {n : Node} {ns : List Node} → nodeAt s p ≡ n → Made s p n → Placed s (p + width n) ns → Placed s p (n ∷ ns)
 
 pub record NodesRead (s : List ℕ) (p left : ℕ) (ns : List Node) : Type 0 where
   pub placed : Placed s p ns
@@ -61,6 +67,16 @@ pub record NodesRead (s : List ℕ) (p left : ℕ) (ns : List Node) : Type 0 whe
 node-here : (s : List ℕ) (p : ℕ) {b : ℕ} {bs : List ℕ} {f : Form} → drop p s ≡ b ∷ bs → formOf b ≡ some f → leb (f .width) (length bs) ≡ true → nodeAt s p ≡ f .make (λ i. getD bs i 0)
 unfolding nodeAt nodeOf ofForm ifWhole
 node-here s p e q t = rw (e, q, t)
+
+made-here : (s : List ℕ) (p : ℕ) {b : ℕ} {bs : List ℕ} {f : Form} → drop p s ≡ b ∷ bs → formOf b ≡ some f → Made s p (f .make (λ i. getD bs i 0))
+made-here s p {b} {bs} {f} e q = record {
+  form = f;
+  known = ap formOf (byte 0 ∙ ap (λ (l : List ℕ). getD l 0 0) e) ∙ q;
+  node = ap (f .make) (fun-ext λ i. sym (byte (suc i) ∙ ap (λ (l : List ℕ). getD l (suc i) 0) e));
+}
+  where
+    byte : (i : ℕ) → getD s (p + i) 0 ≡ getD (drop p s) i 0
+    byte i = sym (getD-drop p s i 0)
 
 next-here : (s : List ℕ) (p w : ℕ) {b : ℕ} {bs : List ℕ} → drop p s ≡ b ∷ bs → drop (p + suc w) s ≡ drop w bs
 next-here s p w e = sym (drop-drop (suc w) p s) ∙ ap (drop (suc w)) e
@@ -78,15 +94,21 @@ nodes-fine (suc left) s p (b ∷ bs) e =
     fine-map _
     (λ ns r.
     let n : width (f .make (λ i. getD bs i 0)) ≡ suc (f .width) = wide-form b q .made _ in
-    record { placed = node (node-here s p e q t) (rw n (r .placed)); few = omega (arith, r .few) })
+    record { placed = node (node-here s p e q t) (made-here s p e q) (rw n (r .placed)); few = omega (arith, r .few) })
     (nodes-fine left s (p + suc (f .width)) (drop (f .width) bs) (next-here s p (f .width) e))))
 
 -- each node stands where the offsets say
 pub placed-at : {s : List ℕ} {p : ℕ} {ns : List Node} → Placed s p ns → (i : ℕ) → i < length ns → nodeAt s (getD (offsets p ns) i 0) ≡ getD ns i False
 unfolding offsets
 placed-at end i h = absurd (omega arith)
-placed-at (node e r) zero h = e
-placed-at (node e r) (suc i) h = placed-at r i (omega arith)
+placed-at (node e m r) zero h = e
+placed-at (node e m r) (suc i) h = placed-at r i (omega arith)
+
+pub made-at : {s : List ℕ} {p : ℕ} {ns : List Node} → Placed s p ns → (i : ℕ) → i < length ns → Made s (getD (offsets p ns) i 0) (getD ns i False)
+unfolding offsets
+made-at end i h = absurd (omega arith)
+made-at (node e m r) zero h = m
+made-at (node e m r) (suc i) h = made-at r i (omega arith)
 
 -- THE SECTION RECORDS
 

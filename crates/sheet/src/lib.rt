@@ -187,6 +187,24 @@ pub fn node_at(s: &[u8], at: usize) -> Node
     decode(&s[at..])
 }
 
+/// Byte i of the record that starts at byte `at` of a sheet; 0 where the sheet ends before it.
+pub fn byte_of(s: &[u8], at: u16, i: u16) -> u8
+    ensures { λ r. ⌜ r ≡ getD (now (s .entry)) (at + i) 0 ⌝ }
+{
+    let k = (at as usize) + (i as usize);
+    if s.len() <= k {
+        return 0;
+    }
+    s[k]
+}
+
+/// The same as a number of a node, section or variable.
+pub fn number_of(s: &[u8], at: u16, i: u16) -> usize
+    ensures { λ r. ⌜ r ≡ getD (now (s .entry)) (at + i) 0 ⌝ }
+{
+    wide(byte_of(s, at, i))
+}
+
 // Whether `n` is the number of a node behind node `own`.
 fn is_below(own: usize, n: usize, nodes: usize) -> bool
     ensures { λ r. ⌜ r ≡ ltb own n && ltb n nodes ⌝ }
