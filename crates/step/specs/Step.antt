@@ -8,8 +8,6 @@ use lib.ListN.{getD, set}
 use Rattle.step.specs.declared.Scope.{Scope}
 use Rattle.step.specs.declared.Cells.{Cells}
 use Rattle.step.specs.declared.Span.{Span}
-use Rattle.step.specs.declared.Put.{Put}
-use Rattle.step.specs.declared.Put.the-variants.{Done, Refused}
 use Rattle.step.specs.declared.Branch.{Branch}
 use Rattle.step.specs.declared.Branch.the-variants.{First, Second, Neither}
 
@@ -24,21 +22,25 @@ entryRefusal zero left = 40
 entryRefusal (suc l) zero = 41
 entryRefusal (suc l) (suc n) = 0
 
+-- entries x and y of a list, at its front
+abbrev pub pickedTwo : List ℕ → ℕ → ℕ → List ℕ
+pickedTwo l x y = set (set l 0 (getD l x 0)) 1 (getD l y 0)
+
+-- two entries from n on
+abbrev pub addedTwo : List ℕ → ℕ → ℕ → ℕ → List ℕ
+addedTwo l n a b = set (set l n a) (n + 1) b
+
 -- the two variables x and y alone
 abbrev pub picked : Scope → ℕ → ℕ → Scope
-picked s x y = record {
-  count = 2;
-  starts = set (set (s .starts) 0 (getD (s .starts) x 0)) 1 (getD (s .starts) y 0);
-  lens = set (set (s .lens) 0 (getD (s .lens) x 0)) 1 (getD (s .lens) y 0);
-}
+picked s x y = record { count = 2; starts = pickedTwo (s .starts) x y; lens = pickedTwo (s .lens) x y }
 
 -- the cells of the two variables x and y alone
 abbrev pub pickedCells : Cells → ℕ → ℕ → Cells
-pickedCells c x y = record { count = c .count; of = set (set (c .of) 0 (getD (c .of) x 0)) 1 (getD (c .of) y 0) }
+pickedCells c x y = record { count = c .count; of = pickedTwo (c .of) x y }
 
 -- two cells more, for the variables n and n + 1
-abbrev pub addedTwo : Cells → ℕ → Cells
-addedTwo c n = record { count = c .count + 2; of = set (set (c .of) n (c .count)) (n + 1) (c .count + 1) }
+abbrev pub moreCells : Cells → ℕ → Cells
+moreCells c n = record { count = c .count + 2; of = addedTwo (c .of) n (c .count) (c .count + 1) }
 
 -- where a variable's value stands: in the slot of its cell where it was written, or else where it stood
 unfoldable pub placeOf : (written cell start len : ℕ) → Span
@@ -49,6 +51,11 @@ placeOf (suc w) cell start len = record { start = 4096 + 256 * cell; len = suc w
 abbrev pub nowhere : Span
 nowhere = record { start = 0; len = 0 }
 
+-- 46 where a test says no
+unfoldable pub testRefusal : Bool → ℕ
+testRefusal true = 0
+testRefusal false = 46
+
 -- the branch that the old subject fits is kept where its test says yes; otherwise the other is taken where its test says yes
 unfoldable pub chosen : (fits-second first-says second-says : Bool) → Branch
 chosen true p true = Second
@@ -58,10 +65,10 @@ chosen false true q = First
 chosen false false true = Second
 chosen false false false = Neither
 
--- one step taken, or a refusal
-unfoldable pub judged : ℕ → Bool → Put
-judged c true = Done 1
-judged c false = Refused c
+-- one step taken, as a put answers it, or a refusal
+unfoldable pub judged : ℕ → Bool → ℕ
+judged c true = 256
+judged c false = c
 
 -- the rest of a list (kind 3) is no list
 unfoldable pub unfitRest : ℕ → ℕ → Bool

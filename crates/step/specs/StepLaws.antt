@@ -5,11 +5,9 @@ use Prim.Native.Nat.{ℕ, zero, suc, _+_, _*_, _≤_, _<_}
 use native.Mathlib.Omega.{arith}
 use lib.Dec.{eqb, ltb}
 use borrow.Author.Tests.{ne-eqb, eq-eqb, lt-ltb, le-ltb}
-use Rattle.step.specs.declared.Put.{Put}
-use Rattle.step.specs.declared.Put.the-variants.{Done, Refused}
 use Rattle.step.specs.declared.Branch.{Branch}
 use Rattle.step.specs.declared.Branch.the-variants.{First, Second, Neither}
-use Rattle.step.specs.Step.{When, placeOf, entryRefusal, chosen, judged, unfitRest}
+use Rattle.step.specs.Step.{When, placeOf, entryRefusal, testRefusal, chosen, judged, unfitRest}
 
 pub when-in : {A P : Type 0} {r x y : A} → P → r ≡ x → When P r x y
 when-in p e = record { inside = λ _. e; outside = λ n. absurd (n p) }
@@ -39,11 +37,11 @@ entered zero left e z = absurd (omega (arith, e, z))
 entered (suc l) zero e z = absurd (omega (arith, e, z))
 entered (suc l) (suc k) e z = (λ q. omega (arith, q), λ q. omega (arith, q))
 
-pub judged-yes : (c : ℕ) {p q : Bool} → p ≡ q → p ≡ true → Done 1 ≡ judged c q
+pub judged-yes : (c : ℕ) {p q : Bool} → p ≡ q → p ≡ true → 256 ≡ judged c q
 unfolding judged
 judged-yes c e t = rw (← e, t)
 
-pub judged-no : (c : ℕ) {p q : Bool} → p ≡ q → p ≡ false → Refused c ≡ judged c q
+pub judged-no : (c : ℕ) {p q : Bool} → p ≡ q → p ≡ false → c ≡ judged c q
 unfolding judged
 judged-no c e t = rw (← e, t)
 
@@ -67,6 +65,24 @@ too-low kind rest e h = rw (eq-eqb kind 3 e, lt-ltb rest 2 h)
 pub by-height : (kind rest : ℕ) → kind ≡ 3 → 2 ≤ rest → ltb 3 rest ≡ unfitRest kind rest
 unfolding unfitRest
 by-height kind rest e h = rw (eq-eqb kind 3 e, le-ltb rest 2 h)
+
+pub tested-yes : {r : ℕ} (b : Bool) → r ≡ testRefusal b → r ≡ 0 → b ≡ true
+unfolding testRefusal
+tested-yes true e z = refl
+tested-yes false e z = absurd (omega (arith, e, z))
+
+pub tested-no : {r : ℕ} (b : Bool) → r ≡ testRefusal b → (r ≡ 0 → ⊥) → (b ≡ false) × (r ≡ 46)
+unfolding testRefusal
+tested-no true e n = absurd (n e)
+tested-no false e n = (refl, e)
+
+pub says-yes : {p q : Bool} → p ≡ q → p ≡ true → 0 ≡ testRefusal q
+unfolding testRefusal
+says-yes e t = rw (← e, t)
+
+pub says-no : {p q : Bool} → p ≡ q → p ≡ false → 46 ≡ testRefusal q
+unfolding testRefusal
+says-no e t = rw (← e, t)
 
 -- THE CHOICE, as it is made
 pub keeps-second : (b p q : Bool) → (b && q) ≡ true → Second ≡ chosen b p q

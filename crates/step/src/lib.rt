@@ -1,10 +1,12 @@
-//! What a walk decides without the arena: whether a node may be entered, what a section's scope is, which cell a variable is and where
-//! its value stands, which branch a view takes, and whether a constant or a written value takes it.
+//! The small steps of a walk: whether a node may be entered, what a section's variables are, which cell a variable is and where its value
+//! stands, a view stored, a branch judged by its test, the branch that a view takes, and whether a constant or a written value takes it.
 ghost use mathlib.Core.Path.{_≡_};
 ghost use mathlib.Core.List.{[], _∷_};
-ghost use Prim.Native.Nat.{_+_, _/_, _%_, _≤_, _<_};
+ghost use Prim.Native.Nat.{_+_, _*_, _/_, _%_, _≤_, _<_};
+ghost use lib.ListN.{length};
+ghost use lib.Seq.{paste};
 ghost use Rattle.value.specs.Parts.{passesBytes, sameBytes};
-ghost use Rattle.step.specs.Step.{When, picked, addedTwo, pickedCells, nowhere, placeOf, entryRefusal, chosen, judged, unfitRest};
+ghost use Rattle.step.specs.Step.{When, pickedTwo, addedTwo, nowhere, placeOf, entryRefusal, testRefusal, chosen, judged, unfitRest};
 
 /// The variables in scope, at most 110: where each one's bytes start and how many they are.
 pub struct Scope {
@@ -25,12 +27,6 @@ pub struct Span {
     pub len: usize,
 }
 
-/// What a put gives: the steps taken, or a refusal.
-pub enum Put {
-    Done(usize),
-    Refused(u8),
-}
-
 /// The branch of a case that a view is put into.
 pub enum Branch {
     First,
@@ -39,7 +35,7 @@ pub enum Branch {
 }
 
 /// What entering a node is refused with: 40 where no level is left, then 41 where no step is; 0 where it may be entered.
-pub fn entry(levels: usize, left: usize) -> u8
+pub fn entry(levels: usize, left: usize) -> usize
     ensures { λ r. ⌜ r ≡ entryRefusal levels left ⌝ }
 {
     if levels == 0 {
@@ -51,63 +47,50 @@ pub fn entry(levels: usize, left: usize) -> u8
     0
 }
 
-/// The two variables x and y alone, a section's scope; the scope itself where a number is over 109.
-pub fn pick_two(scope: Scope, x: usize, y: usize) -> Scope
-    ensures { λ r. ⌜ When ((x < 110) × (y < 110)) r (picked scope x y) scope ⌝ }
+/// The numbers of the two variables x and y alone, a section's scope; the numbers themselves where x or y is over 109.
+pub fn pick_two(numbers: &[u16; 110], x: usize, y: usize) -> [u16; 110]
+    ensures { λ r. ⌜ When ((x < 110) × (y < 110)) r (pickedTwo (now (numbers .entry)) x y) (now (numbers .entry)) ⌝ }
 {
+    let mut two = *numbers;
     if 110 <= x {
-        return scope;
+        return two;
     }
     if 110 <= y {
-        return scope;
+        return two;
     }
-    let x_start = scope.starts[x];
-    let x_len = scope.lens[x];
-    let y_start = scope.starts[y];
-    let y_len = scope.lens[y];
-    let mut s = scope;
-    s.starts[0] = x_start;
-    s.lens[0] = x_len;
-    s.starts[1] = y_start;
-    s.lens[1] = y_len;
-    s.count = 2;
-    s
+    two[0] = numbers[x];
+    two[1] = numbers[y];
+    two
 }
 
 /// The cells of the two variables x and y alone: a section's variables are its caller's.
-pub fn pick_cells(cells: Cells, x: usize, y: usize) -> Cells
-    ensures { λ r. ⌜ When ((x < 110) × (y < 110)) r (pickedCells cells x y) cells ⌝ }
+pub fn pick_cells(cells: &[u8; 110], x: usize, y: usize) -> [u8; 110]
+    ensures { λ r. ⌜ When ((x < 110) × (y < 110)) r (pickedTwo (now (cells .entry)) x y) (now (cells .entry)) ⌝ }
 {
+    let mut two = *cells;
     if 110 <= x {
-        return cells;
+        return two;
     }
     if 110 <= y {
-        return cells;
+        return two;
     }
-    let x_cell = cells.of[x];
-    let y_cell = cells.of[y];
-    let mut c = cells;
-    c.of[0] = x_cell;
-    c.of[1] = y_cell;
-    c
+    two[0] = cells[x];
+    two[1] = cells[y];
+    two
 }
 
-/// The next two variables, from number `from` on, are two new cells; nothing changes where there is no room for them.
-pub fn add_two(cells: Cells, from: usize) -> Cells
-    ensures { λ r. ⌜ When ((cells .count + 2 ≤ 110) × (from + 2 ≤ 110)) r (addedTwo cells from) cells ⌝ }
+/// The variables n and n + 1 are the new cells c and c + 1; nothing changes where there is no room for them.
+pub fn add_cells(cells: &mut [u8; 110], n: usize, c: usize)
+    ensures { λ _. ⌜ When ((c + 2 ≤ 110) × (n + 2 ≤ 110)) (now (cells .exit)) (addedTwo (now (cells .entry)) n c (c + 1)) (now (cells .entry)) ⌝ }
 {
-    if 108 < cells.count {
-        return cells;
+    if 108 < c {
+        return;
     }
-    if 108 < from {
-        return cells;
+    if 108 < n {
+        return;
     }
-    let mut c = cells;
-    let n = c.count;
-    c.of[from] = n as u8;
-    c.of[from + 1] = (n + 1) as u8;
-    c.count = n + 2;
-    c
+    cells[n] = c as u8;
+    cells[n + 1] = (c + 1) as u8;
 }
 
 /// Where a variable's value stands: in the slot of its cell where it was written, or else where it stood; nowhere where there is
@@ -125,6 +108,43 @@ pub fn place_of(written: u16, cell: usize, start: usize, len: usize) -> Span
         start: 4096 + 256 * cell,
         len: written as usize,
     }
+}
+
+/// Where the slot of a cell starts in the arena; 0 where there is no such cell.
+pub fn slot_of(cell: usize) -> usize
+    ensures { λ r. ⌜ When (cell < 110) r (4096 + 256 * cell) 0 ⌝ }
+{
+    if 110 <= cell {
+        return 0;
+    }
+    4096 + 256 * cell
+}
+
+/// Copies a slice into the arena; nothing changes where it does not fit.
+pub fn store(arena: &mut [u8], at: usize, from: &[u8])
+    ensures { λ _. ⌜ When (at + length (now (from .entry)) ≤ length (now (arena .entry))) (now (arena .exit)) (paste (now (arena .entry)) at (now (from .entry)) (length (now (from .entry)))) (now (arena .entry)) ⌝ }
+{
+    if arena.len() < at {
+        return;
+    }
+    if arena.len() - at < from.len() {
+        return;
+    }
+    let mut i = 0;
+    while i < from.len() {
+        arena[at + i] = from[i];
+        i += 1;
+    }
+}
+
+/// What a branch is refused with that a test judges: 46 where it says no, 0 where it says yes.
+pub fn tested(test: u8, value: &[u8]) -> usize
+    ensures { λ r. ⌜ r ≡ testRefusal (passesBytes «test» (now (value .entry))) ⌝ }
+{
+    if value::passes(test, value) {
+        return 0;
+    }
+    46
 }
 
 /// The branch for a view: the one that the old subject fits where its test says yes, or else the other where that one's does.
@@ -145,25 +165,25 @@ pub fn choose(fits_second: bool, first_test: u8, second_test: u8, view: &[u8]) -
     Branch::Neither
 }
 
-// A step where two values are the same, or else a refusal.
-fn judge(code: u8, a: &[u8], b: &[u8]) -> Put
+// One step, as a put answers it, where two values are the same; or else a refusal.
+fn judge(code: usize, a: &[u8], b: &[u8]) -> usize
     ensures { λ r. ⌜ r ≡ judged code (sameBytes (now (a .entry)) (now (b .entry))) ⌝ }
 {
     if value::same(a, b) {
-        return Put::Done(1);
+        return 256;
     }
-    Put::Refused(code)
+    code
 }
 
 /// A second view for a written variable must equal the first.
-pub fn put_again(written: &[u8], view: &[u8]) -> Put
+pub fn put_again(written: &[u8], view: &[u8]) -> usize
     ensures { λ r. ⌜ r ≡ judged 54 (sameBytes (now (written .entry)) (now (view .entry))) ⌝ }
 {
     judge(54, written, view)
 }
 
 /// A view for a constant of one byte, its kind, must equal it.
-pub fn put_constant(kind: u8, view: &[u8]) -> Put
+pub fn put_constant(kind: u8, view: &[u8]) -> usize
     ensures { λ r. ⌜ r ≡ judged 50 (sameBytes (now (view .entry)) (kind ∷ [])) ⌝ }
 {
     let constant = [kind];
@@ -171,7 +191,7 @@ pub fn put_constant(kind: u8, view: &[u8]) -> Put
 }
 
 /// A view for a constant number must equal it.
-pub fn put_number(n: u16, view: &[u8]) -> Put
+pub fn put_number(n: u16, view: &[u8]) -> usize
     ensures { λ r. ⌜ r ≡ judged 50 (sameBytes (now (view .entry)) (4 ∷ n / 256 ∷ n % 256 ∷ [])) ⌝ }
 {
     let constant = [4, value::high(n), value::low(n)];

@@ -41,6 +41,16 @@ pub below-later : {top start len : ℕ} (top′ : ℕ) → top ≤ top′ → Be
 below-later top′ p (inPlan h) = inPlan h
 below-later top′ p (onStack h k) = onStack h (le-trans k p)
 
+-- what ends by another top
+pub below-within : {top start len : ℕ} (top′ : ℕ) → start + len ≤ top′ → Below top start len → Below top′ start len
+below-within top′ h (inPlan p) = inPlan p
+below-within top′ h (onStack p q) = onStack p h
+
+-- a part of them
+pub below-part : {top start len : ℕ} (i n : ℕ) → i + n ≤ len → Below top start len → Below top (start + i) n
+below-part i n h (inPlan p) = inPlan (omega arith)
+below-part i n h (onStack p q) = onStack (omega arith) (omega arith)
+
 -- a change that leaves the bytes below `top` alone leaves what stands below `top`
 module _ {b a : List ℕ} {top : ℕ} (kept : Kept top b a) (base : 32256 ≤ top) (top′ : ℕ) (p : top ≤ top′) where
   pub held-later : {start len : ℕ} {v : Value} → Held b top start len v → Held a top′ start len v

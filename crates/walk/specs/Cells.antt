@@ -17,8 +17,7 @@ use Rattle.walk.specs.Arena.{Below, inPlan, onStack, Held, Env, below-la
 use Rattle.step.specs.declared.Scope.{Scope}
 use Rattle.step.specs.declared.Span.{Span}
 use Rattle.step.specs.declared.Cells.{Cells as Owners}
-use Rattle.step.specs.declared.Put.{Put}
-use Rattle.step.specs.declared.Put.the-variants.{Done, Refused}
+use Rattle.walk.specs.Taken.{Put, Done, Refused}
 
 -- the bytes of the plan and of the stack below `top` are left alone
 pub record Frame (top : ℕ) (b a : List ℕ) : Type 0 where
@@ -51,6 +50,9 @@ pub record Shown (view : List ℕ) (v : Value) : Type 0 where
 
 -- THE CODE'S STEPS
 
--- a kind byte and two parts of the arena behind it, in 256 bytes
-unfoldable pub rebuiltBytes : (a : List ℕ) (kind f fl r rl : ℕ) → List ℕ
-rebuiltBytes a kind f fl r rl = paste (paste (set (replicate 256 0) 0 kind) 1 (drop f a) fl) (1 + fl) (drop r a) rl
+-- a kind byte and two parts of the arena behind it, at the front of 256 bytes
+unfoldable pub rebuiltIn : (whole a : List ℕ) (kind f fl r rl : ℕ) → List ℕ
+rebuiltIn whole a kind f fl r rl = paste (paste (set whole 0 kind) 1 (drop f a) fl) (1 + fl) (drop r a) rl
+
+abbrev pub rebuiltBytes : (a : List ℕ) (kind f fl r rl : ℕ) → List ℕ
+rebuiltBytes a kind f fl r rl = rebuiltIn (replicate 256 0) a kind f fl r rl

@@ -28,7 +28,9 @@ use Rattle.walk.specs.Scope.{Spanned}
 use Rattle.walk.specs.Arena.{Held, inPlan, Env}
 use Rattle.walk.specs.Seen.{held-short}
 use Rattle.walk.specs.Answers.{Told, serves, denies}
-use Rattle.walk.specs.Gets.{enter, run, Ready, Served, Denied, Gives}
+use Rattle.walk.specs.Found.{Found}
+use Rattle.walk.specs.Found as found
+use Rattle.walk.specs.Gets.{enter, run, Ready, Served, Denied, Gives, Exact}
 
 -- the result r and the arena a say the outcome: its bytes, at most `most`, stand at 32,256
 pub data Says (most : ℕ) (a : List ℕ) (r : Walked) : Out (List ℕ) → Type 0 where
@@ -57,6 +59,17 @@ pub record Planned (sheet plan : List ℕ) (table : Table) (sc : Scope) (allowan
 pub record PlanWalked (most : ℕ) (w : Out (List ℕ)) (b a : List ℕ) (r : Walked) : Type 0 where
   pub long : length a ≡ length b
   pub says : Says most a r w
+
+-- what was found, as the call says it
+pub record Same (f : Found) (r : Walked) : Type 0 where
+  pub done : {start len n : ℕ} → f ≡ found.Done start len n → r ≡ Done len n
+  pub refused : {c : ℕ} → f ≡ found.Refused c → r ≡ Refused c
+
+pub same-done : {f : Found} {start len n : ℕ} → f ≡ found.Done start len n → Same f (Done len n)
+same-done e = record { done = λ d. cc; refused = λ d. absurd (let z : _≡_ {A = ℕ} 0 1 = cc in omega arith) }
+
+pub same-refused : {f : Found} {c : ℕ} → f ≡ found.Refused c → Same f (Refused c)
+same-refused e = record { done = λ d. absurd (let z : _≡_ {A = ℕ} 0 1 = cc in omega arith); refused = λ d. cc }
 
 -- THE WALK FROM THE ROOT
 
@@ -111,20 +124,21 @@ module _ {sheet plan : List ℕ} {table : Table} {sc : Scope} {allowance : ℕ} 
           scoped = plan-env;
         }
 
-    pub plan-got : {a : List ℕ} {r : Walked} → Gives m a sheet sc 32256 32256 allowance 0 r 48 (enter (table .root)) → PlanWalked 256 (getBytes sheet plan allowance) b a r
+    pub plan-got : {a : List ℕ} {r : Walked} {f : Found} → Gives m a sheet sc 32256 32256 allowance 0 f 48 (enter (table .root)) → Exact 32256 f → Same f r → PlanWalked 256 (getBytes sheet plan allowance) b a r
     unfolding tableOf getBytes getWalk reading mapOut run
-    plan-got {a} {r} g =
+    plan-got {a} {r} {f} g x y =
         let z : table .root ≡ w .sh .root = ap (λ (t : Table). t .root) (w .is) in
         record {
           long = g .kept .long ∙ c .long;
           says = rw (w .read, w .values) (go (rw z at (g .told (w .sh) (w .read) (w .μ) plan-env .told)));
         }
       where
-        go : {o : Out Value} → Told (Served a 32256 r) (Denied r) 0 o → Says 256 a r (mapOut encode o)
+        go : {o : Out Value} → Told (Served a 32256 f) (Denied f) 0 o → Says 256 a r (mapOut encode o)
         go (serves {v = v} {s = s} n e p) =
             let q : n ≡ s = omega arith in
-            says-done (p .len) (p .is ∙ ap (Done (p .len)) q) (p .held .long ∙ sym (size-encode v)) (held-short (p .held)) (p .held .bytes)
-        go (denies d) = says-refused (d .is)
+            let h = rw (x .at (p .is)) at (p .held) in
+            says-done (p .len) (y .done (p .is) ∙ ap (Done (p .len)) q) (h .long ∙ sym (size-encode v)) (held-short h) (h .bytes)
+        go (denies d) = says-refused (y .refused (d .is))
 
 -- THE RETURNS OF THE ENTRY
 

@@ -2,7 +2,7 @@
 use mathlib.Core.Path.{_≡_, refl, ap}
 use mathlib.Core.Option.{none, some}
 use mathlib.Core.List.{List}
-use Prim.Native.Nat.{ℕ, _+_, _-_, _/_, _%_, _≤_, _<_}
+use Prim.Native.Nat.{ℕ, _+_, _*_, _-_, _/_, _%_, _≤_, _<_}
 use native.Mathlib.Nat.{le-refl}
 use native.Mathlib.Decide.{decLe}
 use native.Mathlib.Omega.{arith}
@@ -16,8 +16,7 @@ use Rattle.sheet.specs.declared.Node.the-variants.{Add}
 use Rattle.rules.specs.Rules.{getNode, get}
 use Rattle.rules.specs.Readable.{number-readable}
 use Rattle.step.specs.declared.Scope.{Scope}
-use Rattle.walk.specs.declared.Walked.{Walked}
-use Rattle.walk.specs.declared.Walked.the-variants.{Done, Refused}
+use Rattle.walk.specs.Found.{Found, Done, Refused}
 use Rattle.walk.specs.Parts.{part, kept-then, kept-set}
 use Rattle.walk.specs.Arena.{Held, onStack}
 use Rattle.walk.specs.Seen.{Shaped, isNumber, shaped-as, held-head, held-shape}
@@ -45,12 +44,16 @@ small m h = go (decLe m 65535) refl
 fits : {m : ℕ} → Encodable (number m) → m ≤ 65535
 fits (eNumber h) = h
 
-module _ {b a s : List ℕ} {sc : Scope} {top left : ℕ} {r : Walked} {l x : ℕ} (g : Gives b a s sc top top left 0 r l (enter x)) where
+-- an amount by its two bytes
+pub sum-as : {n a b x y : ℕ} → n ≡ 256 * a + b → a ≡ x → b ≡ y → n ≡ 256 * x + y
+sum-as e f g = rw (← f, ← g) e
+
+module _ {b a s : List ℕ} {sc : Scope} {top left : ℕ} {r : Found} {l x : ℕ} (g : Gives b a s sc top top left 0 r l (enter x)) where
   pub add-refused : {k c : ℕ} → r ≡ Refused c → Gives b a s sc top top left 1 (Refused c) l (body (Add x k))
   unfolding run getNode
   add-refused q = record { kept = g .kept; told = λ sh es μ w. then-refused _ _ (not-got g sh es μ w q .1) (record { is = refl }) }
 
-  module _ {len n : ℕ} (e : r ≡ Done len n) {q : Shape} (qs : q ≡ shapeOf (part a top (top + len - top))) where
+  module _ {len n : ℕ} (e : r ≡ Done top len n) {q : Shape} (qs : q ≡ shapeOf (part a top (top + len - top))) where
     pub add-43 : {k : ℕ} → ((v : Value) → Shaped v q → asNumber v ≡ none) → Gives b a s sc top top left 1 (Refused 43) l (body (Add x k))
     unfolding run getNode
     add-43 other = record {
@@ -59,7 +62,7 @@ module _ {b a s : List ℕ} {sc : Scope} {top left : ℕ} {r : Walked} {l x : �
     }
 
     module _ {m : ℕ} (p : q ≡ shapes.Number m) where
-      held-number : {o : _} (d : GotDone a top len n o) → (d .value ≡ number m) × Held a (top + len) top len (number m)
+      held-number : {o : _} (d : GotDone a top top len n o) → (d .value ≡ number m) × Held a (top + len) top len (number m)
       held-number d = let z = number-seen (shaped-as (held-shape (d .held) qs) p) in (z, rw z at (d .held))
 
       -- a number's bytes are three
@@ -80,7 +83,7 @@ module _ {b a s : List ℕ} {sc : Scope} {top left : ℕ} {r : Walked} {l x : �
       }
 
       pub add-done : {k : ℕ} {a₂ : List ℕ} → 32256 ≤ top → top + 3 ≤ length a → m + k ≤ 65535 → a₂ ≡ set (set a (top + 1) ((m + k) / 256)) (top + 2) ((m + k) % 256)
-          → Gives b a₂ s sc top top left 1 (Done 3 (1 + n)) l (body (Add x k))
+          → Gives b a₂ s sc top top left 1 (Done top 3 (1 + n)) l (body (Add x k))
       unfolding run getNode encode size
       add-done {k} {a₂} base room le is = record {
         kept = rw is (kept-then (kept-then (g .kept) (kept-set top a (top + 1) ((m + k) / 256) (omega arith)) (le-refl top))
@@ -91,8 +94,10 @@ module _ {b a s : List ℕ} {sc : Scope} {top left : ℕ} {r : Walked} {l x : �
             let z = small m (fits (h .1 .readable .encodable)) in
             let y : z .seen .0 ≡ m = z .same in
             then-done _ _ (d .is) (rw (h .0) (give _ _ (z .is) (give-yes _ _ _ (omega arith) (λ _. rw y (finish refl (record {
+              start = top;
               len = 3;
               is = refl;
+              low = le-refl top;
               held = record {
                 place = onStack base (le-refl _);
                 long = refl;

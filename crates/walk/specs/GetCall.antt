@@ -13,8 +13,7 @@ use Rattle.sheet.specs.Table.{sectionAt}
 use Rattle.sheet.specs.Laws.{sheet-ranges, section-read}
 use Rattle.rules.specs.Rules.{Env as Values, two, getNode, get}
 use Rattle.step.specs.declared.Scope.{Scope}
-use Rattle.walk.specs.declared.Walked.{Walked}
-use Rattle.walk.specs.declared.Walked.the-variants.{Done, Refused}
+use Rattle.walk.specs.Found.{Found, Done, Refused}
 use Rattle.walk.specs.Parts.{kept-refl}
 use Rattle.step.specs.Step.{picked}
 use Rattle.walk.specs.Arena.{Env, env-pick}
@@ -39,6 +38,9 @@ module _ {b s : List ℕ} {sc : Scope} {top left l sec x y : ℕ} where
     told = λ sh es μ w. give _ _ (elem-at μ x vfalse (omega (arith, w .count))) (give-none _ _ (elem-none μ y (omega (arith, w .count))) (record { is = refl }));
   }
 
+pub section-as : (s : List ℕ) {root x y : ℕ} → root ≡ sectionAt s x → x ≡ y → root ≡ sectionAt s y
+section-as s e f = e ∙ ap (sectionAt s) f
+
 module _ {b s starts : List ℕ} {sc : Scope} {top left l sec x y : ℕ} (w : Ready s starts b sc top (suc l) (suc left) (body (Call sec x y)))
     (hx : x < sc .count) (hy : y < sc .count) {root : ℕ} (at : root ≡ sectionAt s sec) {few : Scope} (is : few ≡ picked sc x y) where
   root-read : root ≡ getD (w .lent .sh .sections) sec 0
@@ -53,7 +55,7 @@ module _ {b s starts : List ℕ} {sc : Scope} {top left l sec x y : ℕ} (w : Re
       ready-in w (kept-refl top b) top l left (le-refl top) (omega (arith, w .few)) (omega (arith, w .room)) (omega (arith, w .slots, c))
       (rw root-read (sheet-ranges s (w .lent .read) .section sec (w .known .1))) _ (env-few (w .scoped))
 
-  module _ {a : List ℕ} {r : Walked} (g : Gives b a s few top top left 0 r l (enter root)) where
+  module _ {a : List ℕ} {r : Found} (g : Gives b a s few top top left 0 r l (enter root)) where
     rooted : {sh : Sheet} → readSheet s ≡ ok sh → root ≡ getD (sh .sections) sec 0
     rooted e = root-read ∙ ap (λ (y : Sheet). getD (y .sections) sec 0) (same-sheet (w .lent) e)
 
@@ -65,12 +67,12 @@ module _ {b s starts : List ℕ} {sc : Scope} {top left l sec x y : ℕ} (w : Re
           (rw (← rooted es) (as-refused (not-got g sh es _ (env-few e) q .1) (record { is = refl }))));
     }
 
-    pub call-done : {len n : ℕ} → r ≡ Done len n → Gives b a s sc top top left 1 (Done len (1 + n)) l (body (Call sec x y))
+    pub call-done : {start len n : ℕ} → r ≡ Done start len n → Gives b a s sc top top left 1 (Done start len (1 + n)) l (body (Call sec x y))
     unfolding run getNode
-    call-done {len} {n} q = record {
+    call-done {start} {len} {n} q = record {
       kept = g .kept;
       told = λ sh es μ e.
           let d = got g sh es _ (env-few e) q in
           give _ _ (elem-at μ x vfalse (omega (arith, e .count))) (give _ _ (elem-at μ y vfalse (omega (arith, e .count)))
-          (rw (← rooted es) (as-done (d .is) refl (record { len = len; is = refl; held = d .held }))));
+          (rw (← rooted es) (as-done (d .is) refl (record { start = start; len = len; is = refl; low = d .low; held = d .held }))));
     }

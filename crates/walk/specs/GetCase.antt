@@ -17,11 +17,10 @@ use Rattle.sheet.specs.declared.Node.the-variants.{ListCase, TruthCase, Split}
 use Rattle.rules.specs.Outcome.{Out, done, refused, plus, when, _>>=_, given}
 use Rattle.rules.specs.Rules.{Env as Values, two, getNode, get, tested, onList}
 use Rattle.step.specs.declared.Scope.{Scope}
-use Rattle.walk.specs.declared.Walked.{Walked}
-use Rattle.walk.specs.declared.Walked.the-variants.{Done, Refused}
+use Rattle.walk.specs.Found.{Found, Done, Refused}
 use Rattle.walk.specs.Parts.{part, kept-then}
 use Rattle.walk.specs.Scope.{pushed}
-use Rattle.walk.specs.Arena.{Env, env-later, env-push}
+use Rattle.walk.specs.Arena.{below-within, Held, Env, env-later, env-push}
 use Rattle.walk.specs.Seen.{Shaped, isFalse, isTrue, isEmpty, isFront, isPair, shaped-as, held-shape, TwoHeld, held-front, held-pair}
 use Rattle.walk.specs.Answers.{answer-by, then-done, then-refused, give, give-none}
 use Rattle.walk.specs.Gets.{Task, enter, body, branch, run, Ready, Gives, GotDone, got, not-got}
@@ -63,6 +62,15 @@ front-seen (isFront {f} {r} e) = (f, r, refl, e)
 pair-seen : {v : Value} {mid : ℕ} → Shaped v (shapes.Pair mid) → (x : Value) × (y : Value) × (v ≡ pair x y) × (mid ≡ 1 + size x)
 pair-seen (isPair {x} {y} e) = (x, y, refl, e)
 
+-- a value that was got at `top` ends by top′, which is no further up than its length
+pub record Above (top start len top′ : ℕ) : Type 0 where
+  pub over : top ≤ top′
+  pub clear : start + len ≤ top′
+  pub near : top′ ≤ top + len
+
+pub held-above : {a : List ℕ} {top start len top′ : ℕ} {v : Value} → Above top start len top′ → Held a (top + len) start len v → Held a top′ start len v
+held-above {top′ = top′} up h = record { place = below-within top′ (up .clear) (h .place); long = h .long; bytes = h .bytes; readable = h .readable }
+
 -- the subject of a case is asked for as the case is, a level below
 pub subject-ready : {s starts b : List ℕ} {sc : Scope} {top l left : ℕ} {t : Task} {x : ℕ} (w : Ready s starts b sc top (suc l) (suc left) t) → x < length (w .lent .sh .nodes)
     → Ready s starts b sc top l left (enter x)
@@ -79,7 +87,7 @@ subject-ready {l = l} {left = left} w h = record {
 }
 
 -- the subject x is got
-module _ {b a₁ s : List ℕ} {sc : Scope} {top left : ℕ} {r₁ : Walked} {l x : ℕ} (g₁ : Gives b a₁ s sc top top left 0 r₁ l (enter x)) where
+module _ {b a₁ s : List ℕ} {sc : Scope} {top left : ℕ} {r₁ : Found} {l x : ℕ} (g₁ : Gives b a₁ s sc top top left 0 r₁ l (enter x)) where
   pub list-refused : {e te n tn df dr c : ℕ} → r₁ ≡ Refused c → Gives b a₁ s sc top top left 1 (Refused c) l (body (ListCase x e te n tn df dr))
   unfolding run getNode
   list-refused q = record { kept = g₁ .kept; told = λ sh es μ w. then-refused _ _ (not-got g₁ sh es μ w q .1) (record { is = refl }) }
@@ -92,7 +100,7 @@ module _ {b a₁ s : List ℕ} {sc : Scope} {top left : ℕ} {r₁ : Walked} {l 
   unfolding run getNode
   split-refused q = record { kept = g₁ .kept; told = λ sh es μ w. then-refused _ _ (not-got g₁ sh es μ w q .1) (record { is = refl }) }
 
-  module _ {len n : ℕ} (e₁ : r₁ ≡ Done len n) {q : Shape} (qs : q ≡ shapeOf (part a₁ top (top + len - top))) where
+  module _ {start len n : ℕ} (e₁ : r₁ ≡ Done start len n) {q : Shape} (qs : q ≡ shapeOf (part a₁ start (start + len - start))) where
     -- it is of another shape
     pub list-43 : {e te m tm df dr : ℕ} → ((v : Value) → Shaped v q → asList v ≡ none) → Gives b a₁ s sc top top left 1 (Refused 43) l (body (ListCase x e te m tm df dr))
     unfolding run getNode
@@ -116,11 +124,11 @@ module _ {b a₁ s : List ℕ} {sc : Scope} {top left : ℕ} {r₁ : Walked} {l 
     }
 
     -- it is an empty list, False or True: the branch is got in the same scope
-    module _ (base : 32256 ≤ top) where
-      env₂ : {μ : Values} → Env b sc top μ → Env a₁ sc (top + len) μ
-      env₂ w = env-later (g₁ .kept) base (top + len) (omega arith) w
+    module _ (base : 32256 ≤ top) {top′ : ℕ} (up : Above top start len top′) where
+      env₂ : {μ : Values} → Env b sc top μ → Env a₁ sc top′ μ
+      env₂ w = env-later (g₁ .kept) base top′ (up .over) w
 
-      pub list-empty : {a₂ : List ℕ} {r₂ : Walked} {e te m tm df dr : ℕ} → q ≡ shapes.Empty → Gives a₁ a₂ s sc (top + len) top (left - n) (1 + n) r₂ l (branch te e)
+      pub list-empty : {a₂ : List ℕ} {r₂ : Found} {e te m tm df dr : ℕ} → q ≡ shapes.Empty → Gives a₁ a₂ s sc top′ top (left - n) (1 + n) r₂ l (branch te e)
           → Gives b a₂ s sc top top left 1 r₂ l (body (ListCase x e te m tm df dr))
       unfolding run getNode asList onList
       list-empty p g₂ = record {
@@ -131,7 +139,7 @@ module _ {b a₁ s : List ℕ} {sc : Scope} {top left : ℕ} {r₁ : Walked} {l 
             then-done _ _ (d .is) (rw z (give _ _ refl (g₂ .told sh es μ (env₂ w))));
       }
 
-      pub truth-no : {a₂ : List ℕ} {r₂ : Walked} {f tf t tt′ : ℕ} → q ≡ shapes.False → Gives a₁ a₂ s sc (top + len) top (left - n) (1 + n) r₂ l (branch tf f)
+      pub truth-no : {a₂ : List ℕ} {r₂ : Found} {f tf t tt′ : ℕ} → q ≡ shapes.False → Gives a₁ a₂ s sc top′ top (left - n) (1 + n) r₂ l (branch tf f)
           → Gives b a₂ s sc top top left 1 r₂ l (body (TruthCase x f tf t tt′))
       unfolding run getNode asTruth
       truth-no p g₂ = record {
@@ -142,7 +150,7 @@ module _ {b a₁ s : List ℕ} {sc : Scope} {top left : ℕ} {r₁ : Walked} {l 
             then-done _ _ (d .is) (rw z (give _ _ refl (g₂ .told sh es μ (env₂ w))));
       }
 
-      pub truth-yes : {a₂ : List ℕ} {r₂ : Walked} {f tf t tt′ : ℕ} → q ≡ shapes.True → Gives a₁ a₂ s sc (top + len) top (left - n) (1 + n) r₂ l (branch tt′ t)
+      pub truth-yes : {a₂ : List ℕ} {r₂ : Found} {f tf t tt′ : ℕ} → q ≡ shapes.True → Gives a₁ a₂ s sc top′ top (left - n) (1 + n) r₂ l (branch tt′ t)
           → Gives b a₂ s sc top top left 1 r₂ l (body (TruthCase x f tf t tt′))
       unfolding run getNode asTruth
       truth-yes p g₂ = record {
@@ -154,77 +162,77 @@ module _ {b a₁ s : List ℕ} {sc : Scope} {top left : ℕ} {r₁ : Walked} {l 
       }
 
     -- what the branch in the same scope asks
-    pub case-ready : {starts : List ℕ} {t : Task} {te e : ℕ} (w : Ready s starts b sc top (suc l) (suc left) t) → x < length (w .lent .sh .nodes) → e < length (w .lent .sh .nodes)
-        → Ready s starts a₁ sc (top + len) l (1 + n + (left - n)) (branch te e)
-    case-ready w h k =
+    pub case-ready : {starts : List ℕ} {t : Task} {te e top′ : ℕ} (up : Above top start len top′) (w : Ready s starts b sc top (suc l) (suc left) t) → x < length (w .lent .sh .nodes) → e < length (w .lent .sh .nodes)
+        → Ready s starts a₁ sc top′ l (1 + n + (left - n)) (branch te e)
+    case-ready {top′ = top′} up w h k =
         let z = sizes (subject-ready w h) g₁ e₁ in
-        ready-later w (g₁ .kept) (top + len) l (1 + n + (left - n)) (omega arith) (omega (arith, w .few, z .steps)) (omega (arith, w .room, z .short)) (omega arith) k
+        ready-later w (g₁ .kept) top′ l (1 + n + (left - n)) (up .over) (omega (arith, w .few, z .steps)) (omega (arith, w .room, z .short, up .near)) (omega arith) k
 
     -- it has two parts, which the branch's scope has besides
-    module _ {mid : ℕ} {more : Scope} (is : more ≡ pushed (pushed sc (top + 1) (mid - 1)) (top + 1 + (mid - 1)) (len - mid)) where
-      env-inner : {μ : Values} {u v : Value} → 32256 ≤ top → sc .count + 2 ≤ 110 → Env b sc top μ → TwoHeld a₁ top len mid u v → Env a₁ more (top + len) (μ ++ two u v)
+    module _ {mid top′ : ℕ} {more : Scope} (up : Above top start len top′) (is : more ≡ pushed (pushed sc (start + 1) (mid - 1)) (start + mid) (len - mid)) where
+      env-inner : {μ : Values} {u v : Value} → 32256 ≤ top → sc .count + 2 ≤ 110 → Env b sc top μ → TwoHeld a₁ top′ start len mid u v → Env a₁ more top′ (μ ++ two u v)
       env-inner {μ} {u} {v} base c w p =
-          rw (is, ← append-assoc μ (u ∷ []) (v ∷ [])) (env-push (env-push (env-later (g₁ .kept) base (top + len) (omega arith) w) (p .first) (omega arith)) (p .second) (omega arith))
+          rw (is, ← append-assoc μ (u ∷ []) (v ∷ [])) (env-push (env-push (env-later (g₁ .kept) base top′ (up .over) w) (p .first) (omega arith)) (p .second) (omega arith))
 
       inner-ready : {starts : List ℕ} {t : Task} {te e : ℕ} {u v : Value} (w : Ready s starts b sc top (suc l) (suc left) t) → x < length (w .lent .sh .nodes)
-          → e < length (w .lent .sh .nodes) → TwoHeld a₁ top len mid u v → Ready s starts a₁ more (top + len) l (1 + n + (left - n)) (branch te e)
+          → e < length (w .lent .sh .nodes) → TwoHeld a₁ top′ start len mid u v → Ready s starts a₁ more top′ l (1 + n + (left - n)) (branch te e)
       inner-ready {u = u} {v = v} w h k p =
           let z = sizes (subject-ready w h) g₁ e₁ in
           let c : more .count ≡ sc .count + 1 + 1 = ap (λ (m : Scope). m .count) is in
-          ready-in w (g₁ .kept) (top + len) l (1 + n + (left - n)) (omega arith) (omega (arith, w .few, z .steps)) (omega (arith, w .room, z .short))
+          ready-in w (g₁ .kept) top′ l (1 + n + (left - n)) (up .over) (omega (arith, w .few, z .steps)) (omega (arith, w .room, z .short, up .near))
           (omega (arith, w .slots, c)) k (w .env ++ two u v) (env-inner (w .base) (omega (arith, w .slots, z .deep)) (w .scoped) p)
 
     module _ {mid : ℕ} (p : q ≡ shapes.Front mid) where
-      front-parts : 32256 ≤ top → {o : Out Value} (d : GotDone a₁ top len n o) → (f : Value) × (r : Rest) × (d .value ≡ list (cons f r)) × TwoHeld a₁ top len mid f (list r)
-      front-parts base d =
+      front-parts : {top′ : ℕ} → Above top start len top′ → {o : Out Value} (d : GotDone a₁ top start len n o) → (f : Value) × (r : Rest) × (d .value ≡ list (cons f r)) × TwoHeld a₁ top′ start len mid f (list r)
+      front-parts up d =
           let (f, r, z, e) = front-seen (shaped-as (held-shape (d .held) qs) p) in
-          (f, r, z, held-front base e (rw z at (d .held)))
+          (f, r, z, held-front e (held-above up (rw z at (d .held))))
 
       -- where the second part starts
-      pub front-mid : {starts : List ℕ} → Ready s starts b sc top l left (enter x) → (1 ≤ mid) × (mid ≤ len)
-      front-mid w =
-          let h = front-parts (w .base) (got g₁ (w .lent .sh) (w .lent .read) (w .env) (w .scoped) e₁) .3 in
+      pub front-mid : {starts : List ℕ} {top′ : ℕ} → Above top start len top′ → Ready s starts b sc top l left (enter x) → (1 ≤ mid) × (mid ≤ len)
+      front-mid up w =
+          let h = front-parts up (got g₁ (w .lent .sh) (w .lent .read) (w .env) (w .scoped) e₁) .3 in
           (h .some, h .inside)
 
-      module _ {more : Scope} (is : more ≡ pushed (pushed sc (top + 1) (mid - 1)) (top + 1 + (mid - 1)) (len - mid)) where
+      module _ {top′ : ℕ} {more : Scope} (up : Above top start len top′) (is : more ≡ pushed (pushed sc (start + 1) (mid - 1)) (start + mid) (len - mid)) where
         pub front-ready : {starts : List ℕ} {t : Task} {te e : ℕ} (w : Ready s starts b sc top (suc l) (suc left) t) → x < length (w .lent .sh .nodes) → e < length (w .lent .sh .nodes)
-            → Ready s starts a₁ more (top + len) l (1 + n + (left - n)) (branch te e)
-        front-ready w h k = inner-ready is w h k (front-parts (w .base) (got g₁ (w .lent .sh) (w .lent .read) (w .env) (w .scoped) e₁) .3)
+            → Ready s starts a₁ more top′ l (1 + n + (left - n)) (branch te e)
+        front-ready w h k = inner-ready up is w h k (front-parts up (got g₁ (w .lent .sh) (w .lent .read) (w .env) (w .scoped) e₁) .3)
 
-        pub list-front : 32256 ≤ top → sc .count + 2 ≤ 110 → {a₂ : List ℕ} {r₂ : Walked} {e te m tm df dr : ℕ} → Gives a₁ a₂ s more (top + len) top (left - n) (1 + n) r₂ l (branch tm m)
+        pub list-front : 32256 ≤ top → sc .count + 2 ≤ 110 → {a₂ : List ℕ} {r₂ : Found} {e te m tm df dr : ℕ} → Gives a₁ a₂ s more top′ top (left - n) (1 + n) r₂ l (branch tm m)
             → Gives b a₂ s sc top top left 1 r₂ l (body (ListCase x e te m tm df dr))
         unfolding run getNode asList onList
         list-front base c g₂ = record {
           kept = kept-then (g₁ .kept) (g₂ .kept) (le-refl top);
           told = λ sh es μ w.
               let d = got g₁ sh es μ w e₁ in
-              let (f, r, z, h) = front-parts base d in
-              then-done _ _ (d .is) (rw z (give _ _ refl (g₂ .told sh es (μ ++ two f (list r)) (env-inner is base c w h))));
+              let (f, r, z, h) = front-parts up d in
+              then-done _ _ (d .is) (rw z (give _ _ refl (g₂ .told sh es (μ ++ two f (list r)) (env-inner up is base c w h))));
         }
 
     module _ {mid : ℕ} (p : q ≡ shapes.Pair mid) where
-      pair-parts : 32256 ≤ top → {o : Out Value} (d : GotDone a₁ top len n o) → (u : Value) × (v : Value) × (d .value ≡ pair u v) × TwoHeld a₁ top len mid u v
-      pair-parts base d =
+      pair-parts : {top′ : ℕ} → Above top start len top′ → {o : Out Value} (d : GotDone a₁ top start len n o) → (u : Value) × (v : Value) × (d .value ≡ pair u v) × TwoHeld a₁ top′ start len mid u v
+      pair-parts up d =
           let (u, v, z, e) = pair-seen (shaped-as (held-shape (d .held) qs) p) in
-          (u, v, z, held-pair base e (rw z at (d .held)))
+          (u, v, z, held-pair e (held-above up (rw z at (d .held))))
 
-      pub pair-mid : {starts : List ℕ} → Ready s starts b sc top l left (enter x) → (1 ≤ mid) × (mid ≤ len)
-      pair-mid w =
-          let h = pair-parts (w .base) (got g₁ (w .lent .sh) (w .lent .read) (w .env) (w .scoped) e₁) .3 in
+      pub pair-mid : {starts : List ℕ} {top′ : ℕ} → Above top start len top′ → Ready s starts b sc top l left (enter x) → (1 ≤ mid) × (mid ≤ len)
+      pair-mid up w =
+          let h = pair-parts up (got g₁ (w .lent .sh) (w .lent .read) (w .env) (w .scoped) e₁) .3 in
           (h .some, h .inside)
 
-      module _ {more : Scope} (is : more ≡ pushed (pushed sc (top + 1) (mid - 1)) (top + 1 + (mid - 1)) (len - mid)) where
+      module _ {top′ : ℕ} {more : Scope} (up : Above top start len top′) (is : more ≡ pushed (pushed sc (start + 1) (mid - 1)) (start + mid) (len - mid)) where
         pub pair-ready : {starts : List ℕ} {t : Task} {te e : ℕ} (w : Ready s starts b sc top (suc l) (suc left) t) → x < length (w .lent .sh .nodes) → e < length (w .lent .sh .nodes)
-            → Ready s starts a₁ more (top + len) l (1 + n + (left - n)) (branch te e)
-        pair-ready w h k = inner-ready is w h k (pair-parts (w .base) (got g₁ (w .lent .sh) (w .lent .read) (w .env) (w .scoped) e₁) .3)
+            → Ready s starts a₁ more top′ l (1 + n + (left - n)) (branch te e)
+        pair-ready w h k = inner-ready up is w h k (pair-parts up (got g₁ (w .lent .sh) (w .lent .read) (w .env) (w .scoped) e₁) .3)
 
-        pub split-done : 32256 ≤ top → sc .count + 2 ≤ 110 → {a₂ : List ℕ} {r₂ : Walked} {i : ℕ} → Gives a₁ a₂ s more (top + len) top (left - n) (1 + n) r₂ l (branch 0 i)
+        pub split-done : 32256 ≤ top → sc .count + 2 ≤ 110 → {a₂ : List ℕ} {r₂ : Found} {i : ℕ} → Gives a₁ a₂ s more top′ top (left - n) (1 + n) r₂ l (branch 0 i)
             → Gives b a₂ s sc top top left 1 r₂ l (body (Split x i))
         unfolding run getNode asPair
         split-done base c g₂ = record {
           kept = kept-then (g₁ .kept) (g₂ .kept) (le-refl top);
           told = λ sh es μ w.
               let d = got g₁ sh es μ w e₁ in
-              let (u, v, z, h) = pair-parts base d in
-              then-done _ _ (d .is) (rw z (give _ _ refl (answer-by (g₂ .told sh es (μ ++ two u v) (env-inner is base c w h)) (sym (untested _)))));
+              let (u, v, z, h) = pair-parts up d in
+              then-done _ _ (d .is) (rw z (give _ _ refl (answer-by (g₂ .told sh es (μ ++ two u v) (env-inner up is base c w h)) (sym (untested _)))));
         }

@@ -9,15 +9,18 @@ use Rattle.value.specs.Result.{ok}
 use Rattle.sheet.specs.declared.Node.{Node}
 use Rattle.sheet.specs.declared.Node.the-variants.{Var, False, True, Empty, Number, Front, Pair, ListCase, TruthCase, Split, Call, Add}
 use Rattle.sheet.specs.Sheet.{Sheet, readSheet}
-use Rattle.sheet.specs.Table.{width, offsets, tableOf, nodeAt}
-use Rattle.sheet.specs.Laws.{Ranged, sheet-ranges, node-read, table-start}
+use Rattle.sheet.specs.Table.{width, offsets, tableOf}
+use Rattle.sheet.specs.Reading.{Made}
+use Rattle.sheet.specs.Laws.{Ranged, sheet-ranges, node-made, made-as, made-kind, table-start}
+use Rattle.sheet.specs.Sheet.{formOf, forms}
+use Rattle.sheet.specs.Forms.{NoneFrom, beyond}
+use mathlib.Core.Logic.{_⊎_, inl, inr}
 use Rattle.rules.specs.Rules.{get}
 use Rattle.step.specs.declared.Scope.{Scope}
-use Rattle.walk.specs.declared.Walked.{Walked}
-use Rattle.walk.specs.declared.Walked.the-variants.{Refused}
+use Rattle.walk.specs.Found.{Found, Refused}
 use Rattle.walk.specs.Parts.{kept-refl}
 use Rattle.walk.specs.Answers.{refuse, step, no-step}
-use Rattle.walk.specs.Gets.{enter, body, run, Lent, Ready, Gives}
+use Rattle.walk.specs.Gets.{enter, body, run, Lent, Ready, Gives, varAt, numberAt, frontAt, pairAt, listCaseAt, truthCaseAt, splitAt, callAt, addAt}
 use Rattle.walk.specs.GetReady.{ready-later}
 use Rattle.step.specs.Step.{entryRefusal}
 use Rattle.step.specs.StepLaws.{no-level, no-step as out-of-steps, both-left}
@@ -39,6 +42,15 @@ module _ {b s : List ℕ} {sc : Scope} {top left x : ℕ} where
       go zero k p q = let z : r ≡ 40 = e ∙ sym (no-level levels left p) in rw z (enter-40 p)
       go (suc l) zero p q = let h : levels ≡ 0 → ⊥ = λ y. omega (arith, p, y) in let z : r ≡ 41 = e ∙ sym (out-of-steps levels left h q) in rw z (enter-41 h q)
       go (suc l) (suc k) p q = absurd (n (e ∙ sym (both-left levels left (λ y. omega (arith, p, y)) (λ y. omega (arith, q, y)))))
+
+-- a refusal on entering is a number below 256
+pub entry-small : {r : ℕ} (levels left : ℕ) → r ≡ entryRefusal levels left → r < 256
+entry-small {r} levels left e = go levels left refl refl
+  where
+    go : (l k : ℕ) → levels ≡ l → left ≡ k → r < 256
+    go zero k p q = omega (arith, e ∙ sym (no-level levels left p))
+    go (suc l) zero p q = omega (arith, e ∙ sym (out-of-steps levels left (λ y. omega (arith, p, y)) q))
+    go (suc l) (suc k) p q = omega (arith, e ∙ sym (both-left levels left (λ y. omega (arith, p, y)) (λ y. omega (arith, q, y))))
 
 -- no record is longer than 8 bytes, so that every start is small
 width-small : (n : Node) → width n ≤ 8
@@ -62,29 +74,84 @@ offset-small p [] i h = absurd (omega arith)
 offset-small p (n ∷ ns) zero h = omega arith
 offset-small p (n ∷ ns) (suc i) h = omega (arith, offset-small (p + width n) ns i (omega arith), width-small n)
 
+-- the node by its kind byte
+module _ {s : List ℕ} {p : ℕ} {nd : Node} (m : Made s p nd) {k : ℕ} (is : k ≡ getD s (p + 0) 0) where
+  pub kind-var : k ≡ 0x10 → nd ≡ varAt s p
+  unfolding formOf forms
+  kind-var e = made-as m (sym is ∙ e) refl
+
+  pub kind-false : k ≡ 0x11 → nd ≡ False
+  unfolding formOf forms
+  kind-false e = made-as m (sym is ∙ e) refl
+
+  pub kind-true : k ≡ 0x12 → nd ≡ True
+  unfolding formOf forms
+  kind-true e = made-as m (sym is ∙ e) refl
+
+  pub kind-empty : k ≡ 0x13 → nd ≡ Empty
+  unfolding formOf forms
+  kind-empty e = made-as m (sym is ∙ e) refl
+
+  pub kind-number : k ≡ 0x14 → nd ≡ numberAt s p
+  unfolding formOf forms
+  kind-number e = made-as m (sym is ∙ e) refl
+
+  pub kind-front : k ≡ 0x15 → nd ≡ frontAt s p
+  unfolding formOf forms
+  kind-front e = made-as m (sym is ∙ e) refl
+
+  pub kind-pair : k ≡ 0x16 → nd ≡ pairAt s p
+  unfolding formOf forms
+  kind-pair e = made-as m (sym is ∙ e) refl
+
+  pub kind-list-case : k ≡ 0x17 → nd ≡ listCaseAt s p
+  unfolding formOf forms
+  kind-list-case e = made-as m (sym is ∙ e) refl
+
+  pub kind-truth-case : k ≡ 0x18 → nd ≡ truthCaseAt s p
+  unfolding formOf forms
+  kind-truth-case e = made-as m (sym is ∙ e) refl
+
+  pub kind-split : k ≡ 0x19 → nd ≡ splitAt s p
+  unfolding formOf forms
+  kind-split e = made-as m (sym is ∙ e) refl
+
+  pub kind-call : k ≡ 0x1A → nd ≡ callAt s p
+  unfolding formOf forms
+  kind-call e = made-as m (sym is ∙ e) refl
+
+  -- the last kind, where it is none of the others
+  pub kind-add : NoneFrom 16 11 k → nd ≡ addAt s p
+  unfolding formOf forms
+  kind-add n = made-as {k = 0x1B} m (go (beyond 11 n)) refl
+    where
+      go : (k < 16) ⊎ (11 + 16 ≤ k) → getD s (p + 0) 0 ≡ 0x1B
+      go (inl h) = absurd (omega (arith, is, made-kind m .0))
+      go (inr h) = omega (arith, is, made-kind m .1)
+
 -- the record that stands there is the sheet's node
 module _ {s starts : List ℕ} (lent : Lent s starts) where
   pub same-sheet : {sh : Sheet} → readSheet s ≡ ok sh → lent .sh ≡ sh
   same-sheet e = let q = lent .read in cc
 
-  pub lent-node : {i : ℕ} {nd r : Node} → i < length (lent .sh .nodes) → r ≡ nodeAt s (getD starts i 0) → r ≡ nd → getD (lent .sh .nodes) i False ≡ nd
-  lent-node {i} h e q =
-      let z : getD starts i 0 ≡ getD (tableOf (ok (lent .sh)) .starts) i 0 = ap (λ (l : List ℕ). getD l i 0) (lent .table) in
-      sym (node-read s (lent .read) i h) ∙ ap (nodeAt s) (sym (z ∙ table-start (lent .sh) i h)) ∙ sym e ∙ q
+  lent-place : {i : ℕ} → i < length (lent .sh .nodes) → getD starts i 0 ≡ getD (offsets (3 + 2 * length (lent .sh .sections)) (lent .sh .nodes)) i 0
+  lent-place {i} h = ap (λ (l : List ℕ). getD l i 0) (lent .table) ∙ table-start (lent .sh) i h
+
+  pub lent-made : {i : ℕ} → i < length (lent .sh .nodes) → Made s (getD starts i 0) (getD (lent .sh .nodes) i False)
+  lent-made {i} h = rw (lent-place h) (node-made s (lent .read) i h)
 
   pub lent-start : {i : ℕ} → i < length (lent .sh .nodes) → getD starts i 0 < 65536
   lent-start {i} h =
       let r = sheet-ranges s (lent .read) in
-      let z : getD starts i 0 ≡ getD (tableOf (ok (lent .sh)) .starts) i 0 = ap (λ (l : List ℕ). getD l i 0) (lent .table) in
-      omega (arith, z, table-start (lent .sh) i h, offset-small (3 + 2 * length (lent .sh .sections)) (lent .sh .nodes) i h, r .few-sections, r .few-nodes)
+      omega (arith, lent-place h, offset-small (3 + 2 * length (lent .sh .sections)) (lent .sh .nodes) i h, r .few-sections, r .few-nodes)
 
   pub lent-few : {i : ℕ} → i < length (lent .sh .nodes) → i < 200
   lent-few h = omega (arith, sheet-ranges s (lent .read) .few-nodes)
 
 module _ {s starts b : List ℕ} {sc : Scope} {top levels left x : ℕ} (w : Ready s starts b sc top levels left (enter x))
-    (deep : levels ≡ 0 → ⊥) (paid : left ≡ 0 → ⊥) {r nd : Node} (read : r ≡ nodeAt s (getD starts x 0)) (is : r ≡ nd) where
+    (deep : levels ≡ 0 → ⊥) (paid : left ≡ 0 → ⊥) {nd : Node} (is : getD (w .lent .sh .nodes) x False ≡ nd) where
   ranged-node : Ranged (length (w .lent .sh .nodes)) (length (w .lent .sh .sections)) x nd
-  ranged-node = rw (lent-node (w .lent) (w .known) read is) at (sheet-ranges s (w .lent .read) .node x (w .known))
+  ranged-node = rw is at (sheet-ranges s (w .lent .read) .node x (w .known))
 
   pub enter-ready : Ready s starts b sc top (suc (levels - 1)) (suc (left - 1)) (body nd)
   enter-ready =
@@ -92,7 +159,7 @@ module _ {s starts b : List ℕ} {sc : Scope} {top levels left x : ℕ} (w : Rea
       let q : suc (left - 1) ≡ left = omega arith in
       rw (p, q) (ready-later w (kept-refl top b) top levels left (le-refl top) (w .few) (w .room) (le-refl levels) (x, ranged-node))
 
-  pub enter-body : {a : List ℕ} {k : Walked} → Gives b a s sc top top (left - 1) 1 k (levels - 1) (body nd) → Gives b a s sc top top left 0 k levels (enter x)
+  pub enter-body : {a : List ℕ} {k : Found} → Gives b a s sc top top (left - 1) 1 k (levels - 1) (body nd) → Gives b a s sc top top left 0 k levels (enter x)
   unfolding run get
   enter-body {a} {k} g = go levels (omega arith) g
     where
@@ -102,6 +169,6 @@ module _ {s starts b : List ℕ} {sc : Scope} {top levels left x : ℕ} (w : Rea
         kept = g .kept;
         told = λ sh es μ e.
             let z : suc l - 1 ≡ l = omega arith in
-            let n : getD (sh .nodes) x False ≡ nd = ap (λ (y : Sheet). getD (y .nodes) x False) (sym (same-sheet (w .lent) es)) ∙ lent-node (w .lent) (w .known) read is in
+            let n : getD (sh .nodes) x False ≡ nd = ap (λ (y : Sheet). getD (y .nodes) x False) (sym (same-sheet (w .lent) es)) ∙ is in
             step _ (omega arith) (rw (n, ← z) (g .told sh es μ e));
       }

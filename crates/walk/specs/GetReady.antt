@@ -9,18 +9,13 @@ use Rattle.rules.specs.Outcome.{done, refused}
 use Rattle.rules.specs.AllowanceLaws.{within-done}
 use Rattle.rules.specs.Rules.{Env as Values, get}
 use Rattle.step.specs.declared.Scope.{Scope}
-use Rattle.walk.specs.declared.Walked.{Walked}
-use Rattle.walk.specs.declared.Walked.the-variants.{Done}
+use Rattle.walk.specs.Found.{Found, Done}
 use Rattle.walk.specs.Parts.{Kept}
 use Rattle.walk.specs.Arena.{Env, env-later}
 use Rattle.walk.specs.Seen.{held-some, held-short}
-use Rattle.walk.specs.Gets.{Task, enter, run, Known, Room, Ready, Gives, got}
+use Rattle.walk.specs.Gets.{Task, enter, run, Known, Ready, Gives, got}
 
 module _ {s starts b : List ℕ} {sc : Scope} {top levels left : ℕ} {t : Task} (w : Ready s starts b sc top levels left t) where
-  -- the arena with room for a value
-  pub ready-room : 1 ≤ levels → Room b sc top
-  ready-room h = record { long = w .long; base = w .base; room = omega (arith, w .room); slots = omega (arith, w .slots); env = w .env; scoped = w .scoped }
-
   module _ {a : List ℕ} (kept : Kept top b a) (top′ levels′ left′ : ℕ) (p : top ≤ top′) (few : left′ ≤ 1000000) (room : top′ + 257 * levels′ ≤ 65536) where
     -- a call in another scope
     pub ready-in : {sc′ : Scope} {t′ : Task} → sc′ .count + 2 * levels′ ≤ 112 → Known (w .lent .sh) t′ → (μ : Values) → Env a sc′ top′ μ → Ready s starts a sc′ top′ levels′ left′ t′
@@ -41,7 +36,8 @@ module _ {s starts b : List ℕ} {sc : Scope} {top levels left : ℕ} {t : Task}
     ready-later h known = ready-in (omega (arith, w .slots)) known (w .env) (env-later kept (w .base) top′ p (w .scoped))
 
 -- a call was done: a value's bytes, and no more steps than were left
-pub record Sizes (len n left levels : ℕ) : Type 0 where
+pub record Sizes (top start len n left levels : ℕ) : Type 0 where
+  pub low : start ≤ top
   pub some : 1 ≤ len
   pub short : len ≤ 256
   pub steps : n ≤ left
@@ -53,9 +49,9 @@ unfolding run get
 deep {l = zero} sh x μ e = absurd (let z : _≡_ {A = ℕ} 0 1 = cc in omega arith)
 deep {l = suc l} sh x μ e = omega arith
 
-pub sizes : {s starts b a : List ℕ} {sc : Scope} {top levels left x len n : ℕ} {r : Walked} → Ready s starts b sc top levels left (enter x)
-    → Gives b a s sc top top left 0 r levels (enter x) → r ≡ Done len n → Sizes len n left levels
+pub sizes : {s starts b a : List ℕ} {sc : Scope} {top levels left x start len n : ℕ} {r : Found} → Ready s starts b sc top levels left (enter x)
+    → Gives b a s sc top top left 0 r levels (enter x) → r ≡ Done start len n → Sizes top start len n left levels
 sizes {left = left} w g e =
     let d = got g (w .lent .sh) (w .lent .read) (w .env) (w .scoped) e in
     let q = within-done left _ (d .is) in
-    record { some = held-some (d .held); short = held-short (d .held); steps = q .1; deep = deep (w .lent .sh) _ (w .env) (q .0) }
+    record { low = d .low; some = held-some (d .held); short = held-short (d .held); steps = q .1; deep = deep (w .lent .sh) _ (w .env) (q .0) }

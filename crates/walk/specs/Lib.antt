@@ -2,13 +2,15 @@ pub mod Parts
 pub mod Scope
 pub mod Arena
 pub mod Seen
+pub mod Found
+pub mod Taken
 pub mod Answers
 pub mod Gets
 pub mod GetReady
 pub mod GetTwo
 pub mod GetEnter
-pub mod Subjects
 pub mod GetLeaf
+pub mod GetAt
 pub mod GetBranch
 pub mod GetCase
 pub mod GetCall
@@ -24,7 +26,6 @@ pub mod PutEnter
 pub mod PutLeaf
 pub mod Shapes
 pub mod PutTwo
-pub mod Storing
 pub mod PutOne
 pub mod PutUnder
 pub mod PutRebuilt

@@ -137,6 +137,50 @@ module _ {from to i : ℕ} {b a : List ℕ} (m : Copying from to i b a) (n : ℕ
       let made : a ≡ paste b to (drop from b) n = m .made ∙ ap (paste b to (drop from b)) e in
       rw made (record { kept = copied-kept b from to n hf ht; bytes = copied-part b from to n hf ht })
 
+-- A BACKWARD COPY of n bytes, up: it reads each before it is overwritten
+
+same-parts : (a b : List ℕ) (i j n : ℕ) → i + n ≤ length a → j + n ≤ length b → ((k : ℕ) → k < n → getD a (i + k) 0 ≡ getD b (j + k) 0) → part a i n ≡ part b j n
+same-parts a b i j n p q h =
+    let la : length (part a i n) ≡ n = part-length a i n p in
+    let lb : length (part b j n) ≡ n = part-length b j n q in
+    ext-getD 0 (part a i n) (part b j n) (la ∙ sym lb)
+    (λ k l.
+    let m : k < n = omega arith in
+    getD-take n (drop i a) k 0 m ∙ getD-drop i a k 0 ∙ h k m ∙ sym (getD-drop j b k 0) ∙ sym (getD-take n (drop j b) k 0 m))
+
+-- the bytes from number i on are copied
+pub record CopyingUp (from to n i : ℕ) (b a : List ℕ) : Type 0 where
+  pub long : length a ≡ length b
+  pub low : (j : ℕ) → j < to + i → getD a j 0 ≡ getD b j 0
+  pub high : (j : ℕ) → i ≤ j → j < n → getD a (to + j) 0 ≡ getD b (from + j) 0
+
+pub copying-up-none : (from to n : ℕ) (b : List ℕ) → CopyingUp from to n n b b
+copying-up-none from to n b = record { long = refl; low = λ j h. refl; high = λ j h l. absurd (omega arith) }
+
+module _ {from to n i : ℕ} {b a : List ℕ} (m : CopyingUp from to n i b a) (hf : from + n ≤ length b) (ht : to + n ≤ length b) where
+  pub copying-up-more : from ≤ to → 0 < i → i ≤ n → CopyingUp from to n (i - 1) b (set a (to + (i - 1)) (getD a (from + (i - 1)) 0))
+  copying-up-more above some few = record {
+    long = length-set a (to + (i - 1)) (getD a (from + (i - 1)) 0) ∙ m .long;
+    low = λ j h. getD-set-other a (to + (i - 1)) j (getD a (from + (i - 1)) 0) 0 (λ e. omega arith) ∙ m .low j (omega arith);
+    high = λ j h l. go j h l (decLt j i);
+  }
+    where
+      go : (j : ℕ) → i - 1 ≤ j → j < n → Dec (j < i) → getD (set a (to + (i - 1)) (getD a (from + (i - 1)) 0)) (to + j) 0 ≡ getD b (from + j) 0
+      go j h l (yes y) =
+          let e : i - 1 ≡ j = omega arith in
+          rw e (getD-set-same a (to + j) (getD a (from + j) 0) 0 (omega (arith, m .long)) ∙ m .low (from + j) (omega arith))
+      go j h l (no y) = getD-set-other a (to + (i - 1)) (to + j) (getD a (from + (i - 1)) 0) 0 (λ e. omega arith) ∙ m .high j (omega arith) l
+
+  pub copying-up-all : i ≡ 0 → Copied from to n b a
+  copying-up-all e = record {
+    kept = record { same = same-parts a b 0 0 to (omega (arith, m .long)) (omega arith) (λ k h. rw zero-add (m .low k (omega arith))); long = m .long };
+    bytes = same-parts a b to from n (omega (arith, m .long)) hf (λ k h. m .high k (omega arith) h);
+  }
+
+-- nothing is copied where the place is the same
+pub copied-same : (from to n : ℕ) (b : List ℕ) → from ≡ to → Copied from to n b b
+copied-same from to n b e = rw e (record { kept = kept-refl to b; bytes = refl })
+
 -- BYTES COPIED TO THE FRONT
 
 -- s stands at the front

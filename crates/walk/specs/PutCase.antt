@@ -22,10 +22,9 @@ use Rattle.rules.specs.Outcome.{Out, done, refused, choose, _>>=_}
 use Rattle.rules.specs.Allowance.{within}
 use Rattle.rules.specs.Rules.{Env as Values, Cells, get, putNode, onList, mkList, mkPair, both, under}
 use Rattle.step.specs.declared.Scope.{Scope}
-use Rattle.walk.specs.declared.Walked.{Walked}
-use Rattle.walk.specs.declared.Walked.the-variants as walked
-use Rattle.step.specs.declared.Put.{Put}
-use Rattle.step.specs.declared.Put.the-variants.{Done, Refused}
+use Rattle.walk.specs.Found.{Found}
+use Rattle.walk.specs.Found as walked
+use Rattle.walk.specs.Taken.{Put, Done, Refused}
 use Rattle.step.specs.declared.Cells.{Cells as Owners}
 use Rattle.walk.specs.Parts.{part, Kept}
 use Rattle.walk.specs.Arena.{Held, Env}
@@ -35,6 +34,7 @@ use Rattle.walk.specs.Cells.{Shown, Frame}
 use Rattle.walk.specs.Frames.{frame-then, kept-frame}
 use Rattle.walk.specs.Shapes.{FrontOf, PairOf, front-of, pair-of, no-pair, empty-of, false-of, true-of, no-list, no-truth, shape-is}
 use Rattle.walk.specs.Gets as gets
+use Rattle.walk.specs.GetCase.{Above, held-above}
 use Rattle.walk.specs.PutRules.{choose-first, choose-second, choose-none, got-few, got-levels, given-later}
 use Rattle.walk.specs.PutTwo.{ready-for}
 use Rattle.walk.specs.Puts.{Task, enter, body, pair as Two, inside, switch, maker, run, Known, Spans, SomeSpans, SomeView, Given, Ready, Gives, Inner}
@@ -93,7 +93,7 @@ subject-ready {sc = sc} {top = top} {l = l} w k =
     let y : sc .count + 2 * suc l ≤ 112 = w .slots in
     record { long = w .long; few = omega (arith, w .few); base = w .base; room = omega arith; slots = omega arith; lent = w .lent; known = k; env = w .env; scoped = w .given .scoped }
 
-module _ {b a₁ s : List ℕ} {sc : Scope} {top left : ℕ} {r₀ : Walked} {l x : ℕ} (base : 32256 ≤ top) (g₀ : gets.Gives b a₁ s sc top top left 0 r₀ l (gets.enter x)) where
+module _ {b a₁ s : List ℕ} {sc : Scope} {top left : ℕ} {r₀ : Found} {l x : ℕ} (base : 32256 ≤ top) (g₀ : gets.Gives b a₁ s sc top top left 0 r₀ l (gets.enter x)) where
   pub frame₀ : Frame top b a₁
   frame₀ = kept-frame (g₀ .kept) base
 
@@ -111,21 +111,24 @@ module _ {b a₁ s : List ℕ} {sc : Scope} {top left : ℕ} {r₀ : Walked} {l 
     split-refused = record { frame = frame₀; long = refl; told = λ w. then-refused _ _ (gets.not-got g₀ _ (w .read) _ (w .scoped) e .1) (record { is = refl }) }
 
 -- the subject is got
-pub record Had (a : List ℕ) (top len k left l x : ℕ) (q : Shape) (sh : Sheet) (μ : Values) : Type 0 where
+pub record Had (a : List ℕ) (top start len k left l x : ℕ) (q : Shape) (sh : Sheet) (μ : Values) : Type 0 where
   pub value : Value
   pub is : within left (get l sh x μ) ≡ done value k
-  pub held : Held a (top + len) top len value
+  pub held : Held a top start len value
   pub shaped : q ≡ shape value
 
 -- two values that stand in the subject
-pub spans-front : {a : List ℕ} {top len mid : ℕ} {o : Value} → 32256 ≤ top → Held a (top + len) top len o → (f : FrontOf o mid) → Spans a (top + len) (top + 1) (mid - 1) (len - mid) (f .first) (list (f .rest))
-spans-front base h f = let t = held-front base (f .at) (rw (f .whole) at h) in record { one = t .first; two = t .second }
+spans-two : {a : List ℕ} {top start len mid : ℕ} {u v : Value} → TwoHeld a top start len mid u v → Spans a top (start + 1) (mid - 1) (len - mid) u v
+spans-two {start = start} {mid = mid} t = let z : start + 1 + (mid - 1) ≡ start + mid = omega (arith, t .some) in record { one = t .first; two = rw z (t .second) }
 
-pub spans-pair : {a : List ℕ} {top len mid : ℕ} {o : Value} → 32256 ≤ top → Held a (top + len) top len o → (f : PairOf o mid) → Spans a (top + len) (top + 1) (mid - 1) (len - mid) (f .first) (f .second)
-spans-pair base h f = let t = held-pair base (f .at) (rw (f .whole) at h) in record { one = t .first; two = t .second }
+pub spans-front : {a : List ℕ} {top start len mid : ℕ} {o : Value} → Held a top start len o → (f : FrontOf o mid) → Spans a top (start + 1) (mid - 1) (len - mid) (f .first) (list (f .rest))
+spans-front h f = spans-two (held-front (f .at) (rw (f .whole) at h))
 
-module _ {b a₁ s : List ℕ} {sc : Scope} {top left : ℕ} {r₀ : Walked} {l x : ℕ} (base : 32256 ≤ top) (g₀ : gets.Gives b a₁ s sc top top left 0 r₀ l (gets.enter x))
-    {len k : ℕ} (e₀ : r₀ ≡ walked.Done len k) where
+pub spans-pair : {a : List ℕ} {top start len mid : ℕ} {o : Value} → Held a top start len o → (f : PairOf o mid) → Spans a top (start + 1) (mid - 1) (len - mid) (f .first) (f .second)
+spans-pair h f = spans-two (held-pair (f .at) (rw (f .whole) at h))
+
+module _ {b a₁ s : List ℕ} {sc : Scope} {top left : ℕ} {r₀ : Found} {l x : ℕ} (base : 32256 ≤ top) (g₀ : gets.Gives b a₁ s sc top top left 0 r₀ l (gets.enter x))
+    {start len k : ℕ} (e₀ : r₀ ≡ walked.Done start len k) {top′ : ℕ} (up : Above top start len top′) where
   -- the subject's length and steps, for the code's sums
   pub subject-few : {starts lens : List ℕ} {P : Value → Type 0} {cells : Owners} {m levels total : ℕ} {T : Task} → Ready s starts b lens P sc cells m top levels total T
       → (len ≤ 256) × (1 ≤ len) × (k ≤ left) × (length a₁ ≡ 65536)
@@ -135,15 +138,15 @@ module _ {b a₁ s : List ℕ} {sc : Scope} {top left : ℕ} {r₀ : Walked} {l 
 
   -- what is given after it
   pub later : {lens : List ℕ} {P : Value → Type 0} {cells : Owners} {m : ℕ} {sh : Sheet} {μ : Values} {σ : List ℕ} {v : Value} {W : Cells} → Given b lens s P sc cells m top sh μ σ v W
-      → Given a₁ lens s P sc cells m (top + len) sh μ σ v W
-  later w = given-later w (g₀ .kept) base (top + len) (omega arith)
+      → Given a₁ lens s P sc cells m top′ sh μ σ v W
+  later w = given-later w (g₀ .kept) base top′ (up .over)
 
   -- what a call after it asks
   pub after-subject : {starts lens : List ℕ} {P : Value → Type 0} {cells : Owners} {m rest : ℕ} {N : Node} {t : Task} (w : Ready s starts b lens P sc cells m top (suc l) (suc left) (body N))
-      → Known (w .lent .sh) t → rest ≤ suc left → Ready s starts a₁ lens P sc cells m (top + len) l rest t
+      → Known (w .lent .sh) t → rest ≤ suc left → Ready s starts a₁ lens P sc cells m top′ l rest t
   after-subject w k h =
       let z : top + 513 * suc l ≤ 65536 = w .room in
-      ready-for w k (later (w .given)) (g₀ .kept .long) h (omega arith) (omega arith) (omega (arith, subject-few w .0))
+      ready-for w k (later (w .given)) (g₀ .kept .long) h (omega arith) (up .over) (omega (arith, subject-few w .0, up .near))
 
   pub inner : {starts lens : List ℕ} {P : Value → Type 0} {cells : Owners} {m : ℕ} {N : Node} (w : Ready s starts b lens P sc cells m top (suc l) (suc left) (body N)) → Inner sc cells l
   inner {cells = cells} w =
@@ -151,20 +154,20 @@ module _ {b a₁ s : List ℕ} {sc : Scope} {top left : ℕ} {r₀ : Walked} {l 
       let z : cells .count + 2 * suc l ≤ 112 = w .more-cells in
       record { some = got-levels g₀ (w .given .read) (w .given .scoped) e₀; slots = omega arith; more-cells = omega arith }
 
-  module _ {q : Shape} (eq : q ≡ shapeOf (part a₁ top (top + len - top))) where
+  module _ {q : Shape} (eq : q ≡ shapeOf (part a₁ start (start + len - start))) where
     pub had : {sh : Sheet} {μ : Values} {lens : List ℕ} {P : Value → Type 0} {cells : Owners} {m : ℕ} {σ : List ℕ} {v : Value} {W : Cells} → Given b lens s P sc cells m top sh μ σ v W
-        → Had a₁ top len k left l x q sh μ
+        → Had a₁ top′ start len k left l x q sh μ
     unfolding gets.run
-    had w = let d = gets.got g₀ _ (w .read) _ (w .scoped) e₀ in record { value = d .value; is = d .is; held = d .held; shaped = shape-is (held-shape (d .held) eq) }
+    had w = let d = gets.got g₀ _ (w .read) _ (w .scoped) e₀ in record { value = d .value; is = d .is; held = held-above up (d .held); shaped = shape-is (held-shape (d .held) eq) }
 
     -- the spans for the branch, and the room for a switch
     pub front-spans : {starts lens : List ℕ} {P : Value → Type 0} {cells : Owners} {m levels total mid : ℕ} {T : Task} → Ready s starts b lens P sc cells m top levels total T → q ≡ is.Front mid
-        → SomeSpans a₁ (top + len) (top + 1) (mid - 1) (len - mid)
-    front-spans w j = let d = had (w .given) in record { f = _; r = _; spans = spans-front base (d .held) (front-of (d .value) (sym j ∙ d .shaped)) }
+        → SomeSpans a₁ top′ (start + 1) (mid - 1) (len - mid)
+    front-spans w j = let d = had (w .given) in record { f = _; r = _; spans = spans-front (d .held) (front-of (d .value) (sym j ∙ d .shaped)) }
 
     pub pair-spans : {starts lens : List ℕ} {P : Value → Type 0} {cells : Owners} {m levels total mid : ℕ} {T : Task} → Ready s starts b lens P sc cells m top levels total T → q ≡ is.Pair mid
-        → SomeSpans a₁ (top + len) (top + 1) (mid - 1) (len - mid)
-    pair-spans w j = let d = had (w .given) in record { f = _; r = _; spans = spans-pair base (d .held) (pair-of (d .value) (sym j ∙ d .shaped)) }
+        → SomeSpans a₁ top′ (start + 1) (mid - 1) (len - mid)
+    pair-spans w j = let d = had (w .given) in record { f = _; r = _; spans = spans-pair (d .held) (pair-of (d .value) (sym j ∙ d .shaped)) }
 
     pub front-inside : {starts lens : List ℕ} {P : Value → Type 0} {cells : Owners} {m levels total mid : ℕ} {T : Task} → Ready s starts b lens P sc cells m top levels total T → q ≡ is.Front mid
         → (1 ≤ mid) × (mid ≤ len)
@@ -185,10 +188,10 @@ module _ {b a₁ s : List ℕ} {sc : Scope} {top left : ℕ} {r₀ : Walked} {l 
         (omega (arith, o .at), omega (arith, o .at))
 
     pub switch-room : {starts lens : List ℕ} {P : Value → Type 0} {cells : Owners} {m total : ℕ} {T : Task} → Ready s starts b lens P sc cells m top (suc l) total T → q ≡ is.Empty
-        → top + len + 512 + 513 * l ≤ 65536
+        → top′ + 512 + 513 * l ≤ 65536
     unfolding size sizes
     switch-room w j =
         let d = had (w .given) in
         let z : top + 513 * suc l ≤ 65536 = w .room in
         let n = rw (empty-of (d .value) (sym j ∙ d .shaped)) at (d .held .long) in
-        omega arith
+        omega (arith, up .near)

@@ -9,12 +9,10 @@ use Rattle.value.specs.Value.{Value}
 use Rattle.sheet.specs.declared.Node.{Node}
 use Rattle.sheet.specs.declared.Node.the-variants.{False}
 use Rattle.sheet.specs.Sheet.{Sheet, readSheet}
-use Rattle.sheet.specs.Table.{nodeAt}
-use Rattle.sheet.specs.Laws.{Ranged, sheet-ranges, node-read, table-start}
+use Rattle.sheet.specs.Laws.{sheet-ranges}
 use Rattle.rules.specs.Rules.{put}
 use Rattle.step.specs.declared.Scope.{Scope}
-use Rattle.step.specs.declared.Put.{Put}
-use Rattle.step.specs.declared.Put.the-variants.{Done, Refused}
+use Rattle.walk.specs.Taken.{Put, Done, Refused}
 use Rattle.step.specs.declared.Cells.{Cells as Owners}
 use Rattle.walk.specs.Answers.{refuse, step, no-step}
 use Rattle.walk.specs.Gets.{Lent}
@@ -26,9 +24,6 @@ use Rattle.step.specs.StepLaws.{no-level, no-step as out-of-steps, both-left}
 -- the sheet that is lent is the one that is read
 pub same-sheet : {s starts : List ℕ} {sh : Sheet} (t : Lent s starts) → readSheet s ≡ ok sh → t .sh ≡ sh
 same-sheet {s} {sh = sh} t e = let q : readSheet s ≡ ok (t .sh) = t .read in cc
-
-node-there : {s starts : List ℕ} {x : ℕ} (t : Lent s starts) → x < length (t .sh .nodes) → nodeAt s (getD starts x 0) ≡ getD (t .sh .nodes) x False
-node-there {s} {starts} {x} t h = ap (nodeAt s) (ap (λ (l : List ℕ). getD l x 0) (t .table) ∙ table-start (t .sh) x h) ∙ node-read s (t .read) x h
 
 module _ {b lens s : List ℕ} {P : Value → Type 0} {sc : Scope} {cells : Owners} {m top left x : ℕ} where
   pub put-40 : {levels : ℕ} → levels ≡ 0 → Gives b b lens lens s P sc cells m top left 0 (Refused 40) levels (enter x)
@@ -50,28 +45,27 @@ module _ {b lens s : List ℕ} {P : Value → Type 0} {sc : Scope} {cells : Owne
       go (suc l) zero p q = let h : levels ≡ 0 → ⊥ = λ y. omega (arith, p, y) in let z : r ≡ 41 = e ∙ sym (out-of-steps levels left h q) in rw z (put-41 h q)
       go (suc l) (suc k) p q = absurd (n (e ∙ sym (both-left levels left (λ y. omega (arith, p, y)) (λ y. omega (arith, q, y)))))
 
-  module _ {starts : List ℕ} {nd N : Node} (read : nd ≡ nodeAt s (getD starts x 0)) (is : nd ≡ N) where
-    put-one : {a lens′ : List ℕ} {r : Put} (l : ℕ) (t : Lent s starts) → x < length (t .sh .nodes) → 0 < left
+  module _ {starts : List ℕ} {N : Node} where
+    put-one : {a lens′ : List ℕ} {r : Put} (l : ℕ) (t : Lent s starts) → getD (t .sh .nodes) x False ≡ N → 0 < left
         → Gives b a lens lens′ s P sc cells m top (left - 1) 1 r l (body N) → Gives b a lens lens′ s P sc cells m top left 0 r (suc l) (enter x)
     unfolding run put
-    put-one l t h p g = record {
+    put-one l t is p g = record {
       frame = g .frame;
       long = g .long;
       told = λ {sh} w.
-          let e : N ≡ getD (sh .nodes) x False = sym is ∙ read ∙ node-there t h ∙ ap (λ (q : Sheet). getD (q .nodes) x False) (same-sheet t (w .read)) in
+          let e : N ≡ getD (sh .nodes) x False = sym is ∙ ap (λ (q : Sheet). getD (q .nodes) x False) (same-sheet t (w .read)) in
           step _ p (rw (← e) (g .told w));
     }
 
     -- the node's own put, which is proved of the node that was read
-    pub put-body : {a lens′ : List ℕ} {r : Put} {levels : ℕ} → (levels ≡ 0 → ⊥) → (left ≡ 0 → ⊥) → Ready s starts b lens P sc cells m top levels left (enter x)
+    pub put-body : {a lens′ : List ℕ} {r : Put} {levels : ℕ} (w : Ready s starts b lens P sc cells m top levels left (enter x)) → (levels ≡ 0 → ⊥) → (left ≡ 0 → ⊥) → getD (w .lent .sh .nodes) x False ≡ N
         → Gives b a lens lens′ s P sc cells m top (left - 1) 1 r (levels - 1) (body N) → Gives b a lens lens′ s P sc cells m top left 0 r levels (enter x)
-    put-body {levels = levels} n p w g = let z : levels ≡ suc (levels - 1) = omega arith in rw z (put-one (levels - 1) (w .lent) (w .known) (omega arith) g)
+    put-body {levels = levels} w n p is g = let z : levels ≡ suc (levels - 1) = omega arith in rw z (put-one (levels - 1) (w .lent) is (omega arith) g)
 
-    pub body-ready : {levels : ℕ} → (levels ≡ 0 → ⊥) → (left ≡ 0 → ⊥) → Ready s starts b lens P sc cells m top levels left (enter x) → Ready s starts b lens P sc cells m top (suc (levels - 1)) (suc (left - 1)) (body N)
-    body-ready {levels} n p w =
+    pub body-ready : {levels : ℕ} (w : Ready s starts b lens P sc cells m top levels left (enter x)) → (levels ≡ 0 → ⊥) → (left ≡ 0 → ⊥) → getD (w .lent .sh .nodes) x False ≡ N → Ready s starts b lens P sc cells m top (suc (levels - 1)) (suc (left - 1)) (body N)
+    body-ready {levels} w n p e =
         let z : suc (levels - 1) ≡ levels = omega arith in
         let y : suc (left - 1) ≡ left = omega arith in
-        let e : getD (w .lent .sh .nodes) x False ≡ N = sym (node-there (w .lent) (w .known)) ∙ sym read ∙ is in
         rw (z, y) (record {
           long = w .long;
           few = w .few;

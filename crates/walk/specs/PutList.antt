@@ -14,10 +14,9 @@ use Rattle.value.specs.declared.Shape.the-variants as is
 use Rattle.sheet.specs.declared.Node.the-variants.{ListCase}
 use Rattle.rules.specs.Rules.{get, putNode, onList, mkList}
 use Rattle.step.specs.declared.Scope.{Scope}
-use Rattle.walk.specs.declared.Walked.{Walked}
-use Rattle.walk.specs.declared.Walked.the-variants as walked
-use Rattle.step.specs.declared.Put.{Put}
-use Rattle.step.specs.declared.Put.the-variants.{Done, Refused}
+use Rattle.walk.specs.Found.{Found}
+use Rattle.walk.specs.Found as walked
+use Rattle.walk.specs.Taken.{Put, Done, Refused}
 use Rattle.step.specs.declared.Cells.{Cells as Owners}
 use Rattle.walk.specs.Parts.{part}
 use Rattle.walk.specs.Answers.{then-done, give, give-none}
@@ -25,19 +24,20 @@ use Rattle.walk.specs.Cells.{Shown}
 use Rattle.walk.specs.Frames.{frame-then}
 use Rattle.walk.specs.Shapes.{FrontOf, front-of, empty-of, no-list}
 use Rattle.walk.specs.Gets as gets
+use Rattle.walk.specs.GetCase.{Above}
 use Rattle.walk.specs.PutRules.{choose-first, choose-second, choose-none}
 use Rattle.walk.specs.PutCase.{shown-yes, shown-no, shown-nil, list-seen, spans-front, frame₀, later, had, Had}
 use Rattle.walk.specs.Puts.{Task, body, pair as Two, inside, switch, maker, run, Spans, Given, Ready, Gives}
 
-module _ {b a₁ s : List ℕ} {sc : Scope} {top left : ℕ} {r₀ : Walked} {l x : ℕ} (base : 32256 ≤ top) (g₀ : gets.Gives b a₁ s sc top top left 0 r₀ l (gets.enter x))
-    {len k : ℕ} (e₀ : r₀ ≡ walked.Done len k) {q : Shape} (eq : q ≡ shapeOf (part a₁ top (top + len - top))) where
+module _ {b a₁ s : List ℕ} {sc : Scope} {top left : ℕ} {r₀ : Found} {l x : ℕ} (base : 32256 ≤ top) (g₀ : gets.Gives b a₁ s sc top top left 0 r₀ l (gets.enter x))
+    {start len k : ℕ} (e₀ : r₀ ≡ walked.Done start len k) {top′ : ℕ} (up : Above top start len top′) {q : Shape} (eq : q ≡ shapeOf (part a₁ start (start + len - start))) where
   pub list-43 : {lens : List ℕ} {P : Value → Type 0} {cells : Owners} {m te tn n₁ n₂ df dr : ℕ} → (q ≡ is.Empty → ⊥) → ((mid : ℕ) → q ≡ is.Front mid → ⊥)
       → Gives b a₁ lens lens s P sc cells m top left 1 (Refused 43) l (body (ListCase x n₁ te n₂ tn df dr))
   unfolding run putNode
   list-43 n f = record {
     frame = frame₀ base g₀;
     long = refl;
-    told = λ w. let d = had base g₀ e₀ eq w in
+    told = λ w. let d = had base g₀ e₀ up eq w in
         then-done _ _ (d .is) (give-none 43 _ (no-list (d .value) (λ j. n (d .shaped ∙ sym j)) (λ mid j. f mid (d .shaped ∙ sym j))) (record { is = refl }));
   }
 
@@ -45,27 +45,27 @@ module _ {b a₁ s : List ℕ} {sc : Scope} {top left : ℕ} {r₀ : Walked} {l 
     -- an empty list
     module _ (j : q ≡ is.Empty) {p₁ : Bool} (e₁ : p₁ ≡ passesBytes te view) where
       pub empty-both : {a lens′ : List ℕ} {r : Put} → p₁ ≡ true
-          → ((u : Value) → Shown (2 ∷ []) u → Gives a₁ a lens lens′ s (Shown view) sc cells (cells .count) (top + len) (left - k) (1 + k) r l (Two n₁ x u))
+          → ((u : Value) → Shown (2 ∷ []) u → Gives a₁ a lens lens′ s (Shown view) sc cells (cells .count) top′ (left - k) (1 + k) r l (Two n₁ x u))
           → Gives b a lens lens′ s (Shown view) sc cells (cells .count) top left 1 r l (body (ListCase x n₁ te n₂ tn df dr))
       unfolding run putNode onList
       empty-both y g = record {
-        frame = frame-then (frame₀ base g₀) (g _ shown-nil .frame) base (omega arith);
+        frame = frame-then (frame₀ base g₀) (g _ shown-nil .frame) base (up .over);
         long = g _ shown-nil .long;
-        told = λ w. let d = had base g₀ e₀ eq w in
-            then-done _ _ (d .is) (give 43 _ (list-seen nil (empty-of (d .value) (sym j ∙ d .shaped)) .1) (choose-first _ _ _ _ (shown-yes te (w .shown) e₁ y) (g _ shown-nil .told (later base g₀ e₀ w))));
+        told = λ w. let d = had base g₀ e₀ up eq w in
+            then-done _ _ (d .is) (give 43 _ (list-seen nil (empty-of (d .value) (sym j ∙ d .shaped)) .1) (choose-first _ _ _ _ (shown-yes te (w .shown) e₁ y) (g _ shown-nil .told (later base g₀ e₀ up w))));
       }
 
       module _ (n : p₁ ≡ false) {p₂ : Bool} (e₂ : p₂ ≡ passesBytes tn view) where
         pub empty-switch : {a lens′ : List ℕ} {r : Put} → p₂ ≡ true
-            → Gives a₁ a lens lens′ s (Shown view) sc cells (cells .count) (top + len) (left - k) (1 + k) r l (switch n₂ x df dr)
+            → Gives a₁ a lens lens′ s (Shown view) sc cells (cells .count) top′ (left - k) (1 + k) r l (switch n₂ x df dr)
             → Gives b a lens lens′ s (Shown view) sc cells (cells .count) top left 1 r l (body (ListCase x n₁ te n₂ tn df dr))
         unfolding run putNode onList
         empty-switch y g = record {
-          frame = frame-then (frame₀ base g₀) (g .frame) base (omega arith);
+          frame = frame-then (frame₀ base g₀) (g .frame) base (up .over);
           long = g .long;
-          told = λ w. let d = had base g₀ e₀ eq w in
+          told = λ w. let d = had base g₀ e₀ up eq w in
               then-done _ _ (d .is) (give 43 _ (list-seen nil (empty-of (d .value) (sym j ∙ d .shaped)) .1)
-              (choose-second _ _ _ _ (shown-no te (w .shown) e₁ n) (shown-yes tn (w .shown) e₂ y) (g .told (later base g₀ e₀ w))));
+              (choose-second _ _ _ _ (shown-no te (w .shown) e₁ n) (shown-yes tn (w .shown) e₂ y) (g .told (later base g₀ e₀ up w))));
         }
 
         pub empty-53 : p₂ ≡ false → Gives b a₁ lens lens s (Shown view) sc cells (cells .count) top left 1 (Refused 53) l (body (ListCase x n₁ te n₂ tn df dr))
@@ -73,7 +73,7 @@ module _ {b a₁ s : List ℕ} {sc : Scope} {top left : ℕ} {r₀ : Walked} {l 
         empty-53 m = record {
           frame = frame₀ base g₀;
           long = refl;
-          told = λ w. let d = had base g₀ e₀ eq w in
+          told = λ w. let d = had base g₀ e₀ up eq w in
               then-done _ _ (d .is) (give 43 _ (list-seen nil (empty-of (d .value) (sym j ∙ d .shaped)) .1)
               (choose-none _ _ _ _ (shown-no te (w .shown) e₁ n) (shown-no tn (w .shown) e₂ m) (record { is = refl })));
         }
@@ -81,36 +81,36 @@ module _ {b a₁ s : List ℕ} {sc : Scope} {top left : ℕ} {r₀ : Walked} {l 
     -- a list with members
     module _ {mid : ℕ} (j : q ≡ is.Front mid) {p₂ : Bool} (e₂ : p₂ ≡ passesBytes tn view) where
       pub front-under : {starts a lens′ : List ℕ} {r : Put} {total levels : ℕ} {T : Task} → Ready s starts b lens (Shown view) sc cells (cells .count) top levels total T → p₂ ≡ true
-          → ((f u : Value) → Spans a₁ (top + len) (top + 1) (mid - 1) (len - mid) f u
-          → Gives a₁ a lens lens′ s (Shown view) sc cells (cells .count) (top + len) (left - k) (1 + k) r l (inside 3 n₂ x f u))
+          → ((f u : Value) → Spans a₁ top′ (start + 1) (mid - 1) (len - mid) f u
+          → Gives a₁ a lens lens′ s (Shown view) sc cells (cells .count) top′ (left - k) (1 + k) r l (inside 3 n₂ x f u))
           → Gives b a lens lens′ s (Shown view) sc cells (cells .count) top left 1 r l (body (ListCase x n₁ te n₂ tn df dr))
       unfolding run putNode onList maker
       front-under w₀ y g =
-          let d₀ = had base g₀ e₀ eq (w₀ .given) in
-          let g′ = g _ _ (spans-front base (d₀ .held) (front-of (d₀ .value) (sym j ∙ d₀ .shaped))) in
+          let d₀ = had base g₀ e₀ up eq (w₀ .given) in
+          let g′ = g _ _ (spans-front (d₀ .held) (front-of (d₀ .value) (sym j ∙ d₀ .shaped))) in
           record {
-            frame = frame-then (frame₀ base g₀) (g′ .frame) base (omega arith);
+            frame = frame-then (frame₀ base g₀) (g′ .frame) base (up .over);
             long = g′ .long;
             told = λ w.
-                let d = had base g₀ e₀ eq w in
+                let d = had base g₀ e₀ up eq w in
                 let o = front-of (d .value) (sym j ∙ d .shaped) in
                 then-done _ _ (d .is) (give 43 _ (list-seen (cons (o .first) (o .rest)) (o .whole) .1)
-                (choose-first _ _ _ _ (shown-yes tn (w .shown) e₂ y) (g _ _ (spans-front base (d .held) o) .told (later base g₀ e₀ w))));
+                (choose-first _ _ _ _ (shown-yes tn (w .shown) e₂ y) (g _ _ (spans-front (d .held) o) .told (later base g₀ e₀ up w))));
           }
 
       module _ (n : p₂ ≡ false) {p₁ : Bool} (e₁ : p₁ ≡ passesBytes te view) where
         pub front-both : {a lens′ : List ℕ} {r : Put} → p₁ ≡ true
-            → ((u : Value) → Shown (2 ∷ []) u → Gives a₁ a lens lens′ s (Shown view) sc cells (cells .count) (top + len) (left - k) (1 + k) r l (Two n₁ x u))
+            → ((u : Value) → Shown (2 ∷ []) u → Gives a₁ a lens lens′ s (Shown view) sc cells (cells .count) top′ (left - k) (1 + k) r l (Two n₁ x u))
             → Gives b a lens lens′ s (Shown view) sc cells (cells .count) top left 1 r l (body (ListCase x n₁ te n₂ tn df dr))
         unfolding run putNode onList
         front-both y g = record {
-          frame = frame-then (frame₀ base g₀) (g _ shown-nil .frame) base (omega arith);
+          frame = frame-then (frame₀ base g₀) (g _ shown-nil .frame) base (up .over);
           long = g _ shown-nil .long;
           told = λ w.
-              let d = had base g₀ e₀ eq w in
+              let d = had base g₀ e₀ up eq w in
               let o = front-of (d .value) (sym j ∙ d .shaped) in
               then-done _ _ (d .is) (give 43 _ (list-seen (cons (o .first) (o .rest)) (o .whole) .1)
-              (choose-second _ _ _ _ (shown-no tn (w .shown) e₂ n) (shown-yes te (w .shown) e₁ y) (g _ shown-nil .told (later base g₀ e₀ w))));
+              (choose-second _ _ _ _ (shown-no tn (w .shown) e₂ n) (shown-yes te (w .shown) e₁ y) (g _ shown-nil .told (later base g₀ e₀ up w))));
         }
 
         pub front-53 : p₁ ≡ false → Gives b a₁ lens lens s (Shown view) sc cells (cells .count) top left 1 (Refused 53) l (body (ListCase x n₁ te n₂ tn df dr))
@@ -119,7 +119,7 @@ module _ {b a₁ s : List ℕ} {sc : Scope} {top left : ℕ} {r₀ : Walked} {l 
           frame = frame₀ base g₀;
           long = refl;
           told = λ w.
-              let d = had base g₀ e₀ eq w in
+              let d = had base g₀ e₀ up eq w in
               let o = front-of (d .value) (sym j ∙ d .shaped) in
               then-done _ _ (d .is) (give 43 _ (list-seen (cons (o .first) (o .rest)) (o .whole) .1)
               (choose-none _ _ _ _ (shown-no tn (w .shown) e₂ n) (shown-no te (w .shown) e₁ m) (record { is = refl })));

@@ -17,8 +17,7 @@ use Rattle.sheet.specs.Table.{sectionAt}
 use Rattle.sheet.specs.Laws.{section-read, sheet-ranges}
 use Rattle.rules.specs.Rules.{Env as Values, Cells, two, putNode}
 use Rattle.step.specs.declared.Scope.{Scope}
-use Rattle.step.specs.declared.Put.{Put}
-use Rattle.step.specs.declared.Put.the-variants.{Done, Refused}
+use Rattle.walk.specs.Taken.{Put, Done, Refused}
 use Rattle.step.specs.declared.Cells.{Cells as Owners}
 use Rattle.step.specs.Step.{picked}
 use Rattle.walk.specs.Arena.{env-pick}

@@ -19,15 +19,14 @@ use Rattle.sheet.specs.Sheet.{Sheet}
 use Rattle.rules.specs.Rules.{Env as Values, Cells, orOld, mkList, mkPair}
 use Rattle.step.specs.declared.Scope.{Scope}
 use Rattle.step.specs.declared.Span.{Span}
-use Rattle.step.specs.declared.Put.{Put}
-use Rattle.step.specs.declared.Put.the-variants.{Done, Refused}
+use Rattle.walk.specs.Taken.{Put, Done, Refused}
 use Rattle.step.specs.declared.Cells.{Cells as Owners}
 use Rattle.walk.specs.Parts.{part}
 use Rattle.walk.specs.Arena.{Held, below-ends}
 use Rattle.walk.specs.Seen.{elem-at}
 use Rattle.walk.specs.Answers.{Answers, give, give-none, give-yes, give-no}
 use Rattle.step.specs.Step.{placeOf, unfitRest}
-use Rattle.walk.specs.Cells.{Slot, blank, full, Written, Shown, rebuiltBytes}
+use Rattle.walk.specs.Cells.{Slot, blank, full, Written, Shown, rebuiltIn, rebuiltBytes}
 use Rattle.walk.specs.Frames.{frame-refl}
 use Rattle.walk.specs.CellLaws.{written-less}
 use Rattle.step.specs.StepLaws.{was-written}
@@ -103,7 +102,7 @@ no-whole x y (aPair e) n = absurd (let q = rw e at n in let z : _≡_ {A = ℕ} 
 -- the bytes that are built
 built-bytes : (a : List ℕ) (k : ℕ) (f r : Span) (x y : Value) → Stands a f x → Stands a r y → length a ≡ 65536 → 1 + f .len + r .len ≤ 256
     → take (1 + f .len + r .len) (rebuiltBytes a k (f .start) (f .len) (r .start) (r .len)) ≡ k ∷ (encode x ++ encode y)
-unfolding rebuiltBytes
+unfolding rebuiltIn
 built-bytes a k f r x y p q l h =
     let d : List ℕ = set (replicate 256 0) 0 k in
     let lf : f .len ≤ length (drop (f .start) a) = rw length-drop (omega (arith, p .inside)) in

@@ -14,10 +14,9 @@ use Rattle.rules.specs.Allowance.{within}
 use Rattle.rules.specs.AllowanceLaws.{within-yes, within-done}
 use Rattle.rules.specs.Rules.{Env as Values, Cells, get, put}
 use Rattle.step.specs.declared.Scope.{Scope}
-use Rattle.walk.specs.declared.Walked.{Walked}
-use Rattle.walk.specs.declared.Walked.the-variants as walked
-use Rattle.step.specs.declared.Put.{Put}
-use Rattle.step.specs.declared.Put.the-variants.{Done, Refused}
+use Rattle.walk.specs.Found.{Found}
+use Rattle.walk.specs.Found as walked
+use Rattle.walk.specs.Taken.{Put, Done, Refused}
 use Rattle.step.specs.declared.Cells.{Cells as Owners}
 use Rattle.walk.specs.Parts.{Kept}
 use Rattle.walk.specs.Arena.{Env, env-later}
@@ -92,8 +91,8 @@ none-left left sh x μ q =
     let k : _≡_ {A = ℕ} 0 1 = cc in
     omega arith
 
-module _ {b a s : List ℕ} {sc : Scope} {top left : ℕ} {r : Walked} {l x : ℕ} (g : gets.Gives b a s sc top top left 0 r l (gets.enter x))
-    {sh : Sheet} (e : readSheet s ≡ ok sh) {μ : Values} (w : Env b sc top μ) {len n : ℕ} (d : r ≡ walked.Done len n) where
+module _ {b a s : List ℕ} {sc : Scope} {top left : ℕ} {r : Found} {l x : ℕ} (g : gets.Gives b a s sc top top left 0 r l (gets.enter x))
+    {sh : Sheet} (e : readSheet s ≡ ok sh) {μ : Values} (w : Env b sc top μ) {start len n : ℕ} (d : r ≡ walked.Done start len n) where
   pub got-few : n ≤ left
   got-few = within-done left (gets.run l sh (gets.enter x) μ) (gets.got g sh e μ w d .is) .1
 

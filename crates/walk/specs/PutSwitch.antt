@@ -13,10 +13,9 @@ use Rattle.rules.specs.Outcome.{Out, done}
 use Rattle.rules.specs.Allowance.{within}
 use Rattle.rules.specs.Rules.{Env as Values, Cells, get, mkList}
 use Rattle.step.specs.declared.Scope.{Scope}
-use Rattle.walk.specs.declared.Walked.{Walked}
-use Rattle.walk.specs.declared.Walked.the-variants as walked
-use Rattle.step.specs.declared.Put.{Put}
-use Rattle.step.specs.declared.Put.the-variants.{Done, Refused}
+use Rattle.walk.specs.Found.{Found}
+use Rattle.walk.specs.Found as walked
+use Rattle.walk.specs.Taken.{Put, Done, Refused}
 use Rattle.step.specs.declared.Cells.{Cells as Owners}
 use Rattle.walk.specs.Scope.{noVariable}
 use Rattle.walk.specs.Parts.{Kept, kept-then}
@@ -48,20 +47,20 @@ default-ready {a = a} {top′ = top′} w e k l h p z = record {
   scoped = env-none a top′ e;
 }
 
-module _ {b a₁ s : List ℕ} {sc₀ : Scope} {top left : ℕ} {r₁ : Walked} {l x₁ : ℕ} (base : 32256 ≤ top) (i₀ : sc₀ ≡ noVariable) (g₁ : gets.Gives b a₁ s sc₀ top top left 0 r₁ l (gets.enter x₁)) where
+module _ {b a₁ s : List ℕ} {sc₀ : Scope} {top left : ℕ} {r₁ : Found} {l x₁ : ℕ} (base : 32256 ≤ top) (i₀ : sc₀ ≡ noVariable) (g₁ : gets.Gives b a₁ s sc₀ top top left 0 r₁ l (gets.enter x₁)) where
   pub switch-refused₁ : {lens : List ℕ} {P : Value → Type 0} {sc : Scope} {cells : Owners} {m c spent y n x₂ : ℕ} → r₁ ≡ walked.Refused c
       → Gives b a₁ lens lens s P sc cells m top left spent (Refused c) l (switch n y x₁ x₂)
   unfolding run gets.run
   switch-refused₁ e = record { frame = kept-frame (g₁ .kept) base; long = refl; told = λ w. then-refused _ _ (gets.not-got g₁ _ (w .read) [] (env-none b top i₀) e .1) (record { is = refl }) }
 
-  module _ {f k : ℕ} (e₁ : r₁ ≡ walked.Done f k) where
+  module _ {f k : ℕ} (e₁ : r₁ ≡ walked.Done top f k) where
     pub switch-few₁ : {starts lens : List ℕ} {P : Value → Type 0} {sc : Scope} {cells : Owners} {m levels total : ℕ} {T : Task} → Ready s starts b lens P sc cells m top levels total T
         → (f ≤ 256) × (k ≤ left) × (length a₁ ≡ 65536)
     switch-few₁ w =
         let d = gets.got g₁ _ (w .given .read) [] (env-none b top i₀) e₁ in
         (held-short (d .held), got-few g₁ (w .given .read) (env-none b top i₀) e₁, g₁ .kept .long ∙ w .long)
 
-    module _ {a₂ : List ℕ} {sc₁ : Scope} {r₂ : Walked} {x₂ : ℕ} (i₁ : sc₁ ≡ noVariable) (g₂ : gets.Gives a₁ a₂ s sc₁ (top + f) (top + f) (left - k) 0 r₂ l (gets.enter x₂)) where
+    module _ {a₂ : List ℕ} {sc₁ : Scope} {r₂ : Found} {x₂ : ℕ} (i₁ : sc₁ ≡ noVariable) (g₂ : gets.Gives a₁ a₂ s sc₁ (top + f) (top + f) (left - k) 0 r₂ l (gets.enter x₂)) where
       pub switch-kept : Kept top b a₂
       switch-kept = kept-then (g₁ .kept) (g₂ .kept) (omega arith)
 
@@ -76,7 +75,7 @@ module _ {b a₁ s : List ℕ} {sc₀ : Scope} {top left : ℕ} {r₁ : Walked} 
             then-done _ _ (d .is) (then-refused _ _ (gets.not-got g₂ _ (w .read) [] (env-none a₁ (top + f) i₁) e .1) (record { is = refl }));
       }
 
-      module _ {r t : ℕ} (e₂ : r₂ ≡ walked.Done r t) where
+      module _ {r t : ℕ} (e₂ : r₂ ≡ walked.Done (top + f) r t) where
         pub switch-few₂ : {starts lens : List ℕ} {P : Value → Type 0} {sc : Scope} {cells : Owners} {m levels total : ℕ} {T : Task} → Ready s starts b lens P sc cells m top levels total T
             → (r ≤ 256) × (1 ≤ r) × (t ≤ left - k) × (length a₂ ≡ 65536)
         switch-few₂ w =
@@ -85,8 +84,8 @@ module _ {b a₁ s : List ℕ} {sc₀ : Scope} {top left : ℕ} {r₁ : Walked} 
 
         -- the two defaults
         record Defaults (sh : Sheet) : Type 0 where
-          first : gets.GotDone a₁ top f k (within left (get l sh x₁ []))
-          rest : gets.GotDone a₂ (top + f) r t (within (left - k) (get l sh x₂ []))
+          first : gets.GotDone a₁ top top f k (within left (get l sh x₁ []))
+          rest : gets.GotDone a₂ (top + f) (top + f) r t (within (left - k) (get l sh x₂ []))
           spans : Spans a₂ (top + f + r) top f r (first .value) (rest .value)
 
         defaults : {lens : List ℕ} {P : Value → Type 0} {sc : Scope} {cells : Owners} {m : ℕ} {sh : Sheet} {μ : Values} {σ : List ℕ} {v : Value} {W : Cells} → Given b lens s P sc cells m top sh μ σ v W → Defaults sh

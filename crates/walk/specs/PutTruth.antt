@@ -13,10 +13,9 @@ use Rattle.value.specs.declared.Shape.the-variants as is
 use Rattle.sheet.specs.declared.Node.the-variants.{TruthCase, Split}
 use Rattle.rules.specs.Rules.{get, putNode, mkPair}
 use Rattle.step.specs.declared.Scope.{Scope}
-use Rattle.walk.specs.declared.Walked.{Walked}
-use Rattle.walk.specs.declared.Walked.the-variants as walked
-use Rattle.step.specs.declared.Put.{Put}
-use Rattle.step.specs.declared.Put.the-variants.{Done, Refused}
+use Rattle.walk.specs.Found.{Found}
+use Rattle.walk.specs.Found as walked
+use Rattle.walk.specs.Taken.{Put, Done, Refused}
 use Rattle.step.specs.declared.Cells.{Cells as Owners}
 use Rattle.walk.specs.Parts.{part}
 use Rattle.walk.specs.Answers.{then-done, give, give-none}
@@ -24,46 +23,47 @@ use Rattle.walk.specs.Cells.{Shown}
 use Rattle.walk.specs.Frames.{frame-then}
 use Rattle.walk.specs.Shapes.{PairOf, pair-of, no-pair, false-of, true-of, no-truth}
 use Rattle.walk.specs.Gets as gets
+use Rattle.walk.specs.GetCase.{Above}
 use Rattle.walk.specs.PutRules.{choose-first, choose-second, choose-none}
 use Rattle.walk.specs.PutCase.{shown-yes, shown-no, shown-false, shown-true, false-seen, true-seen, spans-pair, frame₀, later, had, Had}
 use Rattle.walk.specs.Puts.{Task, body, pair as Two, inside, maker, run, Spans, Given, Ready, Gives}
 
-module _ {b a₁ s : List ℕ} {sc : Scope} {top left : ℕ} {r₀ : Walked} {l x : ℕ} (base : 32256 ≤ top) (g₀ : gets.Gives b a₁ s sc top top left 0 r₀ l (gets.enter x))
-    {len k : ℕ} (e₀ : r₀ ≡ walked.Done len k) {q : Shape} (eq : q ≡ shapeOf (part a₁ top (top + len - top))) where
+module _ {b a₁ s : List ℕ} {sc : Scope} {top left : ℕ} {r₀ : Found} {l x : ℕ} (base : 32256 ≤ top) (g₀ : gets.Gives b a₁ s sc top top left 0 r₀ l (gets.enter x))
+    {start len k : ℕ} (e₀ : r₀ ≡ walked.Done start len k) {top′ : ℕ} (up : Above top start len top′) {q : Shape} (eq : q ≡ shapeOf (part a₁ start (start + len - start))) where
   pub truth-43 : {lens : List ℕ} {P : Value → Type 0} {cells : Owners} {m te tn n₁ n₂ : ℕ} → (q ≡ is.False → ⊥) → (q ≡ is.True → ⊥)
       → Gives b a₁ lens lens s P sc cells m top left 1 (Refused 43) l (body (TruthCase x n₁ te n₂ tn))
   unfolding run putNode
   truth-43 n f = record {
     frame = frame₀ base g₀;
     long = refl;
-    told = λ w. let d = had base g₀ e₀ eq w in
+    told = λ w. let d = had base g₀ e₀ up eq w in
         then-done _ _ (d .is) (give-none 43 _ (no-truth (d .value) (λ j. n (d .shaped ∙ sym j)) (λ j. f (d .shaped ∙ sym j))) (record { is = refl }));
   }
 
   module _ {view lens : List ℕ} {cells : Owners} {te tn n₁ n₂ : ℕ} where
     module _ (j : q ≡ is.False) {p₁ : Bool} (e₁ : p₁ ≡ passesBytes te view) where
       pub false-no : {a lens′ : List ℕ} {r : Put} → p₁ ≡ true
-          → ((u : Value) → Shown (0 ∷ []) u → Gives a₁ a lens lens′ s (Shown view) sc cells (cells .count) (top + len) (left - k) (1 + k) r l (Two n₁ x u))
+          → ((u : Value) → Shown (0 ∷ []) u → Gives a₁ a lens lens′ s (Shown view) sc cells (cells .count) top′ (left - k) (1 + k) r l (Two n₁ x u))
           → Gives b a lens lens′ s (Shown view) sc cells (cells .count) top left 1 r l (body (TruthCase x n₁ te n₂ tn))
       unfolding run putNode
       false-no y g = record {
-        frame = frame-then (frame₀ base g₀) (g _ shown-false .frame) base (omega arith);
+        frame = frame-then (frame₀ base g₀) (g _ shown-false .frame) base (up .over);
         long = g _ shown-false .long;
-        told = λ w. let d = had base g₀ e₀ eq w in
-            then-done _ _ (d .is) (give 43 _ (false-seen (false-of (d .value) (sym j ∙ d .shaped)) .1) (choose-first _ _ _ _ (shown-yes te (w .shown) e₁ y) (g _ shown-false .told (later base g₀ e₀ w))));
+        told = λ w. let d = had base g₀ e₀ up eq w in
+            then-done _ _ (d .is) (give 43 _ (false-seen (false-of (d .value) (sym j ∙ d .shaped)) .1) (choose-first _ _ _ _ (shown-yes te (w .shown) e₁ y) (g _ shown-false .told (later base g₀ e₀ up w))));
       }
 
       module _ (n : p₁ ≡ false) {p₂ : Bool} (e₂ : p₂ ≡ passesBytes tn view) where
         pub false-yes : {a lens′ : List ℕ} {r : Put} → p₂ ≡ true
-            → ((u : Value) → Shown (1 ∷ []) u → Gives a₁ a lens lens′ s (Shown view) sc cells (cells .count) (top + len) (left - k) (1 + k) r l (Two n₂ x u))
+            → ((u : Value) → Shown (1 ∷ []) u → Gives a₁ a lens lens′ s (Shown view) sc cells (cells .count) top′ (left - k) (1 + k) r l (Two n₂ x u))
             → Gives b a lens lens′ s (Shown view) sc cells (cells .count) top left 1 r l (body (TruthCase x n₁ te n₂ tn))
         unfolding run putNode
         false-yes y g = record {
-          frame = frame-then (frame₀ base g₀) (g _ shown-true .frame) base (omega arith);
+          frame = frame-then (frame₀ base g₀) (g _ shown-true .frame) base (up .over);
           long = g _ shown-true .long;
-          told = λ w. let d = had base g₀ e₀ eq w in
+          told = λ w. let d = had base g₀ e₀ up eq w in
               then-done _ _ (d .is) (give 43 _ (false-seen (false-of (d .value) (sym j ∙ d .shaped)) .1)
-              (choose-second _ _ _ _ (shown-no te (w .shown) e₁ n) (shown-yes tn (w .shown) e₂ y) (g _ shown-true .told (later base g₀ e₀ w))));
+              (choose-second _ _ _ _ (shown-no te (w .shown) e₁ n) (shown-yes tn (w .shown) e₂ y) (g _ shown-true .told (later base g₀ e₀ up w))));
         }
 
         pub false-53 : p₂ ≡ false → Gives b a₁ lens lens s (Shown view) sc cells (cells .count) top left 1 (Refused 53) l (body (TruthCase x n₁ te n₂ tn))
@@ -71,34 +71,34 @@ module _ {b a₁ s : List ℕ} {sc : Scope} {top left : ℕ} {r₀ : Walked} {l 
         false-53 m = record {
           frame = frame₀ base g₀;
           long = refl;
-          told = λ w. let d = had base g₀ e₀ eq w in
+          told = λ w. let d = had base g₀ e₀ up eq w in
               then-done _ _ (d .is) (give 43 _ (false-seen (false-of (d .value) (sym j ∙ d .shaped)) .1)
               (choose-none _ _ _ _ (shown-no te (w .shown) e₁ n) (shown-no tn (w .shown) e₂ m) (record { is = refl })));
         }
 
     module _ (j : q ≡ is.True) {p₂ : Bool} (e₂ : p₂ ≡ passesBytes tn view) where
       pub true-yes : {a lens′ : List ℕ} {r : Put} → p₂ ≡ true
-          → ((u : Value) → Shown (1 ∷ []) u → Gives a₁ a lens lens′ s (Shown view) sc cells (cells .count) (top + len) (left - k) (1 + k) r l (Two n₂ x u))
+          → ((u : Value) → Shown (1 ∷ []) u → Gives a₁ a lens lens′ s (Shown view) sc cells (cells .count) top′ (left - k) (1 + k) r l (Two n₂ x u))
           → Gives b a lens lens′ s (Shown view) sc cells (cells .count) top left 1 r l (body (TruthCase x n₁ te n₂ tn))
       unfolding run putNode
       true-yes y g = record {
-        frame = frame-then (frame₀ base g₀) (g _ shown-true .frame) base (omega arith);
+        frame = frame-then (frame₀ base g₀) (g _ shown-true .frame) base (up .over);
         long = g _ shown-true .long;
-        told = λ w. let d = had base g₀ e₀ eq w in
-            then-done _ _ (d .is) (give 43 _ (true-seen (true-of (d .value) (sym j ∙ d .shaped)) .1) (choose-first _ _ _ _ (shown-yes tn (w .shown) e₂ y) (g _ shown-true .told (later base g₀ e₀ w))));
+        told = λ w. let d = had base g₀ e₀ up eq w in
+            then-done _ _ (d .is) (give 43 _ (true-seen (true-of (d .value) (sym j ∙ d .shaped)) .1) (choose-first _ _ _ _ (shown-yes tn (w .shown) e₂ y) (g _ shown-true .told (later base g₀ e₀ up w))));
       }
 
       module _ (n : p₂ ≡ false) {p₁ : Bool} (e₁ : p₁ ≡ passesBytes te view) where
         pub true-no : {a lens′ : List ℕ} {r : Put} → p₁ ≡ true
-            → ((u : Value) → Shown (0 ∷ []) u → Gives a₁ a lens lens′ s (Shown view) sc cells (cells .count) (top + len) (left - k) (1 + k) r l (Two n₁ x u))
+            → ((u : Value) → Shown (0 ∷ []) u → Gives a₁ a lens lens′ s (Shown view) sc cells (cells .count) top′ (left - k) (1 + k) r l (Two n₁ x u))
             → Gives b a lens lens′ s (Shown view) sc cells (cells .count) top left 1 r l (body (TruthCase x n₁ te n₂ tn))
         unfolding run putNode
         true-no y g = record {
-          frame = frame-then (frame₀ base g₀) (g _ shown-false .frame) base (omega arith);
+          frame = frame-then (frame₀ base g₀) (g _ shown-false .frame) base (up .over);
           long = g _ shown-false .long;
-          told = λ w. let d = had base g₀ e₀ eq w in
+          told = λ w. let d = had base g₀ e₀ up eq w in
               then-done _ _ (d .is) (give 43 _ (true-seen (true-of (d .value) (sym j ∙ d .shaped)) .1)
-              (choose-second _ _ _ _ (shown-no tn (w .shown) e₂ n) (shown-yes te (w .shown) e₁ y) (g _ shown-false .told (later base g₀ e₀ w))));
+              (choose-second _ _ _ _ (shown-no tn (w .shown) e₂ n) (shown-yes te (w .shown) e₁ y) (g _ shown-false .told (later base g₀ e₀ up w))));
         }
 
         pub true-53 : p₁ ≡ false → Gives b a₁ lens lens s (Shown view) sc cells (cells .count) top left 1 (Refused 53) l (body (TruthCase x n₁ te n₂ tn))
@@ -106,7 +106,7 @@ module _ {b a₁ s : List ℕ} {sc : Scope} {top left : ℕ} {r₀ : Walked} {l 
         true-53 m = record {
           frame = frame₀ base g₀;
           long = refl;
-          told = λ w. let d = had base g₀ e₀ eq w in
+          told = λ w. let d = had base g₀ e₀ up eq w in
               then-done _ _ (d .is) (give 43 _ (true-seen (true-of (d .value) (sym j ∙ d .shaped)) .1)
               (choose-none _ _ _ _ (shown-no tn (w .shown) e₂ n) (shown-no te (w .shown) e₁ m) (record { is = refl })));
         }
@@ -119,24 +119,24 @@ module _ {b a₁ s : List ℕ} {sc : Scope} {top left : ℕ} {r₀ : Walked} {l 
   split-43 f = record {
     frame = frame₀ base g₀;
     long = refl;
-    told = λ w. let d = had base g₀ e₀ eq w in
+    told = λ w. let d = had base g₀ e₀ up eq w in
         then-done _ _ (d .is) (give-none 43 _ (no-pair (d .value) (λ mid j. f mid (d .shaped ∙ sym j))) (record { is = refl }));
   }
 
   pub split-under : {starts a lens lens′ : List ℕ} {P : Value → Type 0} {cells : Owners} {r : Put} {total levels mid n : ℕ} {T : Task} → q ≡ is.Pair mid
       → Ready s starts b lens P sc cells (cells .count) top levels total T
-      → ((f u : Value) → Spans a₁ (top + len) (top + 1) (mid - 1) (len - mid) f u
-      → Gives a₁ a lens lens′ s P sc cells (cells .count) (top + len) (left - k) (1 + k) r l (inside 5 n x f u))
+      → ((f u : Value) → Spans a₁ top′ (start + 1) (mid - 1) (len - mid) f u
+      → Gives a₁ a lens lens′ s P sc cells (cells .count) top′ (left - k) (1 + k) r l (inside 5 n x f u))
       → Gives b a lens lens′ s P sc cells (cells .count) top left 1 r l (body (Split x n))
   unfolding run putNode maker
   split-under j w₀ g =
-      let d₀ = had base g₀ e₀ eq (w₀ .given) in
-      let g′ = g _ _ (spans-pair base (d₀ .held) (pair-of (d₀ .value) (sym j ∙ d₀ .shaped))) in
+      let d₀ = had base g₀ e₀ up eq (w₀ .given) in
+      let g′ = g _ _ (spans-pair (d₀ .held) (pair-of (d₀ .value) (sym j ∙ d₀ .shaped))) in
       record {
-        frame = frame-then (frame₀ base g₀) (g′ .frame) base (omega arith);
+        frame = frame-then (frame₀ base g₀) (g′ .frame) base (up .over);
         long = g′ .long;
         told = λ w.
-            let d = had base g₀ e₀ eq w in
+            let d = had base g₀ e₀ up eq w in
             let o = pair-of (d .value) (sym j ∙ d .shaped) in
-            then-done _ _ (d .is) (give 43 _ (o .seen) (g _ _ (spans-pair base (d .held) o) .told (later base g₀ e₀ w)));
+            then-done _ _ (d .is) (give 43 _ (o .seen) (g _ _ (spans-pair (d .held) o) .told (later base g₀ e₀ up w)));
       }

@@ -17,8 +17,7 @@ use Rattle.sheet.specs.declared.Node.the-variants.{Front, Pair}
 use Rattle.sheet.specs.Sheet.{Sheet}
 use Rattle.rules.specs.Rules.{Env as Values, Cells, putNode, both}
 use Rattle.step.specs.declared.Scope.{Scope}
-use Rattle.step.specs.declared.Put.{Put}
-use Rattle.step.specs.declared.Put.the-variants.{Done, Refused}
+use Rattle.walk.specs.Taken.{Put, Done, Refused}
 use Rattle.step.specs.declared.Cells.{Cells as Owners}
 use Rattle.walk.specs.Answers.{Answers, then-done, then-refused, give, give-none}
 use Rattle.walk.specs.Cells.{Shown, Frame}

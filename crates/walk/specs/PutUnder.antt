@@ -19,15 +19,14 @@ use Rattle.rules.specs.Outcome.{Out, _>>=_}
 use Rattle.rules.specs.Rules.{Env as Values, Cells, Putter, two, orOld, under, mkList, mkPair}
 use Rattle.step.specs.declared.Scope.{Scope}
 use Rattle.step.specs.declared.Span.{Span}
-use Rattle.step.specs.declared.Put.{Put}
-use Rattle.step.specs.declared.Put.the-variants.{Done, Refused}
+use Rattle.walk.specs.Taken.{Put, Done, Refused}
 use Rattle.step.specs.declared.Cells.{Cells as Owners}
 use Rattle.walk.specs.Scope.{pushed}
 use Rattle.walk.specs.Parts.{part}
 use Rattle.walk.specs.Arena.{Held, Env, env-push, below-ends}
 use Rattle.walk.specs.Seen.{held-short}
 use Rattle.walk.specs.Answers.{Answers, answer-by, then-done, then-refused, give, give-none, give-yes, give-no}
-use Rattle.step.specs.Step.{When, addedTwo, placeOf, unfitRest}
+use Rattle.step.specs.Step.{When, moreCells, placeOf, unfitRest}
 use Rattle.walk.specs.Cells.{Slot, blank, full, Written, Shown, Frame, rebuiltBytes}
 use Rattle.walk.specs.Frames.{frame-refl, frame-then, spans-framed}
 use Rattle.walk.specs.CellLaws.{written-more, written-less, written-at, named-more}
@@ -43,16 +42,16 @@ pub record Opened (lens lens₁ : List ℕ) (sc sc′ : Scope) (cells cells′ :
   pub slots : sc .count + 2 ≤ 110
   pub more-cells : cells .count + 2 ≤ 110
   pub scope : sc′ ≡ pushed (pushed sc start first) (start + first) second
-  pub owners : cells′ ≡ addedTwo cells (sc .count)
+  pub owners : cells′ ≡ moreCells cells (sc .count)
   pub blanks : lens₁ ≡ set (set lens (cells .count) 0) (cells .count + 1) 0
 
 pub opened : (lens : List ℕ) {sc sc′ : Scope} {cells cells′ : Owners} {l : ℕ} (start first second : ℕ) → Inner sc cells l → sc′ ≡ pushed (pushed sc start first) (start + first) second
-    → When ((cells .count + 2 ≤ 110) × (sc .count + 2 ≤ 110)) cells′ (addedTwo cells (sc .count)) cells
+    → (cells .count + 2 ≤ 110 → sc .count + 2 ≤ 110 → cells′ ≡ moreCells cells (sc .count))
     → Opened lens (set (set lens (cells .count) 0) (cells .count + 1) 0) sc sc′ cells cells′ start first second
 opened lens {sc} {cells = cells} start first second i is ic =
     let slots : sc .count + 2 ≤ 110 = omega (arith, i .some, i .slots) in
     let more : cells .count + 2 ≤ 110 = omega (arith, i .some, i .more-cells) in
-    record { slots = slots; more-cells = more; scope = is; owners = ic .inside (more, slots); blanks = refl }
+    record { slots = slots; more-cells = more; scope = is; owners = ic more slots; blanks = refl }
 
 -- where the two variables' values end
 pub spans-few : {a : List ℕ} {top start first second : ℕ} → SomeSpans a top start first second → 32256 ≤ top → (start + first ≤ top) × (second ≤ 256)

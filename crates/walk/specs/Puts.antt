@@ -16,9 +16,9 @@ use Rattle.sheet.specs.Laws.{Ranged}
 use Rattle.rules.specs.Outcome.{Out, done, refused, when, _>>=_, given}
 use Rattle.rules.specs.Rules.{Env as Values, Cells, get, putNode, put, orOld, both, under, mkList, mkPair}
 use Rattle.step.specs.declared.Scope.{Scope}
-use Rattle.step.specs.declared.Put.{Put}
-use Rattle.step.specs.declared.Put.the-variants.{Done, Refused}
+use Rattle.walk.specs.Taken.{Put, Done, Refused}
 use Rattle.step.specs.declared.Cells.{Cells as Owners}
+use Rattle.step.specs.Step.{addedTwo, pickedTwo, moreCells, pickedCells}
 use Rattle.walk.specs.Arena.{Env, Held}
 use Rattle.walk.specs.Answers.{Answers}
 use Rattle.walk.specs.Gets.{Lent}
@@ -133,3 +133,57 @@ pub record Inner (sc : Scope) (cells : Owners) (levels : ℕ) : Type 0 where
   pub some : 1 ≤ levels
   pub slots : sc .count + 2 * levels ≤ 110
   pub more-cells : cells .count + 2 * levels ≤ 110
+
+-- the switch of the list case whose record starts at byte n of the sheet s
+abbrev pub switchAt : List ℕ → ℕ → Task
+switchAt s n = switch (getD s (n + 4) 0) (getD s (n + 1) 0) (getD s (n + 6) 0) (getD s (n + 7) 0)
+
+-- the cells whose array is lent
+abbrev pub owners : (count : ℕ) (of : List ℕ) → Owners
+owners c l = record { count = c; of = l }
+
+-- the same answer by another number, or for a node by another name
+pub as-taken : {b a lens lens′ s : List ℕ} {P : Value → Type 0} {sc : Scope} {cells : Owners} {m top left spent : ℕ} {r q : Put} {l : ℕ} {t : Task} → q ≡ r
+    → Gives b a lens lens′ s P sc cells m top left spent r l t → Gives b a lens lens′ s P sc cells m top left spent q l t
+as-taken e g = rw e g
+
+pub as-task : {b a lens lens′ s : List ℕ} {P : Value → Type 0} {sc : Scope} {cells : Owners} {m top left spent : ℕ} {r : Put} {l : ℕ} {t u : Task} → t ≡ u
+    → Gives b a lens lens′ s P sc cells m top left spent r l t → Gives b a lens lens′ s P sc cells m top left spent r l u
+as-task e g = rw e at g
+
+pub as-pair : {b a lens lens′ s other : List ℕ} {P : Value → Type 0} {sc : Scope} {cells : Owners} {m top left spent : ℕ} {r : Put} {l x y x′ y′ : ℕ} → x ≡ x′ → y ≡ y′
+    → ((u : Value) → Shown other u → Gives b a lens lens′ s P sc cells m top left spent r l (pair x y u))
+    → (u : Value) → Shown other u → Gives b a lens lens′ s P sc cells m top left spent r l (pair x′ y′ u)
+as-pair e f g u h = rw (e, f) at (g u h)
+
+pub as-inside : {b a lens lens′ s : List ℕ} {P : Value → Type 0} {sc : Scope} {cells : Owners} {m top left spent start first second k : ℕ} {r : Put} {l x y x′ y′ : ℕ} → x ≡ x′ → y ≡ y′
+    → ((v u : Value) → Spans b top start first second v u → Gives b a lens lens′ s P sc cells m top left spent r l (inside k x y v u))
+    → (v u : Value) → Spans b top start first second v u → Gives b a lens lens′ s P sc cells m top left spent r l (inside k x′ y′ v u)
+as-inside e f g v u h = rw (e, f) at (g v u h)
+
+-- what is asked, by another name, and in a scope that is the same
+pub as-ready : {s starts a lens : List ℕ} {P : Value → Type 0} {sc : Scope} {cells : Owners} {m top levels left : ℕ} {t u : Task} → t ≡ u
+    → Ready s starts a lens P sc cells m top levels left t → Ready s starts a lens P sc cells m top levels left u
+as-ready e w = rw e at w
+
+pub ready-in : {s starts a lens : List ℕ} {P : Value → Type 0} {sc sc′ : Scope} {cells cells′ : Owners} {m top levels left : ℕ} {t : Task} → sc ≡ sc′ → cells ≡ cells′
+    → Ready s starts a lens P sc′ cells′ m top levels left t → Ready s starts a lens P sc cells m top levels left t
+ready-in e f w = rw (e, f) w
+
+pub gives-in : {b a lens lens′ s : List ℕ} {P : Value → Type 0} {sc sc′ : Scope} {cells cells′ : Owners} {m top left spent : ℕ} {r : Put} {l : ℕ} {t : Task} → sc ≡ sc′ → cells ≡ cells′
+    → Gives b a lens lens′ s P sc cells m top left spent r l t → Gives b a lens lens′ s P sc′ cells′ m top left spent r l t
+gives-in e f g = rw (e, f) at g
+
+pub pair-named : {x y x′ y′ : ℕ} {u : Value} → x′ ≡ x → y′ ≡ y → pair x y u ≡ pair x′ y′ u
+pair-named e f = rw (e, f)
+
+pub inside-named : {k x y x′ y′ : ℕ} {u v : Value} → x′ ≡ x → y′ ≡ y → inside k x y u v ≡ inside k x′ y′ u v
+inside-named e f = rw (e, f)
+
+-- CELLS whose array was copied and changed
+
+pub more-owned : (l : List ℕ) (n c : ℕ) {l′ : List ℕ} → l′ ≡ addedTwo l n c (c + 1) → owners (c + 2) l′ ≡ moreCells (owners c l) n
+more-owned l n c e = rw e
+
+pub picked-owned : (l : List ℕ) (c : ℕ) {x y x′ y′ : ℕ} {l′ : List ℕ} → x ≡ x′ → y ≡ y′ → l′ ≡ pickedTwo l x y → owners c l′ ≡ pickedCells (owners c l) x′ y′
+picked-owned l c d h e = rw (← d, ← h, e)

@@ -17,7 +17,7 @@ use Rattle.value.specs.PartsLaws.{shape, shape-whole, passes-whole}
 use Rattle.value.specs.declared.Shape.{Shape}
 use Rattle.value.specs.declared.Shape.the-variants as shapes
 use Rattle.walk.specs.Parts.{part, part-split}
-use Rattle.walk.specs.Arena.{Held, onStack}
+use Rattle.walk.specs.Arena.{Below, below-part, Held}
 
 module _ {A : Type 0} where
   pub elem-at : (l : List A) (i : ℕ) (d : A) → i < length l → getElem? l i ≡ some (getD l i d)
@@ -111,30 +111,32 @@ parts a top len k n m x y e l z =
     let p = part-split a (k ∷ []) (x ++ y) top 1 (n + m) (rw s at e) refl in
     part-split a x y (top + 1) n m (p .1) l
 
--- two values that stand behind a kind byte; the second starts `mid` bytes behind the kind byte
-pub record TwoHeld (a : List ℕ) (top len mid : ℕ) (u v : Value) : Type 0 where
-  pub first : Held a (top + len) (top + 1) (mid - 1) u
-  pub second : Held a (top + len) (top + 1 + (mid - 1)) (len - mid) v
+-- two values that stand behind a kind byte at `start`; the second starts `mid` bytes behind the kind byte
+pub record TwoHeld (a : List ℕ) (top start len mid : ℕ) (u v : Value) : Type 0 where
+  pub first : Held a top (start + 1) (mid - 1) u
+  pub second : Held a top (start + mid) (len - mid) v
   pub some : 1 ≤ mid
   pub inside : mid ≤ len
 
-module _ {a : List ℕ} {top len : ℕ} (base : 32256 ≤ top) where
-  two-held : (k : ℕ) (u v : Value) → part a top len ≡ k ∷ (encode u ++ encode v) → len ≡ suc (size u + size v) → Readable u → Readable v → TwoHeld a top len (1 + size u) u v
-  two-held k u v e z g h =
+module _ {a : List ℕ} {top start len : ℕ} where
+  two-held : (k : ℕ) (u v : Value) → Below top start len → part a start len ≡ k ∷ (encode u ++ encode v) → len ≡ suc (size u + size v) → Readable u → Readable v
+      → TwoHeld a top start len (1 + size u) u v
+  two-held k u v b e z g h =
       let s : 1 + size u - 1 ≡ size u = omega arith in
       let t : len - (1 + size u) ≡ size v = omega arith in
-      let p = parts a top len k (size u) (size v) (encode u) (encode v) e (size-encode u) (omega arith) in
+      let j : start + 1 + size u ≡ start + (1 + size u) = omega arith in
+      let p = parts a start len k (size u) (size v) (encode u) (encode v) e (size-encode u) (omega arith) in
       record {
-        first = rw s (record { place = onStack (omega arith) (omega arith); long = refl; bytes = p .0; readable = g });
-        second = rw (s, t) (record { place = onStack (omega arith) (omega arith); long = refl; bytes = p .1; readable = h });
+        first = rw s (record { place = below-part 1 (size u) (omega arith) b; long = refl; bytes = p .0; readable = g });
+        second = rw t (record { place = below-part (1 + size u) (size v) (omega arith) b; long = refl; bytes = rw j at (p .1); readable = h });
         some = omega arith;
         inside = omega arith;
       }
 
-  pub held-front : {f : Value} {r : Values} {mid : ℕ} → mid ≡ 1 + size f → Held a (top + len) top len (list (cons f r)) → TwoHeld a top len mid f (list r)
+  pub held-front : {f : Value} {r : Values} {mid : ℕ} → mid ≡ 1 + size f → Held a top start len (list (cons f r)) → TwoHeld a top start len mid f (list r)
   unfolding encode encodes size sizes
-  held-front {f} {r} e h = rw e (two-held 3 f (list r) (h .bytes) (h .long) (readable-front (h .readable) .0) (readable-front (h .readable) .1))
+  held-front {f} {r} e h = rw e (two-held 3 f (list r) (h .place) (h .bytes) (h .long) (readable-front (h .readable) .0) (readable-front (h .readable) .1))
 
-  pub held-pair : {u v : Value} {mid : ℕ} → mid ≡ 1 + size u → Held a (top + len) top len (pair u v) → TwoHeld a top len mid u v
+  pub held-pair : {u v : Value} {mid : ℕ} → mid ≡ 1 + size u → Held a top start len (pair u v) → TwoHeld a top start len mid u v
   unfolding encode size
-  held-pair {u} {v} e h = rw e (two-held 5 u v (h .bytes) (h .long) (readable-pair (h .readable) .0) (readable-pair (h .readable) .1))
+  held-pair {u} {v} e h = rw e (two-held 5 u v (h .place) (h .bytes) (h .long) (readable-pair (h .readable) .0) (readable-pair (h .readable) .1))

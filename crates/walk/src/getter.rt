@@ -1,505 +1,466 @@
-//! Get: the value of a node, written to the arena at the top of its stack. One function a kind.
+//! Get: the value of a node. It stands in the plan, or on the stack from the top on, or below the top where it was already. One function a
+//! kind; a node's record starts at byte `n` of the sheet.
 ghost use mathlib.Core.Path.{_≡_};
 ghost use mathlib.Core.List.{List};
-ghost use Prim.Native.Nat.{ℕ, suc, _+_, _/_, _%_, _≤_, _<_};
-ghost use lib.ListN.{length, set};
-ghost use Rattle.walk.specs.Gets.{Room, Ready, Gives, enter, body, branch};
-ghost use Rattle.walk.specs.Subjects.{Whole, Looks};
-use crate::Walked;
+ghost use Prim.Native.Nat.{ℕ, suc, _+_, _*_, _≤_, _<_};
+ghost use lib.ListN.{length, set, getD};
+ghost use Rattle.step.specs.Step.{When};
+ghost use Rattle.walk.specs.Found.{found, packed};
+ghost use Rattle.walk.specs.Gets.{Ready, Gives, Exact, enter, body, branch, scope, frontAt, pairAt, listCaseAt, truthCaseAt, splitAt, callAt, addAt};
+ghost use Rattle.walk.specs.GetLeaf.{numbered};
+ghost use Rattle.walk.specs.GetCase.{Above};
+use crate::answer::found;
+use crate::answer::len_of;
+use crate::answer::start_of;
+use crate::answer::steps_of;
 use crate::bytes::copy;
-use crate::scope::push_two;
-use sheet::Node;
-use step::Scope;
+use crate::scope::add_two;
 use value::Shape;
 
-/// Where a walk is: the levels and the steps that are left, and the top of the stack.
+/// Where a walk is: the levels and the steps that are left, the top of the stack, and the numbers of variables in scope and of cells
+/// (a get has no use for the cells).
 pub struct At {
     pub levels: usize,
     pub left: usize,
     pub top: usize,
+    pub count: usize,
+    pub cells: usize,
 }
 
-/// The subject of a case: its shape, its length and the steps taken, or a refusal.
-pub enum Subject {
-    Seen {
-        shape: Shape,
-        len: usize,
-        steps: usize,
-    },
-    Refused(u8),
-}
-
-fn get_var(arena: &mut [u8], scope: Scope, x: usize, top: usize) -> Walked
-    requires { ⌜ Room (now arena) scope top ⌝ }
-    ensures { λ r. ⌜ ((s : List ℕ) (left l : ℕ) → Gives (now (arena .entry)) (now (arena .exit)) s scope top top left 1 r l (body (Node.Var x))) ⌝ }
+fn get_var(sheet: &[u8], starts: &[u16; 110], lens: &[u16; 110], n: u16, count: usize) -> usize
+    requires { ⌜ (count ≤ 110) × (getD (now sheet) (n + 1) 0 < count → (getD (now starts) (getD (now sheet) (n + 1) 0) 0 < 65536) × (getD (now lens) (getD (now sheet) (n + 1) 0) 0 < 65536)) ⌝ }
+    ensures { λ r. ⌜ When (getD (now (sheet .entry)) (n + 1) 0 < count) r (packed (getD (now (starts .entry)) (getD (now (sheet .entry)) (n + 1) 0) 0) (getD (now (lens .entry)) (getD (now (sheet .entry)) (n + 1) 0) 0) 1) 42 ⌝ }
 {
-    if scope.count <= x {
-        return Walked::Refused(42);
+    let x = sheet::number_of(sheet, n, 1);
+    if count <= x {
+        return 42;
     }
-    let start = scope.starts[x] as usize;
-    let len = scope.lens[x] as usize;
-    copy(arena, start, top, len);
-    Walked::Done { len, steps: 1 }
+    found(starts[x] as usize, lens[x] as usize, 1)
 }
 
 // False, True and the empty list are one byte, their kind.
-fn get_constant(arena: &mut [u8], kind: u8, top: usize) -> Walked
-    requires { ⌜ top < length (now arena) ⌝ }
-    ensures { λ r. ⌜ (now (arena .exit) ≡ set (now (arena .entry)) top kind) × (r ≡ Walked.Done 1 1) ⌝ }
+fn get_constant(arena: &mut [u8], kind: u8, top: usize) -> usize
+    requires { ⌜ (top < length (now arena)) × (top < 65536) ⌝ }
+    ensures { λ r. ⌜ (now (arena .exit) ≡ set (now (arena .entry)) top kind) × (r ≡ packed top 1 1) ⌝ }
 {
     arena[top] = kind;
-    Walked::Done { len: 1, steps: 1 }
+    found(top, 1, 1)
 }
 
-fn get_number(arena: &mut [u8], n: u16, top: usize) -> Walked
-    requires { ⌜ top + 3 ≤ length (now arena) ⌝ }
-    ensures { λ r. ⌜ (now (arena .exit) ≡ set (set (set (now (arena .entry)) top 4) (top + 1) (n / 256)) (top + 2) (n % 256)) × (r ≡ Walked.Done 3 1) ⌝ }
+fn get_number(sheet: &[u8], arena: &mut [u8], n: u16, top: usize) -> usize
+    requires { ⌜ (top + 3 ≤ length (now arena)) × (top < 65536) ⌝ }
+    ensures { λ r. ⌜ (now (arena .exit) ≡ numbered (now (arena .entry)) top (256 * getD (now (sheet .entry)) (n + 1) 0 + getD (now (sheet .entry)) (n + 2) 0)) × (r ≡ packed top 3 1) ⌝ }
 {
+    let number = value::number(sheet::byte_of(sheet, n, 1), sheet::byte_of(sheet, n, 2));
     arena[top] = 4;
-    arena[top + 1] = value::high(n);
-    arena[top + 2] = value::low(n);
-    Walked::Done { len: 3, steps: 1 }
+    arena[top + 1] = value::high(number);
+    arena[top + 2] = value::low(number);
+    found(top, 3, 1)
+}
+
+/// The top of the stack behind a value that was got at `top`.
+pub fn above(top: usize, start: usize, len: usize) -> usize
+    requires { ⌜ (start ≤ top) × (top + len ≤ 65536) ⌝ }
+    ensures { λ r. ⌜ Above top start len r ⌝ }
+{
+    if start + len < top { top } else { start + len }
 }
 
 /// The value of a node: its depth is judged, then the allowance.
 pub fn get_node(
     sheet: &[u8],
-    starts: &[u16; 200],
+    table: &[u16; 200],
     arena: &mut [u8],
-    scope: Scope,
+    starts: &[u16; 110],
+    lens: &[u16; 110],
     node: usize,
     at: At,
-) -> Walked
-    requires { ⌜ Ready (now sheet) (now starts) (now arena) scope (at .top) (at .levels) (at .left) (enter node) ⌝ }
-    ensures { λ r. ⌜ Gives (now (arena .entry)) (now (arena .exit)) (now (sheet .entry)) scope (at .top) (at .top) (at .left) 0 r (at .levels) (enter node) ⌝ }
+) -> usize
+    requires { ⌜ Ready (now sheet) (now table) (now arena) (scope (at .count) (now starts) (now lens)) (at .top) (at .levels) (at .left) (enter node) ⌝ }
+    ensures { λ r. ⌜ Gives (now (arena .entry)) (now (arena .exit)) (now (sheet .entry)) (scope (at .count) (now (starts .entry)) (now (lens .entry))) (at .top) (at .top) (at .left) 0 (found r) (at .levels) (enter node) ⌝ }
 {
-    let top = at.top;
     let refusal = step::entry(at.levels, at.left);
     if refusal != 0 {
-        return Walked::Refused(refusal);
+        return refusal;
     }
-    let start = starts[node] as usize;
+    let n = table[node];
     let below = At {
         levels: at.levels - 1,
         left: at.left - 1,
-        top,
+        top: at.top,
+        count: at.count,
+        cells: at.cells,
     };
-    match sheet::node_at(sheet, start) {
-        Node::Var(x) => get_var(arena, scope, x, top),
-        Node::False => get_constant(arena, 0, top),
-        Node::True => get_constant(arena, 1, top),
-        Node::Empty => get_constant(arena, 2, top),
-        Node::Number(n) => get_number(arena, n, top),
-        Node::Front { first, rest } => get_front(sheet, starts, arena, scope, first, rest, below),
-        Node::Pair { left, right } => get_pair(sheet, starts, arena, scope, left, right, below),
-        Node::ListCase {
-            subject,
-            empty,
-            empty_test,
-            front,
-            front_test,
-            first,
-            rest,
-        } => get_list_case(
-            sheet,
-            starts,
-            arena,
-            scope,
-            subject,
-            empty,
-            empty_test,
-            front,
-            front_test,
-            first,
-            rest,
-            below,
-        ),
-        Node::TruthCase {
-            subject,
-            no,
-            no_test,
-            yes,
-            yes_test,
-        } => get_truth_case(
-            sheet,
-            starts,
-            arena,
-            scope,
-            subject,
-            no,
-            no_test,
-            yes,
-            yes_test,
-            below,
-        ),
-        Node::Split { subject, inner } => get_split(
-            sheet,
-            starts,
-            arena,
-            scope,
-            subject,
-            inner,
-            below,
-        ),
-        Node::Call {
-            section,
-            first,
-            second,
-        } => get_call(sheet, starts, arena, scope, section, first, second, below),
-        Node::Add { node, amount } => get_add(sheet, starts, arena, scope, node, amount, below),
+    let kind = sheet::byte_of(sheet, n, 0);
+    match kind {
+        0x10 => get_var(sheet, starts, lens, n, at.count),
+        0x11 => get_constant(arena, 0, at.top),
+        0x12 => get_constant(arena, 1, at.top),
+        0x13 => get_constant(arena, 2, at.top),
+        0x14 => get_number(sheet, arena, n, at.top),
+        0x15 => get_front(sheet, table, arena, starts, lens, n, below),
+        0x16 => get_pair(sheet, table, arena, starts, lens, n, below),
+        0x17 => get_list_case(sheet, table, arena, starts, lens, n, below),
+        0x18 => get_truth_case(sheet, table, arena, starts, lens, n, below),
+        0x19 => get_split(sheet, table, arena, starts, lens, n, below),
+        0x1A => get_call(sheet, table, arena, starts, lens, n, below),
+        _ => get_add(sheet, table, arena, starts, lens, n, below),
     }
+}
+
+/// The value of a node, brought to the top of the stack.
+pub fn get_at(
+    sheet: &[u8],
+    table: &[u16; 200],
+    arena: &mut [u8],
+    starts: &[u16; 110],
+    lens: &[u16; 110],
+    node: usize,
+    at: At,
+) -> usize
+    requires { ⌜ Ready (now sheet) (now table) (now arena) (scope (at .count) (now starts) (now lens)) (at .top) (at .levels) (at .left) (enter node) ⌝ }
+    ensures { λ r. ⌜ Gives (now (arena .entry)) (now (arena .exit)) (now (sheet .entry)) (scope (at .count) (now (starts .entry)) (now (lens .entry))) (at .top) (at .top) (at .left) 0 (found r) (at .levels) (enter node) ⌝ }
+    ensures { λ r. ⌜ Exact (at .top) (found r) ⌝ }
+{
+    let top = at.top;
+    let got = get_node(sheet, table, arena, starts, lens, node, at);
+    if got < 256 {
+        return got;
+    }
+    let len = len_of(got);
+    copy(arena, start_of(got), top, len);
+    found(top, len, steps_of(got))
 }
 
 fn get_front(
     sheet: &[u8],
-    starts: &[u16; 200],
+    table: &[u16; 200],
     arena: &mut [u8],
-    scope: Scope,
-    first: usize,
-    rest: usize,
+    starts: &[u16; 110],
+    lens: &[u16; 110],
+    n: u16,
     at: At,
-) -> Walked
-    requires { ⌜ Ready (now sheet) (now starts) (now arena) scope (at .top) (suc (at .levels)) (suc (at .left)) (body (Node.Front first rest)) ⌝ }
-    ensures { λ r. ⌜ Gives (now (arena .entry)) (now (arena .exit)) (now (sheet .entry)) scope (at .top) (at .top) (at .left) 1 r (at .levels) (body (Node.Front first rest)) ⌝ }
+) -> usize
+    requires { ⌜ Ready (now sheet) (now table) (now arena) (scope (at .count) (now starts) (now lens)) (at .top) (suc (at .levels)) (suc (at .left)) (body (frontAt (now sheet) n)) ⌝ }
+    ensures { λ r. ⌜ Gives (now (arena .entry)) (now (arena .exit)) (now (sheet .entry)) (scope (at .count) (now (starts .entry)) (now (lens .entry))) (at .top) (at .top) (at .left) 1 (found r) (at .levels) (body (frontAt (now (sheet .entry)) n)) ⌝ }
 {
     let top = at.top;
-    let left = at.left;
     arena[top] = 3;
     let one = At {
         levels: at.levels,
-        left,
+        left: at.left,
         top: top + 1,
+        count: at.count,
+        cells: at.cells,
     };
-    match get_node(sheet, starts, arena, scope, first, one) {
-        Walked::Refused(c) => Walked::Refused(c),
-        Walked::Done { len: f, steps: s } => {
-            let mid = top + 1 + f;
-            let two = At {
-                levels: at.levels,
-                left: left - s,
-                top: mid,
-            };
-            match get_node(sheet, starts, arena, scope, rest, two) {
-                Walked::Refused(c) => Walked::Refused(c),
-                Walked::Done { len: r, steps: t } => {
-                    let kind = arena[mid];
-                    if kind < 2 {
-                        return Walked::Refused(43);
-                    }
-                    if 3 < kind {
-                        return Walked::Refused(43);
-                    }
-                    if 256 < 1 + f + r {
-                        return Walked::Refused(44);
-                    }
-                    Walked::Done {
-                        len: 1 + f + r,
-                        steps: 1 + s + t,
-                    }
-                }
-            }
-        }
+    let first = sheet::number_of(sheet, n, 1);
+    let a = get_at(sheet, table, arena, starts, lens, first, one);
+    if a < 256 {
+        return a;
     }
+    let f = len_of(a);
+    let s = steps_of(a);
+    let mid = top + 1 + f;
+    let two = At {
+        levels: at.levels,
+        left: at.left - s,
+        top: mid,
+        count: at.count,
+        cells: at.cells,
+    };
+    let second = sheet::number_of(sheet, n, 2);
+    let b = get_at(sheet, table, arena, starts, lens, second, two);
+    if b < 256 {
+        return b;
+    }
+    if step::unfit(3, arena[mid]) {
+        return 43;
+    }
+    let len = 1 + f + len_of(b);
+    if 256 < len {
+        return 44;
+    }
+    found(top, len, 1 + s + steps_of(b))
 }
 
 fn get_pair(
     sheet: &[u8],
-    starts: &[u16; 200],
+    table: &[u16; 200],
     arena: &mut [u8],
-    scope: Scope,
-    a: usize,
-    b: usize,
+    starts: &[u16; 110],
+    lens: &[u16; 110],
+    n: u16,
     at: At,
-) -> Walked
-    requires { ⌜ Ready (now sheet) (now starts) (now arena) scope (at .top) (suc (at .levels)) (suc (at .left)) (body (Node.Pair a b)) ⌝ }
-    ensures { λ r. ⌜ Gives (now (arena .entry)) (now (arena .exit)) (now (sheet .entry)) scope (at .top) (at .top) (at .left) 1 r (at .levels) (body (Node.Pair a b)) ⌝ }
+) -> usize
+    requires { ⌜ Ready (now sheet) (now table) (now arena) (scope (at .count) (now starts) (now lens)) (at .top) (suc (at .levels)) (suc (at .left)) (body (pairAt (now sheet) n)) ⌝ }
+    ensures { λ r. ⌜ Gives (now (arena .entry)) (now (arena .exit)) (now (sheet .entry)) (scope (at .count) (now (starts .entry)) (now (lens .entry))) (at .top) (at .top) (at .left) 1 (found r) (at .levels) (body (pairAt (now (sheet .entry)) n)) ⌝ }
 {
     let top = at.top;
-    let left = at.left;
     arena[top] = 5;
     let one = At {
         levels: at.levels,
-        left,
+        left: at.left,
         top: top + 1,
+        count: at.count,
+        cells: at.cells,
     };
-    match get_node(sheet, starts, arena, scope, a, one) {
-        Walked::Refused(c) => Walked::Refused(c),
-        Walked::Done { len: f, steps: s } => {
-            let mid = top + 1 + f;
-            let two = At {
-                levels: at.levels,
-                left: left - s,
-                top: mid,
-            };
-            match get_node(sheet, starts, arena, scope, b, two) {
-                Walked::Refused(c) => Walked::Refused(c),
-                Walked::Done { len: r, steps: t } => {
-                    if 256 < 1 + f + r {
-                        return Walked::Refused(44);
-                    }
-                    Walked::Done {
-                        len: 1 + f + r,
-                        steps: 1 + s + t,
-                    }
-                }
-            }
-        }
+    let first = sheet::number_of(sheet, n, 1);
+    let a = get_at(sheet, table, arena, starts, lens, first, one);
+    if a < 256 {
+        return a;
     }
+    let f = len_of(a);
+    let s = steps_of(a);
+    let mid = top + 1 + f;
+    let two = At {
+        levels: at.levels,
+        left: at.left - s,
+        top: mid,
+        count: at.count,
+        cells: at.cells,
+    };
+    let second = sheet::number_of(sheet, n, 2);
+    let b = get_at(sheet, table, arena, starts, lens, second, two);
+    if b < 256 {
+        return b;
+    }
+    let len = 1 + f + len_of(b);
+    if 256 < len {
+        return 44;
+    }
+    found(top, len, 1 + s + steps_of(b))
 }
 
-/// The subject of a case, which was got at the top of the stack, by its shape.
-pub fn look(arena: &[u8], top: usize, got: Walked) -> Subject
-    requires { ⌜ Whole (now arena) top got ⌝ }
-    ensures { λ r. ⌜ Looks (now (arena .entry)) top got r ⌝ }
-{
-    match got {
-        Walked::Refused(c) => Subject::Refused(c),
-        Walked::Done { len, steps } => {
-            let end = top + len;
-            let shape = value::shape_of(&arena[top..end]);
-            Subject::Seen { shape, len, steps }
-        }
-    }
-}
-
-// A branch, judged by its test and moved down to `top`; `spent` steps were taken before it.
+// A branch, judged by its test; it stands no higher than `top` then. `spent` steps were taken before it.
 fn get_branch(
     sheet: &[u8],
-    starts: &[u16; 200],
+    table: &[u16; 200],
     arena: &mut [u8],
-    scope: Scope,
+    starts: &[u16; 110],
+    lens: &[u16; 110],
     node: usize,
     test: u8,
     spent: usize,
     top: usize,
     at: At,
-) -> Walked
-    requires { ⌜ Ready (now sheet) (now starts) (now arena) scope (at .top) (at .levels) (spent + at .left) (branch test node) ⌝ }
+) -> usize
+    requires { ⌜ Ready (now sheet) (now table) (now arena) (scope (at .count) (now starts) (now lens)) (at .top) (at .levels) (spent + at .left) (branch test node) ⌝ }
     requires { ⌜ (32256 ≤ top) × (top ≤ at .top) ⌝ }
-    ensures { λ r. ⌜ Gives (now (arena .entry)) (now (arena .exit)) (now (sheet .entry)) scope (at .top) top (at .left) spent r (at .levels) (branch test node) ⌝ }
+    ensures { λ r. ⌜ Gives (now (arena .entry)) (now (arena .exit)) (now (sheet .entry)) (scope (at .count) (now (starts .entry)) (now (lens .entry))) (at .top) top (at .left) spent (found r) (at .levels) (branch test node) ⌝ }
 {
-    let from = at.top;
-    match get_node(sheet, starts, arena, scope, node, at) {
-        Walked::Refused(c) => Walked::Refused(c),
-        Walked::Done { len, steps } => {
-            let end = from + len;
-            if value::passes(test, &arena[from..end]) {
-                copy(arena, from, top, len);
-                return Walked::Done {
-                    len,
-                    steps: spent + steps,
-                };
-            }
-            Walked::Refused(46)
-        }
+    let got = get_node(sheet, table, arena, starts, lens, node, at);
+    if got < 256 {
+        return got;
     }
+    let start = start_of(got);
+    let len = len_of(got);
+    let end = start + len;
+    let refusal = step::tested(test, &arena[start..end]);
+    if refusal != 0 {
+        return refusal;
+    }
+    let steps = spent + steps_of(got);
+    if start <= top {
+        return found(start, len, steps);
+    }
+    copy(arena, start, top, len);
+    found(top, len, steps)
 }
 
 fn get_list_case(
     sheet: &[u8],
-    starts: &[u16; 200],
+    table: &[u16; 200],
     arena: &mut [u8],
-    scope: Scope,
-    subject: usize,
-    empty: usize,
-    empty_test: u8,
-    front: usize,
-    front_test: u8,
-    first: usize,
-    rest: usize,
+    starts: &[u16; 110],
+    lens: &[u16; 110],
+    n: u16,
     at: At,
-) -> Walked
-    requires { ⌜ Ready (now sheet) (now starts) (now arena) scope (at .top) (suc (at .levels)) (suc (at .left)) (body (Node.ListCase subject empty «empty_test» front «front_test» first rest)) ⌝ }
-    ensures { λ r. ⌜ Gives (now (arena .entry)) (now (arena .exit)) (now (sheet .entry)) scope (at .top) (at .top) (at .left) 1 r (at .levels) (body (Node.ListCase subject empty «empty_test» front «front_test» first rest)) ⌝ }
+) -> usize
+    requires { ⌜ Ready (now sheet) (now table) (now arena) (scope (at .count) (now starts) (now lens)) (at .top) (suc (at .levels)) (suc (at .left)) (body (listCaseAt (now sheet) n)) ⌝ }
+    ensures { λ r. ⌜ Gives (now (arena .entry)) (now (arena .exit)) (now (sheet .entry)) (scope (at .count) (now (starts .entry)) (now (lens .entry))) (at .top) (at .top) (at .left) 1 (found r) (at .levels) (body (listCaseAt (now (sheet .entry)) n)) ⌝ }
 {
+    let subject = sheet::number_of(sheet, n, 1);
+    let got = get_node(sheet, table, arena, starts, lens, subject, at);
+    if got < 256 {
+        return got;
+    }
+    let start = start_of(got);
+    let len = len_of(got);
+    let end = start + len;
+    let steps = steps_of(got);
+    let s = 1 + steps;
     let base = at.top;
-    let got = get_node(sheet, starts, arena, scope, subject, at);
-    match look(arena, base, got) {
-        Subject::Refused(c) => Walked::Refused(c),
-        Subject::Seen { shape, len, steps } => {
-            let levels = at.levels;
-            let left = at.left - steps;
-            let top = base + len;
-            let inner = At { levels, left, top };
-            match shape {
-                Shape::Empty => get_branch(
-                    sheet,
-                    starts,
-                    arena,
-                    scope,
-                    empty,
-                    empty_test,
-                    1 + steps,
-                    base,
-                    inner,
-                ),
-                Shape::Front(mid) => {
-                    let more = push_two(scope, base + 1, mid - 1, len - mid);
-                    get_branch(
-                        sheet,
-                        starts,
-                        arena,
-                        more,
-                        front,
-                        front_test,
-                        1 + steps,
-                        base,
-                        inner,
-                    )
-                }
-                _ => Walked::Refused(43),
-            }
+    let mut to = at;
+    to.left = at.left - steps;
+    to.top = above(base, start, len);
+    match value::shape_of(&arena[start..end]) {
+        Shape::Empty => {
+            let node = sheet::number_of(sheet, n, 2);
+            let test = sheet::byte_of(sheet, n, 3);
+            get_branch(sheet, table, arena, starts, lens, node, test, s, base, to)
         }
+        Shape::Front(mid) => {
+            let node = sheet::number_of(sheet, n, 4);
+            let test = sheet::byte_of(sheet, n, 5);
+            let count = at.count;
+            let mut starts = *starts;
+            let mut lens = *lens;
+            add_two(&mut starts, count, start + 1, start + mid);
+            add_two(&mut lens, count, mid - 1, len - mid);
+            to.count = count + 2;
+            get_branch(sheet, table, arena, &starts, &lens, node, test, s, base, to)
+        }
+        _ => 43,
     }
 }
 
 fn get_truth_case(
     sheet: &[u8],
-    starts: &[u16; 200],
+    table: &[u16; 200],
     arena: &mut [u8],
-    scope: Scope,
-    subject: usize,
-    no: usize,
-    no_test: u8,
-    yes: usize,
-    yes_test: u8,
+    starts: &[u16; 110],
+    lens: &[u16; 110],
+    n: u16,
     at: At,
-) -> Walked
-    requires { ⌜ Ready (now sheet) (now starts) (now arena) scope (at .top) (suc (at .levels)) (suc (at .left)) (body (Node.TruthCase subject no «no_test» yes «yes_test»)) ⌝ }
-    ensures { λ r. ⌜ Gives (now (arena .entry)) (now (arena .exit)) (now (sheet .entry)) scope (at .top) (at .top) (at .left) 1 r (at .levels) (body (Node.TruthCase subject no «no_test» yes «yes_test»)) ⌝ }
+) -> usize
+    requires { ⌜ Ready (now sheet) (now table) (now arena) (scope (at .count) (now starts) (now lens)) (at .top) (suc (at .levels)) (suc (at .left)) (body (truthCaseAt (now sheet) n)) ⌝ }
+    ensures { λ r. ⌜ Gives (now (arena .entry)) (now (arena .exit)) (now (sheet .entry)) (scope (at .count) (now (starts .entry)) (now (lens .entry))) (at .top) (at .top) (at .left) 1 (found r) (at .levels) (body (truthCaseAt (now (sheet .entry)) n)) ⌝ }
 {
+    let subject = sheet::number_of(sheet, n, 1);
+    let got = get_node(sheet, table, arena, starts, lens, subject, at);
+    if got < 256 {
+        return got;
+    }
+    let start = start_of(got);
+    let len = len_of(got);
+    let end = start + len;
+    let steps = steps_of(got);
+    let s = 1 + steps;
     let base = at.top;
-    let got = get_node(sheet, starts, arena, scope, subject, at);
-    match look(arena, base, got) {
-        Subject::Refused(c) => Walked::Refused(c),
-        Subject::Seen { shape, len, steps } => {
-            let levels = at.levels;
-            let left = at.left - steps;
-            let top = base + len;
-            let inner = At { levels, left, top };
-            match shape {
-                Shape::False => get_branch(
-                    sheet,
-                    starts,
-                    arena,
-                    scope,
-                    no,
-                    no_test,
-                    1 + steps,
-                    base,
-                    inner,
-                ),
-                Shape::True => get_branch(
-                    sheet,
-                    starts,
-                    arena,
-                    scope,
-                    yes,
-                    yes_test,
-                    1 + steps,
-                    base,
-                    inner,
-                ),
-                _ => Walked::Refused(43),
-            }
+    let mut to = at;
+    to.left = at.left - steps;
+    to.top = above(base, start, len);
+    match value::shape_of(&arena[start..end]) {
+        Shape::False => {
+            let node = sheet::number_of(sheet, n, 2);
+            let test = sheet::byte_of(sheet, n, 3);
+            get_branch(sheet, table, arena, starts, lens, node, test, s, base, to)
         }
+        Shape::True => {
+            let node = sheet::number_of(sheet, n, 4);
+            let test = sheet::byte_of(sheet, n, 5);
+            get_branch(sheet, table, arena, starts, lens, node, test, s, base, to)
+        }
+        _ => 43,
     }
 }
 
 // The inner node is a branch with no test of its own: 0 says yes to anything.
 fn get_split(
     sheet: &[u8],
-    starts: &[u16; 200],
+    table: &[u16; 200],
     arena: &mut [u8],
-    scope: Scope,
-    subject: usize,
-    node: usize,
+    starts: &[u16; 110],
+    lens: &[u16; 110],
+    n: u16,
     at: At,
-) -> Walked
-    requires { ⌜ Ready (now sheet) (now starts) (now arena) scope (at .top) (suc (at .levels)) (suc (at .left)) (body (Node.Split subject node)) ⌝ }
-    ensures { λ r. ⌜ Gives (now (arena .entry)) (now (arena .exit)) (now (sheet .entry)) scope (at .top) (at .top) (at .left) 1 r (at .levels) (body (Node.Split subject node)) ⌝ }
+) -> usize
+    requires { ⌜ Ready (now sheet) (now table) (now arena) (scope (at .count) (now starts) (now lens)) (at .top) (suc (at .levels)) (suc (at .left)) (body (splitAt (now sheet) n)) ⌝ }
+    ensures { λ r. ⌜ Gives (now (arena .entry)) (now (arena .exit)) (now (sheet .entry)) (scope (at .count) (now (starts .entry)) (now (lens .entry))) (at .top) (at .top) (at .left) 1 (found r) (at .levels) (body (splitAt (now (sheet .entry)) n)) ⌝ }
 {
-    let base = at.top;
-    let got = get_node(sheet, starts, arena, scope, subject, at);
-    match look(arena, base, got) {
-        Subject::Refused(c) => Walked::Refused(c),
-        Subject::Seen { shape, len, steps } => {
-            let levels = at.levels;
-            let left = at.left - steps;
-            let top = base + len;
-            let inner = At { levels, left, top };
-            match shape {
-                Shape::Pair(mid) => {
-                    let more = push_two(scope, base + 1, mid - 1, len - mid);
-                    get_branch(sheet, starts, arena, more, node, 0, 1 + steps, base, inner)
-                }
-                _ => Walked::Refused(43),
-            }
-        }
+    let subject = sheet::number_of(sheet, n, 1);
+    let got = get_node(sheet, table, arena, starts, lens, subject, at);
+    if got < 256 {
+        return got;
     }
+    let start = start_of(got);
+    let len = len_of(got);
+    let end = start + len;
+    let steps = steps_of(got);
+    let s = 1 + steps;
+    let base = at.top;
+    let mut to = at;
+    to.left = at.left - steps;
+    to.top = above(base, start, len);
+    let Shape::Pair(mid) = value::shape_of(&arena[start..end]) else {
+        return 43;
+    };
+    let node = sheet::number_of(sheet, n, 2);
+    let count = at.count;
+    let mut starts = *starts;
+    let mut lens = *lens;
+    add_two(&mut starts, count, start + 1, start + mid);
+    add_two(&mut lens, count, mid - 1, len - mid);
+    to.count = count + 2;
+    get_branch(sheet, table, arena, &starts, &lens, node, 0, s, base, to)
 }
 
 fn get_call(
     sheet: &[u8],
-    starts: &[u16; 200],
+    table: &[u16; 200],
     arena: &mut [u8],
-    scope: Scope,
-    section: usize,
-    x: usize,
-    y: usize,
+    starts: &[u16; 110],
+    lens: &[u16; 110],
+    n: u16,
     at: At,
-) -> Walked
-    requires { ⌜ Ready (now sheet) (now starts) (now arena) scope (at .top) (suc (at .levels)) (suc (at .left)) (body (Node.Call section x y)) ⌝ }
-    ensures { λ r. ⌜ Gives (now (arena .entry)) (now (arena .exit)) (now (sheet .entry)) scope (at .top) (at .top) (at .left) 1 r (at .levels) (body (Node.Call section x y)) ⌝ }
+) -> usize
+    requires { ⌜ Ready (now sheet) (now table) (now arena) (scope (at .count) (now starts) (now lens)) (at .top) (suc (at .levels)) (suc (at .left)) (body (callAt (now sheet) n)) ⌝ }
+    ensures { λ r. ⌜ Gives (now (arena .entry)) (now (arena .exit)) (now (sheet .entry)) (scope (at .count) (now (starts .entry)) (now (lens .entry))) (at .top) (at .top) (at .left) 1 (found r) (at .levels) (body (callAt (now (sheet .entry)) n)) ⌝ }
 {
-    if scope.count <= x {
-        return Walked::Refused(42);
+    let x = sheet::number_of(sheet, n, 2);
+    let y = sheet::number_of(sheet, n, 3);
+    if at.count <= x {
+        return 42;
     }
-    if scope.count <= y {
-        return Walked::Refused(42);
+    if at.count <= y {
+        return 42;
     }
+    let section = sheet::number_of(sheet, n, 1);
     let root = sheet::section_root(sheet, section);
-    match get_node(sheet, starts, arena, step::pick_two(scope, x, y), root, at) {
-        Walked::Refused(c) => Walked::Refused(c),
-        Walked::Done { len, steps } => Walked::Done {
-            len,
-            steps: 1 + steps,
-        },
+    let two_starts = step::pick_two(starts, x, y);
+    let two_lens = step::pick_two(lens, x, y);
+    let inner = At {
+        levels: at.levels,
+        left: at.left,
+        top: at.top,
+        count: 2,
+        cells: at.cells,
+    };
+    let got = get_node(sheet, table, arena, &two_starts, &two_lens, root, inner);
+    if got < 256 {
+        return got;
     }
+    found(start_of(got), len_of(got), 1 + steps_of(got))
 }
 
 fn get_add(
     sheet: &[u8],
-    starts: &[u16; 200],
+    table: &[u16; 200],
     arena: &mut [u8],
-    scope: Scope,
-    node: usize,
-    amount: u16,
+    starts: &[u16; 110],
+    lens: &[u16; 110],
+    n: u16,
     at: At,
-) -> Walked
-    requires { ⌜ Ready (now sheet) (now starts) (now arena) scope (at .top) (suc (at .levels)) (suc (at .left)) (body (Node.Add node amount)) ⌝ }
-    ensures { λ r. ⌜ Gives (now (arena .entry)) (now (arena .exit)) (now (sheet .entry)) scope (at .top) (at .top) (at .left) 1 r (at .levels) (body (Node.Add node amount)) ⌝ }
+) -> usize
+    requires { ⌜ Ready (now sheet) (now table) (now arena) (scope (at .count) (now starts) (now lens)) (at .top) (suc (at .levels)) (suc (at .left)) (body (addAt (now sheet) n)) ⌝ }
+    ensures { λ r. ⌜ Gives (now (arena .entry)) (now (arena .exit)) (now (sheet .entry)) (scope (at .count) (now (starts .entry)) (now (lens .entry))) (at .top) (at .top) (at .left) 1 (found r) (at .levels) (body (addAt (now (sheet .entry)) n)) ⌝ }
 {
     let top = at.top;
-    match get_node(sheet, starts, arena, scope, node, at) {
-        Walked::Refused(c) => Walked::Refused(c),
-        Walked::Done { len, steps } => {
-            let end = top + len;
-            match value::shape_of(&arena[top..end]) {
-                Shape::Number(m) => {
-                    if 65535 - m < amount {
-                        return Walked::Refused(45);
-                    }
-                    let sum = m + amount;
-                    arena[top + 1] = value::high(sum);
-                    arena[top + 2] = value::low(sum);
-                    Walked::Done {
-                        len: 3,
-                        steps: 1 + steps,
-                    }
-                }
-                _ => Walked::Refused(43),
-            }
-        }
+    let node = sheet::number_of(sheet, n, 1);
+    let got = get_at(sheet, table, arena, starts, lens, node, at);
+    if got < 256 {
+        return got;
     }
+    let end = top + len_of(got);
+    let Shape::Number(m) = value::shape_of(&arena[top..end]) else {
+        return 43;
+    };
+    let amount = value::number(sheet::byte_of(sheet, n, 2), sheet::byte_of(sheet, n, 3));
+    if 65535 - m < amount {
+        return 45;
+    }
+    let sum = m + amount;
+    arena[top + 1] = value::high(sum);
+    arena[top + 2] = value::low(sum);
+    found(top, 3, 1 + steps_of(got))
 }

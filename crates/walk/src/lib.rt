@@ -7,20 +7,23 @@ ghost use Rattle.walk.specs.Entry.{Planned, PlanWalked, WalkCall};
 ghost use Rattle.walk.specs.Gather.{SomePlaced, Gathered};
 ghost use Rattle.walk.specs.PutEntry.{Viewed};
 
+mod answer;
 mod bytes;
 mod getter;
 mod putter;
 mod scope;
 
+use crate::answer::len_of;
+use crate::answer::steps_of;
+use crate::answer::taken;
 use crate::bytes::copy;
 use crate::bytes::copy_in;
 use crate::getter::At;
-use crate::getter::get_node;
+use crate::getter::get_at;
 use crate::putter::first_cells;
 use crate::putter::put_node;
 use crate::scope::of_spans;
 use sheet::Table;
-use step::Put;
 use step::Scope;
 
 /// What a walk gives: `len` bytes at the top of the stack and the steps taken, or a refusal.
@@ -42,18 +45,24 @@ fn get_plan(
     ensures { λ r. ⌜ PlanWalked 256 (getBytes (now (sheet .entry)) (now (plan .entry)) allowance) (now (arena .entry)) (now (arena .exit)) r ⌝ }
 {
     copy_in(plan, arena);
-    get_node(
-        sheet,
-        &table.starts,
-        arena,
-        scope,
-        table.root,
-        At {
-            levels: 48,
-            left: allowance,
-            top: 32256,
-        },
-    )
+    let at = At {
+        levels: 48,
+        left: allowance,
+        top: 32256,
+        count: scope.count,
+        cells: 0,
+    };
+    let starts = scope.starts;
+    let lens = scope.lens;
+    let root = table.root;
+    let got = get_at(sheet, &table.starts, arena, &starts, &lens, root, at);
+    if got < 256 {
+        return Walked::Refused(got as u8);
+    }
+    Walked::Done {
+        len: len_of(got),
+        steps: steps_of(got),
+    }
 }
 
 /// Get: the value of a sheet's root for a plan, at byte 32,256 of the arena, of which the first 65,536 bytes are used.
@@ -109,28 +118,36 @@ fn put_plan(
     ensures { λ r. ⌜ PlanWalked 4096 (putBytes (now (sheet .entry)) (now (plan .entry)) (now (view .entry)) allowance) (now (arena .entry)) (now (arena .exit)) r ⌝ }
 {
     copy_in(plan, arena);
-    let mut lens = [0u16; 110];
+    let mut slots = [0u16; 110];
+    let starts = scope.starts;
+    let lens = scope.lens;
     let cells = first_cells(scope.count);
-    match put_node(
+    let at = At {
+        levels: 48,
+        left: allowance,
+        top: 32256,
+        count: scope.count,
+        cells: cells.count,
+    };
+    let put = put_node(
         sheet,
         &table.starts,
         arena,
-        &mut lens,
-        scope,
-        cells,
+        &mut slots,
+        &starts,
+        &lens,
+        &cells.of,
         table.root,
         view,
-        At {
-            levels: 48,
-            left: allowance,
-            top: 32256,
-        },
-    ) {
-        Put::Refused(c) => Walked::Refused(c),
-        Put::Done(steps) => {
-            let len = gather(arena, &lens, scope);
-            Walked::Done { len, steps }
-        }
+        at,
+    );
+    if put < 256 {
+        return Walked::Refused(put as u8);
+    }
+    let len = gather(arena, &slots, scope);
+    Walked::Done {
+        len,
+        steps: taken(put),
     }
 }
 

@@ -1,27 +1,40 @@
-//! Put: a view put back into a node, with what was written in the arena's cells. One function a kind.
+//! Put: a view put back into a node, with what was written in the arena's cells. One function a kind; a node's record starts at byte `n` of
+//! the sheet.
 ghost use mathlib.Core.Path.{_≡_};
 ghost use mathlib.Core.List.{List, [], _∷_};
-ghost use Prim.Native.Nat.{ℕ, suc, _+_, _*_, _/_, _%_, _≤_, _<_};
+ghost use Prim.Native.Nat.{ℕ, suc, _+_, _*_, _≤_, _<_};
 ghost use Rattle.value.specs.Value.{Value, vfalse};
+ghost use Rattle.step.specs.declared.Scope.{Scope};
+ghost use Rattle.value.specs.Parts.{sameBytes};
+ghost use Rattle.step.specs.Step.{judged, addedTwo, moreCells};
+ghost use Rattle.walk.specs.Scope.{pushed};
 ghost use Rattle.walk.specs.Cells.{Shown};
-ghost use Rattle.walk.specs.Puts.{Ready, Inner, Gives, Any, Spans, SomeSpans, SomeView, enter, body, pair, inside, rebuilt, switch};
-ghost use Rattle.walk.specs.PutLeaf.{Leaf};
+ghost use Rattle.walk.specs.Taken.{taken};
+ghost use Rattle.walk.specs.Gets.{scope, varAt, frontAt, pairAt, listCaseAt, truthCaseAt, splitAt, callAt, addAt};
+ghost use Rattle.walk.specs.Puts.{Ready, Inner, Gives, Any, Spans, SomeSpans, SomeView, owners, enter, body, pair, inside, rebuilt, switchAt};
+ghost use Rattle.walk.specs.PutLeaf.{Leaf, numberBytes};
 ghost use Rattle.walk.specs.Gather.{Counted};
-use crate::Walked;
+use crate::answer::len_of;
+use crate::answer::start_of;
+use crate::answer::steps_of;
+use crate::answer::taken;
+use crate::answer::took;
 use crate::bytes::rebuild;
-use crate::bytes::store;
 use crate::getter::At;
-use crate::getter::Subject;
+use crate::getter::above;
+use crate::getter::get_at;
 use crate::getter::get_node;
-use crate::getter::look;
-use crate::scope::empty;
-use crate::scope::push_two;
-use sheet::Node;
+use crate::scope::add_two;
 use step::Branch;
 use step::Cells;
-use step::Put;
-use step::Scope;
 use value::Shape;
+
+/// Two values that stand one after the other: where the first starts, and how long each is.
+pub struct Parts {
+    pub start: usize,
+    pub first: usize,
+    pub second: usize,
+}
 
 /// The cells of the k variables of a plan: cell i for variable i.
 pub fn first_cells(k: usize) -> Cells
@@ -38,243 +51,169 @@ pub fn first_cells(k: usize) -> Cells
 }
 
 fn put_var(
+    sheet: &[u8],
     arena: &mut [u8],
-    lens: &mut [u16; 110],
-    scope: Scope,
-    cells: Cells,
-    x: usize,
+    slots: &mut [u16; 110],
+    cells: &[u8; 110],
+    n: u16,
     view: &[u8],
-) -> Put
-    requires { ⌜ Leaf (now arena) (now lens) (now view) scope cells ⌝ }
-    ensures { λ r. ⌜ ((s : List ℕ) (top left l : ℕ) → Gives (now (arena .entry)) (now (arena .exit)) (now (lens .entry)) (now (lens .exit)) s (Shown (now (view .entry))) scope cells (cells .count) top left 1 r l (body (Node.Var x))) ⌝ }
+    at: At,
+) -> usize
+    requires { ⌜ Leaf (now arena) (now slots) (now view) (at .count) (owners (at .cells) (now cells)) ⌝ }
+    ensures { λ r. ⌜ ((sc : Scope) → sc .count ≡ at .count → (top left l : ℕ) → Gives (now (arena .entry)) (now (arena .exit)) (now (slots .entry)) (now (slots .exit)) (now (sheet .entry)) (Shown (now (view .entry))) sc (owners (at .cells) (now (cells .entry))) (at .cells) top left 1 (taken r) l (body (varAt (now (sheet .entry)) n))) ⌝ }
 {
-    if scope.count <= x {
-        return Put::Refused(42);
+    let x = sheet::number_of(sheet, n, 1);
+    if at.count <= x {
+        return 42;
     }
-    let c = cells.of[x] as usize;
-    let slot = 4096 + 256 * c;
-    let len = lens[c] as usize;
+    let c = cells[x] as usize;
+    let slot = step::slot_of(c);
+    let len = slots[c] as usize;
     if len == 0 {
-        store(arena, slot, view);
-        lens[c] = view.len() as u16;
-        return Put::Done(1);
+        step::store(arena, slot, view);
+        slots[c] = view.len() as u16;
+        return took(1);
     }
     let end = slot + len;
     step::put_again(&arena[slot..end], view)
 }
 
+fn put_number(sheet: &[u8], n: u16, view: &[u8]) -> usize
+    ensures { λ r. ⌜ r ≡ judged 50 (sameBytes (now (view .entry)) (numberBytes (now (sheet .entry)) n)) ⌝ }
+{
+    let number = value::number(sheet::byte_of(sheet, n, 1), sheet::byte_of(sheet, n, 2));
+    step::put_number(number, view)
+}
+
 /// A view put back into a node: its depth is judged, then the allowance.
 pub fn put_node(
     sheet: &[u8],
-    starts: &[u16; 200],
+    table: &[u16; 200],
     arena: &mut [u8],
-    lens: &mut [u16; 110],
-    scope: Scope,
-    cells: Cells,
+    slots: &mut [u16; 110],
+    starts: &[u16; 110],
+    lens: &[u16; 110],
+    cells: &[u8; 110],
     node: usize,
     view: &[u8],
     at: At,
-) -> Put
-    requires { ⌜ Ready (now sheet) (now starts) (now arena) (now lens) (Shown (now view)) scope cells (cells .count) (at .top) (at .levels) (at .left) (enter node) ⌝ }
-    ensures { λ r. ⌜ Gives (now (arena .entry)) (now (arena .exit)) (now (lens .entry)) (now (lens .exit)) (now (sheet .entry)) (Shown (now (view .entry))) scope cells (cells .count) (at .top) (at .left) 0 r (at .levels) (enter node) ⌝ }
+) -> usize
+    requires { ⌜ Ready (now sheet) (now table) (now arena) (now slots) (Shown (now view)) (scope (at .count) (now starts) (now lens)) (owners (at .cells) (now cells)) (at .cells) (at .top) (at .levels) (at .left) (enter node) ⌝ }
+    ensures { λ r. ⌜ Gives (now (arena .entry)) (now (arena .exit)) (now (slots .entry)) (now (slots .exit)) (now (sheet .entry)) (Shown (now (view .entry))) (scope (at .count) (now (starts .entry)) (now (lens .entry))) (owners (at .cells) (now (cells .entry))) (at .cells) (at .top) (at .left) 0 (taken r) (at .levels) (enter node) ⌝ }
 {
-    let top = at.top;
     let refusal = step::entry(at.levels, at.left);
     if refusal != 0 {
-        return Put::Refused(refusal);
+        return refusal;
     }
-    let start = starts[node] as usize;
-    let below = At {
+    let n = table[node];
+    let to = At {
         levels: at.levels - 1,
         left: at.left - 1,
-        top,
+        top: at.top,
+        count: at.count,
+        cells: at.cells,
     };
-    match sheet::node_at(sheet, start) {
-        Node::Var(x) => put_var(arena, lens, scope, cells, x, view),
-        Node::False => step::put_constant(0, view),
-        Node::True => step::put_constant(1, view),
-        Node::Empty => step::put_constant(2, view),
-        Node::Number(n) => step::put_number(n, view),
-        Node::Front { first, rest } => put_front(
-            sheet,
-            starts,
-            arena,
-            lens,
-            scope,
-            cells,
-            first,
-            rest,
-            view,
-            below,
-        ),
-        Node::Pair { left, right } => put_pair(
-            sheet,
-            starts,
-            arena,
-            lens,
-            scope,
-            cells,
-            left,
-            right,
-            view,
-            below,
-        ),
-        Node::ListCase {
-            subject,
-            empty,
-            empty_test,
-            front,
-            front_test,
-            first,
-            rest,
-        } => put_list_case(
-            sheet,
-            starts,
-            arena,
-            lens,
-            scope,
-            cells,
-            subject,
-            empty,
-            empty_test,
-            front,
-            front_test,
-            first,
-            rest,
-            view,
-            below,
-        ),
-        Node::TruthCase {
-            subject,
-            no,
-            no_test,
-            yes,
-            yes_test,
-        } => put_truth_case(
-            sheet,
-            starts,
-            arena,
-            lens,
-            scope,
-            cells,
-            subject,
-            no,
-            no_test,
-            yes,
-            yes_test,
-            view,
-            below,
-        ),
-        Node::Split { subject, inner } => put_split(
-            sheet,
-            starts,
-            arena,
-            lens,
-            scope,
-            cells,
-            subject,
-            inner,
-            view,
-            below,
-        ),
-        Node::Call {
-            section,
-            first,
-            second,
-        } => put_call(
-            sheet,
-            starts,
-            arena,
-            lens,
-            scope,
-            cells,
-            section,
-            first,
-            second,
-            view,
-            below,
-        ),
-        Node::Add { node, amount } => put_add(
-            sheet,
-            starts,
-            arena,
-            lens,
-            scope,
-            cells,
-            node,
-            amount,
-            view,
-            below,
-        ),
+    let kind = sheet::byte_of(sheet, n, 0);
+    match kind {
+        0x10 => put_var(sheet, arena, slots, cells, n, view, at),
+        0x11 => step::put_constant(0, view),
+        0x12 => step::put_constant(1, view),
+        0x13 => step::put_constant(2, view),
+        0x14 => put_number(sheet, n, view),
+        0x15 => put_front(sheet, table, arena, slots, starts, lens, cells, n, view, to),
+        0x16 => put_pair(sheet, table, arena, slots, starts, lens, cells, n, view, to),
+        0x17 => put_list_case(sheet, table, arena, slots, starts, lens, cells, n, view, to),
+        0x18 => put_truth_case(sheet, table, arena, slots, starts, lens, cells, n, view, to),
+        0x19 => put_split(sheet, table, arena, slots, starts, lens, cells, n, view, to),
+        0x1A => put_call(sheet, table, arena, slots, starts, lens, cells, n, view, to),
+        _ => put_add(sheet, table, arena, slots, starts, lens, cells, n, view, to),
     }
 }
 
 // `view` into node a, then `other` into node b; `spent` steps were taken before.
 fn put_both(
     sheet: &[u8],
-    starts: &[u16; 200],
+    table: &[u16; 200],
     arena: &mut [u8],
-    lens: &mut [u16; 110],
-    scope: Scope,
-    cells: Cells,
+    slots: &mut [u16; 110],
+    starts: &[u16; 110],
+    lens: &[u16; 110],
+    cells: &[u8; 110],
     a: usize,
     view: &[u8],
     b: usize,
     other: &[u8],
     spent: usize,
     at: At,
-) -> Put
-    requires { ⌜ Ready (now sheet) (now starts) (now arena) (now lens) (Shown (now view)) scope cells (cells .count) (at .top) (at .levels) (spent + at .left) (pair a b vfalse) ⌝ }
+) -> usize
+    requires { ⌜ Ready (now sheet) (now table) (now arena) (now slots) (Shown (now view)) (scope (at .count) (now starts) (now lens)) (owners (at .cells) (now cells)) (at .cells) (at .top) (at .levels) (spent + at .left) (pair a b vfalse) ⌝ }
     requires { ⌜ SomeView (now other) ⌝ }
-    ensures { λ r. ⌜ ((u : Value) → Shown (now (other .entry)) u → Gives (now (arena .entry)) (now (arena .exit)) (now (lens .entry)) (now (lens .exit)) (now (sheet .entry)) (Shown (now (view .entry))) scope cells (cells .count) (at .top) (at .left) spent r (at .levels) (pair a b u)) ⌝ }
+    ensures { λ r. ⌜ ((u : Value) → Shown (now (other .entry)) u → Gives (now (arena .entry)) (now (arena .exit)) (now (slots .entry)) (now (slots .exit)) (now (sheet .entry)) (Shown (now (view .entry))) (scope (at .count) (now (starts .entry)) (now (lens .entry))) (owners (at .cells) (now (cells .entry))) (at .cells) (at .top) (at .left) spent (taken r) (at .levels) (pair a b u)) ⌝ }
 {
-    match put_node(sheet, starts, arena, lens, scope, cells, a, view, at) {
-        Put::Refused(c) => Put::Refused(c),
-        Put::Done(s) => {
-            let then = At {
-                levels: at.levels,
-                left: at.left - s,
-                top: at.top,
-            };
-            match put_node(sheet, starts, arena, lens, scope, cells, b, other, then) {
-                Put::Refused(c) => Put::Refused(c),
-                Put::Done(t) => Put::Done(spent + s + t),
-            }
-        }
+    let one = put_node(sheet, table, arena, slots, starts, lens, cells, a, view, at);
+    if one < 256 {
+        return one;
     }
+    let s = taken(one);
+    let then = At {
+        levels: at.levels,
+        left: at.left - s,
+        top: at.top,
+        count: at.count,
+        cells: at.cells,
+    };
+    let two = put_node(
+        sheet,
+        table,
+        arena,
+        slots,
+        starts,
+        lens,
+        cells,
+        b,
+        other,
+        then,
+    );
+    if two < 256 {
+        return two;
+    }
+    took(spent + s + taken(two))
 }
 
 fn put_front(
     sheet: &[u8],
-    starts: &[u16; 200],
+    table: &[u16; 200],
     arena: &mut [u8],
-    lens: &mut [u16; 110],
-    scope: Scope,
-    cells: Cells,
-    first: usize,
-    rest: usize,
+    slots: &mut [u16; 110],
+    starts: &[u16; 110],
+    lens: &[u16; 110],
+    cells: &[u8; 110],
+    n: u16,
     view: &[u8],
     at: At,
-) -> Put
-    requires { ⌜ Ready (now sheet) (now starts) (now arena) (now lens) (Shown (now view)) scope cells (cells .count) (at .top) (suc (at .levels)) (suc (at .left)) (body (Node.Front first rest)) ⌝ }
-    ensures { λ r. ⌜ Gives (now (arena .entry)) (now (arena .exit)) (now (lens .entry)) (now (lens .exit)) (now (sheet .entry)) (Shown (now (view .entry))) scope cells (cells .count) (at .top) (at .left) 1 r (at .levels) (body (Node.Front first rest)) ⌝ }
+) -> usize
+    requires { ⌜ Ready (now sheet) (now table) (now arena) (now slots) (Shown (now view)) (scope (at .count) (now starts) (now lens)) (owners (at .cells) (now cells)) (at .cells) (at .top) (suc (at .levels)) (suc (at .left)) (body (frontAt (now sheet) n)) ⌝ }
+    ensures { λ r. ⌜ Gives (now (arena .entry)) (now (arena .exit)) (now (slots .entry)) (now (slots .exit)) (now (sheet .entry)) (Shown (now (view .entry))) (scope (at .count) (now (starts .entry)) (now (lens .entry))) (owners (at .cells) (now (cells .entry))) (at .cells) (at .top) (at .left) 1 (taken r) (at .levels) (body (frontAt (now (sheet .entry)) n)) ⌝ }
 {
     let Shape::Front(mid) = value::shape_of(view) else {
-        return Put::Refused(51);
+        return 51;
     };
-    let head = value::first_part(view, mid);
-    let tail = value::second_part(view, mid);
+    let one = value::first_part(view, mid);
+    let two = value::second_part(view, mid);
+    let a = sheet::number_of(sheet, n, 1);
+    let b = sheet::number_of(sheet, n, 2);
     put_both(
         sheet,
-        starts,
+        table,
         arena,
+        slots,
+        starts,
         lens,
-        scope,
         cells,
-        first,
-        head,
-        rest,
-        tail,
+        a,
+        one,
+        b,
+        two,
         1,
         at,
     )
@@ -282,525 +221,671 @@ fn put_front(
 
 fn put_pair(
     sheet: &[u8],
-    starts: &[u16; 200],
+    table: &[u16; 200],
     arena: &mut [u8],
-    lens: &mut [u16; 110],
-    scope: Scope,
-    cells: Cells,
-    a: usize,
-    b: usize,
+    slots: &mut [u16; 110],
+    starts: &[u16; 110],
+    lens: &[u16; 110],
+    cells: &[u8; 110],
+    n: u16,
     view: &[u8],
     at: At,
-) -> Put
-    requires { ⌜ Ready (now sheet) (now starts) (now arena) (now lens) (Shown (now view)) scope cells (cells .count) (at .top) (suc (at .levels)) (suc (at .left)) (body (Node.Pair a b)) ⌝ }
-    ensures { λ r. ⌜ Gives (now (arena .entry)) (now (arena .exit)) (now (lens .entry)) (now (lens .exit)) (now (sheet .entry)) (Shown (now (view .entry))) scope cells (cells .count) (at .top) (at .left) 1 r (at .levels) (body (Node.Pair a b)) ⌝ }
+) -> usize
+    requires { ⌜ Ready (now sheet) (now table) (now arena) (now slots) (Shown (now view)) (scope (at .count) (now starts) (now lens)) (owners (at .cells) (now cells)) (at .cells) (at .top) (suc (at .levels)) (suc (at .left)) (body (pairAt (now sheet) n)) ⌝ }
+    ensures { λ r. ⌜ Gives (now (arena .entry)) (now (arena .exit)) (now (slots .entry)) (now (slots .exit)) (now (sheet .entry)) (Shown (now (view .entry))) (scope (at .count) (now (starts .entry)) (now (lens .entry))) (owners (at .cells) (now (cells .entry))) (at .cells) (at .top) (at .left) 1 (taken r) (at .levels) (body (pairAt (now (sheet .entry)) n)) ⌝ }
 {
     let Shape::Pair(mid) = value::shape_of(view) else {
-        return Put::Refused(51);
+        return 51;
     };
-    let left = value::first_part(view, mid);
-    let right = value::second_part(view, mid);
+    let one = value::first_part(view, mid);
+    let two = value::second_part(view, mid);
+    let a = sheet::number_of(sheet, n, 1);
+    let b = sheet::number_of(sheet, n, 2);
     put_both(
         sheet,
-        starts,
+        table,
         arena,
+        slots,
+        starts,
         lens,
-        scope,
         cells,
         a,
-        left,
+        one,
         b,
-        right,
+        two,
         1,
         at,
     )
 }
 
-// The view into a branch with two variables more, which stand from `start` on one after the other; then the subject,
-// rebuilt of what they now stand for, into its node. `kind` is 3 for a list and 5 for a pair.
+// The view into a branch with two variables more, each in a new cell.
+fn put_inside(
+    sheet: &[u8],
+    table: &[u16; 200],
+    arena: &mut [u8],
+    slots: &mut [u16; 110],
+    starts: &[u16; 110],
+    lens: &[u16; 110],
+    cells: &[u8; 110],
+    branch: usize,
+    parts: Parts,
+    view: &[u8],
+    at: At,
+) -> usize
+    requires { ⌜ Ready (now sheet) (now table) (now arena) (addedTwo (now slots) (at .cells) 0 0) (Shown (now view)) (pushed (pushed (scope (at .count) (now starts) (now lens)) (parts .start) (parts .first)) (parts .start + parts .first) (parts .second)) (moreCells (owners (at .cells) (now cells)) (at .count)) (at .cells + 2) (at .top) (at .levels) (at .left) (enter branch) ⌝ }
+    requires { ⌜ (at .count + 2 ≤ 110) × (at .cells + 2 ≤ 110) × (parts .start + parts .first < 65536) × (parts .second < 65536) ⌝ }
+    ensures { λ r. ⌜ Gives (now (arena .entry)) (now (arena .exit)) (addedTwo (now (slots .entry)) (at .cells) 0 0) (now (slots .exit)) (now (sheet .entry)) (Shown (now (view .entry))) (pushed (pushed (scope (at .count) (now (starts .entry)) (now (lens .entry))) (parts .start) (parts .first)) (parts .start + parts .first) (parts .second)) (moreCells (owners (at .cells) (now (cells .entry))) (at .count)) (at .cells + 2) (at .top) (at .left) 0 (taken r) (at .levels) (enter branch) ⌝ }
+{
+    let start = parts.start;
+    let first = parts.first;
+    let count = at.count;
+    let c = at.cells;
+    slots[c] = 0;
+    slots[c + 1] = 0;
+    let mut more_starts = *starts;
+    let mut more_lens = *lens;
+    let mut more_cells = *cells;
+    add_two(&mut more_starts, count, start, start + first);
+    add_two(&mut more_lens, count, first, parts.second);
+    step::add_cells(&mut more_cells, count, c);
+    let inner = At {
+        levels: at.levels,
+        left: at.left,
+        top: at.top,
+        count: count + 2,
+        cells: c + 2,
+    };
+    put_node(
+        sheet,
+        table,
+        arena,
+        slots,
+        &more_starts,
+        &more_lens,
+        &more_cells,
+        branch,
+        view,
+        inner,
+    )
+}
+
+// The view into a branch with two variables more; then the subject, rebuilt of what they now stand for, into its node. `kind` is 3 for
+// a list and 5 for a pair; `spent` steps were taken before.
 fn put_under(
     sheet: &[u8],
-    starts: &[u16; 200],
+    table: &[u16; 200],
     arena: &mut [u8],
-    lens: &mut [u16; 110],
-    scope: Scope,
-    cells: Cells,
+    slots: &mut [u16; 110],
+    starts: &[u16; 110],
+    lens: &[u16; 110],
+    cells: &[u8; 110],
     branch: usize,
     subject: usize,
     kind: u8,
-    start: usize,
-    first: usize,
-    second: usize,
+    parts: Parts,
     view: &[u8],
     spent: usize,
     at: At,
-) -> Put
-    requires { ⌜ Ready (now sheet) (now starts) (now arena) (now lens) (Shown (now view)) scope cells (cells .count) (at .top) (at .levels) (spent + at .left) (inside kind branch subject vfalse vfalse) ⌝ }
-    requires { ⌜ Inner scope cells (at .levels) ⌝ }
-    requires { ⌜ SomeSpans (now arena) (at .top) start first second ⌝ }
-    ensures { λ r. ⌜ ((f u : Value) → Spans (now (arena .entry)) (at .top) start first second f u → Gives (now (arena .entry)) (now (arena .exit)) (now (lens .entry)) (now (lens .exit)) (now (sheet .entry)) (Shown (now (view .entry))) scope cells (cells .count) (at .top) (at .left) spent r (at .levels) (inside kind branch subject f u)) ⌝ }
+) -> usize
+    requires { ⌜ Ready (now sheet) (now table) (now arena) (now slots) (Shown (now view)) (scope (at .count) (now starts) (now lens)) (owners (at .cells) (now cells)) (at .cells) (at .top) (at .levels) (spent + at .left) (inside kind branch subject vfalse vfalse) ⌝ }
+    requires { ⌜ Inner (scope (at .count) (now starts) (now lens)) (owners (at .cells) (now cells)) (at .levels) ⌝ }
+    requires { ⌜ SomeSpans (now arena) (at .top) (parts .start) (parts .first) (parts .second) ⌝ }
+    ensures { λ r. ⌜ ((f u : Value) → Spans (now (arena .entry)) (at .top) (parts .start) (parts .first) (parts .second) f u → Gives (now (arena .entry)) (now (arena .exit)) (now (slots .entry)) (now (slots .exit)) (now (sheet .entry)) (Shown (now (view .entry))) (scope (at .count) (now (starts .entry)) (now (lens .entry))) (owners (at .cells) (now (cells .entry))) (at .cells) (at .top) (at .left) spent (taken r) (at .levels) (inside kind branch subject f u)) ⌝ }
 {
-    let n = cells.count;
-    lens[n] = 0;
-    lens[n + 1] = 0;
-    let more = push_two(scope, start, first, second);
-    let inner = step::add_two(cells, scope.count);
-    match put_node(sheet, starts, arena, lens, more, inner, branch, view, at) {
-        Put::Refused(c) => Put::Refused(c),
-        Put::Done(s) => {
-            let then = At {
-                levels: at.levels,
-                left: at.left - s,
-                top: at.top,
-            };
-            put_rebuilt(
-                sheet,
-                starts,
-                arena,
-                lens,
-                scope,
-                cells,
-                subject,
-                kind,
-                start,
-                first,
-                second,
-                spent + s,
-                then,
-            )
-        }
+    let one = put_inside(
+        sheet,
+        table,
+        arena,
+        slots,
+        starts,
+        lens,
+        cells,
+        branch,
+        parts,
+        view,
+        at,
+    );
+    if one < 256 {
+        return one;
     }
+    let s = taken(one);
+    let then = At {
+        levels: at.levels,
+        left: at.left - s,
+        top: at.top,
+        count: at.count,
+        cells: at.cells,
+    };
+    put_rebuilt(
+        sheet,
+        table,
+        arena,
+        slots,
+        starts,
+        lens,
+        cells,
+        subject,
+        kind,
+        parts,
+        spent + s,
+        then,
+    )
 }
 
 // The subject, rebuilt of what the two variables of its branch stand for, into its node. Their cells are the next two.
 fn put_rebuilt(
     sheet: &[u8],
-    starts: &[u16; 200],
+    table: &[u16; 200],
     arena: &mut [u8],
-    lens: &mut [u16; 110],
-    scope: Scope,
-    cells: Cells,
-    subject: usize,
+    slots: &mut [u16; 110],
+    starts: &[u16; 110],
+    lens: &[u16; 110],
+    cells: &[u8; 110],
+    node: usize,
     kind: u8,
-    start: usize,
-    first: usize,
-    second: usize,
+    parts: Parts,
     spent: usize,
     at: At,
-) -> Put
-    requires { ⌜ Ready (now sheet) (now starts) (now arena) (now lens) Any scope cells (cells .count + 2) (at .top) (at .levels) (spent + at .left) (rebuilt kind subject vfalse vfalse) ⌝ }
-    requires { ⌜ SomeSpans (now arena) (at .top) start first second ⌝ }
-    ensures { λ r. ⌜ ((f u : Value) → Spans (now (arena .entry)) (at .top) start first second f u → Gives (now (arena .entry)) (now (arena .exit)) (now (lens .entry)) (now (lens .exit)) (now (sheet .entry)) Any scope cells (cells .count + 2) (at .top) (at .left) spent r (at .levels) (rebuilt kind subject f u)) ⌝ }
+) -> usize
+    requires { ⌜ Ready (now sheet) (now table) (now arena) (now slots) Any (scope (at .count) (now starts) (now lens)) (owners (at .cells) (now cells)) (at .cells + 2) (at .top) (at .levels) (spent + at .left) (rebuilt kind node vfalse vfalse) ⌝ }
+    requires { ⌜ SomeSpans (now arena) (at .top) (parts .start) (parts .first) (parts .second) ⌝ }
+    ensures { λ r. ⌜ ((f u : Value) → Spans (now (arena .entry)) (at .top) (parts .start) (parts .first) (parts .second) f u → Gives (now (arena .entry)) (now (arena .exit)) (now (slots .entry)) (now (slots .exit)) (now (sheet .entry)) Any (scope (at .count) (now (starts .entry)) (now (lens .entry))) (owners (at .cells) (now (cells .entry))) (at .cells + 2) (at .top) (at .left) spent (taken r) (at .levels) (rebuilt kind node f u)) ⌝ }
 {
-    let n = cells.count;
-    let f = step::place_of(lens[n], n, start, first);
-    let r = step::place_of(lens[n + 1], n + 1, start + first, second);
-    let r_start = r.start;
-    let rest_kind = arena[r_start];
-    if step::unfit(kind, rest_kind) {
-        return Put::Refused(43);
+    let c = at.cells;
+    let start = parts.start;
+    let first = parts.first;
+    let f = step::place_of(slots[c], c, start, first);
+    let r = step::place_of(slots[c + 1], c + 1, start + first, parts.second);
+    let rest = r.start;
+    if step::unfit(kind, arena[rest]) {
+        return 43;
     }
     let size = 1 + f.len + r.len;
     if 256 < size {
-        return Put::Refused(44);
+        return 44;
     }
-    let whole = rebuild(arena, kind, f.start, f.len, r.start, r.len);
-    match put_node(
-        sheet,
-        starts,
-        arena,
-        lens,
-        scope,
-        cells,
-        subject,
-        &whole[..size],
-        at,
-    ) {
-        Put::Refused(c) => Put::Refused(c),
-        Put::Done(t) => Put::Done(spent + t),
+    let mut whole = [0u8; 256];
+    rebuild(&mut whole, arena, kind, f.start, f.len, r.start, r.len);
+    let v = &whole[..size];
+    let one = put_node(sheet, table, arena, slots, starts, lens, cells, node, v, at);
+    if one < 256 {
+        return one;
     }
+    took(spent + taken(one))
 }
 
 fn put_list_case(
     sheet: &[u8],
-    starts: &[u16; 200],
+    table: &[u16; 200],
     arena: &mut [u8],
-    lens: &mut [u16; 110],
-    scope: Scope,
-    cells: Cells,
-    subject: usize,
-    empty: usize,
-    empty_test: u8,
-    front: usize,
-    front_test: u8,
-    first: usize,
-    rest: usize,
+    slots: &mut [u16; 110],
+    starts: &[u16; 110],
+    lens: &[u16; 110],
+    cells: &[u8; 110],
+    n: u16,
     view: &[u8],
     at: At,
-) -> Put
-    requires { ⌜ Ready (now sheet) (now starts) (now arena) (now lens) (Shown (now view)) scope cells (cells .count) (at .top) (suc (at .levels)) (suc (at .left)) (body (Node.ListCase subject empty «empty_test» front «front_test» first rest)) ⌝ }
-    ensures { λ r. ⌜ Gives (now (arena .entry)) (now (arena .exit)) (now (lens .entry)) (now (lens .exit)) (now (sheet .entry)) (Shown (now (view .entry))) scope cells (cells .count) (at .top) (at .left) 1 r (at .levels) (body (Node.ListCase subject empty «empty_test» front «front_test» first rest)) ⌝ }
+) -> usize
+    requires { ⌜ Ready (now sheet) (now table) (now arena) (now slots) (Shown (now view)) (scope (at .count) (now starts) (now lens)) (owners (at .cells) (now cells)) (at .cells) (at .top) (suc (at .levels)) (suc (at .left)) (body (listCaseAt (now sheet) n)) ⌝ }
+    ensures { λ r. ⌜ Gives (now (arena .entry)) (now (arena .exit)) (now (slots .entry)) (now (slots .exit)) (now (sheet .entry)) (Shown (now (view .entry))) (scope (at .count) (now (starts .entry)) (now (lens .entry))) (owners (at .cells) (now (cells .entry))) (at .cells) (at .top) (at .left) 1 (taken r) (at .levels) (body (listCaseAt (now (sheet .entry)) n)) ⌝ }
 {
-    let base = at.top;
-    let got = get_node(sheet, starts, arena, scope, subject, at);
-    match look(arena, base, got) {
-        Subject::Refused(c) => Put::Refused(c),
-        Subject::Seen { shape, len, steps } => {
-            let levels = at.levels;
-            let left = at.left - steps;
-            let top = base + len;
-            let then = At { levels, left, top };
-            match shape {
-                Shape::Empty => match step::choose(false, empty_test, front_test, view) {
-                    Branch::First => put_both(
-                        sheet,
-                        starts,
-                        arena,
-                        lens,
-                        scope,
-                        cells,
-                        empty,
-                        view,
-                        subject,
-                        &[2],
-                        1 + steps,
-                        then,
-                    ),
-                    Branch::Second => put_switch(
-                        sheet,
-                        starts,
-                        arena,
-                        lens,
-                        scope,
-                        cells,
-                        front,
-                        subject,
-                        first,
-                        rest,
-                        view,
-                        1 + steps,
-                        then,
-                    ),
-                    Branch::Neither => Put::Refused(53),
-                },
-                Shape::Front(mid) => match step::choose(true, empty_test, front_test, view) {
-                    Branch::First => put_both(
-                        sheet,
-                        starts,
-                        arena,
-                        lens,
-                        scope,
-                        cells,
-                        empty,
-                        view,
-                        subject,
-                        &[2],
-                        1 + steps,
-                        then,
-                    ),
-                    Branch::Second => put_under(
-                        sheet,
-                        starts,
-                        arena,
-                        lens,
-                        scope,
-                        cells,
-                        front,
-                        subject,
-                        3,
-                        base + 1,
-                        mid - 1,
-                        len - mid,
-                        view,
-                        1 + steps,
-                        then,
-                    ),
-                    Branch::Neither => Put::Refused(53),
-                },
-                _ => Put::Refused(43),
+    let subject = sheet::number_of(sheet, n, 1);
+    let got = get_node(sheet, table, arena, starts, lens, subject, at);
+    if got < 256 {
+        return got;
+    }
+    let start = start_of(got);
+    let len = len_of(got);
+    let s = steps_of(got);
+    let end = start + len;
+    let top = above(at.top, start, len);
+    let then = At {
+        levels: at.levels,
+        left: at.left - s,
+        top,
+        count: at.count,
+        cells: at.cells,
+    };
+    let empty_test = sheet::byte_of(sheet, n, 3);
+    let front_test = sheet::byte_of(sheet, n, 5);
+    match value::shape_of(&arena[start..end]) {
+        Shape::Empty => match step::choose(false, empty_test, front_test, view) {
+            Branch::First => {
+                let node = sheet::number_of(sheet, n, 2);
+                put_both(
+                    sheet,
+                    table,
+                    arena,
+                    slots,
+                    starts,
+                    lens,
+                    cells,
+                    node,
+                    view,
+                    subject,
+                    &[2],
+                    1 + s,
+                    then,
+                )
             }
-        }
+            Branch::Second => put_switch(
+                sheet,
+                table,
+                arena,
+                slots,
+                starts,
+                lens,
+                cells,
+                n,
+                view,
+                1 + s,
+                then,
+            ),
+            Branch::Neither => 53,
+        },
+        Shape::Front(mid) => match step::choose(true, empty_test, front_test, view) {
+            Branch::First => {
+                let node = sheet::number_of(sheet, n, 2);
+                put_both(
+                    sheet,
+                    table,
+                    arena,
+                    slots,
+                    starts,
+                    lens,
+                    cells,
+                    node,
+                    view,
+                    subject,
+                    &[2],
+                    1 + s,
+                    then,
+                )
+            }
+            Branch::Second => {
+                let branch = sheet::number_of(sheet, n, 4);
+                let parts = Parts {
+                    start: start + 1,
+                    first: mid - 1,
+                    second: len - mid,
+                };
+                put_under(
+                    sheet,
+                    table,
+                    arena,
+                    slots,
+                    starts,
+                    lens,
+                    cells,
+                    branch,
+                    subject,
+                    3,
+                    parts,
+                    view,
+                    1 + s,
+                    then,
+                )
+            }
+            Branch::Neither => 53,
+        },
+        _ => 43,
     }
 }
 
-// A switch to the non-empty branch: the default first member and rest, got in an empty scope, stand for its two variables.
+// A switch to the non-empty branch: the default first and the default rest are got in an empty scope, and stand for its variables.
 fn put_switch(
     sheet: &[u8],
-    starts: &[u16; 200],
+    table: &[u16; 200],
     arena: &mut [u8],
-    lens: &mut [u16; 110],
-    scope: Scope,
-    cells: Cells,
-    front: usize,
-    subject: usize,
-    first: usize,
-    rest: usize,
+    slots: &mut [u16; 110],
+    starts: &[u16; 110],
+    lens: &[u16; 110],
+    cells: &[u8; 110],
+    n: u16,
     view: &[u8],
     spent: usize,
     at: At,
-) -> Put
-    requires { ⌜ Ready (now sheet) (now starts) (now arena) (now lens) (Shown (now view)) scope cells (cells .count) (at .top) (at .levels) (spent + at .left) (switch front subject first rest) ⌝ }
-    requires { ⌜ Inner scope cells (at .levels) ⌝ }
+) -> usize
+    requires { ⌜ Ready (now sheet) (now table) (now arena) (now slots) (Shown (now view)) (scope (at .count) (now starts) (now lens)) (owners (at .cells) (now cells)) (at .cells) (at .top) (at .levels) (spent + at .left) (switchAt (now sheet) n) ⌝ }
+    requires { ⌜ Inner (scope (at .count) (now starts) (now lens)) (owners (at .cells) (now cells)) (at .levels) ⌝ }
     requires { ⌜ at .top + 512 + 513 * at .levels ≤ 65536 ⌝ }
-    ensures { λ r. ⌜ Gives (now (arena .entry)) (now (arena .exit)) (now (lens .entry)) (now (lens .exit)) (now (sheet .entry)) (Shown (now (view .entry))) scope cells (cells .count) (at .top) (at .left) spent r (at .levels) (switch front subject first rest) ⌝ }
+    ensures { λ r. ⌜ Gives (now (arena .entry)) (now (arena .exit)) (now (slots .entry)) (now (slots .exit)) (now (sheet .entry)) (Shown (now (view .entry))) (scope (at .count) (now (starts .entry)) (now (lens .entry))) (owners (at .cells) (now (cells .entry))) (at .cells) (at .top) (at .left) spent (taken r) (at .levels) (switchAt (now (sheet .entry)) n) ⌝ }
 {
     let top = at.top;
-    match get_node(sheet, starts, arena, empty(), first, at) {
-        Walked::Refused(c) => Put::Refused(c),
-        Walked::Done { len: f, steps: s } => {
-            let mid = top + f;
-            let left = at.left - s;
-            let two = At {
-                levels: at.levels,
-                left,
-                top: mid,
-            };
-            match get_node(sheet, starts, arena, empty(), rest, two) {
-                Walked::Refused(c) => Put::Refused(c),
-                Walked::Done { len: r, steps: t } => {
-                    let kind = arena[mid];
-                    if kind < 2 {
-                        return Put::Refused(43);
-                    }
-                    if 3 < kind {
-                        return Put::Refused(43);
-                    }
-                    let then = At {
-                        levels: at.levels,
-                        left: left - t,
-                        top: mid + r,
-                    };
-                    put_under(
-                        sheet,
-                        starts,
-                        arena,
-                        lens,
-                        scope,
-                        cells,
-                        front,
-                        subject,
-                        3,
-                        top,
-                        f,
-                        r,
-                        view,
-                        spent + s + t,
-                        then,
-                    )
-                }
-            }
-        }
+    let none = [0u16; 110];
+    let one = At {
+        levels: at.levels,
+        left: at.left,
+        top,
+        count: 0,
+        cells: at.cells,
+    };
+    let first = sheet::number_of(sheet, n, 6);
+    let a = get_at(sheet, table, arena, &none, &none, first, one);
+    if a < 256 {
+        return a;
     }
+    let f = len_of(a);
+    let s = steps_of(a);
+    let mid = top + f;
+    let left = at.left - s;
+    let two = At {
+        levels: at.levels,
+        left,
+        top: mid,
+        count: 0,
+        cells: at.cells,
+    };
+    let rest = sheet::number_of(sheet, n, 7);
+    let b = get_at(sheet, table, arena, &none, &none, rest, two);
+    if b < 256 {
+        return b;
+    }
+    if step::unfit(3, arena[mid]) {
+        return 43;
+    }
+    let r = len_of(b);
+    let t = steps_of(b);
+    let then = At {
+        levels: at.levels,
+        left: left - t,
+        top: mid + r,
+        count: at.count,
+        cells: at.cells,
+    };
+    let parts = Parts {
+        start: top,
+        first: f,
+        second: r,
+    };
+    let branch = sheet::number_of(sheet, n, 4);
+    let subject = sheet::number_of(sheet, n, 1);
+    put_under(
+        sheet,
+        table,
+        arena,
+        slots,
+        starts,
+        lens,
+        cells,
+        branch,
+        subject,
+        3,
+        parts,
+        view,
+        spent + s + t,
+        then,
+    )
 }
 
 fn put_truth_case(
     sheet: &[u8],
-    starts: &[u16; 200],
+    table: &[u16; 200],
     arena: &mut [u8],
-    lens: &mut [u16; 110],
-    scope: Scope,
-    cells: Cells,
-    subject: usize,
-    no: usize,
-    no_test: u8,
-    yes: usize,
-    yes_test: u8,
+    slots: &mut [u16; 110],
+    starts: &[u16; 110],
+    lens: &[u16; 110],
+    cells: &[u8; 110],
+    n: u16,
     view: &[u8],
     at: At,
-) -> Put
-    requires { ⌜ Ready (now sheet) (now starts) (now arena) (now lens) (Shown (now view)) scope cells (cells .count) (at .top) (suc (at .levels)) (suc (at .left)) (body (Node.TruthCase subject no «no_test» yes «yes_test»)) ⌝ }
-    ensures { λ r. ⌜ Gives (now (arena .entry)) (now (arena .exit)) (now (lens .entry)) (now (lens .exit)) (now (sheet .entry)) (Shown (now (view .entry))) scope cells (cells .count) (at .top) (at .left) 1 r (at .levels) (body (Node.TruthCase subject no «no_test» yes «yes_test»)) ⌝ }
+) -> usize
+    requires { ⌜ Ready (now sheet) (now table) (now arena) (now slots) (Shown (now view)) (scope (at .count) (now starts) (now lens)) (owners (at .cells) (now cells)) (at .cells) (at .top) (suc (at .levels)) (suc (at .left)) (body (truthCaseAt (now sheet) n)) ⌝ }
+    ensures { λ r. ⌜ Gives (now (arena .entry)) (now (arena .exit)) (now (slots .entry)) (now (slots .exit)) (now (sheet .entry)) (Shown (now (view .entry))) (scope (at .count) (now (starts .entry)) (now (lens .entry))) (owners (at .cells) (now (cells .entry))) (at .cells) (at .top) (at .left) 1 (taken r) (at .levels) (body (truthCaseAt (now (sheet .entry)) n)) ⌝ }
 {
-    let base = at.top;
-    let got = get_node(sheet, starts, arena, scope, subject, at);
-    match look(arena, base, got) {
-        Subject::Refused(c) => Put::Refused(c),
-        Subject::Seen { shape, len, steps } => {
-            let levels = at.levels;
-            let left = at.left - steps;
-            let top = base + len;
-            let then = At { levels, left, top };
-            match shape {
-                Shape::False => match step::choose(false, no_test, yes_test, view) {
-                    Branch::First => put_both(
-                        sheet,
-                        starts,
-                        arena,
-                        lens,
-                        scope,
-                        cells,
-                        no,
-                        view,
-                        subject,
-                        &[0],
-                        1 + steps,
-                        then,
-                    ),
-                    Branch::Second => put_both(
-                        sheet,
-                        starts,
-                        arena,
-                        lens,
-                        scope,
-                        cells,
-                        yes,
-                        view,
-                        subject,
-                        &[1],
-                        1 + steps,
-                        then,
-                    ),
-                    Branch::Neither => Put::Refused(53),
-                },
-                Shape::True => match step::choose(true, no_test, yes_test, view) {
-                    Branch::First => put_both(
-                        sheet,
-                        starts,
-                        arena,
-                        lens,
-                        scope,
-                        cells,
-                        no,
-                        view,
-                        subject,
-                        &[0],
-                        1 + steps,
-                        then,
-                    ),
-                    Branch::Second => put_both(
-                        sheet,
-                        starts,
-                        arena,
-                        lens,
-                        scope,
-                        cells,
-                        yes,
-                        view,
-                        subject,
-                        &[1],
-                        1 + steps,
-                        then,
-                    ),
-                    Branch::Neither => Put::Refused(53),
-                },
-                _ => Put::Refused(43),
+    let subject = sheet::number_of(sheet, n, 1);
+    let got = get_node(sheet, table, arena, starts, lens, subject, at);
+    if got < 256 {
+        return got;
+    }
+    let start = start_of(got);
+    let len = len_of(got);
+    let s = steps_of(got);
+    let end = start + len;
+    let top = above(at.top, start, len);
+    let then = At {
+        levels: at.levels,
+        left: at.left - s,
+        top,
+        count: at.count,
+        cells: at.cells,
+    };
+    let no_test = sheet::byte_of(sheet, n, 3);
+    let yes_test = sheet::byte_of(sheet, n, 5);
+    match value::shape_of(&arena[start..end]) {
+        Shape::False => match step::choose(false, no_test, yes_test, view) {
+            Branch::First => {
+                let node = sheet::number_of(sheet, n, 2);
+                put_both(
+                    sheet,
+                    table,
+                    arena,
+                    slots,
+                    starts,
+                    lens,
+                    cells,
+                    node,
+                    view,
+                    subject,
+                    &[0],
+                    1 + s,
+                    then,
+                )
             }
-        }
+            Branch::Second => {
+                let node = sheet::number_of(sheet, n, 4);
+                put_both(
+                    sheet,
+                    table,
+                    arena,
+                    slots,
+                    starts,
+                    lens,
+                    cells,
+                    node,
+                    view,
+                    subject,
+                    &[1],
+                    1 + s,
+                    then,
+                )
+            }
+            Branch::Neither => 53,
+        },
+        Shape::True => match step::choose(true, no_test, yes_test, view) {
+            Branch::First => {
+                let node = sheet::number_of(sheet, n, 2);
+                put_both(
+                    sheet,
+                    table,
+                    arena,
+                    slots,
+                    starts,
+                    lens,
+                    cells,
+                    node,
+                    view,
+                    subject,
+                    &[0],
+                    1 + s,
+                    then,
+                )
+            }
+            Branch::Second => {
+                let node = sheet::number_of(sheet, n, 4);
+                put_both(
+                    sheet,
+                    table,
+                    arena,
+                    slots,
+                    starts,
+                    lens,
+                    cells,
+                    node,
+                    view,
+                    subject,
+                    &[1],
+                    1 + s,
+                    then,
+                )
+            }
+            Branch::Neither => 53,
+        },
+        _ => 43,
     }
 }
 
 fn put_split(
     sheet: &[u8],
-    starts: &[u16; 200],
+    table: &[u16; 200],
     arena: &mut [u8],
-    lens: &mut [u16; 110],
-    scope: Scope,
-    cells: Cells,
-    subject: usize,
-    node: usize,
+    slots: &mut [u16; 110],
+    starts: &[u16; 110],
+    lens: &[u16; 110],
+    cells: &[u8; 110],
+    n: u16,
     view: &[u8],
     at: At,
-) -> Put
-    requires { ⌜ Ready (now sheet) (now starts) (now arena) (now lens) (Shown (now view)) scope cells (cells .count) (at .top) (suc (at .levels)) (suc (at .left)) (body (Node.Split subject node)) ⌝ }
-    ensures { λ r. ⌜ Gives (now (arena .entry)) (now (arena .exit)) (now (lens .entry)) (now (lens .exit)) (now (sheet .entry)) (Shown (now (view .entry))) scope cells (cells .count) (at .top) (at .left) 1 r (at .levels) (body (Node.Split subject node)) ⌝ }
+) -> usize
+    requires { ⌜ Ready (now sheet) (now table) (now arena) (now slots) (Shown (now view)) (scope (at .count) (now starts) (now lens)) (owners (at .cells) (now cells)) (at .cells) (at .top) (suc (at .levels)) (suc (at .left)) (body (splitAt (now sheet) n)) ⌝ }
+    ensures { λ r. ⌜ Gives (now (arena .entry)) (now (arena .exit)) (now (slots .entry)) (now (slots .exit)) (now (sheet .entry)) (Shown (now (view .entry))) (scope (at .count) (now (starts .entry)) (now (lens .entry))) (owners (at .cells) (now (cells .entry))) (at .cells) (at .top) (at .left) 1 (taken r) (at .levels) (body (splitAt (now (sheet .entry)) n)) ⌝ }
 {
-    let base = at.top;
-    let got = get_node(sheet, starts, arena, scope, subject, at);
-    match look(arena, base, got) {
-        Subject::Refused(c) => Put::Refused(c),
-        Subject::Seen { shape, len, steps } => {
-            let levels = at.levels;
-            let left = at.left - steps;
-            let top = base + len;
-            let then = At { levels, left, top };
-            match shape {
-                Shape::Pair(mid) => put_under(
-                    sheet,
-                    starts,
-                    arena,
-                    lens,
-                    scope,
-                    cells,
-                    node,
-                    subject,
-                    5,
-                    base + 1,
-                    mid - 1,
-                    len - mid,
-                    view,
-                    1 + steps,
-                    then,
-                ),
-                _ => Put::Refused(43),
-            }
-        }
+    let subject = sheet::number_of(sheet, n, 1);
+    let got = get_node(sheet, table, arena, starts, lens, subject, at);
+    if got < 256 {
+        return got;
     }
+    let start = start_of(got);
+    let len = len_of(got);
+    let s = steps_of(got);
+    let end = start + len;
+    let top = above(at.top, start, len);
+    let then = At {
+        levels: at.levels,
+        left: at.left - s,
+        top,
+        count: at.count,
+        cells: at.cells,
+    };
+    let Shape::Pair(mid) = value::shape_of(&arena[start..end]) else {
+        return 43;
+    };
+    let parts = Parts {
+        start: start + 1,
+        first: mid - 1,
+        second: len - mid,
+    };
+    let inner = sheet::number_of(sheet, n, 2);
+    put_under(
+        sheet,
+        table,
+        arena,
+        slots,
+        starts,
+        lens,
+        cells,
+        inner,
+        subject,
+        5,
+        parts,
+        view,
+        1 + s,
+        then,
+    )
 }
 
 fn put_call(
     sheet: &[u8],
-    starts: &[u16; 200],
+    table: &[u16; 200],
     arena: &mut [u8],
-    lens: &mut [u16; 110],
-    scope: Scope,
-    cells: Cells,
-    section: usize,
-    x: usize,
-    y: usize,
+    slots: &mut [u16; 110],
+    starts: &[u16; 110],
+    lens: &[u16; 110],
+    cells: &[u8; 110],
+    n: u16,
     view: &[u8],
     at: At,
-) -> Put
-    requires { ⌜ Ready (now sheet) (now starts) (now arena) (now lens) (Shown (now view)) scope cells (cells .count) (at .top) (suc (at .levels)) (suc (at .left)) (body (Node.Call section x y)) ⌝ }
-    ensures { λ r. ⌜ Gives (now (arena .entry)) (now (arena .exit)) (now (lens .entry)) (now (lens .exit)) (now (sheet .entry)) (Shown (now (view .entry))) scope cells (cells .count) (at .top) (at .left) 1 r (at .levels) (body (Node.Call section x y)) ⌝ }
+) -> usize
+    requires { ⌜ Ready (now sheet) (now table) (now arena) (now slots) (Shown (now view)) (scope (at .count) (now starts) (now lens)) (owners (at .cells) (now cells)) (at .cells) (at .top) (suc (at .levels)) (suc (at .left)) (body (callAt (now sheet) n)) ⌝ }
+    ensures { λ r. ⌜ Gives (now (arena .entry)) (now (arena .exit)) (now (slots .entry)) (now (slots .exit)) (now (sheet .entry)) (Shown (now (view .entry))) (scope (at .count) (now (starts .entry)) (now (lens .entry))) (owners (at .cells) (now (cells .entry))) (at .cells) (at .top) (at .left) 1 (taken r) (at .levels) (body (callAt (now (sheet .entry)) n)) ⌝ }
 {
-    if scope.count <= x {
-        return Put::Refused(42);
+    let x = sheet::number_of(sheet, n, 2);
+    let y = sheet::number_of(sheet, n, 3);
+    if at.count <= x {
+        return 42;
     }
-    if scope.count <= y {
-        return Put::Refused(42);
+    if at.count <= y {
+        return 42;
     }
+    let section = sheet::number_of(sheet, n, 1);
     let root = sheet::section_root(sheet, section);
-    match put_node(
+    let two_starts = step::pick_two(starts, x, y);
+    let two_lens = step::pick_two(lens, x, y);
+    let two_cells = step::pick_cells(cells, x, y);
+    let inner = At {
+        levels: at.levels,
+        left: at.left,
+        top: at.top,
+        count: 2,
+        cells: at.cells,
+    };
+    let one = put_node(
         sheet,
-        starts,
+        table,
         arena,
-        lens,
-        step::pick_two(scope, x, y),
-        step::pick_cells(cells, x, y),
+        slots,
+        &two_starts,
+        &two_lens,
+        &two_cells,
         root,
         view,
-        at,
-    ) {
-        Put::Refused(c) => Put::Refused(c),
-        Put::Done(s) => Put::Done(1 + s),
+        inner,
+    );
+    if one < 256 {
+        return one;
     }
+    took(1 + taken(one))
 }
 
 fn put_add(
     sheet: &[u8],
-    starts: &[u16; 200],
+    table: &[u16; 200],
     arena: &mut [u8],
-    lens: &mut [u16; 110],
-    scope: Scope,
-    cells: Cells,
-    node: usize,
-    amount: u16,
+    slots: &mut [u16; 110],
+    starts: &[u16; 110],
+    lens: &[u16; 110],
+    cells: &[u8; 110],
+    n: u16,
     view: &[u8],
     at: At,
-) -> Put
-    requires { ⌜ Ready (now sheet) (now starts) (now arena) (now lens) (Shown (now view)) scope cells (cells .count) (at .top) (suc (at .levels)) (suc (at .left)) (body (Node.Add node amount)) ⌝ }
-    ensures { λ r. ⌜ Gives (now (arena .entry)) (now (arena .exit)) (now (lens .entry)) (now (lens .exit)) (now (sheet .entry)) (Shown (now (view .entry))) scope cells (cells .count) (at .top) (at .left) 1 r (at .levels) (body (Node.Add node amount)) ⌝ }
+) -> usize
+    requires { ⌜ Ready (now sheet) (now table) (now arena) (now slots) (Shown (now view)) (scope (at .count) (now starts) (now lens)) (owners (at .cells) (now cells)) (at .cells) (at .top) (suc (at .levels)) (suc (at .left)) (body (addAt (now sheet) n)) ⌝ }
+    ensures { λ r. ⌜ Gives (now (arena .entry)) (now (arena .exit)) (now (slots .entry)) (now (slots .exit)) (now (sheet .entry)) (Shown (now (view .entry))) (scope (at .count) (now (starts .entry)) (now (lens .entry))) (owners (at .cells) (now (cells .entry))) (at .cells) (at .top) (at .left) 1 (taken r) (at .levels) (body (addAt (now (sheet .entry)) n)) ⌝ }
 {
     let Shape::Number(m) = value::shape_of(view) else {
-        return Put::Refused(51);
+        return 51;
     };
+    let amount = value::number(sheet::byte_of(sheet, n, 2), sheet::byte_of(sheet, n, 3));
     if m < amount {
-        return Put::Refused(52);
+        return 52;
     }
     let rest = m - amount;
     let less = [4, value::high(rest), value::low(rest)];
-    match put_node(sheet, starts, arena, lens, scope, cells, node, &less, at) {
-        Put::Refused(c) => Put::Refused(c),
-        Put::Done(s) => Put::Done(1 + s),
+    let node = sheet::number_of(sheet, n, 1);
+    let one = put_node(
+        sheet,
+        table,
+        arena,
+        slots,
+        starts,
+        lens,
+        cells,
+        node,
+        &less,
+        at,
+    );
+    if one < 256 {
+        return one;
     }
+    took(1 + taken(one))
 }

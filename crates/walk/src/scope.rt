@@ -1,40 +1,19 @@
-//! The scope: where the variables' values stand in the arena.
+//! The scope: where the variables' values stand in the arena. A scope is a value of its own, a count and 110 starts and lengths; it is
+//! copied where variables are added, and lent to the functions of the nodes in it.
 ghost use mathlib.Core.Path.{_≡_};
 ghost use Prim.Native.Nat.{_+_, _<_, _≤_};
-ghost use Rattle.walk.specs.Scope.{noVariable, pushed, Spanned};
+ghost use Rattle.step.specs.Step.{addedTwo};
+ghost use Rattle.walk.specs.Scope.{Spanned};
 use step::Scope;
 use value::Spans;
 
-/// No variable.
-pub fn empty() -> Scope
-    ensures { λ r. ⌜ r ≡ noVariable ⌝ }
+/// Two numbers more, from number n on.
+pub fn add_two(numbers: &mut [u16; 110], n: usize, first: usize, second: usize)
+    requires { ⌜ (n + 2 ≤ 110) × (first < 65536) × (second < 65536) ⌝ }
+    ensures { λ _. ⌜ now (numbers .exit) ≡ addedTwo (now (numbers .entry)) n first second ⌝ }
 {
-    Scope {
-        count: 0,
-        starts: [0u16; 110],
-        lens: [0u16; 110],
-    }
-}
-
-/// One variable more.
-pub fn push(scope: Scope, start: usize, len: usize) -> Scope
-    requires { ⌜ (scope .count < 110) × (start < 65536) × (len < 65536) ⌝ }
-    ensures { λ r. ⌜ r ≡ pushed scope start len ⌝ }
-{
-    let mut s = scope;
-    let n = s.count;
-    s.starts[n] = start as u16;
-    s.lens[n] = len as u16;
-    s.count = n + 1;
-    s
-}
-
-/// Two variables more, whose bytes stand one after the other.
-pub fn push_two(scope: Scope, start: usize, first: usize, second: usize) -> Scope
-    requires { ⌜ (scope .count + 2 ≤ 110) × (start + first < 65536) × (second < 65536) ⌝ }
-    ensures { λ r. ⌜ r ≡ pushed (pushed scope start first) (start + first) second ⌝ }
-{
-    push(push(scope, start, first), start + first, second)
+    numbers[n] = first as u16;
+    numbers[n + 1] = second as u16;
 }
 
 /// The k variables of a plan, whose values stand at its spans.

@@ -3,7 +3,7 @@
 use borrow.Author.Needs.{needs}
 use Prim.Native.Nat.{_≤_, _-_}
 use native.Mathlib.Omega.{arith}
-use Rattle.walk.specs.Gather.{Gathered, gathered-none, gather-fits, gather-apart, gathered-more, gathered-all}
+use Rattle.walk.specs.Gather.{Gathered, gathered-none, gather-fits, gathered-more, gathered-all}
 use Rattle.walk.proofs.gather.Statement.{statement}
 use Rattle.walk.proofs.gather.Tie as tie
 
@@ -47,7 +47,7 @@ add-copy : tie.Need-add-copy Inv-loop μ-loop
 add-copy c = omega (arith, c .before .before .before .before .before .before .before .before .pre .placed .few, c .before .before .before .before .before .before .before .before .pre .placed .count, c .before .before .before .before .before .loop-test .taken, c .before .before .before .before .before .before .loop .inv .1 .short)
 
 copy-requires : tie.Need-copy-requires Inv-loop μ-loop
-copy-requires c κs = (gather-fits (c .before .before .before .before .before .before .loop .inv .1) (c .before .before .before .before .before .before .before .before .pre) (c .before .before .before .before .before .loop-test .taken) (c .before .place-of .ensures .inside (omega (arith, c .before .before .before .before .before .before .before .before .pre .placed .few, c .before .before .before .before .before .before .before .before .pre .placed .count, c .before .before .before .before .before .loop-test .taken))), gather-apart (c .before .before .before .before .before .before .loop .inv .1) (c .before .before .before .before .before .before .before .before .pre) (c .before .before .before .before .before .loop-test .taken) (c .before .place-of .ensures .inside (omega (arith, c .before .before .before .before .before .before .before .before .pre .placed .few, c .before .before .before .before .before .before .before .before .pre .placed .count, c .before .before .before .before .before .loop-test .taken))))
+copy-requires c κs = gather-fits (c .before .before .before .before .before .before .loop .inv .1) (c .before .before .before .before .before .before .before .before .pre) (c .before .before .before .before .before .loop-test .taken) (c .before .place-of .ensures .inside (omega (arith, c .before .before .before .before .before .before .before .before .pre .placed .few, c .before .before .before .before .before .before .before .before .pre .placed .count, c .before .before .before .before .before .loop-test .taken)))
 
 add-len : tie.Need-add-len Inv-loop μ-loop
 add-len c = let f = gather-fits (c .before .before .before .before .before .before .before .before .before .before .loop .inv .1) (c .before .before .before .before .before .before .before .before .before .before .before .before .pre) (c .before .before .before .before .before .before .before .before .before .loop-test .taken) (c .before .before .before .before .before .place-of .ensures .inside (omega (arith, c .before .before .before .before .before .before .before .before .before .before .before .before .pre .placed .few, c .before .before .before .before .before .before .before .before .before .before .before .before .pre .placed .count, c .before .before .before .before .before .before .before .before .before .loop-test .taken))) in omega (arith, f .1, c .before .before .before .before .before .before .before .before .before .before .loop .inv .1 .kept .long, c .before .before .before .before .before .before .before .before .before .before .before .before .pre .placed .long)

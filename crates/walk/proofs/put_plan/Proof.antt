@@ -1,5 +1,6 @@
 -- `put_plan` meets its contract.
 -- Assumes nothing.
+use Rattle.walk.specs.Taken.{taken-refused, taken-as, taken-done}
 use Rattle.walk.specs.Entry.{plan-fits}
 use Rattle.walk.specs.PutEntry.{few-variables, put-ready, put-placed, put-refused, put-done}
 use borrow.Author.Needs.{needs}
@@ -10,28 +11,28 @@ copy-in-requires : tie.Need-copy-in-requires
 copy-in-requires c κs = plan-fits (c .before .before .before .before .before .pre .0)
 
 first-cells-requires : tie.Need-first-cells-requires
-first-cells-requires c κs = few-variables (c .before .before .before .before .before .before .before .before .pre .0) (c .before .before .before .before .before .before .before .before .pre .1)
+first-cells-requires c κs = few-variables (c .before .before .before .before .before .before .before .before .before .before .pre .0) (c .before .before .before .before .before .before .before .before .before .before .pre .1)
 
 put-node-requires : tie.Need-put-node-requires
-put-node-requires c κs = put-ready (c .before .before .before .before .before .before .before .before .before .before .before .before .before .pre .0) (c .before .before .before .before .before .before .before .before .before .before .before .before .before .pre .1) (c .before .before .before .before .before .before .before .copy-in .ensures) (c .before .before .before .before .first-cells .ensures)
+put-node-requires c κs = put-ready (c .before .before .before .before .before .before .before .before .before .before .before .before .before .before .before .before .before .before .before .pre .0) (c .before .before .before .before .before .before .before .before .before .before .before .before .before .before .before .before .before .before .before .pre .1) (c .before .before .before .before .before .before .before .before .before .before .before .before .before .copy-in .ensures) (c .before .before .before .before .before .before .before .before .first-cells .ensures)
 
-enum-known-c : tie.Need-enum-known-c
-enum-known-c c = search needs
-
-enum-known-steps : tie.Need-enum-known-steps
-enum-known-steps c = search needs
-
-gather-requires : tie.Need-gather-requires
-gather-requires c κs = put-placed (c .before .before .before .before .before .before .before .before .before .before .before .before .before .before .before .before .before .before .before .before .before .pre .0) (c .before .before .before .before .before .before .before .before .before .before .before .before .before .before .before .before .before .before .before .before .before .pre .1) (c .before .before .before .before .before .before .before .before .before .before .before .before .before .before .before .copy-in .ensures) (c .before .before .before .before .before .before .before .before .before .before .before .before .first-cells .ensures) (c .before .before .before .before .before .before .before .put-node .ensures) (c .before .before .before .steps .given .1)
+cast-t29 : tie.Need-cast-t29
+cast-t29 c = search needs
 
 returns : tie.Need-returns
-returns c = put-refused (c .before .before .before .before .before .before .before .before .before .before .before .before .before .before .before .before .before .before .before .pre .0) (c .before .before .before .before .before .before .before .before .before .before .before .before .before .before .before .before .before .before .before .pre .1) (c .before .before .before .before .before .before .before .before .before .before .before .before .before .copy-in .ensures) (c .before .before .before .before .before .before .before .before .before .before .first-cells .ensures) (c .before .before .before .before .before .put-node .ensures) (c .before .c .given .1)
+returns c = put-refused (c .before .before .before .before .before .before .before .before .before .before .before .before .before .before .before .before .before .before .before .before .before .before .before .pre .0) (c .before .before .before .before .before .before .before .before .before .before .before .before .before .before .before .before .before .before .before .before .before .before .before .pre .1) (c .before .before .before .before .before .before .before .before .before .before .before .before .before .before .before .before .before .copy-in .ensures) (c .before .before .before .before .before .before .before .before .before .before .before .before .first-cells .ensures) (c .before .before .before .put-node .ensures) (taken-refused (c .if1 .taken))
 
 same-length : tie.Need-same-length
 same-length c = returns c .long
 
+gather-requires : tie.Need-gather-requires
+gather-requires c κs = put-placed (c .before .before .before .before .before .before .before .before .before .before .before .before .before .before .before .before .before .before .before .before .before .before .before .before .before .pre .0) (c .before .before .before .before .before .before .before .before .before .before .before .before .before .before .before .before .before .before .before .before .before .before .before .before .before .pre .1) (c .before .before .before .before .before .before .before .before .before .before .before .before .before .before .before .before .before .before .before .copy-in .ensures) (c .before .before .before .before .before .before .before .before .before .before .before .before .before .before .first-cells .ensures) (c .before .before .before .before .before .put-node .ensures) (taken-done (c .before .before .if1 .left))
+
+taken-requires : tie.Need-taken-requires
+taken-requires c κs = search needs
+
 returns-2 : tie.Need-returns-2
-returns-2 c = put-done (c .before .before .before .before .before .before .before .before .before .before .before .before .before .before .before .before .before .before .before .before .before .before .before .before .pre .0) (c .before .before .before .before .before .before .before .before .before .before .before .before .before .before .before .before .before .before .before .before .before .before .before .before .pre .1) (c .before .before .before .before .before .before .before .before .before .before .before .before .before .before .before .before .before .before .copy-in .ensures) (c .before .before .before .before .before .before .before .before .before .before .before .before .before .before .before .first-cells .ensures) (c .before .before .before .before .before .before .before .before .before .before .put-node .ensures) (c .before .before .before .before .before .before .steps .given .1) (c .before .before .gather .ensures)
+returns-2 c = put-done (c .before .before .before .before .before .before .before .before .before .before .before .before .before .before .before .before .before .before .before .before .before .before .before .before .before .before .before .before .before .pre .0) (c .before .before .before .before .before .before .before .before .before .before .before .before .before .before .before .before .before .before .before .before .before .before .before .before .before .before .before .before .before .pre .1) (c .before .before .before .before .before .before .before .before .before .before .before .before .before .before .before .before .before .before .before .before .before .before .before .copy-in .ensures) (c .before .before .before .before .before .before .before .before .before .before .before .before .before .before .before .before .before .before .first-cells .ensures) (c .before .before .before .before .before .before .before .before .before .put-node .ensures) (taken-as (c .before .before .before .before .before .before .if1 .left) (c .taken .ensures)) (c .before .before .before .gather .ensures)
 
 same-length-2 : tie.Need-same-length-2
 same-length-2 c = returns-2 c .long
@@ -43,10 +44,10 @@ put-plan-spec =
     copy-in-requires
     first-cells-requires
     put-node-requires
-    enum-known-c
-    enum-known-steps
-    gather-requires
+    cast-t29
     same-length
     returns
+    gather-requires
+    taken-requires
     same-length-2
     returns-2)

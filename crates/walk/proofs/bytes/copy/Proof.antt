@@ -1,66 +1,40 @@
--- `copy` meets its contract. The invariant: i bytes are copied.
+-- `copy` meets its contract.
 -- Assumes nothing.
-use borrow.Author.Needs.{needs}
-use Prim.Native.Nat.{_≤_, _-_}
 use native.Mathlib.Omega.{arith}
-use Rattle.walk.specs.Parts.{Copying, copying-none, copying-more, copying-all}
+use Rattle.walk.specs.Parts.{copied-same}
+use borrow.Author.Needs.{needs}
 use Rattle.walk.proofs.bytes.copy.Statement.{statement}
 use Rattle.walk.proofs.bytes.copy.Tie as tie
 
-abbrev Inv-loop : tie.InvT-loop
-Inv-loop arena₀ from to n i₀ arena i = (i ≤ n) × Copying from to i arena₀ arena
+copy-up-requires : tie.Need-copy-up-requires
+copy-up-requires c κs = search needs
 
-abbrev μ-loop : tie.MeasureT-loop
-μ-loop arena₀ from to n i₀ arena i = n - i
+same-length : tie.Need-same-length
+same-length c = search needs
 
-loop-holds : tie.Need-loop-holds Inv-loop μ-loop
-loop-holds c = (search needs, copying-none _ _ _)
+returns : tie.Need-returns
+returns c = search needs
 
-add-arena : tie.Need-add-arena Inv-loop μ-loop
-add-arena c = omega arith
+copy-down-requires : tie.Need-copy-down-requires
+copy-down-requires c κs = search needs
 
-slice-read-arena : tie.Need-slice-read-arena Inv-loop μ-loop
-slice-read-arena c = omega arith
+same-length-2 : tie.Need-same-length-2
+same-length-2 c = search needs
 
-add-arena-2 : tie.Need-add-arena-2 Inv-loop μ-loop
-add-arena-2 c = omega arith
+returns-2 : tie.Need-returns-2
+returns-2 c = search needs
 
-slice-write-arena : tie.Need-slice-write-arena Inv-loop μ-loop
-slice-write-arena c = omega arith
-
-add-i : tie.Need-add-i Inv-loop μ-loop
-add-i c = omega arith
-
-loop-less : tie.Need-loop-less Inv-loop μ-loop
-loop-less c = omega arith
-
-loop-again : tie.Need-loop-again Inv-loop μ-loop
-loop-again c =
-    let s = c .before .before in
-    let p = s .before .pre in
-    (omega arith, copying-more (s .loop .inv .1) _ (p .0 .0) (p .0 .1) (p .1) (c .before .loop-test .taken))
-
-same-length : tie.Need-same-length Inv-loop μ-loop
-same-length c = c .before .loop .inv .1 .long
-
-returns : tie.Need-returns Inv-loop μ-loop
-returns c =
-    let p = c .before .before .pre in
-    copying-all (c .before .loop .inv .1) _ (p .0 .0) (p .0 .1) (omega arith)
+returns-3 : tie.Need-returns-3
+returns-3 c = copied-same _ _ _ _ (omega (arith, c .before .if1 .left, c .if2 .left))
 
 pub copy-spec : {M : Type 1} → statement M
 copy-spec =
     tie.close
     (tie.spec
-    Inv-loop
-    μ-loop
-    loop-holds
-    add-arena
-    slice-read-arena
-    add-arena-2
-    slice-write-arena
-    add-i
-    loop-less
-    loop-again
+    copy-up-requires
     same-length
-    returns)
+    returns
+    copy-down-requires
+    same-length-2
+    returns-2
+    returns-3)

@@ -1,34 +1,34 @@
 -- `fill` meets its contract. The invariant: i bytes are copied.
-use borrow.Author.Needs.{needs}
+-- Assumes nothing.
 use Prim.Native.Nat.{_≤_, _-_}
 use native.Mathlib.Omega.{arith}
 use lib.ListN.{drop}
 use denote.Ref.{now}
 use mathlib.Core.Path.{_≡_}
-use Rattle.walk.specs.Storing.{Pasting, pasting-none, pasting-part}
+use Rattle.step.specs.Storing.{Pasting, pasting-none, pasting-part}
 use Rattle.walk.proofs.bytes.fill.Statement.{statement}
 use Rattle.walk.proofs.bytes.fill.Tie as tie
 
 abbrev Inv-loop : tie.InvT-loop
-Inv-loop at arena start len w₀ i₀ w i = (i ≤ len) × Pasting at i (drop start arena) w₀ w
+Inv-loop whole₀ at arena start len i₀ whole i = (i ≤ len) × Pasting at i (drop start arena) whole₀ whole
 
 abbrev μ-loop : tie.MeasureT-loop
-μ-loop at arena start len w₀ i₀ w i = len - i
+μ-loop whole₀ at arena start len i₀ whole i = len - i
 
 loop-holds : tie.Need-loop-holds Inv-loop μ-loop
-loop-holds c = (search needs, pasting-none _ _ _)
+loop-holds c = (omega arith, pasting-none _ _ _)
 
-add-w : tie.Need-add-w Inv-loop μ-loop
-add-w c = omega arith
+add-whole : tie.Need-add-whole Inv-loop μ-loop
+add-whole c = omega arith
 
-shared-slice-read-w : tie.Need-shared-slice-read-w Inv-loop μ-loop
-shared-slice-read-w c = omega arith
+shared-slice-read-whole : tie.Need-shared-slice-read-whole Inv-loop μ-loop
+shared-slice-read-whole c = omega arith
 
-add-w-2 : tie.Need-add-w-2 Inv-loop μ-loop
-add-w-2 c = omega arith
+add-whole-2 : tie.Need-add-whole-2 Inv-loop μ-loop
+add-whole-2 c = omega arith
 
-array-write-w : tie.Need-array-write-w Inv-loop μ-loop
-array-write-w c = omega arith
+element-write-whole : tie.Need-element-write-whole Inv-loop μ-loop
+element-write-whole c = omega arith
 
 add-i : tie.Need-add-i Inv-loop μ-loop
 add-i c = omega arith
@@ -37,10 +37,10 @@ loop-less : tie.Need-loop-less Inv-loop μ-loop
 loop-less c = omega arith
 
 loop-again : tie.Need-loop-again Inv-loop μ-loop
-loop-again c = (omega arith, pasting-part (c .before .before .before .args .start) (now (c .before .before .before .args .arena)) (c .before .before .loop .inv .1) (omega (arith, c .before .before .before .good)) (omega arith))
+loop-again c = (omega arith, pasting-part (c .before .before .before .args .start) (now (c .before .before .before .args .arena)) (c .before .before .loop .inv .1) (omega arith) (omega arith))
 
 returns : tie.Need-returns Inv-loop μ-loop
-returns c = let e : c .before .loop .i ≡ c .before .before .args .len = omega arith in rw e at (c .before .loop .inv .1 .made)
+returns c = let e : c .before .loop .i ≡ c .before .before .args .len = omega arith in (rw e at (c .before .loop .inv .1 .made), c .before .loop .inv .1 .long)
 
 pub fill-spec : {M : Type 1} → statement M
 fill-spec =
@@ -49,10 +49,10 @@ fill-spec =
     Inv-loop
     μ-loop
     loop-holds
-    add-w
-    shared-slice-read-w
-    add-w-2
-    array-write-w
+    add-whole
+    shared-slice-read-whole
+    add-whole-2
+    element-write-whole
     add-i
     loop-less
     loop-again

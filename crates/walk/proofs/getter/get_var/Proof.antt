@@ -1,52 +1,53 @@
 -- `get_var` meets its contract.
 -- Assumes nothing.
-use borrow.Author.Needs.{needs}
 use native.Mathlib.Omega.{arith}
-use Rattle.walk.specs.GetLeaf.{var-42, var-done, stands}
+use mathlib.Core.Path.{refl}
+use Rattle.step.specs.StepLaws.{when-in, when-out}
+use borrow.Author.Needs.{needs}
 use Rattle.walk.proofs.getter.get_var.Statement.{statement}
 use Rattle.walk.proofs.getter.get_var.Tie as tie
 
+number-of-requires : tie.Need-number-of-requires
+number-of-requires c κs = search needs
+
 returns : tie.Need-returns
-returns c = λ s left l. var-42 (c .if1 .taken)
+returns c = when-out (λ h. omega (arith, h, c .if1 .taken, c .before .number-of .ensures)) refl
 
-mul-start : tie.Need-mul-start
-mul-start c = let z = stands (c .before .before .pre) (c .if1 .left) in record { fits = omega (arith, z .slot) }
+mul-found : tie.Need-mul-found
+mul-found c = search needs
 
-element-copy-out-start : tie.Need-element-copy-out-start
-element-copy-out-start c = let z = stands (c .before .before .pre) (c .if1 .left) in omega (arith, z .slot, z .starts-long)
+element-copy-out-found : tie.Need-element-copy-out-found
+element-copy-out-found c = search needs
 
-cast-start : tie.Need-cast-start
-cast-start c = search needs
+cast-found : tie.Need-cast-found
+cast-found c = let e = c .before .before .number-of .ensures in let h = c .before .before .before .before .pre .1 (omega (arith, e, c .before .if1 .left)) in rw e (record { fits = omega (arith, h .0) })
 
-mul-len : tie.Need-mul-len
-mul-len c = let z = stands (c .before .before .before .pre) (c .before .if1 .left) in record { fits = omega (arith, z .slot) }
+mul-found-2 : tie.Need-mul-found-2
+mul-found-2 c = search needs
 
-element-copy-out-len : tie.Need-element-copy-out-len
-element-copy-out-len c = let z = stands (c .before .before .before .pre) (c .before .if1 .left) in omega (arith, z .slot, z .lens-long)
+element-copy-out-found-2 : tie.Need-element-copy-out-found-2
+element-copy-out-found-2 c = search needs
 
-cast-len : tie.Need-cast-len
-cast-len c = search needs
+cast-found-2 : tie.Need-cast-found-2
+cast-found-2 c = let e = c .before .before .before .number-of .ensures in let h = c .before .before .before .before .before .pre .1 (omega (arith, e, c .before .before .if1 .left)) in rw e (record { fits = omega (arith, h .1) })
 
-copy-requires : tie.Need-copy-requires
-copy-requires c κs = let z = stands (c .before .before .before .before .before .pre) (c .before .before .before .if1 .left) in ((z .from-inside, z .to-inside), z .apart)
-
-same-length : tie.Need-same-length
-same-length c = search needs
+found-requires : tie.Need-found-requires
+found-requires c κs = let e = c .before .before .before .number-of .ensures in let h = c .before .before .before .before .before .pre .1 (omega (arith, e, c .before .before .if1 .left)) in rw e (h .0, h .1, omega arith)
 
 returns-2 : tie.Need-returns-2
-returns-2 c = λ s left l. var-done (c .before .before .before .before .before .before .if1 .left) (c .before .before .before .before .before .before .before .before .pre .base) (c .before .before .copy .ensures)
+returns-2 c = let e = c .before .before .before .before .number-of .ensures in when-in (omega (arith, e, c .before .before .before .if1 .left)) (rw (← e) (c .found .ensures))
 
 pub get-var-spec : {M : Type 1} → statement M
 get-var-spec =
     tie.close
     (tie.spec
+    number-of-requires
     returns
-    mul-start
-    element-copy-out-start
-    cast-start
-    mul-len
-    element-copy-out-len
-    cast-len
-    copy-requires
-    same-length
+    mul-found
+    element-copy-out-found
+    cast-found
+    mul-found-2
+    element-copy-out-found-2
+    cast-found-2
+    found-requires
     returns-2)

@@ -9,10 +9,6 @@ use lib.Dec.{eqb, ltb}
 use lib.ListN.{length, drop, getD, set, length-set, length-drop}
 use lib.Seq.{paste, paste-zero, paste-suc, getD-drop}
 use borrow.Author.Tests.{ne-eqb, eq-eqb, lt-ltb, le-ltb}
-use Rattle.step.specs.declared.Span.{Span}
-use Rattle.step.specs.declared.Put.{Put}
-use Rattle.step.specs.declared.Put.the-variants.{Done, Refused}
-use Rattle.step.specs.Step.{placeOf, judged, unfitRest}
 
 -- i elements are copied
 pub record Pasting (at i : ℕ) (s b a : List ℕ) : Type 0 where

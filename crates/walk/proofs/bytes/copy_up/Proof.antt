@@ -1,0 +1,65 @@
+-- `copy_up` meets its contract. The invariant: the bytes from i on are copied.
+-- Assumes nothing.
+use Prim.Native.Nat.{_≤_}
+use native.Mathlib.Omega.{arith}
+use Rattle.walk.specs.Parts.{CopyingUp, copying-up-none, copying-up-more, copying-up-all}
+use Rattle.walk.proofs.bytes.copy_up.Statement.{statement}
+use Rattle.walk.proofs.bytes.copy_up.Tie as tie
+
+abbrev Inv-loop : tie.InvT-loop
+Inv-loop arena₀ from to n i₀ arena i = (i ≤ n) × CopyingUp from to n i arena₀ arena
+
+abbrev μ-loop : tie.MeasureT-loop
+μ-loop arena₀ from to n i₀ arena i = i
+
+loop-holds : tie.Need-loop-holds Inv-loop μ-loop
+loop-holds c = (omega arith, copying-up-none _ _ _ _)
+
+sub-i : tie.Need-sub-i Inv-loop μ-loop
+sub-i c = omega arith
+
+add-arena : tie.Need-add-arena Inv-loop μ-loop
+add-arena c = omega arith
+
+slice-read-arena : tie.Need-slice-read-arena Inv-loop μ-loop
+slice-read-arena c = omega arith
+
+add-arena-2 : tie.Need-add-arena-2 Inv-loop μ-loop
+add-arena-2 c = omega arith
+
+slice-write-arena : tie.Need-slice-write-arena Inv-loop μ-loop
+slice-write-arena c = omega arith
+
+loop-less : tie.Need-loop-less Inv-loop μ-loop
+loop-less c = omega arith
+
+loop-again : tie.Need-loop-again Inv-loop μ-loop
+loop-again c =
+    let s = c .before .before in
+    let p = s .before .pre in
+    (omega arith, copying-up-more (s .loop .inv .1) (p .0 .0) (p .0 .1) (p .1) (c .before .loop-test .taken) (s .loop .inv .0))
+
+same-length : tie.Need-same-length Inv-loop μ-loop
+same-length c = c .before .loop .inv .1 .long
+
+returns : tie.Need-returns Inv-loop μ-loop
+returns c =
+    let p = c .before .before .pre in
+    copying-up-all (c .before .loop .inv .1) (p .0 .0) (p .0 .1) (omega arith)
+
+pub copy-up-spec : {M : Type 1} → statement M
+copy-up-spec =
+    tie.close
+    (tie.spec
+    Inv-loop
+    μ-loop
+    loop-holds
+    sub-i
+    add-arena
+    slice-read-arena
+    add-arena-2
+    slice-write-arena
+    loop-less
+    loop-again
+    same-length
+    returns)
