@@ -1,5 +1,6 @@
 //! Get: the value of a node. It stands in the plan, or on the stack from the top on, or below the top where it was already. One function a
-//! kind; a node's record starts at byte `n` of the sheet.
+//! kind; a node's record starts at byte `n` of the sheet. Lent to each: the sheet, the `table` of where its records start, the arena, and
+//! the scope's `starts` and `lens`.
 ghost use mathlib.Core.Path.{_≡_};
 ghost use mathlib.Core.List.{List};
 ghost use Prim.Native.Nat.{ℕ, suc, _+_, _*_, _≤_, _<_};

@@ -1,5 +1,6 @@
-//! Put: a view put back into a node, with what was written in the arena's cells. One function a kind; a node's record starts at byte `n` of
-//! the sheet.
+//! Put: a view put back into a node, with what was written in the arena's slots. One function a kind; a node's record starts at byte `n` of
+//! the sheet. Lent to each, beside what a get is lent: the length of what each slot has in `slots`, 0 for nothing, and the cell of each
+//! variable in `cells`.
 ghost use mathlib.Core.Path.{_≡_};
 ghost use mathlib.Core.List.{List, [], _∷_};
 ghost use Prim.Native.Nat.{ℕ, suc, _+_, _*_, _≤_, _<_};
