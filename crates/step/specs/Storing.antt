@@ -1,14 +1,11 @@
 -- A copy into a list, one element a turn.
 use mathlib.Core.Path.{_≡_, refl, sym, ap, _∙_}
-use mathlib.Core.Bool.{Bool, true, false, _&&_, _||_}
 use mathlib.Core.List.{List}
 use Prim.Native.Nat.{ℕ, zero, suc, _+_, _*_, _≤_, _<_}
 use native.Mathlib.Numerals.{add-one}
 use native.Mathlib.Omega.{arith}
-use lib.Dec.{eqb, ltb}
 use lib.ListN.{length, drop, getD, set, length-set, length-drop}
 use lib.Seq.{paste, paste-zero, paste-suc, getD-drop}
-use borrow.Author.Tests.{ne-eqb, eq-eqb, lt-ltb, le-ltb}
 
 -- i elements are copied
 pub record Pasting (at i : ℕ) (s b a : List ℕ) : Type 0 where

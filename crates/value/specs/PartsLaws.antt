@@ -45,63 +45,8 @@ shape-encode {v} h more = go h (opened v more refl)
     go h (oNumber {n} e) = rw (← e) (ap Number (omega arith))
     go h (oPair e) = behind-value Pair (readable-pair h .0) _ e
 
--- the kind byte that a shape begins with
-unfoldable pub kindByte : Shape → ℕ
-kindByte False = 0
-kindByte True = 1
-kindByte Empty = 2
-kindByte (Front at) = 3
-kindByte (Number n) = 4
-kindByte (Pair at) = 5
-kindByte Malformed = 255
-
-pub kind-byte : (v : Value) → getD (encode v) 0 0 ≡ kindByte (shape v)
-unfolding encode encodes shape kindByte
-kind-byte vfalse = refl
-kind-byte vtrue = refl
-kind-byte (list nil) = refl
-kind-byte (list (cons f r)) = refl
-kind-byte (number n) = refl
-kind-byte (pair a b) = refl
-
 pub shape-whole : {v : Value} → Readable v → shapeOf (encode v) ≡ shape v
 shape-whole {v} h = ap shapeOf (sym (append-nil (encode v))) ∙ shape-encode h []
-
--- a value's kind byte and the position of its second part give its shape
-by-three : (s : Shape) {m : ℕ} → m ≡ middleOf s → kindByte s ≡ 3 → Front m ≡ s
-unfolding middleOf kindByte
-by-three False e k = absurd (omega arith)
-by-three True e k = absurd (omega arith)
-by-three Empty e k = absurd (omega arith)
-by-three (Front at) e k = ap Front e
-by-three (Number n) e k = absurd (omega arith)
-by-three (Pair at) e k = absurd (omega arith)
-by-three Malformed e k = absurd (omega arith)
-
-by-five : (s : Shape) {m : ℕ} → m ≡ middleOf s → kindByte s ≡ 5 → Pair m ≡ s
-unfolding middleOf kindByte
-by-five False e k = absurd (omega arith)
-by-five True e k = absurd (omega arith)
-by-five Empty e k = absurd (omega arith)
-by-five (Front at) e k = absurd (omega arith)
-by-five (Number n) e k = absurd (omega arith)
-by-five (Pair at) e k = ap Pair e
-by-five Malformed e k = absurd (omega arith)
-
-pub front-by-kind : {v : Value} → Readable v → {m : ℕ} → m ≡ middleOf (shapeOf (encode v)) → getD (encode v) 0 0 ≡ 3 → Front m ≡ shape v
-front-by-kind {v} h e k = by-three (shape v) (e ∙ ap middleOf (shape-whole h)) (sym (kind-byte v) ∙ k)
-
-pub pair-by-kind : {v : Value} → Readable v → {m : ℕ} → m ≡ middleOf (shapeOf (encode v)) → getD (encode v) 0 0 ≡ 5 → Pair m ≡ shape v
-pair-by-kind {v} h e k = by-five (shape v) (e ∙ ap middleOf (shape-whole h)) (sym (kind-byte v) ∙ k)
-
--- and another kind byte rules a shape out
-pub no-front-by-kind : (v : Value) → (getD (encode v) 0 0 ≡ 3 → ⊥) → (m : ℕ) → Front m ≡ shape v → ⊥
-unfolding kindByte
-no-front-by-kind v n m e = n (kind-byte v ∙ ap kindByte (sym e))
-
-pub no-pair-by-kind : (v : Value) → (getD (encode v) 0 0 ≡ 5 → ⊥) → (m : ℕ) → Pair m ≡ shape v → ⊥
-unfolding kindByte
-no-pair-by-kind v n m e = n (kind-byte v ∙ ap kindByte (sym e))
 
 -- the parts of a list with members and of a pair
 module _ (k : ℕ) (a : Value) (x : List ℕ) where

@@ -12,7 +12,7 @@ use Rattle.value.specs.Value.{Value, vfalse, encode, flat}
 use Rattle.step.specs.declared.Scope.{Scope}
 use Rattle.step.specs.declared.Span.{Span}
 use Rattle.step.specs.declared.Cells.{Cells as Owners}
-use Rattle.walk.specs.Parts.{part, Kept, Apart, up, Copied, part-kept, part-join, part-length, kept-refl, kept-then}
+use Rattle.walk.specs.Parts.{part, Kept, Copied, part-kept, part-join, part-length, kept-refl, kept-then}
 use Rattle.step.specs.Step.{placeOf}
 
 -- the bytes of v, below the stack
@@ -58,9 +58,6 @@ module _ {i : ℕ} {lens : List ℕ} {sc : Scope} {b a : List ℕ} {len : ℕ} (
       let w = s .placed in
       let r = rests w in
       (omega (arith, r .inside, g .kept .long, w .long), omega (arith, r .short, g .short, g .kept .long, w .long, w .few, w .count))
-
-  pub gather-apart : Apart (p .start) (32256 + len) (p .len)
-  gather-apart = up (omega (arith, rests (s .placed) .inside))
 
   pub gathered-more : {a′ : List ℕ} → Copied (p .start) (32256 + len) (p .len) a a′ → Gathered (i + 1) lens sc b a′ (len + p .len)
   gathered-more {a′} c = record {

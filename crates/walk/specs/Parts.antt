@@ -74,11 +74,7 @@ marked-kept {k} {top} {b} w = rw (w .is) (kept-set top b top k (le-refl top))
 pub marked-part : {k top : ℕ} {b m : List ℕ} → Marked k top b m → part m top 1 ≡ k ∷ []
 marked-part {k} {top} {b} {m} w = rw (w .is) (part-one (set b top k) top (simp length-set (w .inside)) ∙ rw (getD-set-same b top k 0 (w .inside)))
 
--- A FORWARD COPY of n bytes within the arena: down, or to bytes that are disjoint, it reads each before it is overwritten
-
-pub data Apart (from to n : ℕ) : Type 0 where
-  down : to ≤ from → Apart from to n
-  up : from + n ≤ to → Apart from to n
+-- A FORWARD COPY of n bytes within the arena, down: it reads each before it is overwritten
 
 -- n bytes were copied, and the bytes below are as they were
 pub record Copied (from to n : ℕ) (b a : List ℕ) : Type 0 where
@@ -92,17 +88,11 @@ pub record Copying (from to i : ℕ) (b a : List ℕ) : Type 0 where
 
 module _ (b : List ℕ) (from to n : ℕ) (hf : from + n ≤ length b) (ht : to + n ≤ length b) where
   -- the next byte to copy is as it was
-  copied-read : (i : ℕ) → Apart from to n → i < n → getD (paste b to (drop from b) i) (from + i) 0 ≡ getD b (from + i) 0
-  copied-read i (down d) h =
+  copied-read : (i : ℕ) → to ≤ from → i < n → getD (paste b to (drop from b) i) (from + i) 0 ≡ getD b (from + i) 0
+  copied-read i d h =
       let l : length (take to b ++ take i (drop from b)) ≡ to + i = length-paste-head b to (drop from b) i (omega arith) (rw length-drop (omega arith)) in
       let e : from + i ≡ length (take to b ++ take i (drop from b)) + (from - to) = omega arith in
       rw e (rw (getD-append-add, getD-drop) (ap (λ (k : ℕ). getD b k 0) (omega arith)))
-  copied-read i (up u) h =
-      let l : length (take to b ++ take i (drop from b)) ≡ to + i = length-paste-head b to (drop from b) i (omega arith) (rw length-drop (omega arith)) in
-      let m : length (take to b) ≡ to = length-take-le to b (omega arith) in
-      List·getD-append (take to b ++ take i (drop from b)) (drop (to + i) b) 0 (from + i) (omega arith)
-      ∙ List·getD-append (take to b) (take i (drop from b)) 0 (from + i) (omega arith)
-      ∙ getD-take to b (from + i) 0 (omega arith)
 
   copied-part : part (paste b to (drop from b) n) to n ≡ part b from n
   copied-part =
@@ -124,7 +114,7 @@ pub copying-none : (from to : ℕ) (b : List ℕ) → Copying from to 0 b b
 copying-none from to b = record { made = paste-zero b to (drop from b); long = refl }
 
 module _ {from to i : ℕ} {b a : List ℕ} (m : Copying from to i b a) (n : ℕ) (hf : from + n ≤ length b) (ht : to + n ≤ length b) where
-  pub copying-more : Apart from to n → i < n → Copying from to (i + 1) b (set a (to + i) (getD a (from + i) 0))
+  pub copying-more : to ≤ from → i < n → Copying from to (i + 1) b (set a (to + i) (getD a (from + i) 0))
   copying-more x h =
       let s : getD a (from + i) 0 ≡ getD (drop from b) i 0 = ap (λ (l : List ℕ). getD l (from + i) 0) (m .made) ∙ copied-read b from to n hf ht i x h ∙ sym (getD-drop from b i 0) in
       record {

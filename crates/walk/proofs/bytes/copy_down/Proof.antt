@@ -3,7 +3,7 @@
 use borrow.Author.Needs.{needs}
 use Prim.Native.Nat.{_≤_, _-_}
 use native.Mathlib.Omega.{arith}
-use Rattle.walk.specs.Parts.{down, Copying, copying-none, copying-more, copying-all}
+use Rattle.walk.specs.Parts.{Copying, copying-none, copying-more, copying-all}
 use Rattle.walk.proofs.bytes.copy_down.Statement.{statement}
 use Rattle.walk.proofs.bytes.copy_down.Tie as tie
 
@@ -38,7 +38,7 @@ loop-again : tie.Need-loop-again Inv-loop μ-loop
 loop-again c =
     let s = c .before .before in
     let p = s .before .pre in
-    (omega arith, copying-more (s .loop .inv .1) _ (p .0 .0) (p .0 .1) (down (p .1)) (c .before .loop-test .taken))
+    (omega arith, copying-more (s .loop .inv .1) _ (p .0 .0) (p .0 .1) (p .1) (c .before .loop-test .taken))
 
 same-length : tie.Need-same-length Inv-loop μ-loop
 same-length c = c .before .loop .inv .1 .long
