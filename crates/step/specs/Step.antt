@@ -8,8 +8,10 @@ use lib.ListN.{getD, set}
 use Rattle.step.specs.declared.Scope.{Scope}
 use Rattle.step.specs.declared.Cells.{Cells}
 use Rattle.step.specs.declared.Span.{Span}
-use Rattle.step.specs.declared.Branch.{Branch}
-use Rattle.step.specs.declared.Branch.the-variants.{First, Second, Neither}
+use Rattle.step.specs.declared.ListBranch.{ListBranch}
+use Rattle.step.specs.declared.ListBranch.the-variants as is
+use Rattle.value.specs.declared.Shape.{Shape}
+use Rattle.value.specs.declared.Shape.the-variants.{False, True, Empty, Front, Number, Pair, Malformed}
 
 -- r is x where P holds, and y elsewhere
 pub record When {A : Type 0} (P : Type 0) (r x y : A) : Type 0 where
@@ -56,14 +58,47 @@ unfoldable pub testRefusal : Bool → ℕ
 testRefusal true = 0
 testRefusal false = 46
 
--- the branch that the old subject fits is kept where its test says yes; otherwise the other is taken where its test says yes
-unfoldable pub chosen : (fits-second first-says second-says : Bool) → Branch
-chosen true p true = Second
-chosen true true false = First
-chosen true false false = Neither
-chosen false true q = First
-chosen false false true = Second
-chosen false false false = Neither
+-- the branch for a view, 0 or 1: the one that the old subject fits is kept where its test says yes; otherwise the other is taken where its
+-- test says yes; otherwise refusal 53
+unfoldable pub chosen : (fits-second first-says second-says : Bool) → ℕ
+chosen true p true = 1
+chosen true true false = 0
+chosen true false false = 53
+chosen false true q = 0
+chosen false false true = 1
+chosen false false false = 53
+
+-- of a truth case, by the old subject's shape
+unfoldable pub truthBranch : Shape → (no-says yes-says : Bool) → ℕ
+truthBranch False p q = chosen false p q
+truthBranch True p q = chosen true p q
+truthBranch Empty p q = 43
+truthBranch (Front mid) p q = 43
+truthBranch (Number n) p q = 43
+truthBranch (Pair mid) p q = 43
+truthBranch Malformed p q = 43
+
+-- of a list case whose old subject is the empty list: the second branch is taken by a switch
+unfoldable pub fromEmpty : ℕ → ListBranch
+fromEmpty zero = is.Empty
+fromEmpty (suc zero) = is.Switch
+fromEmpty (suc (suc c)) = is.Refused (suc (suc c))
+
+-- whose old subject has members: the second branch keeps its parts
+unfoldable pub fromFront : (mid : ℕ) → ℕ → ListBranch
+fromFront mid zero = is.Empty
+fromFront mid (suc zero) = is.Front mid
+fromFront mid (suc (suc c)) = is.Refused (suc (suc c))
+
+-- of a list case, by the old subject's shape
+unfoldable pub listBranch : Shape → (empty-says front-says : Bool) → ListBranch
+listBranch Empty p q = fromEmpty (chosen false p q)
+listBranch (Front mid) p q = fromFront mid (chosen true p q)
+listBranch False p q = is.Refused 43
+listBranch True p q = is.Refused 43
+listBranch (Number n) p q = is.Refused 43
+listBranch (Pair mid) p q = is.Refused 43
+listBranch Malformed p q = is.Refused 43
 
 -- one step taken, as a put answers it, or a refusal
 unfoldable pub judged : ℕ → Bool → ℕ

@@ -1,13 +1,15 @@
 -- Laws of those definitions, for the code here and for callers.
-use mathlib.Core.Path.{_≡_, refl, sym}
+use mathlib.Core.Path.{_≡_, refl, sym, ap, _∙_}
 use mathlib.Core.Bool.{Bool, true, false, _&&_, _||_, false≢true}
 use Prim.Native.Nat.{ℕ, zero, suc, _+_, _*_, _≤_, _<_}
 use native.Mathlib.Omega.{arith}
 use lib.Dec.{eqb, ltb}
 use borrow.Author.Tests.{ne-eqb, eq-eqb, lt-ltb, le-ltb}
-use Rattle.step.specs.declared.Branch.{Branch}
-use Rattle.step.specs.declared.Branch.the-variants.{First, Second, Neither}
-use Rattle.step.specs.Step.{When, placeOf, entryRefusal, testRefusal, chosen, judged, unfitRest}
+use Rattle.value.specs.declared.Shape.{Shape}
+use Rattle.value.specs.declared.Shape.the-variants.{False, True, Empty, Front, Number, Pair, Malformed}
+use Rattle.step.specs.declared.ListBranch.{ListBranch}
+use Rattle.step.specs.declared.ListBranch.the-variants as is
+use Rattle.step.specs.Step.{When, placeOf, entryRefusal, testRefusal, chosen, truthBranch, fromEmpty, fromFront, listBranch, judged, unfitRest}
 
 pub when-in : {A P : Type 0} {r x y : A} → P → r ≡ x → When P r x y
 when-in p e = record { inside = λ _. e; outside = λ n. absurd (n p) }
@@ -85,13 +87,14 @@ unfolding testRefusal
 says-no e t = rw (← e, t)
 
 -- THE CHOICE, as it is made
-pub keeps-second : (b p q : Bool) → (b && q) ≡ true → Second ≡ chosen b p q
+
+pub keeps-second : (b p q : Bool) → (b && q) ≡ true → 1 ≡ chosen b p q
 unfolding chosen
 keeps-second true p true e = refl
 keeps-second true p false e = absurd (false≢true e)
 keeps-second false p q e = absurd (false≢true e)
 
-pub takes-first : (b p q : Bool) → (b && q) ≡ false → p ≡ true → First ≡ chosen b p q
+pub takes-first : (b p q : Bool) → (b && q) ≡ false → p ≡ true → 0 ≡ chosen b p q
 unfolding chosen
 takes-first true true true e t = absurd (false≢true (sym e))
 takes-first true true false e t = refl
@@ -99,55 +102,156 @@ takes-first false true q e t = refl
 takes-first true false q e t = absurd (false≢true t)
 takes-first false false q e t = absurd (false≢true t)
 
-pub takes-second : (b p q : Bool) → (b && q) ≡ false → p ≡ false → q ≡ true → Second ≡ chosen b p q
+pub takes-second : (b p q : Bool) → (b && q) ≡ false → p ≡ false → q ≡ true → 1 ≡ chosen b p q
 unfolding chosen
 takes-second true p true e f t = absurd (false≢true (sym e))
 takes-second false p true e f t = rw f
 takes-second true p false e f t = absurd (false≢true t)
 takes-second false p false e f t = absurd (false≢true t)
 
-pub takes-neither : (b p q : Bool) → p ≡ false → q ≡ false → Neither ≡ chosen b p q
+pub takes-neither : (b p q : Bool) → p ≡ false → q ≡ false → 53 ≡ chosen b p q
 unfolding chosen
 takes-neither true p q f g = rw (f, g)
 takes-neither false p q f g = rw (f, g)
 
--- what a choice says of the two tests
-unfoldable pub Says : Branch → (fits-second first-says second-says : Bool) → Type 0
-Says First true p q = (q ≡ false) × (p ≡ true)
-Says First false p q = p ≡ true
-Says Second true p q = q ≡ true
-Says Second false p q = (p ≡ false) × (q ≡ true)
-Says Neither b p q = (p ≡ false) × (q ≡ false)
+-- what it says of the two tests
+pub data Says (p q : Bool) : (fits-second : Bool) (branch : ℕ) → Type 0 where
+  first-kept : p ≡ true → Says p q false 0
+  first-left : p ≡ false → q ≡ true → Says p q false 1
+  second-kept : q ≡ true → Says p q true 1
+  second-left : q ≡ false → p ≡ true → Says p q true 0
+  neither : {b : Bool} → p ≡ false → q ≡ false → Says p q b 53
 
-all-say : (b p q : Bool) → Says (chosen b p q) b p q
-unfolding chosen Says
-all-say true true true = refl
-all-say true false true = refl
-all-say true true false = (refl, refl)
-all-say true false false = (refl, refl)
-all-say false true q = refl
-all-say false false true = (refl, refl)
-all-say false false false = (refl, refl)
+pub says : (b p q : Bool) → Says p q b (chosen b p q)
+unfolding chosen
+says true true true = second-kept refl
+says true false true = second-kept refl
+says true true false = second-left refl refl
+says true false false = neither refl refl
+says false true q = first-kept refl
+says false false true = first-left refl refl
+says false false false = neither refl refl
 
-pub says : {r c : Branch} (b p q : Bool) → r ≡ chosen b p q → r ≡ c → Says c b p q
-says b p q e f = rw (← f, e) (all-say b p q)
+-- THE BRANCH of a truth case
+pub data TruthSays (s : Shape) (p q : Bool) : ℕ → Type 0 where
+  of-false : {c : ℕ} → s ≡ False → Says p q false c → TruthSays s p q c
+  of-true : {c : ℕ} → s ≡ True → Says p q true c → TruthSays s p q c
+  of-none : (s ≡ False → ⊥) → (s ≡ True → ⊥) → TruthSays s p q 43
 
-pub first-kept : {r : Branch} (p q : Bool) → r ≡ chosen false p q → r ≡ First → p ≡ true
-unfolding Says
-first-kept p q e f = says false p q e f
+-- which of the shapes it is
+unfoldable which : Shape → ℕ
+which False = 0
+which True = 1
+which Empty = 2
+which (Front mid) = 3
+which (Number n) = 4
+which (Pair mid) = 5
+which Malformed = 6
 
-pub first-left : {r : Branch} (p q : Bool) → r ≡ chosen false p q → r ≡ Second → (p ≡ false) × (q ≡ true)
-unfolding Says
-first-left p q e f = says false p q e f
+unlike : {s t : Shape} → (which s ≡ which t → ⊥) → s ≡ t → ⊥
+unlike n e = n (ap which e)
 
-pub second-kept : {r : Branch} (p q : Bool) → r ≡ chosen true p q → r ≡ Second → q ≡ true
-unfolding Says
-second-kept p q e f = says true p q e f
+truths : (s : Shape) (p q : Bool) → TruthSays s p q (truthBranch s p q)
+unfolding truthBranch which
+truths False p q = of-false refl (says false p q)
+truths True p q = of-true refl (says true p q)
+truths Empty p q = of-none (unlike λ e. omega arith) (unlike λ e. omega arith)
+truths (Front mid) p q = of-none (unlike λ e. omega arith) (unlike λ e. omega arith)
+truths (Number n) p q = of-none (unlike λ e. omega arith) (unlike λ e. omega arith)
+truths (Pair mid) p q = of-none (unlike λ e. omega arith) (unlike λ e. omega arith)
+truths Malformed p q = of-none (unlike λ e. omega arith) (unlike λ e. omega arith)
 
-pub second-left : {r : Branch} (p q : Bool) → r ≡ chosen true p q → r ≡ First → (q ≡ false) × (p ≡ true)
-unfolding Says
-second-left p q e f = says true p q e f
+pub truth-says : {r : ℕ} (s : Shape) (p q : Bool) → r ≡ truthBranch s p q → TruthSays s p q r
+truth-says s p q e = rw e (truths s p q)
 
-pub none-says : {r : Branch} (b p q : Bool) → r ≡ chosen b p q → r ≡ Neither → (p ≡ false) × (q ≡ false)
-unfolding Says
-none-says b p q e f = says b p q e f
+pub false-branch : {r : ℕ} {s : Shape} (p q : Bool) → s ≡ False → r ≡ chosen false p q → r ≡ truthBranch s p q
+unfolding truthBranch
+false-branch p q e f = rw e f
+
+pub true-branch : {r : ℕ} {s : Shape} (p q : Bool) → s ≡ True → r ≡ chosen true p q → r ≡ truthBranch s p q
+unfolding truthBranch
+true-branch p q e f = rw e f
+
+pub no-truth-branch : (s : Shape) (p q : Bool) → (s ≡ False → ⊥) → (s ≡ True → ⊥) → 43 ≡ truthBranch s p q
+unfolding truthBranch
+no-truth-branch False p q n m = absurd (n refl)
+no-truth-branch True p q n m = absurd (m refl)
+no-truth-branch Empty p q n m = refl
+no-truth-branch (Front mid) p q n m = refl
+no-truth-branch (Number i) p q n m = refl
+no-truth-branch (Pair mid) p q n m = refl
+no-truth-branch Malformed p q n m = refl
+
+-- THE BRANCH of a list case
+pub data ListSays (s : Shape) (p q : Bool) : ListBranch → Type 0 where
+  empty-kept : s ≡ Empty → p ≡ true → ListSays s p q is.Empty
+  empty-left : s ≡ Empty → p ≡ false → q ≡ true → ListSays s p q is.Switch
+  empty-none : s ≡ Empty → p ≡ false → q ≡ false → ListSays s p q (is.Refused 53)
+  front-kept : {mid : ℕ} → s ≡ Front mid → q ≡ true → ListSays s p q (is.Front mid)
+  front-left : {mid : ℕ} → s ≡ Front mid → q ≡ false → p ≡ true → ListSays s p q is.Empty
+  front-none : {mid : ℕ} → s ≡ Front mid → p ≡ false → q ≡ false → ListSays s p q (is.Refused 53)
+  no-list : (s ≡ Empty → ⊥) → ((mid : ℕ) → s ≡ Front mid → ⊥) → ListSays s p q (is.Refused 43)
+
+lists : (s : Shape) (p q : Bool) → ListSays s p q (listBranch s p q)
+unfolding listBranch fromEmpty fromFront chosen which
+lists Empty true q = empty-kept refl refl
+lists Empty false true = empty-left refl refl refl
+lists Empty false false = empty-none refl refl refl
+lists (Front mid) true true = front-kept refl refl
+lists (Front mid) false true = front-kept refl refl
+lists (Front mid) true false = front-left refl refl refl
+lists (Front mid) false false = front-none refl refl refl
+lists False p q = no-list (unlike λ e. omega arith) (λ mid. unlike λ e. omega arith)
+lists True p q = no-list (unlike λ e. omega arith) (λ mid. unlike λ e. omega arith)
+lists (Number n) p q = no-list (unlike λ e. omega arith) (λ mid. unlike λ e. omega arith)
+lists (Pair mid) p q = no-list (unlike λ e. omega arith) (λ mid. unlike λ e. omega arith)
+lists Malformed p q = no-list (unlike λ e. omega arith) (λ mid. unlike λ e. omega arith)
+
+pub list-says : {r d : ListBranch} (s : Shape) (p q : Bool) → r ≡ listBranch s p q → r ≡ d → ListSays s p q d
+list-says s p q e f = rw (← f, e) (lists s p q)
+
+pub empty-branch : {r : ListBranch} {s : Shape} {c : ℕ} (p q : Bool) → s ≡ Empty → c ≡ chosen false p q → r ≡ fromEmpty c → r ≡ listBranch s p q
+unfolding listBranch
+empty-branch p q e f g = rw (e, ← f) g
+
+pub front-branch : {r : ListBranch} {s : Shape} {mid c : ℕ} (p q : Bool) → s ≡ Front mid → c ≡ chosen true p q → r ≡ fromFront mid c → r ≡ listBranch s p q
+unfolding listBranch
+front-branch p q e f g = rw (e, ← f) g
+
+pub no-list-branch : (s : Shape) (p q : Bool) → (s ≡ Empty → ⊥) → ((mid : ℕ) → s ≡ Front mid → ⊥) → is.Refused 43 ≡ listBranch s p q
+unfolding listBranch
+no-list-branch False p q n m = refl
+no-list-branch True p q n m = refl
+no-list-branch Empty p q n m = absurd (n refl)
+no-list-branch (Front mid) p q n m = absurd (m mid refl)
+no-list-branch (Number i) p q n m = refl
+no-list-branch (Pair mid) p q n m = refl
+no-list-branch Malformed p q n m = refl
+
+pub from-empty-first : {c : ℕ} → c ≡ 0 → is.Empty ≡ fromEmpty c
+unfolding fromEmpty
+from-empty-first e = rw e
+
+pub from-empty-second : {c : ℕ} → c ≡ 1 → is.Switch ≡ fromEmpty c
+unfolding fromEmpty
+from-empty-second e = rw e
+
+pub from-empty-none : (c : ℕ) → (c ≡ 0 → ⊥) → (c ≡ 1 → ⊥) → is.Refused c ≡ fromEmpty c
+unfolding fromEmpty
+from-empty-none zero n m = absurd (n refl)
+from-empty-none (suc zero) n m = absurd (m refl)
+from-empty-none (suc (suc c)) n m = refl
+
+pub from-front-first : {c : ℕ} (mid : ℕ) → c ≡ 0 → is.Empty ≡ fromFront mid c
+unfolding fromFront
+from-front-first mid e = rw e
+
+pub from-front-second : {c : ℕ} (mid : ℕ) → c ≡ 1 → is.Front mid ≡ fromFront mid c
+unfolding fromFront
+from-front-second mid e = rw e
+
+pub from-front-none : (c mid : ℕ) → (c ≡ 0 → ⊥) → (c ≡ 1 → ⊥) → is.Refused c ≡ fromFront mid c
+unfolding fromFront
+from-front-none zero mid n m = absurd (n refl)
+from-front-none (suc zero) mid n m = absurd (m refl)
+from-front-none (suc (suc c)) mid n m = refl

@@ -5,8 +5,9 @@ ghost use mathlib.Core.List.{[], _∷_};
 ghost use Prim.Native.Nat.{_+_, _*_, _/_, _%_, _≤_, _<_};
 ghost use lib.ListN.{length};
 ghost use lib.Seq.{paste};
-ghost use Rattle.value.specs.Parts.{passesBytes, sameBytes};
-ghost use Rattle.step.specs.Step.{When, pickedTwo, addedTwo, nowhere, placeOf, entryRefusal, testRefusal, chosen, judged, unfitRest};
+ghost use Rattle.value.specs.Parts.{shapeOf, passesBytes, sameBytes};
+ghost use Rattle.step.specs.Step.{When, pickedTwo, addedTwo, nowhere, placeOf, entryRefusal, testRefusal, chosen, truthBranch, listBranch, judged, unfitRest};
+use value::Shape;
 
 /// The variables in scope, at most 110: where each one's bytes start and how many they are.
 pub struct Scope {
@@ -27,11 +28,13 @@ pub struct Span {
     pub len: usize,
 }
 
-/// The branch of a case that a view is put into.
-pub enum Branch {
-    First,
-    Second,
-    Neither,
+/// What a view does to a list case: it goes into the empty branch; into the other, with the old subject's parts, of which the second starts
+/// at byte `mid`, or by a switch, with the defaults; or it is refused.
+pub enum ListBranch {
+    Empty,
+    Front(usize),
+    Switch,
+    Refused(usize),
 }
 
 /// What entering a node is refused with: 40 where no level is left, then 41 where no step is; 0 where it may be entered.
@@ -147,22 +150,64 @@ pub fn tested(test: u8, value: &[u8]) -> usize
     46
 }
 
-/// The branch for a view: the one that the old subject fits where its test says yes, or else the other where that one's does.
-pub fn choose(fits_second: bool, first_test: u8, second_test: u8, view: &[u8]) -> Branch
+// The branch for a view, 0 or 1: the one that the old subject fits where its test says yes, or else the other where that one's does; 53
+// where neither says yes.
+fn choose(fits_second: bool, first_test: u8, second_test: u8, view: &[u8]) -> usize
     ensures { λ r. ⌜ r ≡ chosen «fits_second» (passesBytes «first_test» (now (view .entry))) (passesBytes «second_test» (now (view .entry))) ⌝ }
 {
     let first_says = value::passes(first_test, view);
     let second_says = value::passes(second_test, view);
     if fits_second & second_says {
-        return Branch::Second;
+        return 1;
     }
     if first_says {
-        return Branch::First;
+        return 0;
     }
     if second_says {
-        return Branch::Second;
+        return 1;
     }
-    Branch::Neither
+    53
+}
+
+/// The branch of a truth case for a view: 0 the one for False, 1 the one for True. 43 where the old subject is neither, 53 where neither
+/// test says yes.
+pub fn truth_branch(subject: &[u8], no_test: u8, yes_test: u8, view: &[u8]) -> usize
+    ensures { λ r. ⌜ r ≡ truthBranch (shapeOf (now (subject .entry))) (passesBytes «no_test» (now (view .entry))) (passesBytes «yes_test» (now (view .entry))) ⌝ }
+{
+    match value::shape_of(subject) {
+        Shape::False => choose(false, no_test, yes_test, view),
+        Shape::True => choose(true, no_test, yes_test, view),
+        _ => 43,
+    }
+}
+
+/// The branch of a list case for a view; refused with 43 where the old subject is no list, and with 53 where neither test says yes.
+pub fn list_branch(subject: &[u8], empty_test: u8, front_test: u8, view: &[u8]) -> ListBranch
+    ensures { λ r. ⌜ r ≡ listBranch (shapeOf (now (subject .entry))) (passesBytes «empty_test» (now (view .entry))) (passesBytes «front_test» (now (view .entry))) ⌝ }
+{
+    match value::shape_of(subject) {
+        Shape::Empty => {
+            let branch = choose(false, empty_test, front_test, view);
+            if branch == 0 {
+                return ListBranch::Empty;
+            }
+            if branch == 1 {
+                return ListBranch::Switch;
+            }
+            ListBranch::Refused(branch)
+        }
+        Shape::Front(mid) => {
+            let branch = choose(true, empty_test, front_test, view);
+            if branch == 0 {
+                return ListBranch::Empty;
+            }
+            if branch == 1 {
+                return ListBranch::Front(mid);
+            }
+            ListBranch::Refused(branch)
+        }
+        _ => ListBranch::Refused(43),
+    }
 }
 
 // One step, as a put answers it, where two values are the same; or else a refusal.

@@ -1,4 +1,4 @@
--- What a `let .. else` and a last arm tell where a shape is of none of the variants before.
+-- What a `let .. else` tells where a shape is not the variant asked for.
 use mathlib.Core.Path.{_≡_, subst}
 use mathlib.Core.List.{List, [], _∷_}
 use Prim.Native.Nat.{ℕ}
@@ -6,7 +6,7 @@ use types.Run.{OneOf, miss}
 use denote.Enum.Declared.{tagOf}
 use Rattle.value.proofs.Shape.{the-type}
 use Rattle.value.specs.declared.Shape.{Shape}
-use Rattle.value.specs.declared.Shape.the-variants.{False, True, Empty, Front, Number, Pair}
+use Rattle.value.specs.declared.Shape.the-variants.{Front, Number, Pair}
 
 pub no-front : (q : Shape) → OneOf (0 ∷ 1 ∷ 2 ∷ 4 ∷ 5 ∷ 6 ∷ []) (tagOf the-type q) → (mid : ℕ) → q ≡ Front mid → ⊥
 no-front q h mid e = miss (0 ∷ 1 ∷ 2 ∷ 4 ∷ 5 ∷ 6 ∷ []) 3 tt (subst (λ (x : Shape). OneOf (0 ∷ 1 ∷ 2 ∷ 4 ∷ 5 ∷ 6 ∷ []) (tagOf the-type x)) e h)
@@ -16,17 +16,3 @@ no-pair q h mid e = miss (0 ∷ 1 ∷ 2 ∷ 3 ∷ 4 ∷ 6 ∷ []) 5 tt (subst (�
 
 pub no-number : (q : Shape) → OneOf (0 ∷ 1 ∷ 2 ∷ 3 ∷ 5 ∷ 6 ∷ []) (tagOf the-type q) → (n : ℕ) → q ≡ Number n → ⊥
 no-number q h n e = miss (0 ∷ 1 ∷ 2 ∷ 3 ∷ 5 ∷ 6 ∷ []) 4 tt (subst (λ (x : Shape). OneOf (0 ∷ 1 ∷ 2 ∷ 3 ∷ 5 ∷ 6 ∷ []) (tagOf the-type x)) e h)
-
--- no list
-pub not-empty : (q : Shape) → OneOf (0 ∷ 1 ∷ 4 ∷ 5 ∷ 6 ∷ []) (tagOf the-type q) → q ≡ Empty → ⊥
-not-empty q h e = miss (0 ∷ 1 ∷ 4 ∷ 5 ∷ 6 ∷ []) 2 tt (subst (λ (x : Shape). OneOf (0 ∷ 1 ∷ 4 ∷ 5 ∷ 6 ∷ []) (tagOf the-type x)) e h)
-
-pub not-front : (q : Shape) → OneOf (0 ∷ 1 ∷ 4 ∷ 5 ∷ 6 ∷ []) (tagOf the-type q) → (mid : ℕ) → q ≡ Front mid → ⊥
-not-front q h mid e = miss (0 ∷ 1 ∷ 4 ∷ 5 ∷ 6 ∷ []) 3 tt (subst (λ (x : Shape). OneOf (0 ∷ 1 ∷ 4 ∷ 5 ∷ 6 ∷ []) (tagOf the-type x)) e h)
-
--- no truth value
-pub not-false : (q : Shape) → OneOf (2 ∷ 3 ∷ 4 ∷ 5 ∷ 6 ∷ []) (tagOf the-type q) → q ≡ False → ⊥
-not-false q h e = miss (2 ∷ 3 ∷ 4 ∷ 5 ∷ 6 ∷ []) 0 tt (subst (λ (x : Shape). OneOf (2 ∷ 3 ∷ 4 ∷ 5 ∷ 6 ∷ []) (tagOf the-type x)) e h)
-
-pub not-true : (q : Shape) → OneOf (2 ∷ 3 ∷ 4 ∷ 5 ∷ 6 ∷ []) (tagOf the-type q) → q ≡ True → ⊥
-not-true q h e = miss (2 ∷ 3 ∷ 4 ∷ 5 ∷ 6 ∷ []) 1 tt (subst (λ (x : Shape). OneOf (2 ∷ 3 ∷ 4 ∷ 5 ∷ 6 ∷ []) (tagOf the-type x)) e h)

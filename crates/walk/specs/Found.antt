@@ -32,6 +32,14 @@ unfoldable pub found : ℕ → Found
 unfolding told
 found a = told (ltb a 256) a
 
+pub len-small : (a : ℕ) → lenOf a < 65536
+unfolding lenOf
+len-small a = omega arith
+
+pub start-small : (a : ℕ) → startOf a < 65536
+unfolding startOf
+start-small a = omega arith
+
 pub found-refused : {a : ℕ} → a < 256 → found a ≡ Refused a
 unfolding found told
 found-refused {a} h = rw (lt-ltb a 256 h)

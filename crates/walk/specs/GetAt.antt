@@ -7,11 +7,33 @@ use native.Mathlib.Omega.{arith}
 use Rattle.rules.specs.Outcome.{Out}
 use Rattle.value.specs.Value.{Value}
 use Rattle.step.specs.declared.Scope.{Scope}
-use Rattle.walk.specs.Found.{Found, Done, Refused, found, lenOf, startOf, stepsOf, found-as}
+use Rattle.walk.specs.Found.{Found, Done, Refused, found, packed, lenOf, startOf, stepsOf, len-small, found-refused, found-done, found-as, packed-done}
 use Rattle.walk.specs.Parts.{kept-then, Copied}
+use native.Mathlib.Decide.{decLt}
+use lib.ListN.{length}
 use Rattle.walk.specs.Arena.{onStack}
 use Rattle.walk.specs.Answers.{as-done}
-use Rattle.walk.specs.Gets.{Task, Gives, got, Exact}
+use Rattle.walk.specs.Gets.{Task, enter, Ready, Gives, got, Exact, as-found}
+use Rattle.walk.specs.GetReady.{sizes}
+
+-- the value that the answer g tells of, and the place at `top` for it
+pub record Movable (a : List ℕ) (top g : ℕ) : Type 0 where
+  pub inside : startOf g + lenOf g ≤ length a
+  pub room : top + lenOf g ≤ length a
+  pub low : top < 65536
+  pub some : 1 ≤ lenOf g
+  pub few : stepsOf g ≤ 1000001
+
+-- it was brought there, and r tells so
+pub record Moved (top g : ℕ) (b a : List ℕ) (r : ℕ) : Type 0 where
+  pub is : r ≡ packed top (lenOf g) (stepsOf g)
+  pub low : top < 65536
+  pub some : 1 ≤ lenOf g
+  pub copied : Copied (startOf g) top (lenOf g) b a
+
+pub record Brought (top g : ℕ) (b a : List ℕ) (r : ℕ) : Type 0 where
+  pub refused : g < 256 → (r ≡ g) × (a ≡ b)
+  pub moved : 256 ≤ g → Moved top g b a r
 
 pub not-there : {top c : ℕ} {r : Found} → r ≡ Refused c → Exact top r
 not-there e = record { at = λ d. absurd (let z : _≡_ {A = ℕ} 0 1 = cc in omega arith) }
@@ -22,7 +44,7 @@ there e = record { at = λ d. cc }
 pub found-there : {a top len n : ℕ} → 256 ≤ a → Exact top (found a) → len ≡ lenOf a → n ≡ stepsOf a → found a ≡ Done top len n
 found-there {a} {top} {len} {n} h x f g = let e : found a ≡ Done (startOf a) len n = found-as h refl f g in e ∙ ap (λ (i : ℕ). Done i len n) (x .at e)
 
-pub brought : {b a a₂ s : List ℕ} {sc : Scope} {top left l start len n : ℕ} {r : Found} {t : Task} → 32256 ≤ top → Gives b a s sc top top left 0 r l t → r ≡ Done start len n → Copied start top len a a₂
+brought : {b a a₂ s : List ℕ} {sc : Scope} {top left l start len n : ℕ} {r : Found} {t : Task} → 32256 ≤ top → Gives b a s sc top top left 0 r l t → r ≡ Done start len n → Copied start top len a a₂
     → Gives b a₂ s sc top top left 0 (Done top len n) l t
 brought {top = top} {len = len} {n = n} base g e m = record {
   kept = kept-then (g .kept) (m .kept) (le-refl top);
@@ -36,3 +58,29 @@ brought {top = top} {len = len} {n = n} base g e m = record {
         held = record { place = onStack base (le-refl _); long = d .held .long; bytes = m .bytes ∙ d .held .bytes; readable = d .held .readable };
       });
 }
+
+-- what `bring` asks
+pub movable : {s starts b a : List ℕ} {sc : Scope} {top levels left x g : ℕ} → Ready s starts b sc top levels left (enter x) → Gives b a s sc top top left 0 (found g) levels (enter x) → 256 ≤ g → Movable a top g
+movable {s} {starts} {b} {a} {sc} {top} {levels} {left} {x} {g} w h n =
+    let z = sizes w h (found-done n) in
+    let l : length a ≡ 65536 = h .kept .long ∙ w .long in
+    record {
+      inside = omega (arith, w .room, z .short, z .low, z .deep);
+      room = omega (arith, w .room, z .short, z .deep);
+      low = omega (arith, w .room, z .deep);
+      some = z .some;
+      few = omega (arith, w .few, z .steps);
+    }
+
+-- and what it gives
+pub bring-gives : {b a a₂ s : List ℕ} {sc : Scope} {top left l g r : ℕ} {t : Task} → 32256 ≤ top → Gives b a s sc top top left 0 (found g) l t → Brought top g a a₂ r
+    → Gives b a₂ s sc top top left 0 (found r) l t × Exact top (found r)
+bring-gives {b} {a} {a₂} {s} {sc} {top} {left} {l} {g} {r} {t} base h m = go (decLt g 256)
+  where
+    go : Dec (g < 256) → Gives b a₂ s sc top top left 0 (found r) l t × Exact top (found r)
+    go (yes y) = let e = m .refused y in (rw (e .0, e .1) h, not-there (ap found (e .0) ∙ found-refused y))
+    go (no n) =
+        let q : 256 ≤ g = omega arith in
+        let v = m .moved q in
+        let d = packed-done (v .is) (v .low) (v .some) (len-small g) in
+        (as-found d (brought base h (found-done q) (v .copied)), there d)

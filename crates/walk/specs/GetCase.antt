@@ -162,11 +162,11 @@ module _ {b a₁ s : List ℕ} {sc : Scope} {top left : ℕ} {r₁ : Found} {l x
       }
 
     -- what the branch in the same scope asks
-    pub case-ready : {starts : List ℕ} {t : Task} {te e top′ : ℕ} (up : Above top start len top′) (w : Ready s starts b sc top (suc l) (suc left) t) → x < length (w .lent .sh .nodes) → e < length (w .lent .sh .nodes)
-        → Ready s starts a₁ sc top′ l (1 + n + (left - n)) (branch te e)
+    pub case-ready : {starts : List ℕ} {t : Task} {e top′ : ℕ} (up : Above top start len top′) (w : Ready s starts b sc top (suc l) (suc left) t) → x < length (w .lent .sh .nodes) → e < length (w .lent .sh .nodes)
+        → Ready s starts a₁ sc top′ l (left - n) (enter e)
     case-ready {top′ = top′} up w h k =
         let z = sizes (subject-ready w h) g₁ e₁ in
-        ready-later w (g₁ .kept) top′ l (1 + n + (left - n)) (up .over) (omega (arith, w .few, z .steps)) (omega (arith, w .room, z .short, up .near)) (omega arith) k
+        ready-later w (g₁ .kept) top′ l (left - n) (up .over) (omega (arith, w .few, z .steps)) (omega (arith, w .room, z .short, up .near)) (omega arith) k
 
     -- it has two parts, which the branch's scope has besides
     module _ {mid top′ : ℕ} {more : Scope} (up : Above top start len top′) (is : more ≡ pushed (pushed sc (start + 1) (mid - 1)) (start + mid) (len - mid)) where
@@ -174,12 +174,12 @@ module _ {b a₁ s : List ℕ} {sc : Scope} {top left : ℕ} {r₁ : Found} {l x
       env-inner {μ} {u} {v} base c w p =
           rw (is, ← append-assoc μ (u ∷ []) (v ∷ [])) (env-push (env-push (env-later (g₁ .kept) base top′ (up .over) w) (p .first) (omega arith)) (p .second) (omega arith))
 
-      inner-ready : {starts : List ℕ} {t : Task} {te e : ℕ} {u v : Value} (w : Ready s starts b sc top (suc l) (suc left) t) → x < length (w .lent .sh .nodes)
-          → e < length (w .lent .sh .nodes) → TwoHeld a₁ top′ start len mid u v → Ready s starts a₁ more top′ l (1 + n + (left - n)) (branch te e)
+      inner-ready : {starts : List ℕ} {t : Task} {e : ℕ} {u v : Value} (w : Ready s starts b sc top (suc l) (suc left) t) → x < length (w .lent .sh .nodes)
+          → e < length (w .lent .sh .nodes) → TwoHeld a₁ top′ start len mid u v → Ready s starts a₁ more top′ l (left - n) (enter e)
       inner-ready {u = u} {v = v} w h k p =
           let z = sizes (subject-ready w h) g₁ e₁ in
           let c : more .count ≡ sc .count + 1 + 1 = ap (λ (m : Scope). m .count) is in
-          ready-in w (g₁ .kept) top′ l (1 + n + (left - n)) (up .over) (omega (arith, w .few, z .steps)) (omega (arith, w .room, z .short, up .near))
+          ready-in w (g₁ .kept) top′ l (left - n) (up .over) (omega (arith, w .few, z .steps)) (omega (arith, w .room, z .short, up .near))
           (omega (arith, w .slots, c)) k (w .env ++ two u v) (env-inner (w .base) (omega (arith, w .slots, z .deep)) (w .scoped) p)
 
     module _ {mid : ℕ} (p : q ≡ shapes.Front mid) where
@@ -195,8 +195,8 @@ module _ {b a₁ s : List ℕ} {sc : Scope} {top left : ℕ} {r₁ : Found} {l x
           (h .some, h .inside)
 
       module _ {top′ : ℕ} {more : Scope} (up : Above top start len top′) (is : more ≡ pushed (pushed sc (start + 1) (mid - 1)) (start + mid) (len - mid)) where
-        pub front-ready : {starts : List ℕ} {t : Task} {te e : ℕ} (w : Ready s starts b sc top (suc l) (suc left) t) → x < length (w .lent .sh .nodes) → e < length (w .lent .sh .nodes)
-            → Ready s starts a₁ more top′ l (1 + n + (left - n)) (branch te e)
+        pub front-ready : {starts : List ℕ} {t : Task} {e : ℕ} (w : Ready s starts b sc top (suc l) (suc left) t) → x < length (w .lent .sh .nodes) → e < length (w .lent .sh .nodes)
+            → Ready s starts a₁ more top′ l (left - n) (enter e)
         front-ready w h k = inner-ready up is w h k (front-parts up (got g₁ (w .lent .sh) (w .lent .read) (w .env) (w .scoped) e₁) .3)
 
         pub list-front : 32256 ≤ top → sc .count + 2 ≤ 110 → {a₂ : List ℕ} {r₂ : Found} {e te m tm df dr : ℕ} → Gives a₁ a₂ s more top′ top (left - n) (1 + n) r₂ l (branch tm m)
@@ -222,8 +222,8 @@ module _ {b a₁ s : List ℕ} {sc : Scope} {top left : ℕ} {r₁ : Found} {l x
           (h .some, h .inside)
 
       module _ {top′ : ℕ} {more : Scope} (up : Above top start len top′) (is : more ≡ pushed (pushed sc (start + 1) (mid - 1)) (start + mid) (len - mid)) where
-        pub pair-ready : {starts : List ℕ} {t : Task} {te e : ℕ} (w : Ready s starts b sc top (suc l) (suc left) t) → x < length (w .lent .sh .nodes) → e < length (w .lent .sh .nodes)
-            → Ready s starts a₁ more top′ l (1 + n + (left - n)) (branch te e)
+        pub pair-ready : {starts : List ℕ} {t : Task} {e : ℕ} (w : Ready s starts b sc top (suc l) (suc left) t) → x < length (w .lent .sh .nodes) → e < length (w .lent .sh .nodes)
+            → Ready s starts a₁ more top′ l (left - n) (enter e)
         pair-ready w h k = inner-ready up is w h k (pair-parts up (got g₁ (w .lent .sh) (w .lent .read) (w .env) (w .scoped) e₁) .3)
 
         pub split-done : 32256 ≤ top → sc .count + 2 ≤ 110 → {a₂ : List ℕ} {r₂ : Found} {i : ℕ} → Gives a₁ a₂ s more top′ top (left - n) (1 + n) r₂ l (branch 0 i)

@@ -65,11 +65,11 @@ shown-true = record { bytes = refl; readable = record { fits = omega arith; enco
 pub view-nil : SomeView (2 ∷ [])
 view-nil = record { value = list nil; shown = shown-nil }
 
-pub view-false : SomeView (0 ∷ [])
-view-false = record { value = vfalse; shown = shown-false }
-
-pub view-true : SomeView (1 ∷ [])
-view-true = record { value = vtrue; shown = shown-true }
+-- False or True
+pub view-truth : {c : ℕ} → c ≤ 1 → SomeView (c ∷ [])
+view-truth {c = zero} h = record { value = vfalse; shown = shown-false }
+view-truth {c = suc zero} h = record { value = vtrue; shown = shown-true }
+view-truth {c = suc (suc c)} h = absurd (omega arith)
 
 pub list-seen : {o : Value} (l : Rest) → o ≡ list l → (e : o ≡ list l) × (asList o ≡ some (l, e))
 unfolding asList

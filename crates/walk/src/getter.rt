@@ -7,8 +7,10 @@ ghost use Prim.Native.Nat.{ℕ, suc, _+_, _*_, _≤_, _<_};
 ghost use lib.ListN.{length, set, getD};
 ghost use Rattle.step.specs.Step.{When};
 ghost use Rattle.walk.specs.Found.{found, packed};
-ghost use Rattle.walk.specs.Gets.{Ready, Gives, Exact, enter, body, branch, scope, frontAt, pairAt, listCaseAt, truthCaseAt, splitAt, callAt, addAt};
+ghost use Rattle.walk.specs.Gets.{Ready, Gives, enter, body, scope, frontAt, pairAt, listCaseAt, truthCaseAt, splitAt, callAt, addAt};
 ghost use Rattle.walk.specs.GetLeaf.{numbered};
+ghost use Rattle.walk.specs.GetAt.{Movable, Brought};
+ghost use Rattle.walk.specs.GetBranch.{Judgeable, Judged};
 ghost use Rattle.walk.specs.GetCase.{Above};
 use crate::answer::found;
 use crate::answer::len_of;
@@ -67,6 +69,42 @@ pub fn above(top: usize, start: usize, len: usize) -> usize
     if start + len < top { top } else { start + len }
 }
 
+/// A value that was got, brought to the top of the stack.
+pub fn bring(arena: &mut [u8], got: usize, top: usize) -> usize
+    requires { ⌜ (256 ≤ got → Movable (now arena) top got) ⌝ }
+    ensures { λ r. ⌜ Brought top got (now (arena .entry)) (now (arena .exit)) r ⌝ }
+{
+    if got < 256 {
+        return got;
+    }
+    let len = len_of(got);
+    copy(arena, start_of(got), top, len);
+    found(top, len, steps_of(got))
+}
+
+// A branch that was got, judged by its test; it stands no higher than `top` then. `spent` steps were taken before it.
+fn judge_branch(arena: &mut [u8], got: usize, test: u8, spent: usize, top: usize) -> usize
+    requires { ⌜ (256 ≤ got → Judgeable (now arena) got spent) ⌝ }
+    ensures { λ r. ⌜ Judged «test» spent top got (now (arena .entry)) (now (arena .exit)) r ⌝ }
+{
+    if got < 256 {
+        return got;
+    }
+    let start = start_of(got);
+    let len = len_of(got);
+    let end = start + len;
+    let refusal = step::tested(test, &arena[start..end]);
+    if refusal != 0 {
+        return refusal;
+    }
+    let steps = spent + steps_of(got);
+    if start <= top {
+        return found(start, len, steps);
+    }
+    copy(arena, start, top, len);
+    found(top, len, steps)
+}
+
 /// The value of a node: its depth is judged, then the allowance.
 pub fn get_node(
     sheet: &[u8],
@@ -109,30 +147,6 @@ pub fn get_node(
     }
 }
 
-/// The value of a node, brought to the top of the stack.
-pub fn get_at(
-    sheet: &[u8],
-    table: &[u16; 200],
-    arena: &mut [u8],
-    starts: &[u16; 110],
-    lens: &[u16; 110],
-    node: usize,
-    at: At,
-) -> usize
-    requires { ⌜ Ready (now sheet) (now table) (now arena) (scope (at .count) (now starts) (now lens)) (at .top) (at .levels) (at .left) (enter node) ⌝ }
-    ensures { λ r. ⌜ Gives (now (arena .entry)) (now (arena .exit)) (now (sheet .entry)) (scope (at .count) (now (starts .entry)) (now (lens .entry))) (at .top) (at .top) (at .left) 0 (found r) (at .levels) (enter node) ⌝ }
-    ensures { λ r. ⌜ Exact (at .top) (found r) ⌝ }
-{
-    let top = at.top;
-    let got = get_node(sheet, table, arena, starts, lens, node, at);
-    if got < 256 {
-        return got;
-    }
-    let len = len_of(got);
-    copy(arena, start_of(got), top, len);
-    found(top, len, steps_of(got))
-}
-
 fn get_front(
     sheet: &[u8],
     table: &[u16; 200],
@@ -155,7 +169,8 @@ fn get_front(
         cells: at.cells,
     };
     let first = sheet::number_of(sheet, n, 1);
-    let a = get_at(sheet, table, arena, starts, lens, first, one);
+    let got = get_node(sheet, table, arena, starts, lens, first, one);
+    let a = bring(arena, got, one.top);
     if a < 256 {
         return a;
     }
@@ -170,7 +185,8 @@ fn get_front(
         cells: at.cells,
     };
     let second = sheet::number_of(sheet, n, 2);
-    let b = get_at(sheet, table, arena, starts, lens, second, two);
+    let got = get_node(sheet, table, arena, starts, lens, second, two);
+    let b = bring(arena, got, two.top);
     if b < 256 {
         return b;
     }
@@ -206,7 +222,8 @@ fn get_pair(
         cells: at.cells,
     };
     let first = sheet::number_of(sheet, n, 1);
-    let a = get_at(sheet, table, arena, starts, lens, first, one);
+    let got = get_node(sheet, table, arena, starts, lens, first, one);
+    let a = bring(arena, got, one.top);
     if a < 256 {
         return a;
     }
@@ -221,7 +238,8 @@ fn get_pair(
         cells: at.cells,
     };
     let second = sheet::number_of(sheet, n, 2);
-    let b = get_at(sheet, table, arena, starts, lens, second, two);
+    let got = get_node(sheet, table, arena, starts, lens, second, two);
+    let b = bring(arena, got, two.top);
     if b < 256 {
         return b;
     }
@@ -230,42 +248,6 @@ fn get_pair(
         return 44;
     }
     found(top, len, 1 + s + steps_of(b))
-}
-
-// A branch, judged by its test; it stands no higher than `top` then. `spent` steps were taken before it.
-fn get_branch(
-    sheet: &[u8],
-    table: &[u16; 200],
-    arena: &mut [u8],
-    starts: &[u16; 110],
-    lens: &[u16; 110],
-    node: usize,
-    test: u8,
-    spent: usize,
-    top: usize,
-    at: At,
-) -> usize
-    requires { ⌜ Ready (now sheet) (now table) (now arena) (scope (at .count) (now starts) (now lens)) (at .top) (at .levels) (spent + at .left) (branch test node) ⌝ }
-    requires { ⌜ (32256 ≤ top) × (top ≤ at .top) ⌝ }
-    ensures { λ r. ⌜ Gives (now (arena .entry)) (now (arena .exit)) (now (sheet .entry)) (scope (at .count) (now (starts .entry)) (now (lens .entry))) (at .top) top (at .left) spent (found r) (at .levels) (branch test node) ⌝ }
-{
-    let got = get_node(sheet, table, arena, starts, lens, node, at);
-    if got < 256 {
-        return got;
-    }
-    let start = start_of(got);
-    let len = len_of(got);
-    let end = start + len;
-    let refusal = step::tested(test, &arena[start..end]);
-    if refusal != 0 {
-        return refusal;
-    }
-    let steps = spent + steps_of(got);
-    if start <= top {
-        return found(start, len, steps);
-    }
-    copy(arena, start, top, len);
-    found(top, len, steps)
 }
 
 fn get_list_case(
@@ -298,7 +280,8 @@ fn get_list_case(
         Shape::Empty => {
             let node = sheet::number_of(sheet, n, 2);
             let test = sheet::byte_of(sheet, n, 3);
-            get_branch(sheet, table, arena, starts, lens, node, test, s, base, to)
+            let got = get_node(sheet, table, arena, starts, lens, node, to);
+            judge_branch(arena, got, test, s, base)
         }
         Shape::Front(mid) => {
             let node = sheet::number_of(sheet, n, 4);
@@ -309,7 +292,8 @@ fn get_list_case(
             add_two(&mut starts, count, start + 1, start + mid);
             add_two(&mut lens, count, mid - 1, len - mid);
             to.count = count + 2;
-            get_branch(sheet, table, arena, &starts, &lens, node, test, s, base, to)
+            let got = get_node(sheet, table, arena, &starts, &lens, node, to);
+            judge_branch(arena, got, test, s, base)
         }
         _ => 43,
     }
@@ -345,12 +329,14 @@ fn get_truth_case(
         Shape::False => {
             let node = sheet::number_of(sheet, n, 2);
             let test = sheet::byte_of(sheet, n, 3);
-            get_branch(sheet, table, arena, starts, lens, node, test, s, base, to)
+            let got = get_node(sheet, table, arena, starts, lens, node, to);
+            judge_branch(arena, got, test, s, base)
         }
         Shape::True => {
             let node = sheet::number_of(sheet, n, 4);
             let test = sheet::byte_of(sheet, n, 5);
-            get_branch(sheet, table, arena, starts, lens, node, test, s, base, to)
+            let got = get_node(sheet, table, arena, starts, lens, node, to);
+            judge_branch(arena, got, test, s, base)
         }
         _ => 43,
     }
@@ -393,7 +379,8 @@ fn get_split(
     add_two(&mut starts, count, start + 1, start + mid);
     add_two(&mut lens, count, mid - 1, len - mid);
     to.count = count + 2;
-    get_branch(sheet, table, arena, &starts, &lens, node, 0, s, base, to)
+    let got = get_node(sheet, table, arena, &starts, &lens, node, to);
+    judge_branch(arena, got, 0, s, base)
 }
 
 fn get_call(
@@ -448,11 +435,12 @@ fn get_add(
 {
     let top = at.top;
     let node = sheet::number_of(sheet, n, 1);
-    let got = get_at(sheet, table, arena, starts, lens, node, at);
-    if got < 256 {
-        return got;
+    let got = get_node(sheet, table, arena, starts, lens, node, at);
+    let a = bring(arena, got, top);
+    if a < 256 {
+        return a;
     }
-    let end = top + len_of(got);
+    let end = top + len_of(a);
     let Shape::Number(m) = value::shape_of(&arena[top..end]) else {
         return 43;
     };
@@ -463,5 +451,5 @@ fn get_add(
     let sum = m + amount;
     arena[top + 1] = value::high(sum);
     arena[top + 2] = value::low(sum);
-    found(top, 3, 1 + steps_of(got))
+    found(top, 3, 1 + steps_of(a))
 }

@@ -19,7 +19,8 @@ use crate::answer::taken;
 use crate::bytes::copy;
 use crate::bytes::copy_in;
 use crate::getter::At;
-use crate::getter::get_at;
+use crate::getter::bring;
+use crate::getter::get_node;
 use crate::putter::first_cells;
 use crate::putter::put_node;
 use crate::scope::of_spans;
@@ -55,7 +56,8 @@ fn get_plan(
     let starts = scope.starts;
     let lens = scope.lens;
     let root = table.root;
-    let got = get_at(sheet, &table.starts, arena, &starts, &lens, root, at);
+    let got = get_node(sheet, &table.starts, arena, &starts, &lens, root, at);
+    let got = bring(arena, got, 32256);
     if got < 256 {
         return Walked::Refused(got as u8);
     }

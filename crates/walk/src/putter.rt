@@ -23,11 +23,11 @@ use crate::answer::took;
 use crate::bytes::rebuild;
 use crate::getter::At;
 use crate::getter::above;
-use crate::getter::get_at;
+use crate::getter::bring;
 use crate::getter::get_node;
 use crate::scope::add_two;
-use step::Branch;
 use step::Cells;
+use step::ListBranch;
 use value::Shape;
 
 /// Two values that stand one after the other: where the first starts, and how long each is.
@@ -202,22 +202,19 @@ fn put_front(
     let one = value::first_part(view, mid);
     let two = value::second_part(view, mid);
     let a = sheet::number_of(sheet, n, 1);
+    let put = put_node(sheet, table, arena, slots, starts, lens, cells, a, one, at);
+    if put < 256 {
+        return put;
+    }
+    let s = taken(put);
+    let mut to = at;
+    to.left = at.left - s;
     let b = sheet::number_of(sheet, n, 2);
-    put_both(
-        sheet,
-        table,
-        arena,
-        slots,
-        starts,
-        lens,
-        cells,
-        a,
-        one,
-        b,
-        two,
-        1,
-        at,
-    )
+    let put = put_node(sheet, table, arena, slots, starts, lens, cells, b, two, to);
+    if put < 256 {
+        return put;
+    }
+    took(1 + s + taken(put))
 }
 
 fn put_pair(
@@ -241,22 +238,19 @@ fn put_pair(
     let one = value::first_part(view, mid);
     let two = value::second_part(view, mid);
     let a = sheet::number_of(sheet, n, 1);
+    let put = put_node(sheet, table, arena, slots, starts, lens, cells, a, one, at);
+    if put < 256 {
+        return put;
+    }
+    let s = taken(put);
+    let mut to = at;
+    to.left = at.left - s;
     let b = sheet::number_of(sheet, n, 2);
-    put_both(
-        sheet,
-        table,
-        arena,
-        slots,
-        starts,
-        lens,
-        cells,
-        a,
-        one,
-        b,
-        two,
-        1,
-        at,
-    )
+    let put = put_node(sheet, table, arena, slots, starts, lens, cells, b, two, to);
+    if put < 256 {
+        return put;
+    }
+    took(1 + s + taken(put))
 }
 
 // The view into a branch with two variables more, each in a new cell.
@@ -437,39 +431,18 @@ fn put_list_case(
     }
     let start = start_of(got);
     let len = len_of(got);
-    let s = steps_of(got);
     let end = start + len;
-    let top = above(at.top, start, len);
-    let then = At {
-        levels: at.levels,
-        left: at.left - s,
-        top,
-        count: at.count,
-        cells: at.cells,
-    };
+    let steps = steps_of(got);
+    let s = 1 + steps;
+    let mut to = at;
+    to.left = at.left - steps;
+    to.top = above(at.top, start, len);
     let empty_test = sheet::byte_of(sheet, n, 3);
     let front_test = sheet::byte_of(sheet, n, 5);
-    match value::shape_of(&arena[start..end]) {
-        Shape::Empty => match step::choose(false, empty_test, front_test, view) {
-            Branch::First => {
-                let node = sheet::number_of(sheet, n, 2);
-                put_both(
-                    sheet,
-                    table,
-                    arena,
-                    slots,
-                    starts,
-                    lens,
-                    cells,
-                    node,
-                    view,
-                    subject,
-                    &[2],
-                    1 + s,
-                    then,
-                )
-            }
-            Branch::Second => put_switch(
+    match step::list_branch(&arena[start..end], empty_test, front_test, view) {
+        ListBranch::Empty => {
+            let node = sheet::number_of(sheet, n, 2);
+            put_both(
                 sheet,
                 table,
                 arena,
@@ -477,59 +450,52 @@ fn put_list_case(
                 starts,
                 lens,
                 cells,
-                n,
+                node,
                 view,
-                1 + s,
-                then,
-            ),
-            Branch::Neither => 53,
-        },
-        Shape::Front(mid) => match step::choose(true, empty_test, front_test, view) {
-            Branch::First => {
-                let node = sheet::number_of(sheet, n, 2);
-                put_both(
-                    sheet,
-                    table,
-                    arena,
-                    slots,
-                    starts,
-                    lens,
-                    cells,
-                    node,
-                    view,
-                    subject,
-                    &[2],
-                    1 + s,
-                    then,
-                )
-            }
-            Branch::Second => {
-                let branch = sheet::number_of(sheet, n, 4);
-                let parts = Parts {
-                    start: start + 1,
-                    first: mid - 1,
-                    second: len - mid,
-                };
-                put_under(
-                    sheet,
-                    table,
-                    arena,
-                    slots,
-                    starts,
-                    lens,
-                    cells,
-                    branch,
-                    subject,
-                    3,
-                    parts,
-                    view,
-                    1 + s,
-                    then,
-                )
-            }
-            Branch::Neither => 53,
-        },
-        _ => 43,
+                subject,
+                &[2],
+                s,
+                to,
+            )
+        }
+        ListBranch::Front(mid) => {
+            let branch = sheet::number_of(sheet, n, 4);
+            let parts = Parts {
+                start: start + 1,
+                first: mid - 1,
+                second: len - mid,
+            };
+            put_under(
+                sheet,
+                table,
+                arena,
+                slots,
+                starts,
+                lens,
+                cells,
+                branch,
+                subject,
+                3,
+                parts,
+                view,
+                s,
+                to,
+            )
+        }
+        ListBranch::Switch => put_switch(
+            sheet,
+            table,
+            arena,
+            slots,
+            starts,
+            lens,
+            cells,
+            n,
+            view,
+            s,
+            to,
+        ),
+        ListBranch::Refused(code) => code,
     }
 }
 
@@ -552,33 +518,24 @@ fn put_switch(
     requires { ⌜ at .top + 512 + 513 * at .levels ≤ 65536 ⌝ }
     ensures { λ r. ⌜ Gives (now (arena .entry)) (now (arena .exit)) (now (slots .entry)) (now (slots .exit)) (now (sheet .entry)) (Shown (now (view .entry))) (scope (at .count) (now (starts .entry)) (now (lens .entry))) (owners (at .cells) (now (cells .entry))) (at .cells) (at .top) (at .left) spent (taken r) (at .levels) (switchAt (now (sheet .entry)) n) ⌝ }
 {
-    let top = at.top;
     let none = [0u16; 110];
-    let one = At {
-        levels: at.levels,
-        left: at.left,
-        top,
-        count: 0,
-        cells: at.cells,
-    };
+    let mut one = at;
+    one.count = 0;
     let first = sheet::number_of(sheet, n, 6);
-    let a = get_at(sheet, table, arena, &none, &none, first, one);
+    let got = get_node(sheet, table, arena, &none, &none, first, one);
+    let a = bring(arena, got, at.top);
     if a < 256 {
         return a;
     }
     let f = len_of(a);
     let s = steps_of(a);
-    let mid = top + f;
-    let left = at.left - s;
-    let two = At {
-        levels: at.levels,
-        left,
-        top: mid,
-        count: 0,
-        cells: at.cells,
-    };
+    let mid = at.top + f;
+    let mut two = one;
+    two.left = at.left - s;
+    two.top = mid;
     let rest = sheet::number_of(sheet, n, 7);
-    let b = get_at(sheet, table, arena, &none, &none, rest, two);
+    let got = get_node(sheet, table, arena, &none, &none, rest, two);
+    let b = bring(arena, got, mid);
     if b < 256 {
         return b;
     }
@@ -587,15 +544,11 @@ fn put_switch(
     }
     let r = len_of(b);
     let t = steps_of(b);
-    let then = At {
-        levels: at.levels,
-        left: left - t,
-        top: mid + r,
-        count: at.count,
-        cells: at.cells,
-    };
+    let mut to = at;
+    to.left = two.left - t;
+    to.top = mid + r;
     let parts = Parts {
-        start: top,
+        start: at.top,
         first: f,
         second: r,
     };
@@ -615,7 +568,7 @@ fn put_switch(
         parts,
         view,
         spent + s + t,
-        then,
+        to,
     )
 }
 
@@ -641,99 +594,35 @@ fn put_truth_case(
     }
     let start = start_of(got);
     let len = len_of(got);
-    let s = steps_of(got);
     let end = start + len;
-    let top = above(at.top, start, len);
-    let then = At {
-        levels: at.levels,
-        left: at.left - s,
-        top,
-        count: at.count,
-        cells: at.cells,
-    };
+    let steps = steps_of(got);
+    let s = 1 + steps;
+    let mut to = at;
+    to.left = at.left - steps;
+    to.top = above(at.top, start, len);
     let no_test = sheet::byte_of(sheet, n, 3);
     let yes_test = sheet::byte_of(sheet, n, 5);
-    match value::shape_of(&arena[start..end]) {
-        Shape::False => match step::choose(false, no_test, yes_test, view) {
-            Branch::First => {
-                let node = sheet::number_of(sheet, n, 2);
-                put_both(
-                    sheet,
-                    table,
-                    arena,
-                    slots,
-                    starts,
-                    lens,
-                    cells,
-                    node,
-                    view,
-                    subject,
-                    &[0],
-                    1 + s,
-                    then,
-                )
-            }
-            Branch::Second => {
-                let node = sheet::number_of(sheet, n, 4);
-                put_both(
-                    sheet,
-                    table,
-                    arena,
-                    slots,
-                    starts,
-                    lens,
-                    cells,
-                    node,
-                    view,
-                    subject,
-                    &[1],
-                    1 + s,
-                    then,
-                )
-            }
-            Branch::Neither => 53,
-        },
-        Shape::True => match step::choose(true, no_test, yes_test, view) {
-            Branch::First => {
-                let node = sheet::number_of(sheet, n, 2);
-                put_both(
-                    sheet,
-                    table,
-                    arena,
-                    slots,
-                    starts,
-                    lens,
-                    cells,
-                    node,
-                    view,
-                    subject,
-                    &[0],
-                    1 + s,
-                    then,
-                )
-            }
-            Branch::Second => {
-                let node = sheet::number_of(sheet, n, 4);
-                put_both(
-                    sheet,
-                    table,
-                    arena,
-                    slots,
-                    starts,
-                    lens,
-                    cells,
-                    node,
-                    view,
-                    subject,
-                    &[1],
-                    1 + s,
-                    then,
-                )
-            }
-            Branch::Neither => 53,
-        },
-        _ => 43,
+    let branch = step::truth_branch(&arena[start..end], no_test, yes_test, view);
+    if 1 < branch {
+        return branch;
     }
+    let node = sheet::number_of(sheet, n, 2 + 2 * (branch as u16));
+    let truth = [branch as u8];
+    put_both(
+        sheet,
+        table,
+        arena,
+        slots,
+        starts,
+        lens,
+        cells,
+        node,
+        view,
+        subject,
+        &truth,
+        s,
+        to,
+    )
 }
 
 fn put_split(
@@ -758,16 +647,12 @@ fn put_split(
     }
     let start = start_of(got);
     let len = len_of(got);
-    let s = steps_of(got);
     let end = start + len;
-    let top = above(at.top, start, len);
-    let then = At {
-        levels: at.levels,
-        left: at.left - s,
-        top,
-        count: at.count,
-        cells: at.cells,
-    };
+    let steps = steps_of(got);
+    let s = 1 + steps;
+    let mut to = at;
+    to.left = at.left - steps;
+    to.top = above(at.top, start, len);
     let Shape::Pair(mid) = value::shape_of(&arena[start..end]) else {
         return 43;
     };
@@ -790,8 +675,8 @@ fn put_split(
         5,
         parts,
         view,
-        1 + s,
-        then,
+        s,
+        to,
     )
 }
 

@@ -1,7 +1,9 @@
 -- `get_plan` meets its contract.
 -- Assumes nothing.
 use mathlib.Core.Path.{refl}
+use native.Mathlib.Omega.{arith}
 use Rattle.walk.specs.Found.{found-refused, found-as}
+use Rattle.walk.specs.GetAt.{movable, bring-gives}
 use Rattle.walk.specs.Entry.{plan-fits, plan-ready, plan-got, same-done, same-refused}
 use borrow.Author.Needs.{needs}
 use Rattle.walk.proofs.get_plan.Statement.{statement}
@@ -10,17 +12,20 @@ use Rattle.walk.proofs.get_plan.Tie as tie
 copy-in-requires : tie.Need-copy-in-requires
 copy-in-requires c κs = plan-fits (c .before .before .before .before .pre)
 
-get-at-requires : tie.Need-get-at-requires
-get-at-requires c κs = plan-ready (c .before .before .before .before .before .before .before .before .before .before .before .before .before .before .pre) (c .before .before .before .before .before .before .before .before .before .copy-in .ensures)
+get-node-requires : tie.Need-get-node-requires
+get-node-requires c κs = plan-ready (c .before .before .before .before .before .before .before .before .before .before .before .before .before .before .pre) (c .before .before .before .before .before .before .before .before .before .copy-in .ensures)
 
-cast-t22 : tie.Need-cast-t22
-cast-t22 c = search needs
+bring-requires : tie.Need-bring-requires
+bring-requires c κs = λ h. movable (plan-ready (c .before .before .before .before .before .before .before .before .before .before .before .before .before .before .before .before .before .before .pre) (c .before .before .before .before .before .before .before .before .before .before .before .before .before .copy-in .ensures)) (c .before .before .before .get-node .ensures) h
+
+cast-t25 : tie.Need-cast-t25
+cast-t25 c = search needs
 
 returns : tie.Need-returns
-returns c = plan-got (c .before .before .before .before .before .before .before .before .before .before .before .before .before .before .before .before .before .before .pre) (c .before .before .before .before .before .before .before .before .before .before .before .before .before .copy-in .ensures) (c .before .before .before .get-at .ensures .0) (c .before .before .before .get-at .ensures .1) (same-refused (found-refused (c .if1 .taken)))
+returns c = plan-got (c .before .before .before .before .before .before .before .before .before .before .before .before .before .before .before .before .before .before .before .before .before .before .pre) (c .before .before .before .before .before .before .before .before .before .before .before .before .before .before .before .before .before .copy-in .ensures) ((bring-gives (omega arith) (c .before .before .before .before .before .before .before .get-node .ensures) (c .before .before .before .bring .ensures)) .0) ((bring-gives (omega arith) (c .before .before .before .before .before .before .before .get-node .ensures) (c .before .before .before .bring .ensures)) .1) (same-refused (found-refused (c .if1 .taken)))
 
 same-length : tie.Need-same-length
-same-length c = search needs
+same-length c = returns c .long
 
 len-of-requires : tie.Need-len-of-requires
 len-of-requires c κs = search needs
@@ -29,18 +34,19 @@ steps-of-requires : tie.Need-steps-of-requires
 steps-of-requires c κs = search needs
 
 returns-2 : tie.Need-returns-2
-returns-2 c = plan-got (c .before .before .before .before .before .before .before .before .before .before .before .before .before .before .before .before .before .before .before .before .pre) (c .before .before .before .before .before .before .before .before .before .before .before .before .before .before .before .copy-in .ensures) (c .before .before .before .before .before .get-at .ensures .0) (c .before .before .before .before .before .get-at .ensures .1) (same-done (found-as (c .before .before .if1 .left) refl (c .before .len-of .ensures) (c .steps-of .ensures)))
+returns-2 c = plan-got (c .before .before .before .before .before .before .before .before .before .before .before .before .before .before .before .before .before .before .before .before .before .before .before .before .pre) (c .before .before .before .before .before .before .before .before .before .before .before .before .before .before .before .before .before .before .before .copy-in .ensures) ((bring-gives (omega arith) (c .before .before .before .before .before .before .before .before .before .get-node .ensures) (c .before .before .before .before .before .bring .ensures)) .0) ((bring-gives (omega arith) (c .before .before .before .before .before .before .before .before .before .get-node .ensures) (c .before .before .before .before .before .bring .ensures)) .1) (same-done (found-as (c .before .before .if1 .left) refl (c .before .len-of .ensures) (c .steps-of .ensures)))
 
 same-length-2 : tie.Need-same-length-2
-same-length-2 c = search needs
+same-length-2 c = returns-2 c .long
 
 pub get-plan-spec : {M : Type 1} → statement M
 get-plan-spec =
     tie.close
     (tie.spec
     copy-in-requires
-    get-at-requires
-    cast-t22
+    get-node-requires
+    bring-requires
+    cast-t25
     same-length
     returns
     len-of-requires

@@ -5,12 +5,11 @@ use mathlib.Core.Path.{refl, sym, ap}
 use native.Mathlib.Nat.{le-refl}
 use native.Mathlib.Omega.{arith}
 use denote.Ref.{now}
-use Rattle.value.specs.Parts.{passesBytes}
 use Rattle.walk.specs.Found.{found-refused, found-as}
 use Rattle.walk.specs.Taken.{taken-refused, taken-as, took-done}
 use Rattle.walk.specs.Gets.{as-node, two-pushed, two-picked}
 use Rattle.walk.specs.GetReady.{sizes}
-use Rattle.walk.specs.GetAt.{found-there}
+use Rattle.walk.specs.GetAt.{movable, bring-gives, found-there}
 use Rattle.walk.specs.GetTwo.{unfit-no, fit-low, fit-high}
 use Rattle.walk.specs.GetCall.{section-as}
 use Rattle.walk.specs.GetAdd.{sum-as}
@@ -22,11 +21,11 @@ use Rattle.walk.specs.PutTwo.{both-ready₁, both-ready₂, both-few, bo
 use Rattle.walk.specs.PutOne.{call-first, call-second, call-ready, call-refused, call-done, call-few, add-51, add-52, add-ready, add-refused, add-done, add-few}
 use Rattle.walk.specs.PutUnder.{opened, spans-few, under-ready₁, under-ready₂, under-spans, under-few, under-refused, under-done}
 use Rattle.walk.specs.PutRebuilt.{placed, rebuilt-places, rebuilt-43, rebuilt-44, rebuilt-ready, rebuilt-refused, rebuilt-done, rebuilt-few, rebuilt-count}
-use Rattle.walk.specs.PutCase.{view-nil, view-false, view-true, subject-ready, after-subject, inner, front-spans, pair-spans, front-inside, pair-inside, switch-room, list-refused, truth-refused, split-refused}
-use Rattle.walk.specs.PutList as lists
-use Rattle.walk.specs.PutTruth.{truth-43, false-no, false-yes, false-53, true-yes, true-no, true-53, split-43, split-under}
+use Rattle.walk.specs.PutCase.{view-nil, view-truth, subject-ready, after-subject, inner, front-spans, pair-spans, front-inside, pair-inside, switch-room, list-refused, truth-refused, split-refused}
+use Rattle.walk.specs.PutList.{list-not, list-both, list-switch, list-under, front-told, empty-told, list-code}
+use Rattle.walk.specs.PutTruth.{truth-not, truth-both, truth-code, node-first, node-second, node-inside, split-43, split-under}
 use Rattle.walk.specs.PutSwitch.{default-ready, switch-few₁, switch-few₂, switch-refused₁, switch-refused₂, switch-43, switch-spans, switch-ready, switch-under}
-use Rattle.step.specs.StepLaws.{entered, first-kept, first-left, second-kept, second-left, none-says}
+use Rattle.step.specs.StepLaws.{entered, truth-says, list-says}
 use Rattle.walk.proofs.PutTags as tags
 use Prim.Native.Nat.{ℕ, _+_, _*_, _<_}
 use borrow.Fn.Kinds.{In}
@@ -74,12 +73,13 @@ use Rattle.sheet.proofs.byte_of.Reads as byte-of-reads
 use Rattle.sheet.proofs.number_of.Reads as number-of-reads
 use Rattle.sheet.proofs.section_root.Reads as section-root-reads
 use Rattle.step.proofs.add_cells.Reads as add-cells-reads
-use Rattle.step.proofs.choose.Reads as choose-reads
 use Rattle.step.proofs.entry.Reads as entry-reads
+use Rattle.step.proofs.list_branch.Reads as list-branch-reads
 use Rattle.step.proofs.pick_cells.Reads as pick-cells-reads
 use Rattle.step.proofs.pick_two.Reads as pick-two-reads
 use Rattle.step.proofs.place_of.Reads as place-of-reads
 use Rattle.step.proofs.put_constant.Reads as put-constant-reads
+use Rattle.step.proofs.truth_branch.Reads as truth-branch-reads
 use Rattle.step.proofs.unfit.Reads as unfit-reads
 use Rattle.value.proofs.first_part.Reads as first-part-reads
 use Rattle.value.proofs.high.Reads as high-reads
@@ -94,7 +94,7 @@ use Rattle.walk.proofs.answer.taken.Reads as taken-reads
 use Rattle.walk.proofs.answer.took.Reads as took-reads
 use Rattle.walk.proofs.bytes.rebuild.Reads as rebuild-reads
 use Rattle.walk.proofs.getter.above.Reads as above-reads
-use Rattle.walk.proofs.getter.get_at.Reads as get-at-reads
+use Rattle.walk.proofs.getter.bring.Reads as bring-reads
 use Rattle.walk.proofs.getter.get_node.Reads as get-node-reads
 use Rattle.walk.proofs.putter.put_number.Reads as put-number-reads
 use Rattle.walk.proofs.putter.put_var.Reads as put-var-reads
@@ -125,7 +125,7 @@ abbrev μ-put-list-case : Measures 8 put-list-case-kinds.ps ℕ
 μ-put-list-case κs a = 6 * (a .1 .1 .1 .1 .1 .1 .1 .1 .1 .0 .levels) + 4
 
 abbrev μ-put-node : Measures 8 put-node-kinds.ps ℕ
-μ-put-node κs a = 6 * (a .1 .1 .1 .1 .1 .1 .1 .1 .1 .0 .levels) + 0
+μ-put-node κs a = 6 * (a .1 .1 .1 .1 .1 .1 .1 .1 .1 .0 .levels)
 
 abbrev μ-put-pair : Measures 8 put-pair-kinds.ps ℕ
 μ-put-pair κs a = 6 * (a .1 .1 .1 .1 .1 .1 .1 .1 .1 .0 .levels) + 4
@@ -262,19 +262,19 @@ abbrev put-call-claims : ℕ → put-call-lts.Claims
 put-call-claims t = (number-of-reads.Asked, number-of-reads.Learnt, section-root-reads.Asked, section-root-reads.Learnt, pick-two-reads.Asked, pick-two-reads.Learnt, pick-cells-reads.Asked, pick-cells-reads.Learnt, put-node-below t, put-node.Post, taken-reads.Asked, taken-reads.Learnt, took-reads.Asked, took-reads.Learnt)
 
 abbrev put-front-claims : ℕ → put-front-lts.Claims
-put-front-claims t = (shape-of-reads.Asked, shape-of-reads.Learnt, first-part-reads.Asked, first-part-reads.Learnt, second-part-reads.Asked, second-part-reads.Learnt, number-of-reads.Asked, number-of-reads.Learnt, put-both-below t, put-both.Post)
+put-front-claims t = (shape-of-reads.Asked, shape-of-reads.Learnt, first-part-reads.Asked, first-part-reads.Learnt, second-part-reads.Asked, second-part-reads.Learnt, number-of-reads.Asked, number-of-reads.Learnt, put-node-below t, put-node.Post, taken-reads.Asked, taken-reads.Learnt, took-reads.Asked, took-reads.Learnt)
 
 abbrev put-inside-claims : ℕ → put-inside-lts.Claims
 put-inside-claims t = (add-two-reads.Asked, add-two-reads.Learnt, add-cells-reads.Asked, add-cells-reads.Learnt, put-node-below t, put-node.Post)
 
 abbrev put-list-case-claims : ℕ → put-list-case-lts.Claims
-put-list-case-claims t = (number-of-reads.Asked, number-of-reads.Learnt, get-node-reads.Asked, get-node-reads.Learnt, start-of-reads.Asked, start-of-reads.Learnt, len-of-reads.Asked, len-of-reads.Learnt, steps-of-reads.Asked, steps-of-reads.Learnt, above-reads.Asked, above-reads.Learnt, byte-of-reads.Asked, byte-of-reads.Learnt, shape-of-reads.Asked, shape-of-reads.Learnt, choose-reads.Asked, choose-reads.Learnt, put-both-below t, put-both.Post, put-switch-below t, put-switch.Post, put-under-below t, put-under.Post)
+put-list-case-claims t = (number-of-reads.Asked, number-of-reads.Learnt, get-node-reads.Asked, get-node-reads.Learnt, start-of-reads.Asked, start-of-reads.Learnt, len-of-reads.Asked, len-of-reads.Learnt, steps-of-reads.Asked, steps-of-reads.Learnt, above-reads.Asked, above-reads.Learnt, byte-of-reads.Asked, byte-of-reads.Learnt, list-branch-reads.Asked, list-branch-reads.Learnt, put-both-below t, put-both.Post, put-under-below t, put-under.Post, put-switch-below t, put-switch.Post)
 
 abbrev put-node-claims : ℕ → put-node-lts.Claims
 put-node-claims t = (entry-reads.Asked, entry-reads.Learnt, byte-of-reads.Asked, byte-of-reads.Learnt, put-var-reads.Asked, put-var-reads.Learnt, put-constant-reads.Asked, put-constant-reads.Learnt, put-number-reads.Asked, put-number-reads.Learnt, put-front-below t, put-front.Post, put-pair-below t, put-pair.Post, put-list-case-below t, put-list-case.Post, put-truth-case-below t, put-truth-case.Post, put-split-below t, put-split.Post, put-call-below t, put-call.Post, put-add-below t, put-add.Post)
 
 abbrev put-pair-claims : ℕ → put-pair-lts.Claims
-put-pair-claims t = (shape-of-reads.Asked, shape-of-reads.Learnt, first-part-reads.Asked, first-part-reads.Learnt, second-part-reads.Asked, second-part-reads.Learnt, number-of-reads.Asked, number-of-reads.Learnt, put-both-below t, put-both.Post)
+put-pair-claims t = (shape-of-reads.Asked, shape-of-reads.Learnt, first-part-reads.Asked, first-part-reads.Learnt, second-part-reads.Asked, second-part-reads.Learnt, number-of-reads.Asked, number-of-reads.Learnt, put-node-below t, put-node.Post, taken-reads.Asked, taken-reads.Learnt, took-reads.Asked, took-reads.Learnt)
 
 abbrev put-rebuilt-claims : ℕ → put-rebuilt-lts.Claims
 put-rebuilt-claims t = (place-of-reads.Asked, place-of-reads.Learnt, unfit-reads.Asked, unfit-reads.Learnt, rebuild-reads.Asked, rebuild-reads.Learnt, put-node-below t, put-node.Post, taken-reads.Asked, taken-reads.Learnt, took-reads.Asked, took-reads.Learnt)
@@ -283,10 +283,10 @@ abbrev put-split-claims : ℕ → put-split-lts.Claims
 put-split-claims t = (number-of-reads.Asked, number-of-reads.Learnt, get-node-reads.Asked, get-node-reads.Learnt, start-of-reads.Asked, start-of-reads.Learnt, len-of-reads.Asked, len-of-reads.Learnt, steps-of-reads.Asked, steps-of-reads.Learnt, above-reads.Asked, above-reads.Learnt, shape-of-reads.Asked, shape-of-reads.Learnt, put-under-below t, put-under.Post)
 
 abbrev put-switch-claims : ℕ → put-switch-lts.Claims
-put-switch-claims t = (number-of-reads.Asked, number-of-reads.Learnt, get-at-reads.Asked, get-at-reads.Learnt, len-of-reads.Asked, len-of-reads.Learnt, steps-of-reads.Asked, steps-of-reads.Learnt, unfit-reads.Asked, unfit-reads.Learnt, put-under-below t, put-under.Post)
+put-switch-claims t = (number-of-reads.Asked, number-of-reads.Learnt, get-node-reads.Asked, get-node-reads.Learnt, bring-reads.Asked, bring-reads.Learnt, len-of-reads.Asked, len-of-reads.Learnt, steps-of-reads.Asked, steps-of-reads.Learnt, unfit-reads.Asked, unfit-reads.Learnt, put-under-below t, put-under.Post)
 
 abbrev put-truth-case-claims : ℕ → put-truth-case-lts.Claims
-put-truth-case-claims t = (number-of-reads.Asked, number-of-reads.Learnt, get-node-reads.Asked, get-node-reads.Learnt, start-of-reads.Asked, start-of-reads.Learnt, len-of-reads.Asked, len-of-reads.Learnt, steps-of-reads.Asked, steps-of-reads.Learnt, above-reads.Asked, above-reads.Learnt, byte-of-reads.Asked, byte-of-reads.Learnt, shape-of-reads.Asked, shape-of-reads.Learnt, choose-reads.Asked, choose-reads.Learnt, put-both-below t, put-both.Post)
+put-truth-case-claims t = (number-of-reads.Asked, number-of-reads.Learnt, get-node-reads.Asked, get-node-reads.Learnt, start-of-reads.Asked, start-of-reads.Learnt, len-of-reads.Asked, len-of-reads.Learnt, steps-of-reads.Asked, steps-of-reads.Learnt, above-reads.Asked, above-reads.Learnt, byte-of-reads.Asked, byte-of-reads.Learnt, truth-branch-reads.Asked, truth-branch-reads.Learnt, put-both-below t, put-both.Post)
 
 abbrev put-under-claims : ℕ → put-under-lts.Claims
 put-under-claims t = (put-inside-below t, put-inside.Post, taken-reads.Asked, taken-reads.Learnt, put-rebuilt-below t, put-rebuilt.Post)
@@ -327,11 +327,11 @@ put-add-slice-aggregate-put-node t c = search needs
 put-add-put-node-requires : (t : ℕ) → put-add-lts.Need-put-node-requires (put-add-claims t) (put-add-at t) put-add.Post
 put-add-put-node-requires t c κs = (omega (arith, c .before .before .before .before .before .before .before .before .before .before .before .before .before .before .before .before .before .pre .0), as-ready (ap enter (sym (c .before .before .before .number-of .ensures))) (add-ready (c .before .before .before .before .before .before .before .before .before .before .before .before .before .shape-of .ensures) (c .before .before .before .before .before .before .before .before .before .before .before .m .given .1) (omega (arith, c .before .before .before .before .before .before .if1 .left, (sum-as (c .before .before .before .before .before .before .before .number .ensures) (c .before .before .before .before .before .before .before .before .before .byte-of .ensures) (c .before .before .before .before .before .before .before .before .byte-of2 .ensures)))) (rw (sum-as (c .before .before .before .before .before .before .before .number .ensures) (c .before .before .before .before .before .before .before .before .before .byte-of .ensures) (c .before .before .before .before .before .before .before .before .byte-of2 .ensures)) at (c .before .before .before .before .before .high .ensures)) (rw (sum-as (c .before .before .before .before .before .before .before .number .ensures) (c .before .before .before .before .before .before .before .before .before .byte-of .ensures) (c .before .before .before .before .before .before .before .before .byte-of2 .ensures)) at (c .before .before .before .before .low .ensures)) (c .before .before .before .before .before .before .before .before .before .before .before .before .before .before .before .before .before .pre .1)))
 
-put-add-same-length : (t : ℕ) → put-add-lts.Need-same-length (put-add-claims t) (put-add-at t) put-add.Post
-put-add-same-length t c = search needs
-
 put-add-returns-3 : (t : ℕ) → put-add-lts.Need-returns-3 (put-add-claims t) (put-add-at t) put-add.Post
 put-add-returns-3 t c = as-taken (taken-refused (c .if2 .taken)) (add-refused (c .before .before .before .before .before .before .before .before .before .before .before .before .before .before .before .before .before .shape-of .ensures) (c .before .before .before .before .before .before .before .before .before .before .before .before .before .before .before .m .given .1) (omega (arith, c .before .before .before .before .before .before .before .before .before .before .if1 .left, (sum-as (c .before .before .before .before .before .before .before .before .before .before .before .number .ensures) (c .before .before .before .before .before .before .before .before .before .before .before .before .before .byte-of .ensures) (c .before .before .before .before .before .before .before .before .before .before .before .before .byte-of2 .ensures)))) (rw (sum-as (c .before .before .before .before .before .before .before .before .before .before .before .number .ensures) (c .before .before .before .before .before .before .before .before .before .before .before .before .before .byte-of .ensures) (c .before .before .before .before .before .before .before .before .before .before .before .before .byte-of2 .ensures)) at (c .before .before .before .before .before .before .before .before .before .high .ensures)) (rw (sum-as (c .before .before .before .before .before .before .before .before .before .before .before .number .ensures) (c .before .before .before .before .before .before .before .before .before .before .before .before .before .byte-of .ensures) (c .before .before .before .before .before .before .before .before .before .before .before .before .byte-of2 .ensures)) at (c .before .before .before .before .before .before .before .before .low .ensures)) (as-task (ap enter (c .before .before .before .before .before .before .before .number-of .ensures)) (c .before .before .before .put-node .ensures)) (taken-refused (c .if2 .taken)))
+
+put-add-same-length : (t : ℕ) → put-add-lts.Need-same-length (put-add-claims t) (put-add-at t) put-add.Post
+put-add-same-length t c = put-add-returns-3 t c .frame .long
 
 put-add-taken-requires : (t : ℕ) → put-add-lts.Need-taken-requires (put-add-claims t) (put-add-at t) put-add.Post
 put-add-taken-requires t c κs = search needs
@@ -342,11 +342,11 @@ put-add-add-took t c = record { fits = omega (arith, add-few (c .before .before 
 put-add-took-requires : (t : ℕ) → put-add-lts.Need-took-requires (put-add-claims t) (put-add-at t) put-add.Post
 put-add-took-requires t c κs = omega (arith, add-few (c .before .before .before .before .before .before .before .before .before .before .before .before .before .before .before .before .before .before .shape-of .ensures) (c .before .before .before .before .before .before .before .before .before .before .before .before .before .before .before .before .m .given .1) (omega (arith, c .before .before .before .before .before .before .before .before .before .before .before .if1 .left, (sum-as (c .before .before .before .before .before .before .before .before .before .before .before .before .number .ensures) (c .before .before .before .before .before .before .before .before .before .before .before .before .before .before .byte-of .ensures) (c .before .before .before .before .before .before .before .before .before .before .before .before .before .byte-of2 .ensures)))) (rw (sum-as (c .before .before .before .before .before .before .before .before .before .before .before .before .number .ensures) (c .before .before .before .before .before .before .before .before .before .before .before .before .before .before .byte-of .ensures) (c .before .before .before .before .before .before .before .before .before .before .before .before .before .byte-of2 .ensures)) at (c .before .before .before .before .before .before .before .before .before .before .high .ensures)) (rw (sum-as (c .before .before .before .before .before .before .before .before .before .before .before .before .number .ensures) (c .before .before .before .before .before .before .before .before .before .before .before .before .before .before .byte-of .ensures) (c .before .before .before .before .before .before .before .before .before .before .before .before .before .byte-of2 .ensures)) at (c .before .before .before .before .before .before .before .before .before .low .ensures)) (as-task (ap enter (c .before .before .before .before .before .before .before .before .number-of .ensures)) (c .before .before .before .before .put-node .ensures)) (taken-as (c .before .if2 .left) (c .taken .ensures)) (c .before .before .before .before .before .before .before .before .before .before .before .before .before .before .before .before .before .before .before .before .before .before .pre .1), (c .before .before .before .before .before .before .before .before .before .before .before .before .before .before .before .before .before .before .before .before .before .before .pre .1) .few)
 
-put-add-same-length-2 : (t : ℕ) → put-add-lts.Need-same-length-2 (put-add-claims t) (put-add-at t) put-add.Post
-put-add-same-length-2 t c = search needs
-
 put-add-returns-4 : (t : ℕ) → put-add-lts.Need-returns-4 (put-add-claims t) (put-add-at t) put-add.Post
 put-add-returns-4 t c = as-taken (took-done (c .took .ensures) (omega arith)) (add-done (c .before .before .before .before .before .before .before .before .before .before .before .before .before .before .before .before .before .before .before .shape-of .ensures) (c .before .before .before .before .before .before .before .before .before .before .before .before .before .before .before .before .before .m .given .1) (omega (arith, c .before .before .before .before .before .before .before .before .before .before .before .before .if1 .left, (sum-as (c .before .before .before .before .before .before .before .before .before .before .before .before .before .number .ensures) (c .before .before .before .before .before .before .before .before .before .before .before .before .before .before .before .byte-of .ensures) (c .before .before .before .before .before .before .before .before .before .before .before .before .before .before .byte-of2 .ensures)))) (rw (sum-as (c .before .before .before .before .before .before .before .before .before .before .before .before .before .number .ensures) (c .before .before .before .before .before .before .before .before .before .before .before .before .before .before .before .byte-of .ensures) (c .before .before .before .before .before .before .before .before .before .before .before .before .before .before .byte-of2 .ensures)) at (c .before .before .before .before .before .before .before .before .before .before .before .high .ensures)) (rw (sum-as (c .before .before .before .before .before .before .before .before .before .before .before .before .before .number .ensures) (c .before .before .before .before .before .before .before .before .before .before .before .before .before .before .before .byte-of .ensures) (c .before .before .before .before .before .before .before .before .before .before .before .before .before .before .byte-of2 .ensures)) at (c .before .before .before .before .before .before .before .before .before .before .low .ensures)) (as-task (ap enter (c .before .before .before .before .before .before .before .before .before .number-of .ensures)) (c .before .before .before .before .before .put-node .ensures)) (taken-as (c .before .before .if2 .left) (c .before .taken .ensures)))
+
+put-add-same-length-2 : (t : ℕ) → put-add-lts.Need-same-length-2 (put-add-claims t) (put-add-at t) put-add.Post
+put-add-same-length-2 t c = put-add-returns-4 t c .frame .long
 
 put-both-put-node-requires : (t : ℕ) → put-both-lts.Need-put-node-requires (put-both-claims t) (put-both-at t) put-both.Post
 put-both-put-node-requires t c κs = (omega (arith, c .before .before .before .before .before .before .pre .0), both-ready₁ (c .before .before .before .before .before .before .pre .1 .0) (omega arith))
@@ -420,11 +420,11 @@ put-call-pick-cells-requires t c κs = search needs
 put-call-put-node-requires : (t : ℕ) → put-call-lts.Need-put-node-requires (put-call-claims t) (put-call-at t) put-call.Post
 put-call-put-node-requires t c κs = (omega (arith, c .before .before .before .before .before .before .before .before .before .before .before .before .before .before .before .before .before .before .before .pre .0), call-ready (omega (arith, c .before .before .before .before .before .before .before .before .before .before .before .before .before .before .before .number-of .ensures, c .before .before .before .before .before .before .before .before .before .before .before .before .if1 .left)) (omega (arith, c .before .before .before .before .before .before .before .before .before .before .before .before .before .before .number-of2 .ensures, c .before .before .before .before .before .before .before .before .before .before .if2 .left)) (two-picked (c .before .before .before .before .before .before .before .before .before .before .before .before .before .before .before .before .before .before .before .args .at .count) (c .before .before .before .before .before .before .before .before .before .before .before .before .before .before .before .before .before .before .before .args .starts .now) (c .before .before .before .before .before .before .before .before .before .before .before .before .before .before .before .before .before .before .before .args .lens .now) (c .before .before .before .before .before .before .before .before .before .before .before .before .before .before .before .number-of .ensures) (c .before .before .before .before .before .before .before .before .before .before .before .before .before .before .number-of2 .ensures) (c .before .before .before .before .before .before .before .pick-two .ensures .inside (omega (arith, c .before .before .before .before .before .before .before .before .before .before .before .before .if1 .left, (c .before .before .before .before .before .before .before .before .before .before .before .before .before .before .before .before .before .before .before .pre .1) .slots), omega (arith, c .before .before .before .before .before .before .before .before .before .before .if2 .left, (c .before .before .before .before .before .before .before .before .before .before .before .before .before .before .before .before .before .before .before .pre .1) .slots))) (c .before .before .before .before .before .before .pick-two2 .ensures .inside (omega (arith, c .before .before .before .before .before .before .before .before .before .before .before .before .if1 .left, (c .before .before .before .before .before .before .before .before .before .before .before .before .before .before .before .before .before .before .before .pre .1) .slots), omega (arith, c .before .before .before .before .before .before .before .before .before .before .if2 .left, (c .before .before .before .before .before .before .before .before .before .before .before .before .before .before .before .before .before .before .before .pre .1) .slots)))) (picked-owned (c .before .before .before .before .before .before .before .before .before .before .before .before .before .before .before .before .before .before .before .args .cells .now) (c .before .before .before .before .before .before .before .before .before .before .before .before .before .before .before .before .before .before .before .args .at .cells) (c .before .before .before .before .before .before .before .before .before .before .before .before .before .before .before .number-of .ensures) (c .before .before .before .before .before .before .before .before .before .before .before .before .before .before .number-of2 .ensures) (c .before .before .before .before .before .pick-cells .ensures .inside (omega (arith, c .before .before .before .before .before .before .before .before .before .before .before .before .if1 .left, (c .before .before .before .before .before .before .before .before .before .before .before .before .before .before .before .before .before .before .before .pre .1) .slots), omega (arith, c .before .before .before .before .before .before .before .before .before .before .if2 .left, (c .before .before .before .before .before .before .before .before .before .before .before .before .before .before .before .before .before .before .before .pre .1) .slots)))) (c .before .before .before .before .before .before .before .before .before .before .before .before .before .before .before .before .before .before .before .pre .1) (section-as (c .before .before .before .before .before .before .before .before .before .before .before .before .before .before .before .before .before .before .before .args .sheet .now) (c .before .before .before .before .before .before .before .before .section-root .ensures) (c .before .before .before .before .before .before .before .before .before .number-of3 .ensures)))
 
-put-call-same-length : (t : ℕ) → put-call-lts.Need-same-length (put-call-claims t) (put-call-at t) put-call.Post
-put-call-same-length t c = search needs
-
 put-call-returns-3 : (t : ℕ) → put-call-lts.Need-returns-3 (put-call-claims t) (put-call-at t) put-call.Post
 put-call-returns-3 t c = as-taken (taken-refused (c .if3 .taken)) (call-refused (omega (arith, c .before .before .before .before .before .before .before .before .before .before .before .before .before .before .before .before .before .before .before .number-of .ensures, c .before .before .before .before .before .before .before .before .before .before .before .before .before .before .before .before .if1 .left)) (omega (arith, c .before .before .before .before .before .before .before .before .before .before .before .before .before .before .before .before .before .before .number-of2 .ensures, c .before .before .before .before .before .before .before .before .before .before .before .before .before .before .if2 .left)) (two-picked (c .before .before .before .before .before .before .before .before .before .before .before .before .before .before .before .before .before .before .before .before .before .before .before .args .at .count) (c .before .before .before .before .before .before .before .before .before .before .before .before .before .before .before .before .before .before .before .before .before .before .before .args .starts .now) (c .before .before .before .before .before .before .before .before .before .before .before .before .before .before .before .before .before .before .before .before .before .before .before .args .lens .now) (c .before .before .before .before .before .before .before .before .before .before .before .before .before .before .before .before .before .before .before .number-of .ensures) (c .before .before .before .before .before .before .before .before .before .before .before .before .before .before .before .before .before .before .number-of2 .ensures) (c .before .before .before .before .before .before .before .before .before .before .before .pick-two .ensures .inside (omega (arith, c .before .before .before .before .before .before .before .before .before .before .before .before .before .before .before .before .if1 .left, (c .before .before .before .before .before .before .before .before .before .before .before .before .before .before .before .before .before .before .before .before .before .before .before .pre .1) .slots), omega (arith, c .before .before .before .before .before .before .before .before .before .before .before .before .before .before .if2 .left, (c .before .before .before .before .before .before .before .before .before .before .before .before .before .before .before .before .before .before .before .before .before .before .before .pre .1) .slots))) (c .before .before .before .before .before .before .before .before .before .before .pick-two2 .ensures .inside (omega (arith, c .before .before .before .before .before .before .before .before .before .before .before .before .before .before .before .before .if1 .left, (c .before .before .before .before .before .before .before .before .before .before .before .before .before .before .before .before .before .before .before .before .before .before .before .pre .1) .slots), omega (arith, c .before .before .before .before .before .before .before .before .before .before .before .before .before .before .if2 .left, (c .before .before .before .before .before .before .before .before .before .before .before .before .before .before .before .before .before .before .before .before .before .before .before .pre .1) .slots)))) (picked-owned (c .before .before .before .before .before .before .before .before .before .before .before .before .before .before .before .before .before .before .before .before .before .before .before .args .cells .now) (c .before .before .before .before .before .before .before .before .before .before .before .before .before .before .before .before .before .before .before .before .before .before .before .args .at .cells) (c .before .before .before .before .before .before .before .before .before .before .before .before .before .before .before .before .before .before .before .number-of .ensures) (c .before .before .before .before .before .before .before .before .before .before .before .before .before .before .before .before .before .before .number-of2 .ensures) (c .before .before .before .before .before .before .before .before .before .pick-cells .ensures .inside (omega (arith, c .before .before .before .before .before .before .before .before .before .before .before .before .before .before .before .before .if1 .left, (c .before .before .before .before .before .before .before .before .before .before .before .before .before .before .before .before .before .before .before .before .before .before .before .pre .1) .slots), omega (arith, c .before .before .before .before .before .before .before .before .before .before .before .before .before .before .if2 .left, (c .before .before .before .before .before .before .before .before .before .before .before .before .before .before .before .before .before .before .before .before .before .before .before .pre .1) .slots)))) (c .before .before .before .put-node .ensures) (c .before .before .before .before .before .before .before .before .before .before .before .before .before .before .before .before .before .before .before .before .before .before .before .pre .1) (section-as (c .before .before .before .before .before .before .before .before .before .before .before .before .before .before .before .before .before .before .before .before .before .before .before .args .sheet .now) (c .before .before .before .before .before .before .before .before .before .before .before .before .section-root .ensures) (c .before .before .before .before .before .before .before .before .before .before .before .before .before .number-of3 .ensures)) (taken-refused (c .if3 .taken)))
+
+put-call-same-length : (t : ℕ) → put-call-lts.Need-same-length (put-call-claims t) (put-call-at t) put-call.Post
+put-call-same-length t c = put-call-returns-3 t c .frame .long
 
 put-call-taken-requires : (t : ℕ) → put-call-lts.Need-taken-requires (put-call-claims t) (put-call-at t) put-call.Post
 put-call-taken-requires t c κs = search needs
@@ -435,11 +435,11 @@ put-call-add-took t c = record { fits = omega (arith, (call-few (omega (arith, c
 put-call-took-requires : (t : ℕ) → put-call-lts.Need-took-requires (put-call-claims t) (put-call-at t) put-call.Post
 put-call-took-requires t c κs = omega (arith, (call-few (omega (arith, c .before .before .before .before .before .before .before .before .before .before .before .before .before .before .before .before .before .before .before .before .number-of .ensures, c .before .before .before .before .before .before .before .before .before .before .before .before .before .before .before .before .before .if1 .left)) (omega (arith, c .before .before .before .before .before .before .before .before .before .before .before .before .before .before .before .before .before .before .before .number-of2 .ensures, c .before .before .before .before .before .before .before .before .before .before .before .before .before .before .before .if2 .left)) (two-picked (c .before .before .before .before .before .before .before .before .before .before .before .before .before .before .before .before .before .before .before .before .before .before .before .before .args .at .count) (c .before .before .before .before .before .before .before .before .before .before .before .before .before .before .before .before .before .before .before .before .before .before .before .before .args .starts .now) (c .before .before .before .before .before .before .before .before .before .before .before .before .before .before .before .before .before .before .before .before .before .before .before .before .args .lens .now) (c .before .before .before .before .before .before .before .before .before .before .before .before .before .before .before .before .before .before .before .before .number-of .ensures) (c .before .before .before .before .before .before .before .before .before .before .before .before .before .before .before .before .before .before .before .number-of2 .ensures) (c .before .before .before .before .before .before .before .before .before .before .before .before .pick-two .ensures .inside (omega (arith, c .before .before .before .before .before .before .before .before .before .before .before .before .before .before .before .before .before .if1 .left, (c .before .before .before .before .before .before .before .before .before .before .before .before .before .before .before .before .before .before .before .before .before .before .before .before .pre .1) .slots), omega (arith, c .before .before .before .before .before .before .before .before .before .before .before .before .before .before .before .if2 .left, (c .before .before .before .before .before .before .before .before .before .before .before .before .before .before .before .before .before .before .before .before .before .before .before .before .pre .1) .slots))) (c .before .before .before .before .before .before .before .before .before .before .before .pick-two2 .ensures .inside (omega (arith, c .before .before .before .before .before .before .before .before .before .before .before .before .before .before .before .before .before .if1 .left, (c .before .before .before .before .before .before .before .before .before .before .before .before .before .before .before .before .before .before .before .before .before .before .before .before .pre .1) .slots), omega (arith, c .before .before .before .before .before .before .before .before .before .before .before .before .before .before .before .if2 .left, (c .before .before .before .before .before .before .before .before .before .before .before .before .before .before .before .before .before .before .before .before .before .before .before .before .pre .1) .slots)))) (picked-owned (c .before .before .before .before .before .before .before .before .before .before .before .before .before .before .before .before .before .before .before .before .before .before .before .before .args .cells .now) (c .before .before .before .before .before .before .before .before .before .before .before .before .before .before .before .before .before .before .before .before .before .before .before .before .args .at .cells) (c .before .before .before .before .before .before .before .before .before .before .before .before .before .before .before .before .before .before .before .before .number-of .ensures) (c .before .before .before .before .before .before .before .before .before .before .before .before .before .before .before .before .before .before .before .number-of2 .ensures) (c .before .before .before .before .before .before .before .before .before .before .pick-cells .ensures .inside (omega (arith, c .before .before .before .before .before .before .before .before .before .before .before .before .before .before .before .before .before .if1 .left, (c .before .before .before .before .before .before .before .before .before .before .before .before .before .before .before .before .before .before .before .before .before .before .before .before .pre .1) .slots), omega (arith, c .before .before .before .before .before .before .before .before .before .before .before .before .before .before .before .if2 .left, (c .before .before .before .before .before .before .before .before .before .before .before .before .before .before .before .before .before .before .before .before .before .before .before .before .pre .1) .slots)))) (c .before .before .before .before .put-node .ensures) (c .before .before .before .before .before .before .before .before .before .before .before .before .before .before .before .before .before .before .before .before .before .before .before .before .pre .1) (section-as (c .before .before .before .before .before .before .before .before .before .before .before .before .before .before .before .before .before .before .before .before .before .before .before .before .args .sheet .now) (c .before .before .before .before .before .before .before .before .before .before .before .before .before .section-root .ensures) (c .before .before .before .before .before .before .before .before .before .before .before .before .before .before .number-of3 .ensures)) (taken-as (c .before .if3 .left) (c .taken .ensures))), (c .before .before .before .before .before .before .before .before .before .before .before .before .before .before .before .before .before .before .before .before .before .before .before .before .pre .1) .few)
 
-put-call-same-length-2 : (t : ℕ) → put-call-lts.Need-same-length-2 (put-call-claims t) (put-call-at t) put-call.Post
-put-call-same-length-2 t c = search needs
-
 put-call-returns-4 : (t : ℕ) → put-call-lts.Need-returns-4 (put-call-claims t) (put-call-at t) put-call.Post
 put-call-returns-4 t c = as-taken (took-done (c .took .ensures) (omega arith)) (call-done (omega (arith, c .before .before .before .before .before .before .before .before .before .before .before .before .before .before .before .before .before .before .before .before .before .number-of .ensures, c .before .before .before .before .before .before .before .before .before .before .before .before .before .before .before .before .before .before .if1 .left)) (omega (arith, c .before .before .before .before .before .before .before .before .before .before .before .before .before .before .before .before .before .before .before .before .number-of2 .ensures, c .before .before .before .before .before .before .before .before .before .before .before .before .before .before .before .before .if2 .left)) (two-picked (c .before .before .before .before .before .before .before .before .before .before .before .before .before .before .before .before .before .before .before .before .before .before .before .before .before .args .at .count) (c .before .before .before .before .before .before .before .before .before .before .before .before .before .before .before .before .before .before .before .before .before .before .before .before .before .args .starts .now) (c .before .before .before .before .before .before .before .before .before .before .before .before .before .before .before .before .before .before .before .before .before .before .before .before .before .args .lens .now) (c .before .before .before .before .before .before .before .before .before .before .before .before .before .before .before .before .before .before .before .before .before .number-of .ensures) (c .before .before .before .before .before .before .before .before .before .before .before .before .before .before .before .before .before .before .before .before .number-of2 .ensures) (c .before .before .before .before .before .before .before .before .before .before .before .before .before .pick-two .ensures .inside (omega (arith, c .before .before .before .before .before .before .before .before .before .before .before .before .before .before .before .before .before .before .if1 .left, (c .before .before .before .before .before .before .before .before .before .before .before .before .before .before .before .before .before .before .before .before .before .before .before .before .before .pre .1) .slots), omega (arith, c .before .before .before .before .before .before .before .before .before .before .before .before .before .before .before .before .if2 .left, (c .before .before .before .before .before .before .before .before .before .before .before .before .before .before .before .before .before .before .before .before .before .before .before .before .before .pre .1) .slots))) (c .before .before .before .before .before .before .before .before .before .before .before .before .pick-two2 .ensures .inside (omega (arith, c .before .before .before .before .before .before .before .before .before .before .before .before .before .before .before .before .before .before .if1 .left, (c .before .before .before .before .before .before .before .before .before .before .before .before .before .before .before .before .before .before .before .before .before .before .before .before .before .pre .1) .slots), omega (arith, c .before .before .before .before .before .before .before .before .before .before .before .before .before .before .before .before .if2 .left, (c .before .before .before .before .before .before .before .before .before .before .before .before .before .before .before .before .before .before .before .before .before .before .before .before .before .pre .1) .slots)))) (picked-owned (c .before .before .before .before .before .before .before .before .before .before .before .before .before .before .before .before .before .before .before .before .before .before .before .before .before .args .cells .now) (c .before .before .before .before .before .before .before .before .before .before .before .before .before .before .before .before .before .before .before .before .before .before .before .before .before .args .at .cells) (c .before .before .before .before .before .before .before .before .before .before .before .before .before .before .before .before .before .before .before .before .before .number-of .ensures) (c .before .before .before .before .before .before .before .before .before .before .before .before .before .before .before .before .before .before .before .before .number-of2 .ensures) (c .before .before .before .before .before .before .before .before .before .before .before .pick-cells .ensures .inside (omega (arith, c .before .before .before .before .before .before .before .before .before .before .before .before .before .before .before .before .before .before .if1 .left, (c .before .before .before .before .before .before .before .before .before .before .before .before .before .before .before .before .before .before .before .before .before .before .before .before .before .pre .1) .slots), omega (arith, c .before .before .before .before .before .before .before .before .before .before .before .before .before .before .before .before .if2 .left, (c .before .before .before .before .before .before .before .before .before .before .before .before .before .before .before .before .before .before .before .before .before .before .before .before .before .pre .1) .slots)))) (c .before .before .before .before .before .put-node .ensures) (c .before .before .before .before .before .before .before .before .before .before .before .before .before .before .before .before .before .before .before .before .before .before .before .before .before .pre .1) (section-as (c .before .before .before .before .before .before .before .before .before .before .before .before .before .before .before .before .before .before .before .before .before .before .before .before .before .args .sheet .now) (c .before .before .before .before .before .before .before .before .before .before .before .before .before .before .section-root .ensures) (c .before .before .before .before .before .before .before .before .before .before .before .before .before .before .before .number-of3 .ensures)) (taken-as (c .before .before .if3 .left) (c .before .taken .ensures)))
+
+put-call-same-length-2 : (t : ℕ) → put-call-lts.Need-same-length-2 (put-call-claims t) (put-call-at t) put-call.Post
+put-call-same-length-2 t c = put-call-returns-4 t c .frame .long
 
 put-front-shape-of-requires : (t : ℕ) → put-front-lts.Need-shape-of-requires (put-front-claims t) (put-front-at t) put-front.Post
 put-front-shape-of-requires t c κs = search needs
@@ -459,17 +459,50 @@ put-front-second-part-requires t c κs = search needs
 put-front-number-of-requires : (t : ℕ) → put-front-lts.Need-number-of-requires (put-front-claims t) (put-front-at t) put-front.Post
 put-front-number-of-requires t c κs = search needs
 
+put-front-put-node-requires : (t : ℕ) → put-front-lts.Need-put-node-requires (put-front-claims t) (put-front-at t) put-front.Post
+put-front-put-node-requires t c κs = (omega (arith, c .before .before .before .before .before .before .before .before .before .before .before .before .pre .0), both-ready₁ (as-ready (pair-named (c .before .before .number-of .ensures) refl) ((front-ready (c .before .before .before .before .before .before .before .before .shape-of .ensures) (c .before .before .before .before .first-part .ensures) (c .before .before .before .second-part .ensures) (c .before .before .before .before .before .before .before .before .before .before .before .before .pre .1) (c .before .before .before .before .before .before .mid .given .1)) .0)) (omega arith))
+
+put-front-returns-2 : (t : ℕ) → put-front-lts.Need-returns-2 (put-front-claims t) (put-front-at t) put-front.Post
+put-front-returns-2 t c = front-both (c .before .before .before .before .before .before .before .before .before .before .before .before .shape-of .ensures) (c .before .before .before .before .before .before .before .before .first-part .ensures) (c .before .before .before .before .before .before .before .second-part .ensures) (as-pair (c .before .before .before .before .before .before .number-of .ensures) refl (λ u h. as-taken (taken-refused (c .if1 .taken)) (both-refused₁ (c .before .before .before .put-node .ensures) (taken-refused (c .if1 .taken))))) (c .before .before .before .before .before .before .before .before .before .before .before .before .before .before .before .before .pre .1) (c .before .before .before .before .before .before .before .before .before .before .mid .given .1)
+
+put-front-same-length : (t : ℕ) → put-front-lts.Need-same-length (put-front-claims t) (put-front-at t) put-front.Post
+put-front-same-length t c = put-front-returns-2 t c .frame .long
+
+put-front-taken-requires : (t : ℕ) → put-front-lts.Need-taken-requires (put-front-claims t) (put-front-at t) put-front.Post
+put-front-taken-requires t c κs = search needs
+
+put-front-sub-to : (t : ℕ) → put-front-lts.Need-sub-to (put-front-claims t) (put-front-at t) put-front.Post
+put-front-sub-to t c = omega (arith, both-few (c .before .before .before .before .before .put-node .ensures) (taken-as (c .before .before .if1 .left) (c .before .taken .ensures)) (as-ready (pair-named (c .before .before .before .before .before .before .before .before .number-of .ensures) refl) ((front-ready (c .before .before .before .before .before .before .before .before .before .before .before .before .before .before .shape-of .ensures) (c .before .before .before .before .before .before .before .before .before .before .first-part .ensures) (c .before .before .before .before .before .before .before .before .before .second-part .ensures) (c .before .before .before .before .before .before .before .before .before .before .before .before .before .before .before .before .before .before .pre .1) (c .before .before .before .before .before .before .before .before .before .before .before .before .mid .given .1)) .0)))
+
 put-front-number-of-requires-2 : (t : ℕ) → put-front-lts.Need-number-of-requires-2 (put-front-claims t) (put-front-at t) put-front.Post
 put-front-number-of-requires-2 t c κs = search needs
 
-put-front-put-both-requires : (t : ℕ) → put-front-lts.Need-put-both-requires (put-front-claims t) (put-front-at t) put-front.Post
-put-front-put-both-requires t c κs = let w = front-ready (c .before .before .before .before .before .before .before .before .before .shape-of .ensures) (c .before .before .before .before .before .first-part .ensures) (c .before .before .before .before .second-part .ensures) (c .before .before .before .before .before .before .before .before .before .before .before .before .before .pre .1) (c .before .before .before .before .before .before .before .mid .given .1) in (omega (arith, c .before .before .before .before .before .before .before .before .before .before .before .before .before .pre .0), (as-ready (pair-named (c .before .before .before .number-of .ensures) (c .before .before .number-of2 .ensures)) (w .0), w .1))
+put-front-put-node-requires-2 : (t : ℕ) → put-front-lts.Need-put-node-requires-2 (put-front-claims t) (put-front-at t) put-front.Post
+put-front-put-node-requires-2 t c κs = (omega (arith, c .before .before .before .before .before .before .before .before .before .before .before .before .before .before .before .before .before .before .before .before .before .pre .0), both-ready₂ (c .before .before .before .before .before .before .before .before .put-node .ensures) (taken-as (c .before .before .before .before .before .if1 .left) (c .before .before .before .before .taken .ensures)) (as-ready (pair-named (c .before .before .before .before .before .before .before .before .before .before .before .number-of .ensures) (c .before .before .number-of2 .ensures)) ((front-ready (c .before .before .before .before .before .before .before .before .before .before .before .before .before .before .before .before .before .shape-of .ensures) (c .before .before .before .before .before .before .before .before .before .before .before .before .before .first-part .ensures) (c .before .before .before .before .before .before .before .before .before .before .before .before .second-part .ensures) (c .before .before .before .before .before .before .before .before .before .before .before .before .before .before .before .before .before .before .before .before .before .pre .1) (c .before .before .before .before .before .before .before .before .before .before .before .before .before .before .before .mid .given .1)) .0)) (omega arith) ((front-ready (c .before .before .before .before .before .before .before .before .before .before .before .before .before .before .before .before .before .shape-of .ensures) (c .before .before .before .before .before .before .before .before .before .before .before .before .before .first-part .ensures) (c .before .before .before .before .before .before .before .before .before .before .before .before .second-part .ensures) (c .before .before .before .before .before .before .before .before .before .before .before .before .before .before .before .before .before .before .before .before .before .pre .1) (c .before .before .before .before .before .before .before .before .before .before .before .before .before .before .before .mid .given .1)) .1))
 
-put-front-same-length : (t : ℕ) → put-front-lts.Need-same-length (put-front-claims t) (put-front-at t) put-front.Post
-put-front-same-length t c = search needs
+put-front-returns-3 : (t : ℕ) → put-front-lts.Need-returns-3 (put-front-claims t) (put-front-at t) put-front.Post
+put-front-returns-3 t c = front-both (c .before .before .before .before .before .before .before .before .before .before .before .before .before .before .before .before .before .before .before .before .before .shape-of .ensures) (c .before .before .before .before .before .before .before .before .before .before .before .before .before .before .before .before .before .first-part .ensures) (c .before .before .before .before .before .before .before .before .before .before .before .before .before .before .before .before .second-part .ensures) (as-pair (c .before .before .before .before .before .before .before .before .before .before .before .before .before .before .before .number-of .ensures) (c .before .before .before .before .before .before .number-of2 .ensures) (λ u h. as-taken (taken-refused (c .if2 .taken)) (both-refused₂ (c .before .before .before .before .before .before .before .before .before .before .before .before .put-node .ensures) (taken-as (c .before .before .before .before .before .before .before .before .before .if1 .left) (c .before .before .before .before .before .before .before .before .taken .ensures)) ((c .before .before .before .before .before .before .before .before .before .before .before .before .before .before .before .before .before .before .before .before .before .before .before .before .before .pre .1) .base) (c .before .before .before .put-node2 .ensures) h (taken-refused (c .if2 .taken))))) (c .before .before .before .before .before .before .before .before .before .before .before .before .before .before .before .before .before .before .before .before .before .before .before .before .before .pre .1) (c .before .before .before .before .before .before .before .before .before .before .before .before .before .before .before .before .before .before .before .mid .given .1)
 
-put-front-returns-2 : (t : ℕ) → put-front-lts.Need-returns-2 (put-front-claims t) (put-front-at t) put-front.Post
-put-front-returns-2 t c = front-both (c .before .before .before .before .before .before .before .before .before .before .before .before .shape-of .ensures) (c .before .before .before .before .before .before .before .before .first-part .ensures) (c .before .before .before .before .before .before .before .second-part .ensures) (as-pair (c .before .before .before .before .before .before .number-of .ensures) (c .before .before .before .before .before .number-of2 .ensures) (c .before .before .put-both .ensures)) (c .before .before .before .before .before .before .before .before .before .before .before .before .before .before .before .before .pre .1) (c .before .before .before .before .before .before .before .before .before .before .mid .given .1)
+put-front-same-length-2 : (t : ℕ) → put-front-lts.Need-same-length-2 (put-front-claims t) (put-front-at t) put-front.Post
+put-front-same-length-2 t c = put-front-returns-3 t c .frame .long
+
+put-front-add-took : (t : ℕ) → put-front-lts.Need-add-took (put-front-claims t) (put-front-at t) put-front.Post
+put-front-add-took t c = record { fits = omega (arith, both-few (c .before .before .before .before .before .before .before .before .before .before .before .before .put-node .ensures) (taken-as (c .before .before .before .before .before .before .before .before .before .if1 .left) (c .before .before .before .before .before .before .before .before .taken .ensures)) (as-ready (pair-named (c .before .before .before .before .before .before .before .before .before .before .before .before .before .before .before .number-of .ensures) refl) ((front-ready (c .before .before .before .before .before .before .before .before .before .before .before .before .before .before .before .before .before .before .before .before .before .shape-of .ensures) (c .before .before .before .before .before .before .before .before .before .before .before .before .before .before .before .before .before .first-part .ensures) (c .before .before .before .before .before .before .before .before .before .before .before .before .before .before .before .before .second-part .ensures) (c .before .before .before .before .before .before .before .before .before .before .before .before .before .before .before .before .before .before .before .before .before .before .before .before .before .pre .1) (c .before .before .before .before .before .before .before .before .before .before .before .before .before .before .before .before .before .before .before .mid .given .1)) .0)), (c .before .before .before .before .before .before .before .before .before .before .before .before .before .before .before .before .before .before .before .before .before .before .before .before .before .pre .1) .few) }
+
+put-front-taken-requires-2 : (t : ℕ) → put-front-lts.Need-taken-requires-2 (put-front-claims t) (put-front-at t) put-front.Post
+put-front-taken-requires-2 t c κs = search needs
+
+put-front-add-took-2 : (t : ℕ) → put-front-lts.Need-add-took-2 (put-front-claims t) (put-front-at t) put-front.Post
+put-front-add-took-2 t c = record { fits = omega (arith, both-sum (c .before .before .before .before .before .before .before .before .before .before .before .before .before .put-node .ensures) (taken-as (c .before .before .before .before .before .before .before .before .before .before .if1 .left) (c .before .before .before .before .before .before .before .before .before .taken .ensures)) ((c .before .before .before .before .before .before .before .before .before .before .before .before .before .before .before .before .before .before .before .before .before .before .before .before .before .before .pre .1) .base) (c .before .before .before .before .put-node2 .ensures) ((front-ready (c .before .before .before .before .before .before .before .before .before .before .before .before .before .before .before .before .before .before .before .before .before .before .shape-of .ensures) (c .before .before .before .before .before .before .before .before .before .before .before .before .before .before .before .before .before .before .first-part .ensures) (c .before .before .before .before .before .before .before .before .before .before .before .before .before .before .before .before .before .second-part .ensures) (c .before .before .before .before .before .before .before .before .before .before .before .before .before .before .before .before .before .before .before .before .before .before .before .before .before .before .pre .1) (c .before .before .before .before .before .before .before .before .before .before .before .before .before .before .before .before .before .before .before .before .mid .given .1)) .1 .shown) (taken-as (c .before .if2 .left) (c .taken2 .ensures)) (as-ready (pair-named (c .before .before .before .before .before .before .before .before .before .before .before .before .before .before .before .before .number-of .ensures) (c .before .before .before .before .before .before .before .number-of2 .ensures)) ((front-ready (c .before .before .before .before .before .before .before .before .before .before .before .before .before .before .before .before .before .before .before .before .before .before .shape-of .ensures) (c .before .before .before .before .before .before .before .before .before .before .before .before .before .before .before .before .before .before .first-part .ensures) (c .before .before .before .before .before .before .before .before .before .before .before .before .before .before .before .before .before .second-part .ensures) (c .before .before .before .before .before .before .before .before .before .before .before .before .before .before .before .before .before .before .before .before .before .before .before .before .before .before .pre .1) (c .before .before .before .before .before .before .before .before .before .before .before .before .before .before .before .before .before .before .before .before .mid .given .1)) .0)), (c .before .before .before .before .before .before .before .before .before .before .before .before .before .before .before .before .before .before .before .before .before .before .before .before .before .before .pre .1) .few) }
+
+put-front-took-requires : (t : ℕ) → put-front-lts.Need-took-requires (put-front-claims t) (put-front-at t) put-front.Post
+put-front-took-requires t c κs = omega (arith, both-sum (c .before .before .before .before .before .before .before .before .before .before .before .before .before .put-node .ensures) (taken-as (c .before .before .before .before .before .before .before .before .before .before .if1 .left) (c .before .before .before .before .before .before .before .before .before .taken .ensures)) ((c .before .before .before .before .before .before .before .before .before .before .before .before .before .before .before .before .before .before .before .before .before .before .before .before .before .before .pre .1) .base) (c .before .before .before .before .put-node2 .ensures) ((front-ready (c .before .before .before .before .before .before .before .before .before .before .before .before .before .before .before .before .before .before .before .before .before .before .shape-of .ensures) (c .before .before .before .before .before .before .before .before .before .before .before .before .before .before .before .before .before .before .first-part .ensures) (c .before .before .before .before .before .before .before .before .before .before .before .before .before .before .before .before .before .second-part .ensures) (c .before .before .before .before .before .before .before .before .before .before .before .before .before .before .before .before .before .before .before .before .before .before .before .before .before .before .pre .1) (c .before .before .before .before .before .before .before .before .before .before .before .before .before .before .before .before .before .before .before .before .mid .given .1)) .1 .shown) (taken-as (c .before .if2 .left) (c .taken2 .ensures)) (as-ready (pair-named (c .before .before .before .before .before .before .before .before .before .before .before .before .before .before .before .before .number-of .ensures) (c .before .before .before .before .before .before .before .number-of2 .ensures)) ((front-ready (c .before .before .before .before .before .before .before .before .before .before .before .before .before .before .before .before .before .before .before .before .before .before .shape-of .ensures) (c .before .before .before .before .before .before .before .before .before .before .before .before .before .before .before .before .before .before .first-part .ensures) (c .before .before .before .before .before .before .before .before .before .before .before .before .before .before .before .before .before .second-part .ensures) (c .before .before .before .before .before .before .before .before .before .before .before .before .before .before .before .before .before .before .before .before .before .before .before .before .before .before .pre .1) (c .before .before .before .before .before .before .before .before .before .before .before .before .before .before .before .before .before .before .before .before .mid .given .1)) .0)), (c .before .before .before .before .before .before .before .before .before .before .before .before .before .before .before .before .before .before .before .before .before .before .before .before .before .before .pre .1) .few)
+
+put-front-returns-4 : (t : ℕ) → put-front-lts.Need-returns-4 (put-front-claims t) (put-front-at t) put-front.Post
+put-front-returns-4 t c = front-both (c .before .before .before .before .before .before .before .before .before .before .before .before .before .before .before .before .before .before .before .before .before .before .before .shape-of .ensures) (c .before .before .before .before .before .before .before .before .before .before .before .before .before .before .before .before .before .before .before .first-part .ensures) (c .before .before .before .before .before .before .before .before .before .before .before .before .before .before .before .before .before .before .second-part .ensures) (as-pair (c .before .before .before .before .before .before .before .before .before .before .before .before .before .before .before .before .before .number-of .ensures) (c .before .before .before .before .before .before .before .before .number-of2 .ensures) (λ u h. as-taken (took-done (c .took .ensures) (omega (arith, c .before .before .before .before .before .before .before .before .before .before .taken .ensures, c .before .before .before .before .before .before .before .before .before .before .before .if1 .left))) (both-done (c .before .before .before .before .before .before .before .before .before .before .before .before .before .before .put-node .ensures) (taken-as (c .before .before .before .before .before .before .before .before .before .before .before .if1 .left) (c .before .before .before .before .before .before .before .before .before .before .taken .ensures)) ((c .before .before .before .before .before .before .before .before .before .before .before .before .before .before .before .before .before .before .before .before .before .before .before .before .before .before .before .pre .1) .base) (c .before .before .before .before .before .put-node2 .ensures) h (taken-as (c .before .before .if2 .left) (c .before .taken2 .ensures))))) (c .before .before .before .before .before .before .before .before .before .before .before .before .before .before .before .before .before .before .before .before .before .before .before .before .before .before .before .pre .1) (c .before .before .before .before .before .before .before .before .before .before .before .before .before .before .before .before .before .before .before .before .before .mid .given .1)
+
+put-front-same-length-3 : (t : ℕ) → put-front-lts.Need-same-length-3 (put-front-claims t) (put-front-at t) put-front.Post
+put-front-same-length-3 t c = put-front-returns-4 t c .frame .long
 
 put-inside-mul-slots : (t : ℕ) → put-inside-lts.Need-mul-slots (put-inside-claims t) (put-inside-at t) put-inside.Post
 put-inside-mul-slots t c = record { fits = omega (arith, (c .before .before .before .pre .1 .1)) }
@@ -531,17 +564,20 @@ put-list-case-start-of-requires t c κs = search needs
 put-list-case-len-of-requires : (t : ℕ) → put-list-case-lts.Need-len-of-requires (put-list-case-claims t) (put-list-case-at t) put-list-case.Post
 put-list-case-len-of-requires t c κs = search needs
 
+put-list-case-add-end : (t : ℕ) → put-list-case-lts.Need-add-end (put-list-case-claims t) (put-list-case-at t) put-list-case.Post
+put-list-case-add-end t c = let z = (sizes (subject-ready (c .before .before .before .before .before .before .before .before .before .before .before .pre .1) ((c .before .before .before .before .before .before .before .before .before .before .before .pre .1) .known .1 .subject .inside)) (as-node (c .before .before .before .before .before .before .before .number-of .ensures) (c .before .before .before .before .before .get-node .ensures)) (found-as (c .before .before .if1 .left) (c .before .start-of .ensures) (c .len-of .ensures) refl)) in record { fits = omega (arith, (c .before .before .before .before .before .before .before .before .before .before .before .pre .1) .room, z .short, z .low) }
+
 put-list-case-steps-of-requires : (t : ℕ) → put-list-case-lts.Need-steps-of-requires (put-list-case-claims t) (put-list-case-at t) put-list-case.Post
 put-list-case-steps-of-requires t c κs = search needs
 
-put-list-case-add-end : (t : ℕ) → put-list-case-lts.Need-add-end (put-list-case-claims t) (put-list-case-at t) put-list-case.Post
-put-list-case-add-end t c = let thez = (sizes (subject-ready (c .before .before .before .before .before .before .before .before .before .before .before .before .pre .1) ((c .before .before .before .before .before .before .before .before .before .before .before .before .pre .1) .known .1 .subject .inside)) (as-node (c .before .before .before .before .before .before .before .before .number-of .ensures) (c .before .before .before .before .before .before .get-node .ensures)) (found-as (c .before .before .before .if1 .left) (c .before .before .start-of .ensures) (c .before .len-of .ensures) (c .steps-of .ensures))) in record { fits = omega (arith, (c .before .before .before .before .before .before .before .before .before .before .before .before .pre .1) .room, thez .short, thez .low) }
+put-list-case-add-s : (t : ℕ) → put-list-case-lts.Need-add-s (put-list-case-claims t) (put-list-case-at t) put-list-case.Post
+put-list-case-add-s t c = record { fits = omega (arith, (sizes (subject-ready (c .before .before .before .before .before .before .before .before .before .before .before .before .pre .1) ((c .before .before .before .before .before .before .before .before .before .before .before .before .pre .1) .known .1 .subject .inside)) (as-node (c .before .before .before .before .before .before .before .before .number-of .ensures) (c .before .before .before .before .before .before .get-node .ensures)) (found-as (c .before .before .before .if1 .left) (c .before .before .start-of .ensures) (c .before .len-of .ensures) (c .steps-of .ensures))) .steps, (c .before .before .before .before .before .before .before .before .before .before .before .before .pre .1) .few) }
+
+put-list-case-sub-to : (t : ℕ) → put-list-case-lts.Need-sub-to (put-list-case-claims t) (put-list-case-at t) put-list-case.Post
+put-list-case-sub-to t c = omega (arith, (sizes (subject-ready (c .before .before .before .before .before .before .before .before .before .before .before .before .before .pre .1) ((c .before .before .before .before .before .before .before .before .before .before .before .before .before .pre .1) .known .1 .subject .inside)) (as-node (c .before .before .before .before .before .before .before .before .before .number-of .ensures) (c .before .before .before .before .before .before .before .get-node .ensures)) (found-as (c .before .before .before .before .if1 .left) (c .before .before .before .start-of .ensures) (c .before .before .len-of .ensures) (c .before .steps-of .ensures))) .steps)
 
 put-list-case-above-requires : (t : ℕ) → put-list-case-lts.Need-above-requires (put-list-case-claims t) (put-list-case-at t) put-list-case.Post
-put-list-case-above-requires t c κs = let thez = (sizes (subject-ready (c .before .before .before .before .before .before .before .before .before .before .before .before .pre .1) ((c .before .before .before .before .before .before .before .before .before .before .before .before .pre .1) .known .1 .subject .inside)) (as-node (c .before .before .before .before .before .before .before .before .number-of .ensures) (c .before .before .before .before .before .before .get-node .ensures)) (found-as (c .before .before .before .if1 .left) (c .before .before .start-of .ensures) (c .before .len-of .ensures) (c .steps-of .ensures))) in (thez .low, omega (arith, (c .before .before .before .before .before .before .before .before .before .before .before .before .pre .1) .room, thez .short))
-
-put-list-case-sub-shape-of : (t : ℕ) → put-list-case-lts.Need-sub-shape-of (put-list-case-claims t) (put-list-case-at t) put-list-case.Post
-put-list-case-sub-shape-of t c = omega (arith, (sizes (subject-ready (c .before .before .before .before .before .before .before .before .before .before .before .before .before .before .pre .1) ((c .before .before .before .before .before .before .before .before .before .before .before .before .before .before .pre .1) .known .1 .subject .inside)) (as-node (c .before .before .before .before .before .before .before .before .before .before .number-of .ensures) (c .before .before .before .before .before .before .before .before .get-node .ensures)) (found-as (c .before .before .before .before .before .if1 .left) (c .before .before .before .before .start-of .ensures) (c .before .before .before .len-of .ensures) (c .before .before .steps-of .ensures))) .steps)
+put-list-case-above-requires t c κs = let z = (sizes (subject-ready (c .before .before .before .before .before .before .before .before .before .before .before .before .before .pre .1) ((c .before .before .before .before .before .before .before .before .before .before .before .before .before .pre .1) .known .1 .subject .inside)) (as-node (c .before .before .before .before .before .before .before .before .before .number-of .ensures) (c .before .before .before .before .before .before .before .get-node .ensures)) (found-as (c .before .before .before .before .if1 .left) (c .before .before .before .start-of .ensures) (c .before .before .len-of .ensures) (c .before .steps-of .ensures))) in (z .low, omega (arith, (c .before .before .before .before .before .before .before .before .before .before .before .before .before .pre .1) .room, z .short))
 
 put-list-case-byte-of-requires : (t : ℕ) → put-list-case-lts.Need-byte-of-requires (put-list-case-claims t) (put-list-case-at t) put-list-case.Post
 put-list-case-byte-of-requires t c κs = search needs
@@ -549,26 +585,20 @@ put-list-case-byte-of-requires t c κs = search needs
 put-list-case-byte-of-requires-2 : (t : ℕ) → put-list-case-lts.Need-byte-of-requires-2 (put-list-case-claims t) (put-list-case-at t) put-list-case.Post
 put-list-case-byte-of-requires-2 t c κs = search needs
 
-put-list-case-sub-shape-of-2 : (t : ℕ) → put-list-case-lts.Need-sub-shape-of-2 (put-list-case-claims t) (put-list-case-at t) put-list-case.Post
-put-list-case-sub-shape-of-2 t c = search needs
+put-list-case-sub-list-branch : (t : ℕ) → put-list-case-lts.Need-sub-list-branch (put-list-case-claims t) (put-list-case-at t) put-list-case.Post
+put-list-case-sub-list-branch t c = search needs
 
-put-list-case-part-shape-of-start : (t : ℕ) → put-list-case-lts.Need-part-shape-of-start (put-list-case-claims t) (put-list-case-at t) put-list-case.Post
-put-list-case-part-shape-of-start t c = search needs
+put-list-case-part-list-branch-start : (t : ℕ) → put-list-case-lts.Need-part-list-branch-start (put-list-case-claims t) (put-list-case-at t) put-list-case.Post
+put-list-case-part-list-branch-start t c = search needs
 
-put-list-case-part-shape-of-end : (t : ℕ) → put-list-case-lts.Need-part-shape-of-end (put-list-case-claims t) (put-list-case-at t) put-list-case.Post
-put-list-case-part-shape-of-end t c = let thez = (sizes (subject-ready (c .before .before .before .before .before .before .before .before .before .before .before .before .before .before .before .before .before .pre .1) ((c .before .before .before .before .before .before .before .before .before .before .before .before .before .before .before .before .before .pre .1) .known .1 .subject .inside)) (as-node (c .before .before .before .before .before .before .before .before .before .before .before .before .before .number-of .ensures) (c .before .before .before .before .before .before .before .before .before .before .before .get-node .ensures)) (found-as (c .before .before .before .before .before .before .before .before .if1 .left) (c .before .before .before .before .before .before .before .start-of .ensures) (c .before .before .before .before .before .before .len-of .ensures) (c .before .before .before .before .before .steps-of .ensures))) in omega (arith, (c .before .before .before .before .before .before .before .before .before .before .before .before .before .before .before .before .before .pre .1) .room, (c .before .before .before .before .before .before .before .before .before .before .before .before .before .before .before .before .before .pre .1) .long, thez .short, thez .low, c .before .before .before .before .before .before .before .before .before .before .before .get-node .ensures .kept .long)
+put-list-case-part-list-branch-end : (t : ℕ) → put-list-case-lts.Need-part-list-branch-end (put-list-case-claims t) (put-list-case-at t) put-list-case.Post
+put-list-case-part-list-branch-end t c = let z = (sizes (subject-ready (c .before .before .before .before .before .before .before .before .before .before .before .before .before .before .before .before .before .pre .1) ((c .before .before .before .before .before .before .before .before .before .before .before .before .before .before .before .before .before .pre .1) .known .1 .subject .inside)) (as-node (c .before .before .before .before .before .before .before .before .before .before .before .before .before .number-of .ensures) (c .before .before .before .before .before .before .before .before .before .before .before .get-node .ensures)) (found-as (c .before .before .before .before .before .before .before .before .if1 .left) (c .before .before .before .before .before .before .before .start-of .ensures) (c .before .before .before .before .before .before .len-of .ensures) (c .before .before .before .before .before .steps-of .ensures))) in omega (arith, (c .before .before .before .before .before .before .before .before .before .before .before .before .before .before .before .before .before .pre .1) .room, (c .before .before .before .before .before .before .before .before .before .before .before .before .before .before .before .before .before .pre .1) .long, z .short, z .low, c .before .before .before .before .before .before .before .before .before .before .before .get-node .ensures .kept .long)
 
-put-list-case-shape-of-requires : (t : ℕ) → put-list-case-lts.Need-shape-of-requires (put-list-case-claims t) (put-list-case-at t) put-list-case.Post
-put-list-case-shape-of-requires t c κs = search needs
+put-list-case-list-branch-requires : (t : ℕ) → put-list-case-lts.Need-list-branch-requires (put-list-case-claims t) (put-list-case-at t) put-list-case.Post
+put-list-case-list-branch-requires t c κs = search needs
 
 put-list-case-enum-told : (t : ℕ) → put-list-case-lts.Need-enum-told (put-list-case-claims t) (put-list-case-at t) put-list-case.Post
 put-list-case-enum-told t c = search needs
-
-put-list-case-choose-requires : (t : ℕ) → put-list-case-lts.Need-choose-requires (put-list-case-claims t) (put-list-case-at t) put-list-case.Post
-put-list-case-choose-requires t c κs = search needs
-
-put-list-case-enum-told-2 : (t : ℕ) → put-list-case-lts.Need-enum-told-2 (put-list-case-claims t) (put-list-case-at t) put-list-case.Post
-put-list-case-enum-told-2 t c = search needs
 
 put-list-case-number-of-requires-2 : (t : ℕ) → put-list-case-lts.Need-number-of-requires-2 (put-list-case-claims t) (put-list-case-at t) put-list-case.Post
 put-list-case-number-of-requires-2 t c κs = search needs
@@ -576,111 +606,59 @@ put-list-case-number-of-requires-2 t c κs = search needs
 put-list-case-slice-aggregate-put-both : (t : ℕ) → put-list-case-lts.Need-slice-aggregate-put-both (put-list-case-claims t) (put-list-case-at t) put-list-case.Post
 put-list-case-slice-aggregate-put-both t c = search needs
 
-put-list-case-add-put-both : (t : ℕ) → put-list-case-lts.Need-add-put-both (put-list-case-claims t) (put-list-case-at t) put-list-case.Post
-put-list-case-add-put-both t c = record { fits = omega (arith, (sizes (subject-ready (c .before .before .before .before .before .before .before .before .before .before .before .before .before .before .before .before .before .before .before .before .before .before .before .before .before .before .before .before .pre .1) ((c .before .before .before .before .before .before .before .before .before .before .before .before .before .before .before .before .before .before .before .before .before .before .before .before .before .before .before .before .pre .1) .known .1 .subject .inside)) (as-node (c .before .before .before .before .before .before .before .before .before .before .before .before .before .before .before .before .before .before .before .before .before .before .before .before .number-of .ensures) (c .before .before .before .before .before .before .before .before .before .before .before .before .before .before .before .before .before .before .before .before .before .before .get-node .ensures)) (found-as (c .before .before .before .before .before .before .before .before .before .before .before .before .before .before .before .before .before .before .before .if1 .left) (c .before .before .before .before .before .before .before .before .before .before .before .before .before .before .before .before .before .before .start-of .ensures) (c .before .before .before .before .before .before .before .before .before .before .before .before .before .before .before .before .before .len-of .ensures) (c .before .before .before .before .before .before .before .before .before .before .before .before .before .before .before .before .steps-of .ensures))) .steps, (c .before .before .before .before .before .before .before .before .before .before .before .before .before .before .before .before .before .before .before .before .before .before .before .before .before .before .before .before .pre .1) .few) }
-
 put-list-case-put-both-requires : (t : ℕ) → put-list-case-lts.Need-put-both-requires (put-list-case-claims t) (put-list-case-at t) put-list-case.Post
-put-list-case-put-both-requires t c κs = (omega (arith, c .before .before .before .before .before .before .before .before .before .before .before .before .before .before .before .before .before .before .before .before .before .before .before .before .before .before .before .before .pre .0), (after-subject ((c .before .before .before .before .before .before .before .before .before .before .before .before .before .before .before .before .before .before .before .before .before .before .before .before .before .before .before .before .pre .1) .base) (as-node (c .before .before .before .before .before .before .before .before .before .before .before .before .before .before .before .before .before .before .before .before .before .before .before .before .number-of .ensures) (c .before .before .before .before .before .before .before .before .before .before .before .before .before .before .before .before .before .before .before .before .before .before .get-node .ensures)) (found-as (c .before .before .before .before .before .before .before .before .before .before .before .before .before .before .before .before .before .before .before .if1 .left) (c .before .before .before .before .before .before .before .before .before .before .before .before .before .before .before .before .before .before .start-of .ensures) (c .before .before .before .before .before .before .before .before .before .before .before .before .before .before .before .before .before .len-of .ensures) (c .before .before .before .before .before .before .before .before .before .before .before .before .before .before .before .before .steps-of .ensures)) (c .before .before .before .before .before .before .before .before .before .before .before .before .before .before .before .above .ensures) (c .before .before .before .before .before .before .before .before .before .before .before .before .before .before .before .before .before .before .before .before .before .before .before .before .before .before .before .before .pre .1) (omega (arith, c .before .before .before .number-of2 .ensures, (c .before .before .before .before .before .before .before .before .before .before .before .before .before .before .before .before .before .before .before .before .before .before .before .before .before .before .before .before .pre .1) .known .1 .empty .inside), (omega (arith, c .before .before .before .before .before .before .before .before .before .before .before .before .before .before .before .before .before .before .before .before .before .before .before .before .number-of .ensures, ((c .before .before .before .before .before .before .before .before .before .before .before .before .before .before .before .before .before .before .before .before .before .before .before .before .before .before .before .before .pre .1) .known .1 .subject .inside)))) (omega (arith, (sizes (subject-ready (c .before .before .before .before .before .before .before .before .before .before .before .before .before .before .before .before .before .before .before .before .before .before .before .before .before .before .before .before .pre .1) ((c .before .before .before .before .before .before .before .before .before .before .before .before .before .before .before .before .before .before .before .before .before .before .before .before .before .before .before .before .pre .1) .known .1 .subject .inside)) (as-node (c .before .before .before .before .before .before .before .before .before .before .before .before .before .before .before .before .before .before .before .before .before .before .before .before .number-of .ensures) (c .before .before .before .before .before .before .before .before .before .before .before .before .before .before .before .before .before .before .before .before .before .before .get-node .ensures)) (found-as (c .before .before .before .before .before .before .before .before .before .before .before .before .before .before .before .before .before .before .before .if1 .left) (c .before .before .before .before .before .before .before .before .before .before .before .before .before .before .before .before .before .before .start-of .ensures) (c .before .before .before .before .before .before .before .before .before .before .before .before .before .before .before .before .before .len-of .ensures) (c .before .before .before .before .before .before .before .before .before .before .before .before .before .before .before .before .steps-of .ensures))) .steps)), view-nil))
-
-put-list-case-enum-told-3 : (t : ℕ) → put-list-case-lts.Need-enum-told-3 (put-list-case-claims t) (put-list-case-at t) put-list-case.Post
-put-list-case-enum-told-3 t c = search needs
-
-put-list-case-add-put-switch : (t : ℕ) → put-list-case-lts.Need-add-put-switch (put-list-case-claims t) (put-list-case-at t) put-list-case.Post
-put-list-case-add-put-switch t c = record { fits = omega (arith, (sizes (subject-ready (c .before .before .before .before .before .before .before .before .before .before .before .before .before .before .before .before .before .before .before .before .before .before .before .before .before .before .pre .1) ((c .before .before .before .before .before .before .before .before .before .before .before .before .before .before .before .before .before .before .before .before .before .before .before .before .before .before .pre .1) .known .1 .subject .inside)) (as-node (c .before .before .before .before .before .before .before .before .before .before .before .before .before .before .before .before .before .before .before .before .before .before .number-of .ensures) (c .before .before .before .before .before .before .before .before .before .before .before .before .before .before .before .before .before .before .before .before .get-node .ensures)) (found-as (c .before .before .before .before .before .before .before .before .before .before .before .before .before .before .before .before .before .if1 .left) (c .before .before .before .before .before .before .before .before .before .before .before .before .before .before .before .before .start-of .ensures) (c .before .before .before .before .before .before .before .before .before .before .before .before .before .before .before .len-of .ensures) (c .before .before .before .before .before .before .before .before .before .before .before .before .before .before .steps-of .ensures))) .steps, (c .before .before .before .before .before .before .before .before .before .before .before .before .before .before .before .before .before .before .before .before .before .before .before .before .before .before .pre .1) .few) }
-
-put-list-case-put-switch-requires : (t : ℕ) → put-list-case-lts.Need-put-switch-requires (put-list-case-claims t) (put-list-case-at t) put-list-case.Post
-put-list-case-put-switch-requires t c κs = (omega (arith, c .before .before .before .before .before .before .before .before .before .before .before .before .before .before .before .before .before .before .before .before .before .before .before .before .before .before .pre .0), (after-subject ((c .before .before .before .before .before .before .before .before .before .before .before .before .before .before .before .before .before .before .before .before .before .before .before .before .before .before .pre .1) .base) (as-node (c .before .before .before .before .before .before .before .before .before .before .before .before .before .before .before .before .before .before .before .before .before .before .number-of .ensures) (c .before .before .before .before .before .before .before .before .before .before .before .before .before .before .before .before .before .before .before .before .get-node .ensures)) (found-as (c .before .before .before .before .before .before .before .before .before .before .before .before .before .before .before .before .before .if1 .left) (c .before .before .before .before .before .before .before .before .before .before .before .before .before .before .before .before .start-of .ensures) (c .before .before .before .before .before .before .before .before .before .before .before .before .before .before .before .len-of .ensures) (c .before .before .before .before .before .before .before .before .before .before .before .before .before .before .steps-of .ensures)) (c .before .before .before .before .before .before .before .before .before .before .before .before .before .above .ensures) (c .before .before .before .before .before .before .before .before .before .before .before .before .before .before .before .before .before .before .before .before .before .before .before .before .before .before .pre .1) (((c .before .before .before .before .before .before .before .before .before .before .before .before .before .before .before .before .before .before .before .before .before .before .before .before .before .before .pre .1) .known .1 .front .inside, ((c .before .before .before .before .before .before .before .before .before .before .before .before .before .before .before .before .before .before .before .before .before .before .before .before .before .before .pre .1) .known .1 .subject .inside)), ((c .before .before .before .before .before .before .before .before .before .before .before .before .before .before .before .before .before .before .before .before .before .before .before .before .before .before .pre .1) .known .1 .first .inside, (c .before .before .before .before .before .before .before .before .before .before .before .before .before .before .before .before .before .before .before .before .before .before .before .before .before .before .pre .1) .known .1 .rest .inside)) (omega (arith, (sizes (subject-ready (c .before .before .before .before .before .before .before .before .before .before .before .before .before .before .before .before .before .before .before .before .before .before .before .before .before .before .pre .1) ((c .before .before .before .before .before .before .before .before .before .before .before .before .before .before .before .before .before .before .before .before .before .before .before .before .before .before .pre .1) .known .1 .subject .inside)) (as-node (c .before .before .before .before .before .before .before .before .before .before .before .before .before .before .before .before .before .before .before .before .before .before .number-of .ensures) (c .before .before .before .before .before .before .before .before .before .before .before .before .before .before .before .before .before .before .before .before .get-node .ensures)) (found-as (c .before .before .before .before .before .before .before .before .before .before .before .before .before .before .before .before .before .if1 .left) (c .before .before .before .before .before .before .before .before .before .before .before .before .before .before .before .before .start-of .ensures) (c .before .before .before .before .before .before .before .before .before .before .before .before .before .before .before .len-of .ensures) (c .before .before .before .before .before .before .before .before .before .before .before .before .before .before .steps-of .ensures))) .steps)), (inner ((c .before .before .before .before .before .before .before .before .before .before .before .before .before .before .before .before .before .before .before .before .before .before .before .before .before .before .pre .1) .base) (as-node (c .before .before .before .before .before .before .before .before .before .before .before .before .before .before .before .before .before .before .before .before .before .before .number-of .ensures) (c .before .before .before .before .before .before .before .before .before .before .before .before .before .before .before .before .before .before .before .before .get-node .ensures)) (found-as (c .before .before .before .before .before .before .before .before .before .before .before .before .before .before .before .before .before .if1 .left) (c .before .before .before .before .before .before .before .before .before .before .before .before .before .before .before .before .start-of .ensures) (c .before .before .before .before .before .before .before .before .before .before .before .before .before .before .before .len-of .ensures) (c .before .before .before .before .before .before .before .before .before .before .before .before .before .before .steps-of .ensures)) (c .before .before .before .before .before .before .before .before .before .before .before .before .before .above .ensures) (c .before .before .before .before .before .before .before .before .before .before .before .before .before .before .before .before .before .before .before .before .before .before .before .before .before .before .pre .1), switch-room ((c .before .before .before .before .before .before .before .before .before .before .before .before .before .before .before .before .before .before .before .before .before .before .before .before .before .before .pre .1) .base) (as-node (c .before .before .before .before .before .before .before .before .before .before .before .before .before .before .before .before .before .before .before .before .before .before .number-of .ensures) (c .before .before .before .before .before .before .before .before .before .before .before .before .before .before .before .before .before .before .before .before .get-node .ensures)) (found-as (c .before .before .before .before .before .before .before .before .before .before .before .before .before .before .before .before .before .if1 .left) (c .before .before .before .before .before .before .before .before .before .before .before .before .before .before .before .before .start-of .ensures) (c .before .before .before .before .before .before .before .before .before .before .before .before .before .before .before .len-of .ensures) (c .before .before .before .before .before .before .before .before .before .before .before .before .before .before .steps-of .ensures)) (c .before .before .before .before .before .before .before .before .before .before .before .before .before .above .ensures) (c .before .before .before .before .before .before .before .shape-of .ensures) (c .before .before .before .before .before .before .before .before .before .before .before .before .before .before .before .before .before .before .before .before .before .before .before .before .before .before .pre .1) (c .before .before .before .before .before .enum-told .given .1))))
-
-put-list-case-enum-told-4 : (t : ℕ) → put-list-case-lts.Need-enum-told-4 (put-list-case-claims t) (put-list-case-at t) put-list-case.Post
-put-list-case-enum-told-4 t c = search needs
+put-list-case-put-both-requires t c κs = (omega (arith, c .before .before .before .before .before .before .before .before .before .before .before .before .before .before .before .before .before .before .before .before .before .before .before .before .before .pre .0), (after-subject ((c .before .before .before .before .before .before .before .before .before .before .before .before .before .before .before .before .before .before .before .before .before .before .before .before .before .pre .1) .base) (as-node (c .before .before .before .before .before .before .before .before .before .before .before .before .before .before .before .before .before .before .before .before .before .number-of .ensures) (c .before .before .before .before .before .before .before .before .before .before .before .before .before .before .before .before .before .before .before .get-node .ensures)) (found-as (c .before .before .before .before .before .before .before .before .before .before .before .before .before .before .before .before .if1 .left) (c .before .before .before .before .before .before .before .before .before .before .before .before .before .before .before .start-of .ensures) (c .before .before .before .before .before .before .before .before .before .before .before .before .before .before .len-of .ensures) (c .before .before .before .before .before .before .before .before .before .before .before .before .before .steps-of .ensures)) (c .before .before .before .before .before .before .before .before .before .before .before .above .ensures) (c .before .before .before .before .before .before .before .before .before .before .before .before .before .before .before .before .before .before .before .before .before .before .before .before .before .pre .1) (omega (arith, c .before .before .before .number-of2 .ensures, (c .before .before .before .before .before .before .before .before .before .before .before .before .before .before .before .before .before .before .before .before .before .before .before .before .before .pre .1) .known .1 .empty .inside), (omega (arith, c .before .before .before .before .before .before .before .before .before .before .before .before .before .before .before .before .before .before .before .before .before .number-of .ensures, ((c .before .before .before .before .before .before .before .before .before .before .before .before .before .before .before .before .before .before .before .before .before .before .before .before .before .pre .1) .known .1 .subject .inside)))) (omega (arith, (sizes (subject-ready (c .before .before .before .before .before .before .before .before .before .before .before .before .before .before .before .before .before .before .before .before .before .before .before .before .before .pre .1) ((c .before .before .before .before .before .before .before .before .before .before .before .before .before .before .before .before .before .before .before .before .before .before .before .before .before .pre .1) .known .1 .subject .inside)) (as-node (c .before .before .before .before .before .before .before .before .before .before .before .before .before .before .before .before .before .before .before .before .before .number-of .ensures) (c .before .before .before .before .before .before .before .before .before .before .before .before .before .before .before .before .before .before .before .get-node .ensures)) (found-as (c .before .before .before .before .before .before .before .before .before .before .before .before .before .before .before .before .if1 .left) (c .before .before .before .before .before .before .before .before .before .before .before .before .before .before .before .start-of .ensures) (c .before .before .before .before .before .before .before .before .before .before .before .before .before .before .len-of .ensures) (c .before .before .before .before .before .before .before .before .before .before .before .before .before .steps-of .ensures))) .steps)), view-nil))
 
 put-list-case-enum-known-mid : (t : ℕ) → put-list-case-lts.Need-enum-known-mid (put-list-case-claims t) (put-list-case-at t) put-list-case.Post
 put-list-case-enum-known-mid t c = search needs
 
-put-list-case-choose-requires-2 : (t : ℕ) → put-list-case-lts.Need-choose-requires-2 (put-list-case-claims t) (put-list-case-at t) put-list-case.Post
-put-list-case-choose-requires-2 t c κs = search needs
-
-put-list-case-enum-told-5 : (t : ℕ) → put-list-case-lts.Need-enum-told-5 (put-list-case-claims t) (put-list-case-at t) put-list-case.Post
-put-list-case-enum-told-5 t c = search needs
-
 put-list-case-number-of-requires-3 : (t : ℕ) → put-list-case-lts.Need-number-of-requires-3 (put-list-case-claims t) (put-list-case-at t) put-list-case.Post
 put-list-case-number-of-requires-3 t c κs = search needs
 
-put-list-case-slice-aggregate-put-both-2 :
-    (t : ℕ) → put-list-case-lts.Need-slice-aggregate-put-both-2 (put-list-case-claims t) (put-list-case-at t) put-list-case.Post
-put-list-case-slice-aggregate-put-both-2 t c = search needs
+put-list-case-add-t41 : (t : ℕ) → put-list-case-lts.Need-add-t41 (put-list-case-claims t) (put-list-case-at t) put-list-case.Post
+put-list-case-add-t41 t c = record { fits = omega (arith, (c .before .before .before .before .before .before .before .before .before .before .before .before .before .before .before .before .before .before .before .before .before .before .before .pre .1) .room, (sizes (subject-ready (c .before .before .before .before .before .before .before .before .before .before .before .before .before .before .before .before .before .before .before .before .before .before .before .pre .1) ((c .before .before .before .before .before .before .before .before .before .before .before .before .before .before .before .before .before .before .before .before .before .before .before .pre .1) .known .1 .subject .inside)) (as-node (c .before .before .before .before .before .before .before .before .before .before .before .before .before .before .before .before .before .before .before .number-of .ensures) (c .before .before .before .before .before .before .before .before .before .before .before .before .before .before .before .before .before .get-node .ensures)) (found-as (c .before .before .before .before .before .before .before .before .before .before .before .before .before .before .if1 .left) (c .before .before .before .before .before .before .before .before .before .before .before .before .before .start-of .ensures) (c .before .before .before .before .before .before .before .before .before .before .before .before .len-of .ensures) (c .before .before .before .before .before .before .before .before .before .before .before .steps-of .ensures))) .low) }
 
-put-list-case-add-put-both-2 : (t : ℕ) → put-list-case-lts.Need-add-put-both-2 (put-list-case-claims t) (put-list-case-at t) put-list-case.Post
-put-list-case-add-put-both-2 t c = record { fits = omega (arith, (sizes (subject-ready (c .before .before .before .before .before .before .before .before .before .before .before .before .before .before .before .before .before .before .before .before .before .before .before .before .before .before .before .before .before .pre .1) ((c .before .before .before .before .before .before .before .before .before .before .before .before .before .before .before .before .before .before .before .before .before .before .before .before .before .before .before .before .before .pre .1) .known .1 .subject .inside)) (as-node (c .before .before .before .before .before .before .before .before .before .before .before .before .before .before .before .before .before .before .before .before .before .before .before .before .before .number-of .ensures) (c .before .before .before .before .before .before .before .before .before .before .before .before .before .before .before .before .before .before .before .before .before .before .before .get-node .ensures)) (found-as (c .before .before .before .before .before .before .before .before .before .before .before .before .before .before .before .before .before .before .before .before .if1 .left) (c .before .before .before .before .before .before .before .before .before .before .before .before .before .before .before .before .before .before .before .start-of .ensures) (c .before .before .before .before .before .before .before .before .before .before .before .before .before .before .before .before .before .before .len-of .ensures) (c .before .before .before .before .before .before .before .before .before .before .before .before .before .before .before .before .before .steps-of .ensures))) .steps, (c .before .before .before .before .before .before .before .before .before .before .before .before .before .before .before .before .before .before .before .before .before .before .before .before .before .before .before .before .before .pre .1) .few) }
+put-list-case-sub-t42 : (t : ℕ) → put-list-case-lts.Need-sub-t42 (put-list-case-claims t) (put-list-case-at t) put-list-case.Post
+put-list-case-sub-t42 t c = omega (arith, front-inside ((c .before .before .before .before .before .before .before .before .before .before .before .before .before .before .before .before .before .before .before .before .before .before .before .pre .1) .base) (as-node (c .before .before .before .before .before .before .before .before .before .before .before .before .before .before .before .before .before .before .before .number-of .ensures) (c .before .before .before .before .before .before .before .before .before .before .before .before .before .before .before .before .before .get-node .ensures)) (found-as (c .before .before .before .before .before .before .before .before .before .before .before .before .before .before .if1 .left) (c .before .before .before .before .before .before .before .before .before .before .before .before .before .start-of .ensures) (c .before .before .before .before .before .before .before .before .before .before .before .before .len-of .ensures) (c .before .before .before .before .before .before .before .before .before .before .before .steps-of .ensures)) (c .before .before .before .before .before .before .before .before .before .above .ensures) refl (c .before .before .before .before .before .before .before .before .before .before .before .before .before .before .before .before .before .before .before .before .before .before .before .pre .1) (front-told (list-says _ _ _ (rw (c .before .before .before .before .before .before .before .before .byte-of .ensures, c .before .before .before .before .before .before .before .byte-of2 .ensures) at (c .before .before .before .before .list-branch .ensures)) (c .before .before .mid .given .1))))
 
-put-list-case-put-both-requires-2 : (t : ℕ) → put-list-case-lts.Need-put-both-requires-2 (put-list-case-claims t) (put-list-case-at t) put-list-case.Post
-put-list-case-put-both-requires-2 t c κs = (omega (arith, c .before .before .before .before .before .before .before .before .before .before .before .before .before .before .before .before .before .before .before .before .before .before .before .before .before .before .before .before .before .pre .0), (after-subject ((c .before .before .before .before .before .before .before .before .before .before .before .before .before .before .before .before .before .before .before .before .before .before .before .before .before .before .before .before .before .pre .1) .base) (as-node (c .before .before .before .before .before .before .before .before .before .before .before .before .before .before .before .before .before .before .before .before .before .before .before .before .before .number-of .ensures) (c .before .before .before .before .before .before .before .before .before .before .before .before .before .before .before .before .before .before .before .before .before .before .before .get-node .ensures)) (found-as (c .before .before .before .before .before .before .before .before .before .before .before .before .before .before .before .before .before .before .before .before .if1 .left) (c .before .before .before .before .before .before .before .before .before .before .before .before .before .before .before .before .before .before .before .start-of .ensures) (c .before .before .before .before .before .before .before .before .before .before .before .before .before .before .before .before .before .before .len-of .ensures) (c .before .before .before .before .before .before .before .before .before .before .before .before .before .before .before .before .before .steps-of .ensures)) (c .before .before .before .before .before .before .before .before .before .before .before .before .before .before .before .before .above .ensures) (c .before .before .before .before .before .before .before .before .before .before .before .before .before .before .before .before .before .before .before .before .before .before .before .before .before .before .before .before .before .pre .1) (omega (arith, c .before .before .before .number-of3 .ensures, (c .before .before .before .before .before .before .before .before .before .before .before .before .before .before .before .before .before .before .before .before .before .before .before .before .before .before .before .before .before .pre .1) .known .1 .empty .inside), (omega (arith, c .before .before .before .before .before .before .before .before .before .before .before .before .before .before .before .before .before .before .before .before .before .before .before .before .before .number-of .ensures, ((c .before .before .before .before .before .before .before .before .before .before .before .before .before .before .before .before .before .before .before .before .before .before .before .before .before .before .before .before .before .pre .1) .known .1 .subject .inside)))) (omega (arith, (sizes (subject-ready (c .before .before .before .before .before .before .before .before .before .before .before .before .before .before .before .before .before .before .before .before .before .before .before .before .before .before .before .before .before .pre .1) ((c .before .before .before .before .before .before .before .before .before .before .before .before .before .before .before .before .before .before .before .before .before .before .before .before .before .before .before .before .before .pre .1) .known .1 .subject .inside)) (as-node (c .before .before .before .before .before .before .before .before .before .before .before .before .before .before .before .before .before .before .before .before .before .before .before .before .before .number-of .ensures) (c .before .before .before .before .before .before .before .before .before .before .before .before .before .before .before .before .before .before .before .before .before .before .before .get-node .ensures)) (found-as (c .before .before .before .before .before .before .before .before .before .before .before .before .before .before .before .before .before .before .before .before .if1 .left) (c .before .before .before .before .before .before .before .before .before .before .before .before .before .before .before .before .before .before .before .start-of .ensures) (c .before .before .before .before .before .before .before .before .before .before .before .before .before .before .before .before .before .before .len-of .ensures) (c .before .before .before .before .before .before .before .before .before .before .before .before .before .before .before .before .before .steps-of .ensures))) .steps)), view-nil))
-
-put-list-case-enum-told-6 : (t : ℕ) → put-list-case-lts.Need-enum-told-6 (put-list-case-claims t) (put-list-case-at t) put-list-case.Post
-put-list-case-enum-told-6 t c = search needs
-
-put-list-case-number-of-requires-4 : (t : ℕ) → put-list-case-lts.Need-number-of-requires-4 (put-list-case-claims t) (put-list-case-at t) put-list-case.Post
-put-list-case-number-of-requires-4 t c κs = search needs
-
-put-list-case-add-put-under : (t : ℕ) → put-list-case-lts.Need-add-put-under (put-list-case-claims t) (put-list-case-at t) put-list-case.Post
-put-list-case-add-put-under t c = record { fits = omega (arith, (c .before .before .before .before .before .before .before .before .before .before .before .before .before .before .before .before .before .before .before .before .before .before .before .before .before .before .pre .1) .room, (sizes (subject-ready (c .before .before .before .before .before .before .before .before .before .before .before .before .before .before .before .before .before .before .before .before .before .before .before .before .before .before .pre .1) ((c .before .before .before .before .before .before .before .before .before .before .before .before .before .before .before .before .before .before .before .before .before .before .before .before .before .before .pre .1) .known .1 .subject .inside)) (as-node (c .before .before .before .before .before .before .before .before .before .before .before .before .before .before .before .before .before .before .before .before .before .before .number-of .ensures) (c .before .before .before .before .before .before .before .before .before .before .before .before .before .before .before .before .before .before .before .before .get-node .ensures)) (found-as (c .before .before .before .before .before .before .before .before .before .before .before .before .before .before .before .before .before .if1 .left) (c .before .before .before .before .before .before .before .before .before .before .before .before .before .before .before .before .start-of .ensures) (c .before .before .before .before .before .before .before .before .before .before .before .before .before .before .before .len-of .ensures) (c .before .before .before .before .before .before .before .before .before .before .before .before .before .before .steps-of .ensures))) .low) }
-
-put-list-case-sub-t58 : (t : ℕ) → put-list-case-lts.Need-sub-t58 (put-list-case-claims t) (put-list-case-at t) put-list-case.Post
-put-list-case-sub-t58 t c = omega (arith, (front-inside ((c .before .before .before .before .before .before .before .before .before .before .before .before .before .before .before .before .before .before .before .before .before .before .before .before .before .before .pre .1) .base) (as-node (c .before .before .before .before .before .before .before .before .before .before .before .before .before .before .before .before .before .before .before .before .before .before .number-of .ensures) (c .before .before .before .before .before .before .before .before .before .before .before .before .before .before .before .before .before .before .before .before .get-node .ensures)) (found-as (c .before .before .before .before .before .before .before .before .before .before .before .before .before .before .before .before .before .if1 .left) (c .before .before .before .before .before .before .before .before .before .before .before .before .before .before .before .before .start-of .ensures) (c .before .before .before .before .before .before .before .before .before .before .before .before .before .before .before .len-of .ensures) (c .before .before .before .before .before .before .before .before .before .before .before .before .before .before .steps-of .ensures)) (c .before .before .before .before .before .before .before .before .before .before .before .before .before .above .ensures) (c .before .before .before .before .before .before .before .shape-of .ensures) (c .before .before .before .before .before .before .before .before .before .before .before .before .before .before .before .before .before .before .before .before .before .before .before .before .before .before .pre .1) (c .before .before .before .before .before .mid .given .1)))
-
-put-list-case-sub-t59 : (t : ℕ) → put-list-case-lts.Need-sub-t59 (put-list-case-claims t) (put-list-case-at t) put-list-case.Post
-put-list-case-sub-t59 t c = omega (arith, (front-inside ((c .before .before .before .before .before .before .before .before .before .before .before .before .before .before .before .before .before .before .before .before .before .before .before .before .before .before .pre .1) .base) (as-node (c .before .before .before .before .before .before .before .before .before .before .before .before .before .before .before .before .before .before .before .before .before .before .number-of .ensures) (c .before .before .before .before .before .before .before .before .before .before .before .before .before .before .before .before .before .before .before .before .get-node .ensures)) (found-as (c .before .before .before .before .before .before .before .before .before .before .before .before .before .before .before .before .before .if1 .left) (c .before .before .before .before .before .before .before .before .before .before .before .before .before .before .before .before .start-of .ensures) (c .before .before .before .before .before .before .before .before .before .before .before .before .before .before .before .len-of .ensures) (c .before .before .before .before .before .before .before .before .before .before .before .before .before .before .steps-of .ensures)) (c .before .before .before .before .before .before .before .before .before .before .before .before .before .above .ensures) (c .before .before .before .before .before .before .before .shape-of .ensures) (c .before .before .before .before .before .before .before .before .before .before .before .before .before .before .before .before .before .before .before .before .before .before .before .before .before .before .pre .1) (c .before .before .before .before .before .mid .given .1)))
-
-put-list-case-add-put-under-2 : (t : ℕ) → put-list-case-lts.Need-add-put-under-2 (put-list-case-claims t) (put-list-case-at t) put-list-case.Post
-put-list-case-add-put-under-2 t c = record { fits = omega (arith, (sizes (subject-ready (c .before .before .before .before .before .before .before .before .before .before .before .before .before .before .before .before .before .before .before .before .before .before .before .before .before .before .before .before .pre .1) ((c .before .before .before .before .before .before .before .before .before .before .before .before .before .before .before .before .before .before .before .before .before .before .before .before .before .before .before .before .pre .1) .known .1 .subject .inside)) (as-node (c .before .before .before .before .before .before .before .before .before .before .before .before .before .before .before .before .before .before .before .before .before .before .before .before .number-of .ensures) (c .before .before .before .before .before .before .before .before .before .before .before .before .before .before .before .before .before .before .before .before .before .before .get-node .ensures)) (found-as (c .before .before .before .before .before .before .before .before .before .before .before .before .before .before .before .before .before .before .before .if1 .left) (c .before .before .before .before .before .before .before .before .before .before .before .before .before .before .before .before .before .before .start-of .ensures) (c .before .before .before .before .before .before .before .before .before .before .before .before .before .before .before .before .before .len-of .ensures) (c .before .before .before .before .before .before .before .before .before .before .before .before .before .before .before .before .steps-of .ensures))) .steps, (c .before .before .before .before .before .before .before .before .before .before .before .before .before .before .before .before .before .before .before .before .before .before .before .before .before .before .before .before .pre .1) .few) }
+put-list-case-sub-t43 : (t : ℕ) → put-list-case-lts.Need-sub-t43 (put-list-case-claims t) (put-list-case-at t) put-list-case.Post
+put-list-case-sub-t43 t c = omega (arith, front-inside ((c .before .before .before .before .before .before .before .before .before .before .before .before .before .before .before .before .before .before .before .before .before .before .before .pre .1) .base) (as-node (c .before .before .before .before .before .before .before .before .before .before .before .before .before .before .before .before .before .before .before .number-of .ensures) (c .before .before .before .before .before .before .before .before .before .before .before .before .before .before .before .before .before .get-node .ensures)) (found-as (c .before .before .before .before .before .before .before .before .before .before .before .before .before .before .if1 .left) (c .before .before .before .before .before .before .before .before .before .before .before .before .before .start-of .ensures) (c .before .before .before .before .before .before .before .before .before .before .before .before .len-of .ensures) (c .before .before .before .before .before .before .before .before .before .before .before .steps-of .ensures)) (c .before .before .before .before .before .before .before .before .before .above .ensures) refl (c .before .before .before .before .before .before .before .before .before .before .before .before .before .before .before .before .before .before .before .before .before .before .before .pre .1) (front-told (list-says _ _ _ (rw (c .before .before .before .before .before .before .before .before .byte-of .ensures, c .before .before .before .before .before .before .before .byte-of2 .ensures) at (c .before .before .before .before .list-branch .ensures)) (c .before .before .mid .given .1))))
 
 put-list-case-put-under-requires : (t : ℕ) → put-list-case-lts.Need-put-under-requires (put-list-case-claims t) (put-list-case-at t) put-list-case.Post
-put-list-case-put-under-requires t c κs = (omega (arith, c .before .before .before .before .before .before .before .before .before .before .before .before .before .before .before .before .before .before .before .before .before .before .before .before .before .before .before .before .pre .0), (after-subject ((c .before .before .before .before .before .before .before .before .before .before .before .before .before .before .before .before .before .before .before .before .before .before .before .before .before .before .before .before .pre .1) .base) (as-node (c .before .before .before .before .before .before .before .before .before .before .before .before .before .before .before .before .before .before .before .before .before .before .before .before .number-of .ensures) (c .before .before .before .before .before .before .before .before .before .before .before .before .before .before .before .before .before .before .before .before .before .before .get-node .ensures)) (found-as (c .before .before .before .before .before .before .before .before .before .before .before .before .before .before .before .before .before .before .before .if1 .left) (c .before .before .before .before .before .before .before .before .before .before .before .before .before .before .before .before .before .before .start-of .ensures) (c .before .before .before .before .before .before .before .before .before .before .before .before .before .before .before .before .before .len-of .ensures) (c .before .before .before .before .before .before .before .before .before .before .before .before .before .before .before .before .steps-of .ensures)) (c .before .before .before .before .before .before .before .before .before .before .before .before .before .before .before .above .ensures) (c .before .before .before .before .before .before .before .before .before .before .before .before .before .before .before .before .before .before .before .before .before .before .before .before .before .before .before .before .pre .1) ((omega (arith, c .before .before .number-of4 .ensures, (c .before .before .before .before .before .before .before .before .before .before .before .before .before .before .before .before .before .before .before .before .before .before .before .before .before .before .before .before .pre .1) .known .1 .front .inside), (omega (arith, c .before .before .before .before .before .before .before .before .before .before .before .before .before .before .before .before .before .before .before .before .before .before .before .before .number-of .ensures, ((c .before .before .before .before .before .before .before .before .before .before .before .before .before .before .before .before .before .before .before .before .before .before .before .before .before .before .before .before .pre .1) .known .1 .subject .inside)))), aList refl) (omega (arith, (sizes (subject-ready (c .before .before .before .before .before .before .before .before .before .before .before .before .before .before .before .before .before .before .before .before .before .before .before .before .before .before .before .before .pre .1) ((c .before .before .before .before .before .before .before .before .before .before .before .before .before .before .before .before .before .before .before .before .before .before .before .before .before .before .before .before .pre .1) .known .1 .subject .inside)) (as-node (c .before .before .before .before .before .before .before .before .before .before .before .before .before .before .before .before .before .before .before .before .before .before .before .before .number-of .ensures) (c .before .before .before .before .before .before .before .before .before .before .before .before .before .before .before .before .before .before .before .before .before .before .get-node .ensures)) (found-as (c .before .before .before .before .before .before .before .before .before .before .before .before .before .before .before .before .before .before .before .if1 .left) (c .before .before .before .before .before .before .before .before .before .before .before .before .before .before .before .before .before .before .start-of .ensures) (c .before .before .before .before .before .before .before .before .before .before .before .before .before .before .before .before .before .len-of .ensures) (c .before .before .before .before .before .before .before .before .before .before .before .before .before .before .before .before .steps-of .ensures))) .steps)), (inner ((c .before .before .before .before .before .before .before .before .before .before .before .before .before .before .before .before .before .before .before .before .before .before .before .before .before .before .before .before .pre .1) .base) (as-node (c .before .before .before .before .before .before .before .before .before .before .before .before .before .before .before .before .before .before .before .before .before .before .before .before .number-of .ensures) (c .before .before .before .before .before .before .before .before .before .before .before .before .before .before .before .before .before .before .before .before .before .before .get-node .ensures)) (found-as (c .before .before .before .before .before .before .before .before .before .before .before .before .before .before .before .before .before .before .before .if1 .left) (c .before .before .before .before .before .before .before .before .before .before .before .before .before .before .before .before .before .before .start-of .ensures) (c .before .before .before .before .before .before .before .before .before .before .before .before .before .before .before .before .before .len-of .ensures) (c .before .before .before .before .before .before .before .before .before .before .before .before .before .before .before .before .steps-of .ensures)) (c .before .before .before .before .before .before .before .before .before .before .before .before .before .before .before .above .ensures) (c .before .before .before .before .before .before .before .before .before .before .before .before .before .before .before .before .before .before .before .before .before .before .before .before .before .before .before .before .pre .1), front-spans ((c .before .before .before .before .before .before .before .before .before .before .before .before .before .before .before .before .before .before .before .before .before .before .before .before .before .before .before .before .pre .1) .base) (as-node (c .before .before .before .before .before .before .before .before .before .before .before .before .before .before .before .before .before .before .before .before .before .before .before .before .number-of .ensures) (c .before .before .before .before .before .before .before .before .before .before .before .before .before .before .before .before .before .before .before .before .before .before .get-node .ensures)) (found-as (c .before .before .before .before .before .before .before .before .before .before .before .before .before .before .before .before .before .before .before .if1 .left) (c .before .before .before .before .before .before .before .before .before .before .before .before .before .before .before .before .before .before .start-of .ensures) (c .before .before .before .before .before .before .before .before .before .before .before .before .before .before .before .before .before .len-of .ensures) (c .before .before .before .before .before .before .before .before .before .before .before .before .before .before .before .before .steps-of .ensures)) (c .before .before .before .before .before .before .before .before .before .before .before .before .before .before .before .above .ensures) (c .before .before .before .before .before .before .before .before .before .shape-of .ensures) (c .before .before .before .before .before .before .before .before .before .before .before .before .before .before .before .before .before .before .before .before .before .before .before .before .before .before .before .before .pre .1) (c .before .before .before .before .before .before .before .mid .given .1))))
+put-list-case-put-under-requires t c κs = (omega (arith, c .before .before .before .before .before .before .before .before .before .before .before .before .before .before .before .before .before .before .before .before .before .before .before .before .before .pre .0), (after-subject ((c .before .before .before .before .before .before .before .before .before .before .before .before .before .before .before .before .before .before .before .before .before .before .before .before .before .pre .1) .base) (as-node (c .before .before .before .before .before .before .before .before .before .before .before .before .before .before .before .before .before .before .before .before .before .number-of .ensures) (c .before .before .before .before .before .before .before .before .before .before .before .before .before .before .before .before .before .before .before .get-node .ensures)) (found-as (c .before .before .before .before .before .before .before .before .before .before .before .before .before .before .before .before .if1 .left) (c .before .before .before .before .before .before .before .before .before .before .before .before .before .before .before .start-of .ensures) (c .before .before .before .before .before .before .before .before .before .before .before .before .before .before .len-of .ensures) (c .before .before .before .before .before .before .before .before .before .before .before .before .before .steps-of .ensures)) (c .before .before .before .before .before .before .before .before .before .before .before .above .ensures) (c .before .before .before .before .before .before .before .before .before .before .before .before .before .before .before .before .before .before .before .before .before .before .before .before .before .pre .1) ((omega (arith, c .before .before .number-of3 .ensures, (c .before .before .before .before .before .before .before .before .before .before .before .before .before .before .before .before .before .before .before .before .before .before .before .before .before .pre .1) .known .1 .front .inside), (omega (arith, c .before .before .before .before .before .before .before .before .before .before .before .before .before .before .before .before .before .before .before .before .before .number-of .ensures, ((c .before .before .before .before .before .before .before .before .before .before .before .before .before .before .before .before .before .before .before .before .before .before .before .before .before .pre .1) .known .1 .subject .inside)))), aList refl) (omega (arith, (sizes (subject-ready (c .before .before .before .before .before .before .before .before .before .before .before .before .before .before .before .before .before .before .before .before .before .before .before .before .before .pre .1) ((c .before .before .before .before .before .before .before .before .before .before .before .before .before .before .before .before .before .before .before .before .before .before .before .before .before .pre .1) .known .1 .subject .inside)) (as-node (c .before .before .before .before .before .before .before .before .before .before .before .before .before .before .before .before .before .before .before .before .before .number-of .ensures) (c .before .before .before .before .before .before .before .before .before .before .before .before .before .before .before .before .before .before .before .get-node .ensures)) (found-as (c .before .before .before .before .before .before .before .before .before .before .before .before .before .before .before .before .if1 .left) (c .before .before .before .before .before .before .before .before .before .before .before .before .before .before .before .start-of .ensures) (c .before .before .before .before .before .before .before .before .before .before .before .before .before .before .len-of .ensures) (c .before .before .before .before .before .before .before .before .before .before .before .before .before .steps-of .ensures))) .steps)), (inner ((c .before .before .before .before .before .before .before .before .before .before .before .before .before .before .before .before .before .before .before .before .before .before .before .before .before .pre .1) .base) (as-node (c .before .before .before .before .before .before .before .before .before .before .before .before .before .before .before .before .before .before .before .before .before .number-of .ensures) (c .before .before .before .before .before .before .before .before .before .before .before .before .before .before .before .before .before .before .before .get-node .ensures)) (found-as (c .before .before .before .before .before .before .before .before .before .before .before .before .before .before .before .before .if1 .left) (c .before .before .before .before .before .before .before .before .before .before .before .before .before .before .before .start-of .ensures) (c .before .before .before .before .before .before .before .before .before .before .before .before .before .before .len-of .ensures) (c .before .before .before .before .before .before .before .before .before .before .before .before .before .steps-of .ensures)) (c .before .before .before .before .before .before .before .before .before .before .before .above .ensures) (c .before .before .before .before .before .before .before .before .before .before .before .before .before .before .before .before .before .before .before .before .before .before .before .before .before .pre .1), front-spans ((c .before .before .before .before .before .before .before .before .before .before .before .before .before .before .before .before .before .before .before .before .before .before .before .before .before .pre .1) .base) (as-node (c .before .before .before .before .before .before .before .before .before .before .before .before .before .before .before .before .before .before .before .before .before .number-of .ensures) (c .before .before .before .before .before .before .before .before .before .before .before .before .before .before .before .before .before .before .before .get-node .ensures)) (found-as (c .before .before .before .before .before .before .before .before .before .before .before .before .before .before .before .before .if1 .left) (c .before .before .before .before .before .before .before .before .before .before .before .before .before .before .before .start-of .ensures) (c .before .before .before .before .before .before .before .before .before .before .before .before .before .before .len-of .ensures) (c .before .before .before .before .before .before .before .before .before .before .before .before .before .steps-of .ensures)) (c .before .before .before .before .before .before .before .before .before .before .before .above .ensures) refl (c .before .before .before .before .before .before .before .before .before .before .before .before .before .before .before .before .before .before .before .before .before .before .before .before .before .pre .1) (front-told (list-says _ _ _ (rw (c .before .before .before .before .before .before .before .before .before .before .byte-of .ensures, c .before .before .before .before .before .before .before .before .before .byte-of2 .ensures) at (c .before .before .before .before .before .before .list-branch .ensures)) (c .before .before .before .before .mid .given .1))))))
 
-put-list-case-enum-told-7 : (t : ℕ) → put-list-case-lts.Need-enum-told-7 (put-list-case-claims t) (put-list-case-at t) put-list-case.Post
-put-list-case-enum-told-7 t c = search needs
+put-list-case-enum-told-2 : (t : ℕ) → put-list-case-lts.Need-enum-told-2 (put-list-case-claims t) (put-list-case-at t) put-list-case.Post
+put-list-case-enum-told-2 t c = search needs
+
+put-list-case-put-switch-requires : (t : ℕ) → put-list-case-lts.Need-put-switch-requires (put-list-case-claims t) (put-list-case-at t) put-list-case.Post
+put-list-case-put-switch-requires t c κs = (omega (arith, c .before .before .before .before .before .before .before .before .before .before .before .before .before .before .before .before .before .before .before .before .before .before .before .pre .0), (after-subject ((c .before .before .before .before .before .before .before .before .before .before .before .before .before .before .before .before .before .before .before .before .before .before .before .pre .1) .base) (as-node (c .before .before .before .before .before .before .before .before .before .before .before .before .before .before .before .before .before .before .before .number-of .ensures) (c .before .before .before .before .before .before .before .before .before .before .before .before .before .before .before .before .before .get-node .ensures)) (found-as (c .before .before .before .before .before .before .before .before .before .before .before .before .before .before .if1 .left) (c .before .before .before .before .before .before .before .before .before .before .before .before .before .start-of .ensures) (c .before .before .before .before .before .before .before .before .before .before .before .before .len-of .ensures) (c .before .before .before .before .before .before .before .before .before .before .before .steps-of .ensures)) (c .before .before .before .before .before .before .before .before .before .above .ensures) (c .before .before .before .before .before .before .before .before .before .before .before .before .before .before .before .before .before .before .before .before .before .before .before .pre .1) (((c .before .before .before .before .before .before .before .before .before .before .before .before .before .before .before .before .before .before .before .before .before .before .before .pre .1) .known .1 .front .inside, ((c .before .before .before .before .before .before .before .before .before .before .before .before .before .before .before .before .before .before .before .before .before .before .before .pre .1) .known .1 .subject .inside)), ((c .before .before .before .before .before .before .before .before .before .before .before .before .before .before .before .before .before .before .before .before .before .before .before .pre .1) .known .1 .first .inside, (c .before .before .before .before .before .before .before .before .before .before .before .before .before .before .before .before .before .before .before .before .before .before .before .pre .1) .known .1 .rest .inside)) (omega (arith, (sizes (subject-ready (c .before .before .before .before .before .before .before .before .before .before .before .before .before .before .before .before .before .before .before .before .before .before .before .pre .1) ((c .before .before .before .before .before .before .before .before .before .before .before .before .before .before .before .before .before .before .before .before .before .before .before .pre .1) .known .1 .subject .inside)) (as-node (c .before .before .before .before .before .before .before .before .before .before .before .before .before .before .before .before .before .before .before .number-of .ensures) (c .before .before .before .before .before .before .before .before .before .before .before .before .before .before .before .before .before .get-node .ensures)) (found-as (c .before .before .before .before .before .before .before .before .before .before .before .before .before .before .if1 .left) (c .before .before .before .before .before .before .before .before .before .before .before .before .before .start-of .ensures) (c .before .before .before .before .before .before .before .before .before .before .before .before .len-of .ensures) (c .before .before .before .before .before .before .before .before .before .before .before .steps-of .ensures))) .steps)), (inner ((c .before .before .before .before .before .before .before .before .before .before .before .before .before .before .before .before .before .before .before .before .before .before .before .pre .1) .base) (as-node (c .before .before .before .before .before .before .before .before .before .before .before .before .before .before .before .before .before .before .before .number-of .ensures) (c .before .before .before .before .before .before .before .before .before .before .before .before .before .before .before .before .before .get-node .ensures)) (found-as (c .before .before .before .before .before .before .before .before .before .before .before .before .before .before .if1 .left) (c .before .before .before .before .before .before .before .before .before .before .before .before .before .start-of .ensures) (c .before .before .before .before .before .before .before .before .before .before .before .before .len-of .ensures) (c .before .before .before .before .before .before .before .before .before .before .before .steps-of .ensures)) (c .before .before .before .before .before .before .before .before .before .above .ensures) (c .before .before .before .before .before .before .before .before .before .before .before .before .before .before .before .before .before .before .before .before .before .before .before .pre .1), switch-room ((c .before .before .before .before .before .before .before .before .before .before .before .before .before .before .before .before .before .before .before .before .before .before .before .pre .1) .base) (as-node (c .before .before .before .before .before .before .before .before .before .before .before .before .before .before .before .before .before .before .before .number-of .ensures) (c .before .before .before .before .before .before .before .before .before .before .before .before .before .before .before .before .before .get-node .ensures)) (found-as (c .before .before .before .before .before .before .before .before .before .before .before .before .before .before .if1 .left) (c .before .before .before .before .before .before .before .before .before .before .before .before .before .start-of .ensures) (c .before .before .before .before .before .before .before .before .before .before .before .before .len-of .ensures) (c .before .before .before .before .before .before .before .before .before .before .before .steps-of .ensures)) (c .before .before .before .before .before .before .before .before .before .above .ensures) refl (c .before .before .before .before .before .before .before .before .before .before .before .before .before .before .before .before .before .before .before .before .before .before .before .pre .1) (empty-told (list-says _ _ _ (rw (c .before .before .before .before .before .before .before .before .byte-of .ensures, c .before .before .before .before .before .before .before .byte-of2 .ensures) at (c .before .before .before .before .list-branch .ensures)) (c .before .before .enum-told2 .given .1))))))
+
+put-list-case-enum-known-code : (t : ℕ) → put-list-case-lts.Need-enum-known-code (put-list-case-claims t) (put-list-case-at t) put-list-case.Post
+put-list-case-enum-known-code t c = search needs
 
 put-list-case-returns-2 : (t : ℕ) → put-list-case-lts.Need-returns-2 (put-list-case-claims t) (put-list-case-at t) put-list-case.Post
-put-list-case-returns-2 t c = lists.empty-both ((c .before .before .before .before .before .before .before .before .before .before .before .before .before .before .before .before .before .before .before .before .before .before .before .before .before .before .before .before .before .before .before .pre .1) .base) (as-node (c .before .before .before .before .before .before .before .before .before .before .before .before .before .before .before .before .before .before .before .before .before .before .before .before .before .before .before .number-of .ensures) (c .before .before .before .before .before .before .before .before .before .before .before .before .before .before .before .before .before .before .before .before .before .before .before .before .before .get-node .ensures)) (found-as (c .before .before .before .before .before .before .before .before .before .before .before .before .before .before .before .before .before .before .before .before .before .before .if1 .left) (c .before .before .before .before .before .before .before .before .before .before .before .before .before .before .before .before .before .before .before .before .before .start-of .ensures) (c .before .before .before .before .before .before .before .before .before .before .before .before .before .before .before .before .before .before .before .before .len-of .ensures) (c .before .before .before .before .before .before .before .before .before .before .before .before .before .before .before .before .before .before .before .steps-of .ensures)) (c .before .before .before .before .before .before .before .before .before .before .before .before .before .before .before .before .before .before .above .ensures) (c .before .before .before .before .before .before .before .before .before .before .before .before .shape-of .ensures) (c .before .before .before .before .before .before .before .before .before .before .enum-told .given .1) (ap (λ (i : ℕ). passesBytes i (now (c .before .before .before .before .before .before .before .before .before .before .before .before .before .before .before .before .before .before .before .before .before .before .before .before .before .before .before .before .before .before .before .args .view))) (c .before .before .before .before .before .before .before .before .before .before .before .before .before .before .before .before .byte-of .ensures)) (first-kept _ _ (c .before .before .before .before .before .before .before .before .before .choose .ensures) (c .before .before .before .before .before .before .before .enum-told2 .given .1)) (as-pair (c .before .before .before .before .before .before .number-of2 .ensures) (c .before .before .before .before .before .before .before .before .before .before .before .before .before .before .before .before .before .before .before .before .before .before .before .before .before .before .before .number-of .ensures) (c .before .before .put-both .ensures))
+put-list-case-returns-2 t c = list-both ((c .before .before .before .before .before .before .before .before .before .before .before .before .before .before .before .before .before .before .before .before .before .before .before .before .before .before .before .before .pre .1) .base) (as-node (c .before .before .before .before .before .before .before .before .before .before .before .before .before .before .before .before .before .before .before .before .before .before .before .before .number-of .ensures) (c .before .before .before .before .before .before .before .before .before .before .before .before .before .before .before .before .before .before .before .before .before .before .get-node .ensures)) (found-as (c .before .before .before .before .before .before .before .before .before .before .before .before .before .before .before .before .before .before .before .if1 .left) (c .before .before .before .before .before .before .before .before .before .before .before .before .before .before .before .before .before .before .start-of .ensures) (c .before .before .before .before .before .before .before .before .before .before .before .before .before .before .before .before .before .len-of .ensures) (c .before .before .before .before .before .before .before .before .before .before .before .before .before .before .before .before .steps-of .ensures)) (c .before .before .before .before .before .before .before .before .before .before .before .before .before .before .above .ensures) refl (list-says _ _ _ (rw (c .before .before .before .before .before .before .before .before .before .before .before .before .before .byte-of .ensures, c .before .before .before .before .before .before .before .before .before .before .before .before .byte-of2 .ensures) at (c .before .before .before .before .before .before .before .before .before .list-branch .ensures)) (c .before .before .before .before .before .before .before .enum-told .given .1)) (as-pair (c .before .before .before .before .before .before .number-of2 .ensures) (c .before .before .before .before .before .before .before .before .before .before .before .before .before .before .before .before .before .before .before .before .before .before .before .before .number-of .ensures) (c .before .before .put-both .ensures))
 
 put-list-case-same-length-2 : (t : ℕ) → put-list-case-lts.Need-same-length-2 (put-list-case-claims t) (put-list-case-at t) put-list-case.Post
 put-list-case-same-length-2 t c = put-list-case-returns-2 t c .frame .long
 
 put-list-case-returns-3 : (t : ℕ) → put-list-case-lts.Need-returns-3 (put-list-case-claims t) (put-list-case-at t) put-list-case.Post
-put-list-case-returns-3 t c = let w = first-left _ _ (c .before .before .before .before .before .before .before .choose .ensures) (c .before .before .before .before .before .enum-told3 .given .1) in lists.empty-switch ((c .before .before .before .before .before .before .before .before .before .before .before .before .before .before .before .before .before .before .before .before .before .before .before .before .before .before .before .before .before .pre .1) .base) (as-node (c .before .before .before .before .before .before .before .before .before .before .before .before .before .before .before .before .before .before .before .before .before .before .before .before .before .number-of .ensures) (c .before .before .before .before .before .before .before .before .before .before .before .before .before .before .before .before .before .before .before .before .before .before .before .get-node .ensures)) (found-as (c .before .before .before .before .before .before .before .before .before .before .before .before .before .before .before .before .before .before .before .before .if1 .left) (c .before .before .before .before .before .before .before .before .before .before .before .before .before .before .before .before .before .before .before .start-of .ensures) (c .before .before .before .before .before .before .before .before .before .before .before .before .before .before .before .before .before .before .len-of .ensures) (c .before .before .before .before .before .before .before .before .before .before .before .before .before .before .before .before .before .steps-of .ensures)) (c .before .before .before .before .before .before .before .before .before .before .before .before .before .before .before .before .above .ensures) (c .before .before .before .before .before .before .before .before .before .before .shape-of .ensures) (c .before .before .before .before .before .before .before .before .enum-told .given .1) (ap (λ (i : ℕ). passesBytes i (now (c .before .before .before .before .before .before .before .before .before .before .before .before .before .before .before .before .before .before .before .before .before .before .before .before .before .before .before .before .before .args .view))) (c .before .before .before .before .before .before .before .before .before .before .before .before .before .before .byte-of .ensures)) (w .0) (ap (λ (i : ℕ). passesBytes i (now (c .before .before .before .before .before .before .before .before .before .before .before .before .before .before .before .before .before .before .before .before .before .before .before .before .before .before .before .before .before .args .view))) (c .before .before .before .before .before .before .before .before .before .before .before .before .before .byte-of2 .ensures)) (w .1) (c .before .before .put-switch .ensures)
+put-list-case-returns-3 t c = list-under ((c .before .before .before .before .before .before .before .before .before .before .before .before .before .before .before .before .before .before .before .before .before .before .before .before .before .before .before .before .pre .1) .base) (as-node (c .before .before .before .before .before .before .before .before .before .before .before .before .before .before .before .before .before .before .before .before .before .before .before .before .number-of .ensures) (c .before .before .before .before .before .before .before .before .before .before .before .before .before .before .before .before .before .before .before .before .before .before .get-node .ensures)) (found-as (c .before .before .before .before .before .before .before .before .before .before .before .before .before .before .before .before .before .before .before .if1 .left) (c .before .before .before .before .before .before .before .before .before .before .before .before .before .before .before .before .before .before .start-of .ensures) (c .before .before .before .before .before .before .before .before .before .before .before .before .before .before .before .before .before .len-of .ensures) (c .before .before .before .before .before .before .before .before .before .before .before .before .before .before .before .before .steps-of .ensures)) (c .before .before .before .before .before .before .before .before .before .before .before .before .before .before .above .ensures) refl (list-says _ _ _ (rw (c .before .before .before .before .before .before .before .before .before .before .before .before .before .byte-of .ensures, c .before .before .before .before .before .before .before .before .before .before .before .before .byte-of2 .ensures) at (c .before .before .before .before .before .before .before .before .before .list-branch .ensures)) (c .before .before .before .before .before .before .before .mid .given .1)) (c .before .before .before .before .before .before .before .before .before .before .before .before .before .before .before .before .before .before .before .before .before .before .before .before .before .before .before .before .pre .1) (as-inside (c .before .before .before .before .before .number-of3 .ensures) (c .before .before .before .before .before .before .before .before .before .before .before .before .before .before .before .before .before .before .before .before .before .before .before .before .number-of .ensures) (c .before .before .put-under .ensures))
 
 put-list-case-same-length-3 : (t : ℕ) → put-list-case-lts.Need-same-length-3 (put-list-case-claims t) (put-list-case-at t) put-list-case.Post
 put-list-case-same-length-3 t c = put-list-case-returns-3 t c .frame .long
 
 put-list-case-returns-4 : (t : ℕ) → put-list-case-lts.Need-returns-4 (put-list-case-claims t) (put-list-case-at t) put-list-case.Post
-put-list-case-returns-4 t c = let w = none-says _ _ _ (c .before .before .choose .ensures) (c .enum-told4 .given .1) in as-taken (taken-refused (omega arith)) (lists.empty-53 ((c .before .before .before .before .before .before .before .before .before .before .before .before .before .before .before .before .before .before .before .before .before .before .before .before .pre .1) .base) (as-node (c .before .before .before .before .before .before .before .before .before .before .before .before .before .before .before .before .before .before .before .before .number-of .ensures) (c .before .before .before .before .before .before .before .before .before .before .before .before .before .before .before .before .before .before .get-node .ensures)) (found-as (c .before .before .before .before .before .before .before .before .before .before .before .before .before .before .before .if1 .left) (c .before .before .before .before .before .before .before .before .before .before .before .before .before .before .start-of .ensures) (c .before .before .before .before .before .before .before .before .before .before .before .before .before .len-of .ensures) (c .before .before .before .before .before .before .before .before .before .before .before .before .steps-of .ensures)) (c .before .before .before .before .before .before .before .before .before .before .before .above .ensures) (c .before .before .before .before .before .shape-of .ensures) (c .before .before .before .enum-told .given .1) (ap (λ (i : ℕ). passesBytes i (now (c .before .before .before .before .before .before .before .before .before .before .before .before .before .before .before .before .before .before .before .before .before .before .before .before .args .view))) (c .before .before .before .before .before .before .before .before .before .byte-of .ensures)) (w .0) (ap (λ (i : ℕ). passesBytes i (now (c .before .before .before .before .before .before .before .before .before .before .before .before .before .before .before .before .before .before .before .before .before .before .before .before .args .view))) (c .before .before .before .before .before .before .before .before .byte-of2 .ensures)) (w .1))
+put-list-case-returns-4 t c = list-switch ((c .before .before .before .before .before .before .before .before .before .before .before .before .before .before .before .before .before .before .before .before .before .before .before .before .before .before .pre .1) .base) (as-node (c .before .before .before .before .before .before .before .before .before .before .before .before .before .before .before .before .before .before .before .before .before .before .number-of .ensures) (c .before .before .before .before .before .before .before .before .before .before .before .before .before .before .before .before .before .before .before .before .get-node .ensures)) (found-as (c .before .before .before .before .before .before .before .before .before .before .before .before .before .before .before .before .before .if1 .left) (c .before .before .before .before .before .before .before .before .before .before .before .before .before .before .before .before .start-of .ensures) (c .before .before .before .before .before .before .before .before .before .before .before .before .before .before .before .len-of .ensures) (c .before .before .before .before .before .before .before .before .before .before .before .before .before .before .steps-of .ensures)) (c .before .before .before .before .before .before .before .before .before .before .before .before .above .ensures) refl (list-says _ _ _ (rw (c .before .before .before .before .before .before .before .before .before .before .before .byte-of .ensures, c .before .before .before .before .before .before .before .before .before .before .byte-of2 .ensures) at (c .before .before .before .before .before .before .before .list-branch .ensures)) (c .before .before .before .before .before .enum-told2 .given .1)) (c .before .before .put-switch .ensures)
 
 put-list-case-same-length-4 : (t : ℕ) → put-list-case-lts.Need-same-length-4 (put-list-case-claims t) (put-list-case-at t) put-list-case.Post
 put-list-case-same-length-4 t c = put-list-case-returns-4 t c .frame .long
 
 put-list-case-returns-5 : (t : ℕ) → put-list-case-lts.Need-returns-5 (put-list-case-claims t) (put-list-case-at t) put-list-case.Post
-put-list-case-returns-5 t c = let w = second-left _ _ (c .before .before .before .before .before .before .before .before .before .choose2 .ensures) (c .before .before .before .before .before .before .before .enum-told5 .given .1) in lists.front-both ((c .before .before .before .before .before .before .before .before .before .before .before .before .before .before .before .before .before .before .before .before .before .before .before .before .before .before .before .before .before .before .before .before .pre .1) .base) (as-node (c .before .before .before .before .before .before .before .before .before .before .before .before .before .before .before .before .before .before .before .before .before .before .before .before .before .before .before .before .number-of .ensures) (c .before .before .before .before .before .before .before .before .before .before .before .before .before .before .before .before .before .before .before .before .before .before .before .before .before .before .get-node .ensures)) (found-as (c .before .before .before .before .before .before .before .before .before .before .before .before .before .before .before .before .before .before .before .before .before .before .before .if1 .left) (c .before .before .before .before .before .before .before .before .before .before .before .before .before .before .before .before .before .before .before .before .before .before .start-of .ensures) (c .before .before .before .before .before .before .before .before .before .before .before .before .before .before .before .before .before .before .before .before .before .len-of .ensures) (c .before .before .before .before .before .before .before .before .before .before .before .before .before .before .before .before .before .before .before .before .steps-of .ensures)) (c .before .before .before .before .before .before .before .before .before .before .before .before .before .before .before .before .before .before .before .above .ensures) (c .before .before .before .before .before .before .before .before .before .before .before .before .before .shape-of .ensures) (c .before .before .before .before .before .before .before .before .before .before .before .mid .given .1) (ap (λ (i : ℕ). passesBytes i (now (c .before .before .before .before .before .before .before .before .before .before .before .before .before .before .before .before .before .before .before .before .before .before .before .before .before .before .before .before .before .before .before .before .args .view))) (c .before .before .before .before .before .before .before .before .before .before .before .before .before .before .before .before .byte-of2 .ensures)) (w .0) (ap (λ (i : ℕ). passesBytes i (now (c .before .before .before .before .before .before .before .before .before .before .before .before .before .before .before .before .before .before .before .before .before .before .before .before .before .before .before .before .before .before .before .before .args .view))) (c .before .before .before .before .before .before .before .before .before .before .before .before .before .before .before .before .before .byte-of .ensures)) (w .1) (as-pair (c .before .before .before .before .before .before .number-of3 .ensures) (c .before .before .before .before .before .before .before .before .before .before .before .before .before .before .before .before .before .before .before .before .before .before .before .before .before .before .before .before .number-of .ensures) (c .before .before .put-both2 .ensures))
+put-list-case-returns-5 t c = as-taken (taken-refused (list-code (list-says _ _ _ (rw (c .before .before .before .before .before .before .before .byte-of .ensures, c .before .before .before .before .before .before .byte-of2 .ensures) at (c .before .before .before .list-branch .ensures)) (c .before .code .given .1)))) (list-not ((c .before .before .before .before .before .before .before .before .before .before .before .before .before .before .before .before .before .before .before .before .before .before .pre .1) .base) (as-node (c .before .before .before .before .before .before .before .before .before .before .before .before .before .before .before .before .before .before .number-of .ensures) (c .before .before .before .before .before .before .before .before .before .before .before .before .before .before .before .before .get-node .ensures)) (found-as (c .before .before .before .before .before .before .before .before .before .before .before .before .before .if1 .left) (c .before .before .before .before .before .before .before .before .before .before .before .before .start-of .ensures) (c .before .before .before .before .before .before .before .before .before .before .before .len-of .ensures) (c .before .before .before .before .before .before .before .before .before .before .steps-of .ensures)) (c .before .before .before .before .before .before .before .before .above .ensures) refl (list-says _ _ _ (rw (c .before .before .before .before .before .before .before .byte-of .ensures, c .before .before .before .before .before .before .byte-of2 .ensures) at (c .before .before .before .list-branch .ensures)) (c .before .code .given .1)))
 
 put-list-case-same-length-5 : (t : ℕ) → put-list-case-lts.Need-same-length-5 (put-list-case-claims t) (put-list-case-at t) put-list-case.Post
 put-list-case-same-length-5 t c = put-list-case-returns-5 t c .frame .long
-
-put-list-case-returns-6 : (t : ℕ) → put-list-case-lts.Need-returns-6 (put-list-case-claims t) (put-list-case-at t) put-list-case.Post
-put-list-case-returns-6 t c = lists.front-under ((c .before .before .before .before .before .before .before .before .before .before .before .before .before .before .before .before .before .before .before .before .before .before .before .before .before .before .before .before .before .before .before .pre .1) .base) (as-node (c .before .before .before .before .before .before .before .before .before .before .before .before .before .before .before .before .before .before .before .before .before .before .before .before .before .before .before .number-of .ensures) (c .before .before .before .before .before .before .before .before .before .before .before .before .before .before .before .before .before .before .before .before .before .before .before .before .before .get-node .ensures)) (found-as (c .before .before .before .before .before .before .before .before .before .before .before .before .before .before .before .before .before .before .before .before .before .before .if1 .left) (c .before .before .before .before .before .before .before .before .before .before .before .before .before .before .before .before .before .before .before .before .before .start-of .ensures) (c .before .before .before .before .before .before .before .before .before .before .before .before .before .before .before .before .before .before .before .before .len-of .ensures) (c .before .before .before .before .before .before .before .before .before .before .before .before .before .before .before .before .before .before .before .steps-of .ensures)) (c .before .before .before .before .before .before .before .before .before .before .before .before .before .before .before .before .before .before .above .ensures) (c .before .before .before .before .before .before .before .before .before .before .before .before .shape-of .ensures) (c .before .before .before .before .before .before .before .before .before .before .mid .given .1) (ap (λ (i : ℕ). passesBytes i (now (c .before .before .before .before .before .before .before .before .before .before .before .before .before .before .before .before .before .before .before .before .before .before .before .before .before .before .before .before .before .before .before .args .view))) (c .before .before .before .before .before .before .before .before .before .before .before .before .before .before .before .byte-of2 .ensures)) (c .before .before .before .before .before .before .before .before .before .before .before .before .before .before .before .before .before .before .before .before .before .before .before .before .before .before .before .before .before .before .before .pre .1) (second-kept _ _ (c .before .before .before .before .before .before .before .before .choose2 .ensures) (c .before .before .before .before .before .before .enum-told6 .given .1)) (as-inside (c .before .before .before .before .before .number-of4 .ensures) (c .before .before .before .before .before .before .before .before .before .before .before .before .before .before .before .before .before .before .before .before .before .before .before .before .before .before .before .number-of .ensures) (c .before .before .put-under .ensures))
-
-put-list-case-same-length-6 : (t : ℕ) → put-list-case-lts.Need-same-length-6 (put-list-case-claims t) (put-list-case-at t) put-list-case.Post
-put-list-case-same-length-6 t c = put-list-case-returns-6 t c .frame .long
-
-put-list-case-returns-7 : (t : ℕ) → put-list-case-lts.Need-returns-7 (put-list-case-claims t) (put-list-case-at t) put-list-case.Post
-put-list-case-returns-7 t c = let w = none-says _ _ _ (c .before .before .choose2 .ensures) (c .enum-told7 .given .1) in as-taken (taken-refused (omega arith)) (lists.front-53 ((c .before .before .before .before .before .before .before .before .before .before .before .before .before .before .before .before .before .before .before .before .before .before .before .before .before .pre .1) .base) (as-node (c .before .before .before .before .before .before .before .before .before .before .before .before .before .before .before .before .before .before .before .before .before .number-of .ensures) (c .before .before .before .before .before .before .before .before .before .before .before .before .before .before .before .before .before .before .before .get-node .ensures)) (found-as (c .before .before .before .before .before .before .before .before .before .before .before .before .before .before .before .before .if1 .left) (c .before .before .before .before .before .before .before .before .before .before .before .before .before .before .before .start-of .ensures) (c .before .before .before .before .before .before .before .before .before .before .before .before .before .before .len-of .ensures) (c .before .before .before .before .before .before .before .before .before .before .before .before .before .steps-of .ensures)) (c .before .before .before .before .before .before .before .before .before .before .before .before .above .ensures) (c .before .before .before .before .before .before .shape-of .ensures) (c .before .before .before .before .mid .given .1) (ap (λ (i : ℕ). passesBytes i (now (c .before .before .before .before .before .before .before .before .before .before .before .before .before .before .before .before .before .before .before .before .before .before .before .before .before .args .view))) (c .before .before .before .before .before .before .before .before .before .byte-of2 .ensures)) (w .1) (ap (λ (i : ℕ). passesBytes i (now (c .before .before .before .before .before .before .before .before .before .before .before .before .before .before .before .before .before .before .before .before .before .before .before .before .before .args .view))) (c .before .before .before .before .before .before .before .before .before .before .byte-of .ensures)) (w .0))
-
-put-list-case-same-length-7 : (t : ℕ) → put-list-case-lts.Need-same-length-7 (put-list-case-claims t) (put-list-case-at t) put-list-case.Post
-put-list-case-same-length-7 t c = put-list-case-returns-7 t c .frame .long
-
-put-list-case-returns-8 : (t : ℕ) → put-list-case-lts.Need-returns-8 (put-list-case-claims t) (put-list-case-at t) put-list-case.Post
-put-list-case-returns-8 t c = as-taken (taken-refused (omega arith)) (lists.list-43 ((c .before .before .before .before .before .before .before .before .before .before .before .before .before .before .before .before .before .before .before .before .pre .1) .base) (as-node (c .before .before .before .before .before .before .before .before .before .before .before .before .before .before .before .before .number-of .ensures) (c .before .before .before .before .before .before .before .before .before .before .before .before .before .before .get-node .ensures)) (found-as (c .before .before .before .before .before .before .before .before .before .before .before .if1 .left) (c .before .before .before .before .before .before .before .before .before .before .start-of .ensures) (c .before .before .before .before .before .before .before .before .before .len-of .ensures) (c .before .before .before .before .before .before .before .before .steps-of .ensures)) (c .before .before .before .before .before .before .before .above .ensures) (c .before .shape-of .ensures) (tags.not-empty _ (c .match .keys3)) (tags.not-front _ (c .match .keys3)))
-
-put-list-case-same-length-8 : (t : ℕ) → put-list-case-lts.Need-same-length-8 (put-list-case-claims t) (put-list-case-at t) put-list-case.Post
-put-list-case-same-length-8 t c = put-list-case-returns-8 t c .frame .long
 
 put-node-entry-requires : (t : ℕ) → put-node-lts.Need-entry-requires (put-node-claims t) (put-node-at t) put-node.Post
 put-node-entry-requires t c κs = search needs
@@ -739,11 +717,11 @@ put-node-put-call-requires t c κs = let thed = (entered _ _ (c .before .before 
 put-node-put-add-requires : (t : ℕ) → put-node-lts.Need-put-add-requires (put-node-claims t) (put-node-at t) put-node.Post
 put-node-put-add-requires t c κs = let thed = (entered _ _ (c .before .before .before .before .before .before .before .before .entry .ensures) (c .before .before .before .before .before .before .before .if1 .left)) in (omega (arith, c .before .before .before .before .before .before .before .before .before .before .before .before .pre .0, thed .0), body-ready (c .before .before .before .before .before .before .before .before .before .before .before .before .pre .1) (thed .0) (thed .1) (kind-add (lent-made ((c .before .before .before .before .before .before .before .before .before .before .before .before .pre .1) .lent) ((c .before .before .before .before .before .before .before .before .before .before .before .before .pre .1) .known)) (c .before .before .before .byte-of .ensures) (c .before .before .match .rest)))
 
-put-node-same-length : (t : ℕ) → put-node-lts.Need-same-length (put-node-claims t) (put-node-at t) put-node.Post
-put-node-same-length t c = search needs
-
 put-node-returns-2 : (t : ℕ) → put-node-lts.Need-returns-2 (put-node-claims t) (put-node-at t) put-node.Post
 put-node-returns-2 t c = let thed = (entered _ _ (c .before .before .before .before .before .before .before .before .before .before .before .entry .ensures) (c .before .before .before .before .before .before .before .before .before .before .if1 .left)) in put-body (c .before .before .before .before .before .before .before .before .before .before .before .before .before .before .before .pre .1) (thed .0) (thed .1) (kind-var (lent-made ((c .before .before .before .before .before .before .before .before .before .before .before .before .before .before .before .pre .1) .lent) ((c .before .before .before .before .before .before .before .before .before .before .before .before .before .before .before .pre .1) .known)) (c .before .before .before .before .before .before .byte-of .ensures) (c .before .before .before .before .before .match .keys1)) (c .before .before .put-var .ensures _ refl _ _ _)
+
+put-node-same-length : (t : ℕ) → put-node-lts.Need-same-length (put-node-claims t) (put-node-at t) put-node.Post
+put-node-same-length t c = put-node-returns-2 t c .frame .long
 
 put-node-returns-3 : (t : ℕ) → put-node-lts.Need-returns-3 (put-node-claims t) (put-node-at t) put-node.Post
 put-node-returns-3 t c = let thed = (entered _ _ (c .before .before .before .before .before .before .before .entry .ensures) (c .before .before .before .before .before .before .if1 .left)) in put-body (c .before .before .before .before .before .before .before .before .before .before .before .pre .1) (thed .0) (thed .1) (kind-false (lent-made ((c .before .before .before .before .before .before .before .before .before .before .before .pre .1) .lent) ((c .before .before .before .before .before .before .before .before .before .before .before .pre .1) .known)) (c .before .before .byte-of .ensures) (c .before .match .keys2)) (false-gives (c .put-constant .ensures) refl)
@@ -757,47 +735,47 @@ put-node-returns-5 t c = let thed = (entered _ _ (c .before .before .before .bef
 put-node-returns-6 : (t : ℕ) → put-node-lts.Need-returns-6 (put-node-claims t) (put-node-at t) put-node.Post
 put-node-returns-6 t c = let thed = (entered _ _ (c .before .before .before .before .before .before .before .entry .ensures) (c .before .before .before .before .before .before .if1 .left)) in put-body (c .before .before .before .before .before .before .before .before .before .before .before .pre .1) (thed .0) (thed .1) (kind-number (lent-made ((c .before .before .before .before .before .before .before .before .before .before .before .pre .1) .lent) ((c .before .before .before .before .before .before .before .before .before .before .before .pre .1) .known)) (c .before .before .byte-of .ensures) (c .before .match .keys5)) (number-gives (c .put-number .ensures) refl)
 
-put-node-same-length-2 : (t : ℕ) → put-node-lts.Need-same-length-2 (put-node-claims t) (put-node-at t) put-node.Post
-put-node-same-length-2 t c = search needs
-
 put-node-returns-7 : (t : ℕ) → put-node-lts.Need-returns-7 (put-node-claims t) (put-node-at t) put-node.Post
 put-node-returns-7 t c = let thed = (entered _ _ (c .before .before .before .before .before .before .before .before .before .before .before .entry .ensures) (c .before .before .before .before .before .before .before .before .before .before .if1 .left)) in put-body (c .before .before .before .before .before .before .before .before .before .before .before .before .before .before .before .pre .1) (thed .0) (thed .1) (kind-front (lent-made ((c .before .before .before .before .before .before .before .before .before .before .before .before .before .before .before .pre .1) .lent) ((c .before .before .before .before .before .before .before .before .before .before .before .before .before .before .before .pre .1) .known)) (c .before .before .before .before .before .before .byte-of .ensures) (c .before .before .before .before .before .match .keys6)) (c .before .before .put-front .ensures)
 
-put-node-same-length-3 : (t : ℕ) → put-node-lts.Need-same-length-3 (put-node-claims t) (put-node-at t) put-node.Post
-put-node-same-length-3 t c = search needs
+put-node-same-length-2 : (t : ℕ) → put-node-lts.Need-same-length-2 (put-node-claims t) (put-node-at t) put-node.Post
+put-node-same-length-2 t c = put-node-returns-7 t c .frame .long
 
 put-node-returns-8 : (t : ℕ) → put-node-lts.Need-returns-8 (put-node-claims t) (put-node-at t) put-node.Post
 put-node-returns-8 t c = let thed = (entered _ _ (c .before .before .before .before .before .before .before .before .before .before .before .entry .ensures) (c .before .before .before .before .before .before .before .before .before .before .if1 .left)) in put-body (c .before .before .before .before .before .before .before .before .before .before .before .before .before .before .before .pre .1) (thed .0) (thed .1) (kind-pair (lent-made ((c .before .before .before .before .before .before .before .before .before .before .before .before .before .before .before .pre .1) .lent) ((c .before .before .before .before .before .before .before .before .before .before .before .before .before .before .before .pre .1) .known)) (c .before .before .before .before .before .before .byte-of .ensures) (c .before .before .before .before .before .match .keys7)) (c .before .before .put-pair .ensures)
 
-put-node-same-length-4 : (t : ℕ) → put-node-lts.Need-same-length-4 (put-node-claims t) (put-node-at t) put-node.Post
-put-node-same-length-4 t c = search needs
+put-node-same-length-3 : (t : ℕ) → put-node-lts.Need-same-length-3 (put-node-claims t) (put-node-at t) put-node.Post
+put-node-same-length-3 t c = put-node-returns-8 t c .frame .long
 
 put-node-returns-9 : (t : ℕ) → put-node-lts.Need-returns-9 (put-node-claims t) (put-node-at t) put-node.Post
 put-node-returns-9 t c = let thed = (entered _ _ (c .before .before .before .before .before .before .before .before .before .before .before .entry .ensures) (c .before .before .before .before .before .before .before .before .before .before .if1 .left)) in put-body (c .before .before .before .before .before .before .before .before .before .before .before .before .before .before .before .pre .1) (thed .0) (thed .1) (kind-list-case (lent-made ((c .before .before .before .before .before .before .before .before .before .before .before .before .before .before .before .pre .1) .lent) ((c .before .before .before .before .before .before .before .before .before .before .before .before .before .before .before .pre .1) .known)) (c .before .before .before .before .before .before .byte-of .ensures) (c .before .before .before .before .before .match .keys8)) (c .before .before .put-list-case .ensures)
 
-put-node-same-length-5 : (t : ℕ) → put-node-lts.Need-same-length-5 (put-node-claims t) (put-node-at t) put-node.Post
-put-node-same-length-5 t c = search needs
+put-node-same-length-4 : (t : ℕ) → put-node-lts.Need-same-length-4 (put-node-claims t) (put-node-at t) put-node.Post
+put-node-same-length-4 t c = put-node-returns-9 t c .frame .long
 
 put-node-returns-10 : (t : ℕ) → put-node-lts.Need-returns-10 (put-node-claims t) (put-node-at t) put-node.Post
 put-node-returns-10 t c = let thed = (entered _ _ (c .before .before .before .before .before .before .before .before .before .before .before .entry .ensures) (c .before .before .before .before .before .before .before .before .before .before .if1 .left)) in put-body (c .before .before .before .before .before .before .before .before .before .before .before .before .before .before .before .pre .1) (thed .0) (thed .1) (kind-truth-case (lent-made ((c .before .before .before .before .before .before .before .before .before .before .before .before .before .before .before .pre .1) .lent) ((c .before .before .before .before .before .before .before .before .before .before .before .before .before .before .before .pre .1) .known)) (c .before .before .before .before .before .before .byte-of .ensures) (c .before .before .before .before .before .match .keys9)) (c .before .before .put-truth-case .ensures)
 
-put-node-same-length-6 : (t : ℕ) → put-node-lts.Need-same-length-6 (put-node-claims t) (put-node-at t) put-node.Post
-put-node-same-length-6 t c = search needs
+put-node-same-length-5 : (t : ℕ) → put-node-lts.Need-same-length-5 (put-node-claims t) (put-node-at t) put-node.Post
+put-node-same-length-5 t c = put-node-returns-10 t c .frame .long
 
 put-node-returns-11 : (t : ℕ) → put-node-lts.Need-returns-11 (put-node-claims t) (put-node-at t) put-node.Post
 put-node-returns-11 t c = let thed = (entered _ _ (c .before .before .before .before .before .before .before .before .before .before .before .entry .ensures) (c .before .before .before .before .before .before .before .before .before .before .if1 .left)) in put-body (c .before .before .before .before .before .before .before .before .before .before .before .before .before .before .before .pre .1) (thed .0) (thed .1) (kind-split (lent-made ((c .before .before .before .before .before .before .before .before .before .before .before .before .before .before .before .pre .1) .lent) ((c .before .before .before .before .before .before .before .before .before .before .before .before .before .before .before .pre .1) .known)) (c .before .before .before .before .before .before .byte-of .ensures) (c .before .before .before .before .before .match .keys10)) (c .before .before .put-split .ensures)
 
-put-node-same-length-7 : (t : ℕ) → put-node-lts.Need-same-length-7 (put-node-claims t) (put-node-at t) put-node.Post
-put-node-same-length-7 t c = search needs
+put-node-same-length-6 : (t : ℕ) → put-node-lts.Need-same-length-6 (put-node-claims t) (put-node-at t) put-node.Post
+put-node-same-length-6 t c = put-node-returns-11 t c .frame .long
 
 put-node-returns-12 : (t : ℕ) → put-node-lts.Need-returns-12 (put-node-claims t) (put-node-at t) put-node.Post
 put-node-returns-12 t c = let thed = (entered _ _ (c .before .before .before .before .before .before .before .before .before .before .before .entry .ensures) (c .before .before .before .before .before .before .before .before .before .before .if1 .left)) in put-body (c .before .before .before .before .before .before .before .before .before .before .before .before .before .before .before .pre .1) (thed .0) (thed .1) (kind-call (lent-made ((c .before .before .before .before .before .before .before .before .before .before .before .before .before .before .before .pre .1) .lent) ((c .before .before .before .before .before .before .before .before .before .before .before .before .before .before .before .pre .1) .known)) (c .before .before .before .before .before .before .byte-of .ensures) (c .before .before .before .before .before .match .keys11)) (c .before .before .put-call .ensures)
 
-put-node-same-length-8 : (t : ℕ) → put-node-lts.Need-same-length-8 (put-node-claims t) (put-node-at t) put-node.Post
-put-node-same-length-8 t c = search needs
+put-node-same-length-7 : (t : ℕ) → put-node-lts.Need-same-length-7 (put-node-claims t) (put-node-at t) put-node.Post
+put-node-same-length-7 t c = put-node-returns-12 t c .frame .long
 
 put-node-returns-13 : (t : ℕ) → put-node-lts.Need-returns-13 (put-node-claims t) (put-node-at t) put-node.Post
 put-node-returns-13 t c = let thed = (entered _ _ (c .before .before .before .before .before .before .before .before .before .before .before .entry .ensures) (c .before .before .before .before .before .before .before .before .before .before .if1 .left)) in put-body (c .before .before .before .before .before .before .before .before .before .before .before .before .before .before .before .pre .1) (thed .0) (thed .1) (kind-add (lent-made ((c .before .before .before .before .before .before .before .before .before .before .before .before .before .before .before .pre .1) .lent) ((c .before .before .before .before .before .before .before .before .before .before .before .before .before .before .before .pre .1) .known)) (c .before .before .before .before .before .before .byte-of .ensures) (c .before .before .before .before .before .match .rest)) (c .before .before .put-add .ensures)
+
+put-node-same-length-8 : (t : ℕ) → put-node-lts.Need-same-length-8 (put-node-claims t) (put-node-at t) put-node.Post
+put-node-same-length-8 t c = put-node-returns-13 t c .frame .long
 
 put-pair-shape-of-requires : (t : ℕ) → put-pair-lts.Need-shape-of-requires (put-pair-claims t) (put-pair-at t) put-pair.Post
 put-pair-shape-of-requires t c κs = search needs
@@ -817,17 +795,50 @@ put-pair-second-part-requires t c κs = search needs
 put-pair-number-of-requires : (t : ℕ) → put-pair-lts.Need-number-of-requires (put-pair-claims t) (put-pair-at t) put-pair.Post
 put-pair-number-of-requires t c κs = search needs
 
+put-pair-put-node-requires : (t : ℕ) → put-pair-lts.Need-put-node-requires (put-pair-claims t) (put-pair-at t) put-pair.Post
+put-pair-put-node-requires t c κs = (omega (arith, c .before .before .before .before .before .before .before .before .before .before .before .before .pre .0), both-ready₁ (as-ready (pair-named (c .before .before .number-of .ensures) refl) ((pair-ready (c .before .before .before .before .before .before .before .before .shape-of .ensures) (c .before .before .before .before .first-part .ensures) (c .before .before .before .second-part .ensures) (c .before .before .before .before .before .before .before .before .before .before .before .before .pre .1) (c .before .before .before .before .before .before .mid .given .1)) .0)) (omega arith))
+
+put-pair-returns-2 : (t : ℕ) → put-pair-lts.Need-returns-2 (put-pair-claims t) (put-pair-at t) put-pair.Post
+put-pair-returns-2 t c = pair-both (c .before .before .before .before .before .before .before .before .before .before .before .before .shape-of .ensures) (c .before .before .before .before .before .before .before .before .first-part .ensures) (c .before .before .before .before .before .before .before .second-part .ensures) (as-pair (c .before .before .before .before .before .before .number-of .ensures) refl (λ u h. as-taken (taken-refused (c .if1 .taken)) (both-refused₁ (c .before .before .before .put-node .ensures) (taken-refused (c .if1 .taken))))) (c .before .before .before .before .before .before .before .before .before .before .before .before .before .before .before .before .pre .1) (c .before .before .before .before .before .before .before .before .before .before .mid .given .1)
+
+put-pair-same-length : (t : ℕ) → put-pair-lts.Need-same-length (put-pair-claims t) (put-pair-at t) put-pair.Post
+put-pair-same-length t c = put-pair-returns-2 t c .frame .long
+
+put-pair-taken-requires : (t : ℕ) → put-pair-lts.Need-taken-requires (put-pair-claims t) (put-pair-at t) put-pair.Post
+put-pair-taken-requires t c κs = search needs
+
+put-pair-sub-to : (t : ℕ) → put-pair-lts.Need-sub-to (put-pair-claims t) (put-pair-at t) put-pair.Post
+put-pair-sub-to t c = omega (arith, both-few (c .before .before .before .before .before .put-node .ensures) (taken-as (c .before .before .if1 .left) (c .before .taken .ensures)) (as-ready (pair-named (c .before .before .before .before .before .before .before .before .number-of .ensures) refl) ((pair-ready (c .before .before .before .before .before .before .before .before .before .before .before .before .before .before .shape-of .ensures) (c .before .before .before .before .before .before .before .before .before .before .first-part .ensures) (c .before .before .before .before .before .before .before .before .before .second-part .ensures) (c .before .before .before .before .before .before .before .before .before .before .before .before .before .before .before .before .before .before .pre .1) (c .before .before .before .before .before .before .before .before .before .before .before .before .mid .given .1)) .0)))
+
 put-pair-number-of-requires-2 : (t : ℕ) → put-pair-lts.Need-number-of-requires-2 (put-pair-claims t) (put-pair-at t) put-pair.Post
 put-pair-number-of-requires-2 t c κs = search needs
 
-put-pair-put-both-requires : (t : ℕ) → put-pair-lts.Need-put-both-requires (put-pair-claims t) (put-pair-at t) put-pair.Post
-put-pair-put-both-requires t c κs = let w = pair-ready (c .before .before .before .before .before .before .before .before .before .shape-of .ensures) (c .before .before .before .before .before .first-part .ensures) (c .before .before .before .before .second-part .ensures) (c .before .before .before .before .before .before .before .before .before .before .before .before .before .pre .1) (c .before .before .before .before .before .before .before .mid .given .1) in (omega (arith, c .before .before .before .before .before .before .before .before .before .before .before .before .before .pre .0), (as-ready (pair-named (c .before .before .before .number-of .ensures) (c .before .before .number-of2 .ensures)) (w .0), w .1))
+put-pair-put-node-requires-2 : (t : ℕ) → put-pair-lts.Need-put-node-requires-2 (put-pair-claims t) (put-pair-at t) put-pair.Post
+put-pair-put-node-requires-2 t c κs = (omega (arith, c .before .before .before .before .before .before .before .before .before .before .before .before .before .before .before .before .before .before .before .before .before .pre .0), both-ready₂ (c .before .before .before .before .before .before .before .before .put-node .ensures) (taken-as (c .before .before .before .before .before .if1 .left) (c .before .before .before .before .taken .ensures)) (as-ready (pair-named (c .before .before .before .before .before .before .before .before .before .before .before .number-of .ensures) (c .before .before .number-of2 .ensures)) ((pair-ready (c .before .before .before .before .before .before .before .before .before .before .before .before .before .before .before .before .before .shape-of .ensures) (c .before .before .before .before .before .before .before .before .before .before .before .before .before .first-part .ensures) (c .before .before .before .before .before .before .before .before .before .before .before .before .second-part .ensures) (c .before .before .before .before .before .before .before .before .before .before .before .before .before .before .before .before .before .before .before .before .before .pre .1) (c .before .before .before .before .before .before .before .before .before .before .before .before .before .before .before .mid .given .1)) .0)) (omega arith) ((pair-ready (c .before .before .before .before .before .before .before .before .before .before .before .before .before .before .before .before .before .shape-of .ensures) (c .before .before .before .before .before .before .before .before .before .before .before .before .before .first-part .ensures) (c .before .before .before .before .before .before .before .before .before .before .before .before .second-part .ensures) (c .before .before .before .before .before .before .before .before .before .before .before .before .before .before .before .before .before .before .before .before .before .pre .1) (c .before .before .before .before .before .before .before .before .before .before .before .before .before .before .before .mid .given .1)) .1))
 
-put-pair-same-length : (t : ℕ) → put-pair-lts.Need-same-length (put-pair-claims t) (put-pair-at t) put-pair.Post
-put-pair-same-length t c = search needs
+put-pair-returns-3 : (t : ℕ) → put-pair-lts.Need-returns-3 (put-pair-claims t) (put-pair-at t) put-pair.Post
+put-pair-returns-3 t c = pair-both (c .before .before .before .before .before .before .before .before .before .before .before .before .before .before .before .before .before .before .before .before .before .shape-of .ensures) (c .before .before .before .before .before .before .before .before .before .before .before .before .before .before .before .before .before .first-part .ensures) (c .before .before .before .before .before .before .before .before .before .before .before .before .before .before .before .before .second-part .ensures) (as-pair (c .before .before .before .before .before .before .before .before .before .before .before .before .before .before .before .number-of .ensures) (c .before .before .before .before .before .before .number-of2 .ensures) (λ u h. as-taken (taken-refused (c .if2 .taken)) (both-refused₂ (c .before .before .before .before .before .before .before .before .before .before .before .before .put-node .ensures) (taken-as (c .before .before .before .before .before .before .before .before .before .if1 .left) (c .before .before .before .before .before .before .before .before .taken .ensures)) ((c .before .before .before .before .before .before .before .before .before .before .before .before .before .before .before .before .before .before .before .before .before .before .before .before .before .pre .1) .base) (c .before .before .before .put-node2 .ensures) h (taken-refused (c .if2 .taken))))) (c .before .before .before .before .before .before .before .before .before .before .before .before .before .before .before .before .before .before .before .before .before .before .before .before .before .pre .1) (c .before .before .before .before .before .before .before .before .before .before .before .before .before .before .before .before .before .before .before .mid .given .1)
 
-put-pair-returns-2 : (t : ℕ) → put-pair-lts.Need-returns-2 (put-pair-claims t) (put-pair-at t) put-pair.Post
-put-pair-returns-2 t c = pair-both (c .before .before .before .before .before .before .before .before .before .before .before .before .shape-of .ensures) (c .before .before .before .before .before .before .before .before .first-part .ensures) (c .before .before .before .before .before .before .before .second-part .ensures) (as-pair (c .before .before .before .before .before .before .number-of .ensures) (c .before .before .before .before .before .number-of2 .ensures) (c .before .before .put-both .ensures)) (c .before .before .before .before .before .before .before .before .before .before .before .before .before .before .before .before .pre .1) (c .before .before .before .before .before .before .before .before .before .before .mid .given .1)
+put-pair-same-length-2 : (t : ℕ) → put-pair-lts.Need-same-length-2 (put-pair-claims t) (put-pair-at t) put-pair.Post
+put-pair-same-length-2 t c = put-pair-returns-3 t c .frame .long
+
+put-pair-add-took : (t : ℕ) → put-pair-lts.Need-add-took (put-pair-claims t) (put-pair-at t) put-pair.Post
+put-pair-add-took t c = record { fits = omega (arith, both-few (c .before .before .before .before .before .before .before .before .before .before .before .before .put-node .ensures) (taken-as (c .before .before .before .before .before .before .before .before .before .if1 .left) (c .before .before .before .before .before .before .before .before .taken .ensures)) (as-ready (pair-named (c .before .before .before .before .before .before .before .before .before .before .before .before .before .before .before .number-of .ensures) refl) ((pair-ready (c .before .before .before .before .before .before .before .before .before .before .before .before .before .before .before .before .before .before .before .before .before .shape-of .ensures) (c .before .before .before .before .before .before .before .before .before .before .before .before .before .before .before .before .before .first-part .ensures) (c .before .before .before .before .before .before .before .before .before .before .before .before .before .before .before .before .second-part .ensures) (c .before .before .before .before .before .before .before .before .before .before .before .before .before .before .before .before .before .before .before .before .before .before .before .before .before .pre .1) (c .before .before .before .before .before .before .before .before .before .before .before .before .before .before .before .before .before .before .before .mid .given .1)) .0)), (c .before .before .before .before .before .before .before .before .before .before .before .before .before .before .before .before .before .before .before .before .before .before .before .before .before .pre .1) .few) }
+
+put-pair-taken-requires-2 : (t : ℕ) → put-pair-lts.Need-taken-requires-2 (put-pair-claims t) (put-pair-at t) put-pair.Post
+put-pair-taken-requires-2 t c κs = search needs
+
+put-pair-add-took-2 : (t : ℕ) → put-pair-lts.Need-add-took-2 (put-pair-claims t) (put-pair-at t) put-pair.Post
+put-pair-add-took-2 t c = record { fits = omega (arith, both-sum (c .before .before .before .before .before .before .before .before .before .before .before .before .before .put-node .ensures) (taken-as (c .before .before .before .before .before .before .before .before .before .before .if1 .left) (c .before .before .before .before .before .before .before .before .before .taken .ensures)) ((c .before .before .before .before .before .before .before .before .before .before .before .before .before .before .before .before .before .before .before .before .before .before .before .before .before .before .pre .1) .base) (c .before .before .before .before .put-node2 .ensures) ((pair-ready (c .before .before .before .before .before .before .before .before .before .before .before .before .before .before .before .before .before .before .before .before .before .before .shape-of .ensures) (c .before .before .before .before .before .before .before .before .before .before .before .before .before .before .before .before .before .before .first-part .ensures) (c .before .before .before .before .before .before .before .before .before .before .before .before .before .before .before .before .before .second-part .ensures) (c .before .before .before .before .before .before .before .before .before .before .before .before .before .before .before .before .before .before .before .before .before .before .before .before .before .before .pre .1) (c .before .before .before .before .before .before .before .before .before .before .before .before .before .before .before .before .before .before .before .before .mid .given .1)) .1 .shown) (taken-as (c .before .if2 .left) (c .taken2 .ensures)) (as-ready (pair-named (c .before .before .before .before .before .before .before .before .before .before .before .before .before .before .before .before .number-of .ensures) (c .before .before .before .before .before .before .before .number-of2 .ensures)) ((pair-ready (c .before .before .before .before .before .before .before .before .before .before .before .before .before .before .before .before .before .before .before .before .before .before .shape-of .ensures) (c .before .before .before .before .before .before .before .before .before .before .before .before .before .before .before .before .before .before .first-part .ensures) (c .before .before .before .before .before .before .before .before .before .before .before .before .before .before .before .before .before .second-part .ensures) (c .before .before .before .before .before .before .before .before .before .before .before .before .before .before .before .before .before .before .before .before .before .before .before .before .before .before .pre .1) (c .before .before .before .before .before .before .before .before .before .before .before .before .before .before .before .before .before .before .before .before .mid .given .1)) .0)), (c .before .before .before .before .before .before .before .before .before .before .before .before .before .before .before .before .before .before .before .before .before .before .before .before .before .before .pre .1) .few) }
+
+put-pair-took-requires : (t : ℕ) → put-pair-lts.Need-took-requires (put-pair-claims t) (put-pair-at t) put-pair.Post
+put-pair-took-requires t c κs = omega (arith, both-sum (c .before .before .before .before .before .before .before .before .before .before .before .before .before .put-node .ensures) (taken-as (c .before .before .before .before .before .before .before .before .before .before .if1 .left) (c .before .before .before .before .before .before .before .before .before .taken .ensures)) ((c .before .before .before .before .before .before .before .before .before .before .before .before .before .before .before .before .before .before .before .before .before .before .before .before .before .before .pre .1) .base) (c .before .before .before .before .put-node2 .ensures) ((pair-ready (c .before .before .before .before .before .before .before .before .before .before .before .before .before .before .before .before .before .before .before .before .before .before .shape-of .ensures) (c .before .before .before .before .before .before .before .before .before .before .before .before .before .before .before .before .before .before .first-part .ensures) (c .before .before .before .before .before .before .before .before .before .before .before .before .before .before .before .before .before .second-part .ensures) (c .before .before .before .before .before .before .before .before .before .before .before .before .before .before .before .before .before .before .before .before .before .before .before .before .before .before .pre .1) (c .before .before .before .before .before .before .before .before .before .before .before .before .before .before .before .before .before .before .before .before .mid .given .1)) .1 .shown) (taken-as (c .before .if2 .left) (c .taken2 .ensures)) (as-ready (pair-named (c .before .before .before .before .before .before .before .before .before .before .before .before .before .before .before .before .number-of .ensures) (c .before .before .before .before .before .before .before .number-of2 .ensures)) ((pair-ready (c .before .before .before .before .before .before .before .before .before .before .before .before .before .before .before .before .before .before .before .before .before .before .shape-of .ensures) (c .before .before .before .before .before .before .before .before .before .before .before .before .before .before .before .before .before .before .first-part .ensures) (c .before .before .before .before .before .before .before .before .before .before .before .before .before .before .before .before .before .second-part .ensures) (c .before .before .before .before .before .before .before .before .before .before .before .before .before .before .before .before .before .before .before .before .before .before .before .before .before .before .pre .1) (c .before .before .before .before .before .before .before .before .before .before .before .before .before .before .before .before .before .before .before .before .mid .given .1)) .0)), (c .before .before .before .before .before .before .before .before .before .before .before .before .before .before .before .before .before .before .before .before .before .before .before .before .before .before .pre .1) .few)
+
+put-pair-returns-4 : (t : ℕ) → put-pair-lts.Need-returns-4 (put-pair-claims t) (put-pair-at t) put-pair.Post
+put-pair-returns-4 t c = pair-both (c .before .before .before .before .before .before .before .before .before .before .before .before .before .before .before .before .before .before .before .before .before .before .before .shape-of .ensures) (c .before .before .before .before .before .before .before .before .before .before .before .before .before .before .before .before .before .before .before .first-part .ensures) (c .before .before .before .before .before .before .before .before .before .before .before .before .before .before .before .before .before .before .second-part .ensures) (as-pair (c .before .before .before .before .before .before .before .before .before .before .before .before .before .before .before .before .before .number-of .ensures) (c .before .before .before .before .before .before .before .before .number-of2 .ensures) (λ u h. as-taken (took-done (c .took .ensures) (omega (arith, c .before .before .before .before .before .before .before .before .before .before .taken .ensures, c .before .before .before .before .before .before .before .before .before .before .before .if1 .left))) (both-done (c .before .before .before .before .before .before .before .before .before .before .before .before .before .before .put-node .ensures) (taken-as (c .before .before .before .before .before .before .before .before .before .before .before .if1 .left) (c .before .before .before .before .before .before .before .before .before .before .taken .ensures)) ((c .before .before .before .before .before .before .before .before .before .before .before .before .before .before .before .before .before .before .before .before .before .before .before .before .before .before .before .pre .1) .base) (c .before .before .before .before .before .put-node2 .ensures) h (taken-as (c .before .before .if2 .left) (c .before .taken2 .ensures))))) (c .before .before .before .before .before .before .before .before .before .before .before .before .before .before .before .before .before .before .before .before .before .before .before .before .before .before .before .pre .1) (c .before .before .before .before .before .before .before .before .before .before .before .before .before .before .before .before .before .before .before .before .before .mid .given .1)
+
+put-pair-same-length-3 : (t : ℕ) → put-pair-lts.Need-same-length-3 (put-pair-claims t) (put-pair-at t) put-pair.Post
+put-pair-same-length-3 t c = put-pair-returns-4 t c .frame .long
 
 put-rebuilt-mul-place-of : (t : ℕ) → put-rebuilt-lts.Need-mul-place-of (put-rebuilt-claims t) (put-rebuilt-at t) put-rebuilt.Post
 put-rebuilt-mul-place-of t c = record { fits = omega (arith, (c .before .before .pre .1 .0) .given .written .few) }
@@ -845,7 +856,20 @@ put-rebuilt-mul-place-of-2 : (t : ℕ) → put-rebuilt-lts.Need-mul-place-of-2 (
 put-rebuilt-mul-place-of-2 t c = record { fits = omega (arith, (c .before .before .before .before .pre .1 .0) .given .written .few) }
 
 put-rebuilt-element-copy-out-place-of-2 :
-    (t : ℕ) → put-rebuilt-lts.Need-element-copy-out-place-of-2 (put-rebuilt-claims t) (put-rebuilt-at t) put-rebuilt.Post
+    (t : ℕ) → put-rebuilt-lts.Need-element-copy-out-place-of-2 (
+      place-of-reads.Asked,
+      place-of-reads.Learnt,
+      unfit-reads.Asked,
+      unfit-reads.Learnt,
+      rebuild-reads.Asked,
+      rebuild-reads.Learnt,
+      put-node-below t,
+      put-node.Post,
+      taken-reads.Asked,
+      taken-reads.Learnt,
+      took-reads.Asked,
+      took-reads.Learnt,
+    ) (put-rebuilt-at t) put-rebuilt.Post
 put-rebuilt-element-copy-out-place-of-2 t c = omega (arith, (c .before .before .before .before .pre .1 .0) .given .written .few)
 
 put-rebuilt-add-place-of-2 : (t : ℕ) → put-rebuilt-lts.Need-add-place-of-2 (put-rebuilt-claims t) (put-rebuilt-at t) put-rebuilt.Post
@@ -914,11 +938,11 @@ put-split-number-of-requires t c κs = search needs
 put-split-get-node-requires : (t : ℕ) → put-split-lts.Need-get-node-requires (put-split-claims t) (put-split-at t) put-split.Post
 put-split-get-node-requires t c κs = subject-ready (c .before .before .before .before .before .pre .1) (omega (arith, c .before .number-of .ensures, ((c .before .before .before .before .before .pre .1) .known .1 .0 .inside)))
 
-put-split-same-length : (t : ℕ) → put-split-lts.Need-same-length (put-split-claims t) (put-split-at t) put-split.Post
-put-split-same-length t c = search needs
-
 put-split-returns : (t : ℕ) → put-split-lts.Need-returns (put-split-claims t) (put-split-at t) put-split.Post
 put-split-returns t c = as-taken (taken-refused (c .if1 .taken)) (split-refused ((c .before .before .before .before .before .before .before .before .before .pre .1) .base) (as-node (c .before .before .before .before .before .number-of .ensures) (c .before .before .before .get-node .ensures)) (found-refused (c .if1 .taken)))
+
+put-split-same-length : (t : ℕ) → put-split-lts.Need-same-length (put-split-claims t) (put-split-at t) put-split.Post
+put-split-same-length t c = put-split-returns t c .frame .long
 
 put-split-start-of-requires : (t : ℕ) → put-split-lts.Need-start-of-requires (put-split-claims t) (put-split-at t) put-split.Post
 put-split-start-of-requires t c κs = search needs
@@ -926,26 +950,29 @@ put-split-start-of-requires t c κs = search needs
 put-split-len-of-requires : (t : ℕ) → put-split-lts.Need-len-of-requires (put-split-claims t) (put-split-at t) put-split.Post
 put-split-len-of-requires t c κs = search needs
 
+put-split-add-end : (t : ℕ) → put-split-lts.Need-add-end (put-split-claims t) (put-split-at t) put-split.Post
+put-split-add-end t c = let z = (sizes (subject-ready (c .before .before .before .before .before .before .before .before .before .before .before .pre .1) ((c .before .before .before .before .before .before .before .before .before .before .before .pre .1) .known .1 .0 .inside)) (as-node (c .before .before .before .before .before .before .before .number-of .ensures) (c .before .before .before .before .before .get-node .ensures)) (found-as (c .before .before .if1 .left) (c .before .start-of .ensures) (c .len-of .ensures) refl)) in record { fits = omega (arith, (c .before .before .before .before .before .before .before .before .before .before .before .pre .1) .room, z .short, z .low) }
+
 put-split-steps-of-requires : (t : ℕ) → put-split-lts.Need-steps-of-requires (put-split-claims t) (put-split-at t) put-split.Post
 put-split-steps-of-requires t c κs = search needs
 
-put-split-add-end : (t : ℕ) → put-split-lts.Need-add-end (put-split-claims t) (put-split-at t) put-split.Post
-put-split-add-end t c = let thez = (sizes (subject-ready (c .before .before .before .before .before .before .before .before .before .before .before .before .pre .1) ((c .before .before .before .before .before .before .before .before .before .before .before .before .pre .1) .known .1 .0 .inside)) (as-node (c .before .before .before .before .before .before .before .before .number-of .ensures) (c .before .before .before .before .before .before .get-node .ensures)) (found-as (c .before .before .before .if1 .left) (c .before .before .start-of .ensures) (c .before .len-of .ensures) (c .steps-of .ensures))) in record { fits = omega (arith, (c .before .before .before .before .before .before .before .before .before .before .before .before .pre .1) .room, thez .short, thez .low) }
+put-split-add-s : (t : ℕ) → put-split-lts.Need-add-s (put-split-claims t) (put-split-at t) put-split.Post
+put-split-add-s t c = record { fits = omega (arith, (sizes (subject-ready (c .before .before .before .before .before .before .before .before .before .before .before .before .pre .1) ((c .before .before .before .before .before .before .before .before .before .before .before .before .pre .1) .known .1 .0 .inside)) (as-node (c .before .before .before .before .before .before .before .before .number-of .ensures) (c .before .before .before .before .before .before .get-node .ensures)) (found-as (c .before .before .before .if1 .left) (c .before .before .start-of .ensures) (c .before .len-of .ensures) (c .steps-of .ensures))) .steps, (c .before .before .before .before .before .before .before .before .before .before .before .before .pre .1) .few) }
+
+put-split-sub-to : (t : ℕ) → put-split-lts.Need-sub-to (put-split-claims t) (put-split-at t) put-split.Post
+put-split-sub-to t c = omega (arith, (sizes (subject-ready (c .before .before .before .before .before .before .before .before .before .before .before .before .before .pre .1) ((c .before .before .before .before .before .before .before .before .before .before .before .before .before .pre .1) .known .1 .0 .inside)) (as-node (c .before .before .before .before .before .before .before .before .before .number-of .ensures) (c .before .before .before .before .before .before .before .get-node .ensures)) (found-as (c .before .before .before .before .if1 .left) (c .before .before .before .start-of .ensures) (c .before .before .len-of .ensures) (c .before .steps-of .ensures))) .steps)
 
 put-split-above-requires : (t : ℕ) → put-split-lts.Need-above-requires (put-split-claims t) (put-split-at t) put-split.Post
-put-split-above-requires t c κs = let thez = (sizes (subject-ready (c .before .before .before .before .before .before .before .before .before .before .before .before .pre .1) ((c .before .before .before .before .before .before .before .before .before .before .before .before .pre .1) .known .1 .0 .inside)) (as-node (c .before .before .before .before .before .before .before .before .number-of .ensures) (c .before .before .before .before .before .before .get-node .ensures)) (found-as (c .before .before .before .if1 .left) (c .before .before .start-of .ensures) (c .before .len-of .ensures) (c .steps-of .ensures))) in (thez .low, omega (arith, (c .before .before .before .before .before .before .before .before .before .before .before .before .pre .1) .room, thez .short))
+put-split-above-requires t c κs = let z = (sizes (subject-ready (c .before .before .before .before .before .before .before .before .before .before .before .before .before .pre .1) ((c .before .before .before .before .before .before .before .before .before .before .before .before .before .pre .1) .known .1 .0 .inside)) (as-node (c .before .before .before .before .before .before .before .before .before .number-of .ensures) (c .before .before .before .before .before .before .before .get-node .ensures)) (found-as (c .before .before .before .before .if1 .left) (c .before .before .before .start-of .ensures) (c .before .before .len-of .ensures) (c .before .steps-of .ensures))) in (z .low, omega (arith, (c .before .before .before .before .before .before .before .before .before .before .before .before .before .pre .1) .room, z .short))
 
 put-split-sub-shape-of : (t : ℕ) → put-split-lts.Need-sub-shape-of (put-split-claims t) (put-split-at t) put-split.Post
-put-split-sub-shape-of t c = omega (arith, (sizes (subject-ready (c .before .before .before .before .before .before .before .before .before .before .before .before .before .before .pre .1) ((c .before .before .before .before .before .before .before .before .before .before .before .before .before .before .pre .1) .known .1 .0 .inside)) (as-node (c .before .before .before .before .before .before .before .before .before .before .number-of .ensures) (c .before .before .before .before .before .before .before .before .get-node .ensures)) (found-as (c .before .before .before .before .before .if1 .left) (c .before .before .before .before .start-of .ensures) (c .before .before .before .len-of .ensures) (c .before .before .steps-of .ensures))) .steps)
-
-put-split-sub-shape-of-2 : (t : ℕ) → put-split-lts.Need-sub-shape-of-2 (put-split-claims t) (put-split-at t) put-split.Post
-put-split-sub-shape-of-2 t c = search needs
+put-split-sub-shape-of t c = search needs
 
 put-split-part-shape-of-start : (t : ℕ) → put-split-lts.Need-part-shape-of-start (put-split-claims t) (put-split-at t) put-split.Post
 put-split-part-shape-of-start t c = search needs
 
 put-split-part-shape-of-end : (t : ℕ) → put-split-lts.Need-part-shape-of-end (put-split-claims t) (put-split-at t) put-split.Post
-put-split-part-shape-of-end t c = let thez = (sizes (subject-ready (c .before .before .before .before .before .before .before .before .before .before .before .before .before .before .before .pre .1) ((c .before .before .before .before .before .before .before .before .before .before .before .before .before .before .before .pre .1) .known .1 .0 .inside)) (as-node (c .before .before .before .before .before .before .before .before .before .before .before .number-of .ensures) (c .before .before .before .before .before .before .before .before .before .get-node .ensures)) (found-as (c .before .before .before .before .before .before .if1 .left) (c .before .before .before .before .before .start-of .ensures) (c .before .before .before .before .len-of .ensures) (c .before .before .before .steps-of .ensures))) in omega (arith, (c .before .before .before .before .before .before .before .before .before .before .before .before .before .before .before .pre .1) .room, (c .before .before .before .before .before .before .before .before .before .before .before .before .before .before .before .pre .1) .long, thez .short, thez .low, c .before .before .before .before .before .before .before .before .before .get-node .ensures .kept .long)
+put-split-part-shape-of-end t c = let z = (sizes (subject-ready (c .before .before .before .before .before .before .before .before .before .before .before .before .before .before .before .pre .1) ((c .before .before .before .before .before .before .before .before .before .before .before .before .before .before .before .pre .1) .known .1 .0 .inside)) (as-node (c .before .before .before .before .before .before .before .before .before .before .before .number-of .ensures) (c .before .before .before .before .before .before .before .before .before .get-node .ensures)) (found-as (c .before .before .before .before .before .before .if1 .left) (c .before .before .before .before .before .start-of .ensures) (c .before .before .before .before .len-of .ensures) (c .before .before .before .steps-of .ensures))) in omega (arith, (c .before .before .before .before .before .before .before .before .before .before .before .before .before .before .before .pre .1) .room, (c .before .before .before .before .before .before .before .before .before .before .before .before .before .before .before .pre .1) .long, z .short, z .low, c .before .before .before .before .before .before .before .before .before .get-node .ensures .kept .long)
 
 put-split-shape-of-requires : (t : ℕ) → put-split-lts.Need-shape-of-requires (put-split-claims t) (put-split-at t) put-split.Post
 put-split-shape-of-requires t c κs = search needs
@@ -953,44 +980,44 @@ put-split-shape-of-requires t c κs = search needs
 put-split-enum-known-mid : (t : ℕ) → put-split-lts.Need-enum-known-mid (put-split-claims t) (put-split-at t) put-split.Post
 put-split-enum-known-mid t c = search needs
 
-put-split-same-length-2 : (t : ℕ) → put-split-lts.Need-same-length-2 (put-split-claims t) (put-split-at t) put-split.Post
-put-split-same-length-2 t c = search needs
-
 put-split-returns-2 : (t : ℕ) → put-split-lts.Need-returns-2 (put-split-claims t) (put-split-at t) put-split.Post
-put-split-returns-2 t c = as-taken (taken-refused (omega arith)) (split-43 ((c .before .before .before .before .before .before .before .before .before .before .before .before .before .before .before .before .before .before .pre .1) .base) (as-node (c .before .before .before .before .before .before .before .before .before .before .before .before .before .before .number-of .ensures) (c .before .before .before .before .before .before .before .before .before .before .before .before .get-node .ensures)) (found-as (c .before .before .before .before .before .before .before .before .before .if1 .left) (c .before .before .before .before .before .before .before .before .start-of .ensures) (c .before .before .before .before .before .before .before .len-of .ensures) (c .before .before .before .before .before .before .steps-of .ensures)) (c .before .before .before .before .before .above .ensures) (c .before .shape-of .ensures) (tags.no-pair _ (c .match .keys2)))
+put-split-returns-2 t c = as-taken (taken-refused (omega arith)) (split-43 ((c .before .before .before .before .before .before .before .before .before .before .before .before .before .before .before .before .before .before .pre .1) .base) (as-node (c .before .before .before .before .before .before .before .before .before .before .before .before .before .before .number-of .ensures) (c .before .before .before .before .before .before .before .before .before .before .before .before .get-node .ensures)) (found-as (c .before .before .before .before .before .before .before .before .before .if1 .left) (c .before .before .before .before .before .before .before .before .start-of .ensures) (c .before .before .before .before .before .before .before .len-of .ensures) (c .before .before .before .before .before .before .steps-of .ensures)) (c .before .before .before .before .above .ensures) (c .before .shape-of .ensures) (tags.no-pair _ (c .match .keys2)))
 
-put-split-add-put-under : (t : ℕ) → put-split-lts.Need-add-put-under (put-split-claims t) (put-split-at t) put-split.Post
-put-split-add-put-under t c = record { fits = omega (arith, (c .before .before .before .before .before .before .before .before .before .before .before .before .before .before .before .before .before .before .before .before .pre .1) .room, (sizes (subject-ready (c .before .before .before .before .before .before .before .before .before .before .before .before .before .before .before .before .before .before .before .before .pre .1) ((c .before .before .before .before .before .before .before .before .before .before .before .before .before .before .before .before .before .before .before .before .pre .1) .known .1 .0 .inside)) (as-node (c .before .before .before .before .before .before .before .before .before .before .before .before .before .before .before .before .number-of .ensures) (c .before .before .before .before .before .before .before .before .before .before .before .before .before .before .get-node .ensures)) (found-as (c .before .before .before .before .before .before .before .before .before .before .before .if1 .left) (c .before .before .before .before .before .before .before .before .before .before .start-of .ensures) (c .before .before .before .before .before .before .before .before .before .len-of .ensures) (c .before .before .before .before .before .before .before .before .steps-of .ensures))) .low) }
+put-split-same-length-2 : (t : ℕ) → put-split-lts.Need-same-length-2 (put-split-claims t) (put-split-at t) put-split.Post
+put-split-same-length-2 t c = put-split-returns-2 t c .frame .long
+
+put-split-add-t27 : (t : ℕ) → put-split-lts.Need-add-t27 (put-split-claims t) (put-split-at t) put-split.Post
+put-split-add-t27 t c = record { fits = omega (arith, (c .before .before .before .before .before .before .before .before .before .before .before .before .before .before .before .before .before .before .before .before .pre .1) .room, (sizes (subject-ready (c .before .before .before .before .before .before .before .before .before .before .before .before .before .before .before .before .before .before .before .before .pre .1) ((c .before .before .before .before .before .before .before .before .before .before .before .before .before .before .before .before .before .before .before .before .pre .1) .known .1 .0 .inside)) (as-node (c .before .before .before .before .before .before .before .before .before .before .before .before .before .before .before .before .number-of .ensures) (c .before .before .before .before .before .before .before .before .before .before .before .before .before .before .get-node .ensures)) (found-as (c .before .before .before .before .before .before .before .before .before .before .before .if1 .left) (c .before .before .before .before .before .before .before .before .before .before .start-of .ensures) (c .before .before .before .before .before .before .before .before .before .len-of .ensures) (c .before .before .before .before .before .before .before .before .steps-of .ensures))) .low) }
 
 put-split-sub-t30 : (t : ℕ) → put-split-lts.Need-sub-t30 (put-split-claims t) (put-split-at t) put-split.Post
-put-split-sub-t30 t c = omega (arith, (pair-inside ((c .before .before .before .before .before .before .before .before .before .before .before .before .before .before .before .before .before .before .before .before .pre .1) .base) (as-node (c .before .before .before .before .before .before .before .before .before .before .before .before .before .before .before .before .number-of .ensures) (c .before .before .before .before .before .before .before .before .before .before .before .before .before .before .get-node .ensures)) (found-as (c .before .before .before .before .before .before .before .before .before .before .before .if1 .left) (c .before .before .before .before .before .before .before .before .before .before .start-of .ensures) (c .before .before .before .before .before .before .before .before .before .len-of .ensures) (c .before .before .before .before .before .before .before .before .steps-of .ensures)) (c .before .before .before .before .before .before .before .above .ensures) (c .before .before .before .shape-of .ensures) (c .before .before .before .before .before .before .before .before .before .before .before .before .before .before .before .before .before .before .before .before .pre .1) (c .before .mid .given .1)))
+put-split-sub-t30 t c = omega (arith, pair-inside ((c .before .before .before .before .before .before .before .before .before .before .before .before .before .before .before .before .before .before .before .before .pre .1) .base) (as-node (c .before .before .before .before .before .before .before .before .before .before .before .before .before .before .before .before .number-of .ensures) (c .before .before .before .before .before .before .before .before .before .before .before .before .before .before .get-node .ensures)) (found-as (c .before .before .before .before .before .before .before .before .before .before .before .if1 .left) (c .before .before .before .before .before .before .before .before .before .before .start-of .ensures) (c .before .before .before .before .before .before .before .before .before .len-of .ensures) (c .before .before .before .before .before .before .before .before .steps-of .ensures)) (c .before .before .before .before .before .before .above .ensures) (c .before .before .before .shape-of .ensures) (c .before .before .before .before .before .before .before .before .before .before .before .before .before .before .before .before .before .before .before .before .pre .1) (c .before .mid .given .1))
 
 put-split-sub-t31 : (t : ℕ) → put-split-lts.Need-sub-t31 (put-split-claims t) (put-split-at t) put-split.Post
-put-split-sub-t31 t c = omega (arith, (pair-inside ((c .before .before .before .before .before .before .before .before .before .before .before .before .before .before .before .before .before .before .before .before .pre .1) .base) (as-node (c .before .before .before .before .before .before .before .before .before .before .before .before .before .before .before .before .number-of .ensures) (c .before .before .before .before .before .before .before .before .before .before .before .before .before .before .get-node .ensures)) (found-as (c .before .before .before .before .before .before .before .before .before .before .before .if1 .left) (c .before .before .before .before .before .before .before .before .before .before .start-of .ensures) (c .before .before .before .before .before .before .before .before .before .len-of .ensures) (c .before .before .before .before .before .before .before .before .steps-of .ensures)) (c .before .before .before .before .before .before .before .above .ensures) (c .before .before .before .shape-of .ensures) (c .before .before .before .before .before .before .before .before .before .before .before .before .before .before .before .before .before .before .before .before .pre .1) (c .before .mid .given .1)))
+put-split-sub-t31 t c = omega (arith, pair-inside ((c .before .before .before .before .before .before .before .before .before .before .before .before .before .before .before .before .before .before .before .before .pre .1) .base) (as-node (c .before .before .before .before .before .before .before .before .before .before .before .before .before .before .before .before .number-of .ensures) (c .before .before .before .before .before .before .before .before .before .before .before .before .before .before .get-node .ensures)) (found-as (c .before .before .before .before .before .before .before .before .before .before .before .if1 .left) (c .before .before .before .before .before .before .before .before .before .before .start-of .ensures) (c .before .before .before .before .before .before .before .before .before .len-of .ensures) (c .before .before .before .before .before .before .before .before .steps-of .ensures)) (c .before .before .before .before .before .before .above .ensures) (c .before .before .before .shape-of .ensures) (c .before .before .before .before .before .before .before .before .before .before .before .before .before .before .before .before .before .before .before .before .pre .1) (c .before .mid .given .1))
 
 put-split-number-of-requires-2 : (t : ℕ) → put-split-lts.Need-number-of-requires-2 (put-split-claims t) (put-split-at t) put-split.Post
 put-split-number-of-requires-2 t c κs = search needs
 
-put-split-add-put-under-2 : (t : ℕ) → put-split-lts.Need-add-put-under-2 (put-split-claims t) (put-split-at t) put-split.Post
-put-split-add-put-under-2 t c = record { fits = omega (arith, (sizes (subject-ready (c .before .before .before .before .before .before .before .before .before .before .before .before .before .before .before .before .before .before .before .before .before .before .before .pre .1) ((c .before .before .before .before .before .before .before .before .before .before .before .before .before .before .before .before .before .before .before .before .before .before .before .pre .1) .known .1 .0 .inside)) (as-node (c .before .before .before .before .before .before .before .before .before .before .before .before .before .before .before .before .before .before .before .number-of .ensures) (c .before .before .before .before .before .before .before .before .before .before .before .before .before .before .before .before .before .get-node .ensures)) (found-as (c .before .before .before .before .before .before .before .before .before .before .before .before .before .before .if1 .left) (c .before .before .before .before .before .before .before .before .before .before .before .before .before .start-of .ensures) (c .before .before .before .before .before .before .before .before .before .before .before .before .len-of .ensures) (c .before .before .before .before .before .before .before .before .before .before .before .steps-of .ensures))) .steps, (c .before .before .before .before .before .before .before .before .before .before .before .before .before .before .before .before .before .before .before .before .before .before .before .pre .1) .few) }
-
 put-split-put-under-requires : (t : ℕ) → put-split-lts.Need-put-under-requires (put-split-claims t) (put-split-at t) put-split.Post
-put-split-put-under-requires t c κs = (omega (arith, c .before .before .before .before .before .before .before .before .before .before .before .before .before .before .before .before .before .before .before .before .before .before .before .pre .0), (after-subject ((c .before .before .before .before .before .before .before .before .before .before .before .before .before .before .before .before .before .before .before .before .before .before .before .pre .1) .base) (as-node (c .before .before .before .before .before .before .before .before .before .before .before .before .before .before .before .before .before .before .before .number-of .ensures) (c .before .before .before .before .before .before .before .before .before .before .before .before .before .before .before .before .before .get-node .ensures)) (found-as (c .before .before .before .before .before .before .before .before .before .before .before .before .before .before .if1 .left) (c .before .before .before .before .before .before .before .before .before .before .before .before .before .start-of .ensures) (c .before .before .before .before .before .before .before .before .before .before .before .before .len-of .ensures) (c .before .before .before .before .before .before .before .before .before .before .before .steps-of .ensures)) (c .before .before .before .before .before .before .before .before .before .before .above .ensures) (c .before .before .before .before .before .before .before .before .before .before .before .before .before .before .before .before .before .before .before .before .before .before .before .pre .1) ((omega (arith, c .before .before .number-of2 .ensures, (c .before .before .before .before .before .before .before .before .before .before .before .before .before .before .before .before .before .before .before .before .before .before .before .pre .1) .known .1 .1 .inside), (omega (arith, c .before .before .before .before .before .before .before .before .before .before .before .before .before .before .before .before .before .before .before .number-of .ensures, ((c .before .before .before .before .before .before .before .before .before .before .before .before .before .before .before .before .before .before .before .before .before .before .before .pre .1) .known .1 .0 .inside)))), aPair refl) (omega (arith, (sizes (subject-ready (c .before .before .before .before .before .before .before .before .before .before .before .before .before .before .before .before .before .before .before .before .before .before .before .pre .1) ((c .before .before .before .before .before .before .before .before .before .before .before .before .before .before .before .before .before .before .before .before .before .before .before .pre .1) .known .1 .0 .inside)) (as-node (c .before .before .before .before .before .before .before .before .before .before .before .before .before .before .before .before .before .before .before .number-of .ensures) (c .before .before .before .before .before .before .before .before .before .before .before .before .before .before .before .before .before .get-node .ensures)) (found-as (c .before .before .before .before .before .before .before .before .before .before .before .before .before .before .if1 .left) (c .before .before .before .before .before .before .before .before .before .before .before .before .before .start-of .ensures) (c .before .before .before .before .before .before .before .before .before .before .before .before .len-of .ensures) (c .before .before .before .before .before .before .before .before .before .before .before .steps-of .ensures))) .steps)), (inner ((c .before .before .before .before .before .before .before .before .before .before .before .before .before .before .before .before .before .before .before .before .before .before .before .pre .1) .base) (as-node (c .before .before .before .before .before .before .before .before .before .before .before .before .before .before .before .before .before .before .before .number-of .ensures) (c .before .before .before .before .before .before .before .before .before .before .before .before .before .before .before .before .before .get-node .ensures)) (found-as (c .before .before .before .before .before .before .before .before .before .before .before .before .before .before .if1 .left) (c .before .before .before .before .before .before .before .before .before .before .before .before .before .start-of .ensures) (c .before .before .before .before .before .before .before .before .before .before .before .before .len-of .ensures) (c .before .before .before .before .before .before .before .before .before .before .before .steps-of .ensures)) (c .before .before .before .before .before .before .before .before .before .before .above .ensures) (c .before .before .before .before .before .before .before .before .before .before .before .before .before .before .before .before .before .before .before .before .before .before .before .pre .1), pair-spans ((c .before .before .before .before .before .before .before .before .before .before .before .before .before .before .before .before .before .before .before .before .before .before .before .pre .1) .base) (as-node (c .before .before .before .before .before .before .before .before .before .before .before .before .before .before .before .before .before .before .before .number-of .ensures) (c .before .before .before .before .before .before .before .before .before .before .before .before .before .before .before .before .before .get-node .ensures)) (found-as (c .before .before .before .before .before .before .before .before .before .before .before .before .before .before .if1 .left) (c .before .before .before .before .before .before .before .before .before .before .before .before .before .start-of .ensures) (c .before .before .before .before .before .before .before .before .before .before .before .before .len-of .ensures) (c .before .before .before .before .before .before .before .before .before .before .before .steps-of .ensures)) (c .before .before .before .before .before .before .before .before .before .before .above .ensures) (c .before .before .before .before .before .before .shape-of .ensures) (c .before .before .before .before .before .before .before .before .before .before .before .before .before .before .before .before .before .before .before .before .before .before .before .pre .1) (c .before .before .before .before .mid .given .1))))
-
-put-split-same-length-3 : (t : ℕ) → put-split-lts.Need-same-length-3 (put-split-claims t) (put-split-at t) put-split.Post
-put-split-same-length-3 t c = search needs
+put-split-put-under-requires t c κs = (omega (arith, c .before .before .before .before .before .before .before .before .before .before .before .before .before .before .before .before .before .before .before .before .before .before .before .pre .0), (after-subject ((c .before .before .before .before .before .before .before .before .before .before .before .before .before .before .before .before .before .before .before .before .before .before .before .pre .1) .base) (as-node (c .before .before .before .before .before .before .before .before .before .before .before .before .before .before .before .before .before .before .before .number-of .ensures) (c .before .before .before .before .before .before .before .before .before .before .before .before .before .before .before .before .before .get-node .ensures)) (found-as (c .before .before .before .before .before .before .before .before .before .before .before .before .before .before .if1 .left) (c .before .before .before .before .before .before .before .before .before .before .before .before .before .start-of .ensures) (c .before .before .before .before .before .before .before .before .before .before .before .before .len-of .ensures) (c .before .before .before .before .before .before .before .before .before .before .before .steps-of .ensures)) (c .before .before .before .before .before .before .before .before .before .above .ensures) (c .before .before .before .before .before .before .before .before .before .before .before .before .before .before .before .before .before .before .before .before .before .before .before .pre .1) ((omega (arith, c .before .before .number-of2 .ensures, (c .before .before .before .before .before .before .before .before .before .before .before .before .before .before .before .before .before .before .before .before .before .before .before .pre .1) .known .1 .1 .inside), (omega (arith, c .before .before .before .before .before .before .before .before .before .before .before .before .before .before .before .before .before .before .before .number-of .ensures, ((c .before .before .before .before .before .before .before .before .before .before .before .before .before .before .before .before .before .before .before .before .before .before .before .pre .1) .known .1 .0 .inside)))), aPair refl) (omega (arith, (sizes (subject-ready (c .before .before .before .before .before .before .before .before .before .before .before .before .before .before .before .before .before .before .before .before .before .before .before .pre .1) ((c .before .before .before .before .before .before .before .before .before .before .before .before .before .before .before .before .before .before .before .before .before .before .before .pre .1) .known .1 .0 .inside)) (as-node (c .before .before .before .before .before .before .before .before .before .before .before .before .before .before .before .before .before .before .before .number-of .ensures) (c .before .before .before .before .before .before .before .before .before .before .before .before .before .before .before .before .before .get-node .ensures)) (found-as (c .before .before .before .before .before .before .before .before .before .before .before .before .before .before .if1 .left) (c .before .before .before .before .before .before .before .before .before .before .before .before .before .start-of .ensures) (c .before .before .before .before .before .before .before .before .before .before .before .before .len-of .ensures) (c .before .before .before .before .before .before .before .before .before .before .before .steps-of .ensures))) .steps)), (inner ((c .before .before .before .before .before .before .before .before .before .before .before .before .before .before .before .before .before .before .before .before .before .before .before .pre .1) .base) (as-node (c .before .before .before .before .before .before .before .before .before .before .before .before .before .before .before .before .before .before .before .number-of .ensures) (c .before .before .before .before .before .before .before .before .before .before .before .before .before .before .before .before .before .get-node .ensures)) (found-as (c .before .before .before .before .before .before .before .before .before .before .before .before .before .before .if1 .left) (c .before .before .before .before .before .before .before .before .before .before .before .before .before .start-of .ensures) (c .before .before .before .before .before .before .before .before .before .before .before .before .len-of .ensures) (c .before .before .before .before .before .before .before .before .before .before .before .steps-of .ensures)) (c .before .before .before .before .before .before .before .before .before .above .ensures) (c .before .before .before .before .before .before .before .before .before .before .before .before .before .before .before .before .before .before .before .before .before .before .before .pre .1), pair-spans ((c .before .before .before .before .before .before .before .before .before .before .before .before .before .before .before .before .before .before .before .before .before .before .before .pre .1) .base) (as-node (c .before .before .before .before .before .before .before .before .before .before .before .before .before .before .before .before .before .before .before .number-of .ensures) (c .before .before .before .before .before .before .before .before .before .before .before .before .before .before .before .before .before .get-node .ensures)) (found-as (c .before .before .before .before .before .before .before .before .before .before .before .before .before .before .if1 .left) (c .before .before .before .before .before .before .before .before .before .before .before .before .before .start-of .ensures) (c .before .before .before .before .before .before .before .before .before .before .before .before .len-of .ensures) (c .before .before .before .before .before .before .before .before .before .before .before .steps-of .ensures)) (c .before .before .before .before .before .before .before .before .before .above .ensures) (c .before .before .before .before .before .before .shape-of .ensures) (c .before .before .before .before .before .before .before .before .before .before .before .before .before .before .before .before .before .before .before .before .before .before .before .pre .1) (c .before .before .before .before .mid .given .1))))
 
 put-split-returns-3 : (t : ℕ) → put-split-lts.Need-returns-3 (put-split-claims t) (put-split-at t) put-split.Post
-put-split-returns-3 t c = split-under ((c .before .before .before .before .before .before .before .before .before .before .before .before .before .before .before .before .before .before .before .before .before .before .before .before .before .before .pre .1) .base) (as-node (c .before .before .before .before .before .before .before .before .before .before .before .before .before .before .before .before .before .before .before .before .before .before .number-of .ensures) (c .before .before .before .before .before .before .before .before .before .before .before .before .before .before .before .before .before .before .before .before .get-node .ensures)) (found-as (c .before .before .before .before .before .before .before .before .before .before .before .before .before .before .before .before .before .if1 .left) (c .before .before .before .before .before .before .before .before .before .before .before .before .before .before .before .before .start-of .ensures) (c .before .before .before .before .before .before .before .before .before .before .before .before .before .before .before .len-of .ensures) (c .before .before .before .before .before .before .before .before .before .before .before .before .before .before .steps-of .ensures)) (c .before .before .before .before .before .before .before .before .before .before .before .before .before .above .ensures) (c .before .before .before .before .before .before .before .before .before .shape-of .ensures) (c .before .before .before .before .before .before .before .mid .given .1) (c .before .before .before .before .before .before .before .before .before .before .before .before .before .before .before .before .before .before .before .before .before .before .before .before .before .before .pre .1) (as-inside (c .before .before .before .before .before .number-of2 .ensures) (c .before .before .before .before .before .before .before .before .before .before .before .before .before .before .before .before .before .before .before .before .before .before .number-of .ensures) (c .before .before .put-under .ensures))
+put-split-returns-3 t c = split-under ((c .before .before .before .before .before .before .before .before .before .before .before .before .before .before .before .before .before .before .before .before .before .before .before .before .before .before .pre .1) .base) (as-node (c .before .before .before .before .before .before .before .before .before .before .before .before .before .before .before .before .before .before .before .before .before .before .number-of .ensures) (c .before .before .before .before .before .before .before .before .before .before .before .before .before .before .before .before .before .before .before .before .get-node .ensures)) (found-as (c .before .before .before .before .before .before .before .before .before .before .before .before .before .before .before .before .before .if1 .left) (c .before .before .before .before .before .before .before .before .before .before .before .before .before .before .before .before .start-of .ensures) (c .before .before .before .before .before .before .before .before .before .before .before .before .before .before .before .len-of .ensures) (c .before .before .before .before .before .before .before .before .before .before .before .before .before .before .steps-of .ensures)) (c .before .before .before .before .before .before .before .before .before .before .before .before .above .ensures) (c .before .before .before .before .before .before .before .before .before .shape-of .ensures) (c .before .before .before .before .before .before .before .mid .given .1) (c .before .before .before .before .before .before .before .before .before .before .before .before .before .before .before .before .before .before .before .before .before .before .before .before .before .before .pre .1) (as-inside (c .before .before .before .before .before .number-of2 .ensures) (c .before .before .before .before .before .before .before .before .before .before .before .before .before .before .before .before .before .before .before .before .before .before .number-of .ensures) (c .before .before .put-under .ensures))
+
+put-split-same-length-3 : (t : ℕ) → put-split-lts.Need-same-length-3 (put-split-claims t) (put-split-at t) put-split.Post
+put-split-same-length-3 t c = put-split-returns-3 t c .frame .long
 
 put-switch-number-of-requires : (t : ℕ) → put-switch-lts.Need-number-of-requires (put-switch-claims t) (put-switch-at t) put-switch.Post
 put-switch-number-of-requires t c κs = search needs
 
-put-switch-get-at-requires : (t : ℕ) → put-switch-lts.Need-get-at-requires (put-switch-claims t) (put-switch-at t) put-switch.Post
-put-switch-get-at-requires t c κs = default-ready (c .before .before .before .before .before .before .before .pre .1 .0) refl (omega (arith, c .before .before .before .number-of .ensures, (c .before .before .before .before .before .before .before .pre .1 .0) .known .1 .0)) refl (omega arith) (le-refl _) (omega (arith, (c .before .before .before .before .before .before .before .pre .1 .0) .room))
+put-switch-get-node-requires : (t : ℕ) → put-switch-lts.Need-get-node-requires (put-switch-claims t) (put-switch-at t) put-switch.Post
+put-switch-get-node-requires t c κs = default-ready (c .before .before .before .before .before .before .before .pre .1 .0) refl (omega (arith, c .before .before .before .number-of .ensures, (c .before .before .before .before .before .before .before .pre .1 .0) .known .1 .0)) refl (omega arith) (le-refl _) (omega (arith, (c .before .before .before .before .before .before .before .pre .1 .0) .room))
+
+put-switch-bring-requires : (t : ℕ) → put-switch-lts.Need-bring-requires (put-switch-claims t) (put-switch-at t) put-switch.Post
+put-switch-bring-requires t c κs = λ h. movable (default-ready (c .before .before .before .before .before .before .before .before .before .before .before .pre .1 .0) refl (omega (arith, c .before .before .before .before .before .before .before .number-of .ensures, (c .before .before .before .before .before .before .before .before .before .before .before .pre .1 .0) .known .1 .0)) refl (omega arith) (le-refl _) (omega (arith, (c .before .before .before .before .before .before .before .before .before .before .before .pre .1 .0) .room))) (c .before .before .before .get-node .ensures) h
 
 put-switch-returns : (t : ℕ) → put-switch-lts.Need-returns (put-switch-claims t) (put-switch-at t) put-switch.Post
-put-switch-returns t c = as-taken (taken-refused (c .if1 .taken)) (switch-refused₁ ((c .before .before .before .before .before .before .before .before .before .before .before .pre .1 .0) .base) refl (as-node (c .before .before .before .before .before .before .before .number-of .ensures) (c .before .before .before .get-at .ensures .0)) (found-refused (c .if1 .taken)))
+put-switch-returns t c = as-taken (taken-refused (c .if1 .taken)) (switch-refused₁ ((c .before .before .before .before .before .before .before .before .before .before .before .before .before .before .before .pre .1 .0) .base) refl (as-node (c .before .before .before .before .before .before .before .before .before .before .before .number-of .ensures) ((bring-gives ((c .before .before .before .before .before .before .before .before .before .before .before .before .before .before .before .pre .1 .0) .base) (c .before .before .before .before .before .before .before .get-node .ensures) (c .before .before .before .bring .ensures)) .0)) (found-refused (c .if1 .taken)))
 
 put-switch-same-length : (t : ℕ) → put-switch-lts.Need-same-length (put-switch-claims t) (put-switch-at t) put-switch.Post
 put-switch-same-length t c = put-switch-returns t c .frame .long
@@ -1002,31 +1029,34 @@ put-switch-steps-of-requires : (t : ℕ) → put-switch-lts.Need-steps-of-requir
 put-switch-steps-of-requires t c κs = search needs
 
 put-switch-add-mid : (t : ℕ) → put-switch-lts.Need-add-mid (put-switch-claims t) (put-switch-at t) put-switch.Post
-put-switch-add-mid t c = record { fits = omega (arith, (switch-few₁ ((c .before .before .before .before .before .before .before .before .before .before .before .before .before .pre .1 .0) .base) refl (as-node (c .before .before .before .before .before .before .before .before .before .number-of .ensures) (c .before .before .before .before .before .get-at .ensures .0)) (found-there (c .before .before .if1 .left) (c .before .before .before .before .before .get-at .ensures .1) (c .before .len-of .ensures) (c .steps-of .ensures)) (c .before .before .before .before .before .before .before .before .before .before .before .before .before .pre .1 .0)), (c .before .before .before .before .before .before .before .before .before .before .before .before .before .pre .1 .1 .1)) }
+put-switch-add-mid t c = record { fits = omega (arith, (switch-few₁ ((c .before .before .before .before .before .before .before .before .before .before .before .before .before .before .before .before .before .before .pre .1 .0) .base) refl (as-node (c .before .before .before .before .before .before .before .before .before .before .before .before .before .before .number-of .ensures) ((bring-gives ((c .before .before .before .before .before .before .before .before .before .before .before .before .before .before .before .before .before .before .pre .1 .0) .base) (c .before .before .before .before .before .before .before .before .before .before .get-node .ensures) (c .before .before .before .before .before .before .bring .ensures)) .0)) (found-there (c .before .before .before .if1 .left) ((bring-gives ((c .before .before .before .before .before .before .before .before .before .before .before .before .before .before .before .before .before .before .pre .1 .0) .base) (c .before .before .before .before .before .before .before .before .before .before .get-node .ensures) (c .before .before .before .before .before .before .bring .ensures)) .1) (c .before .before .len-of .ensures) (c .before .steps-of .ensures)) (c .before .before .before .before .before .before .before .before .before .before .before .before .before .before .before .before .before .before .pre .1 .0)), (c .before .before .before .before .before .before .before .before .before .before .before .before .before .before .before .before .before .before .pre .1 .1 .1)) }
 
-put-switch-sub-left : (t : ℕ) → put-switch-lts.Need-sub-left (put-switch-claims t) (put-switch-at t) put-switch.Post
-put-switch-sub-left t c = omega (arith, (switch-few₁ ((c .before .before .before .before .before .before .before .before .before .before .before .before .before .before .pre .1 .0) .base) refl (as-node (c .before .before .before .before .before .before .before .before .before .before .number-of .ensures) (c .before .before .before .before .before .before .get-at .ensures .0)) (found-there (c .before .before .before .if1 .left) (c .before .before .before .before .before .before .get-at .ensures .1) (c .before .before .len-of .ensures) (c .before .steps-of .ensures)) (c .before .before .before .before .before .before .before .before .before .before .before .before .before .before .pre .1 .0)))
+put-switch-sub-two : (t : ℕ) → put-switch-lts.Need-sub-two (put-switch-claims t) (put-switch-at t) put-switch.Post
+put-switch-sub-two t c = omega (arith, (switch-few₁ ((c .before .before .before .before .before .before .before .before .before .before .before .before .before .before .before .before .before .before .before .pre .1 .0) .base) refl (as-node (c .before .before .before .before .before .before .before .before .before .before .before .before .before .before .before .number-of .ensures) ((bring-gives ((c .before .before .before .before .before .before .before .before .before .before .before .before .before .before .before .before .before .before .before .pre .1 .0) .base) (c .before .before .before .before .before .before .before .before .before .before .before .get-node .ensures) (c .before .before .before .before .before .before .before .bring .ensures)) .0)) (found-there (c .before .before .before .before .if1 .left) ((bring-gives ((c .before .before .before .before .before .before .before .before .before .before .before .before .before .before .before .before .before .before .before .pre .1 .0) .base) (c .before .before .before .before .before .before .before .before .before .before .before .get-node .ensures) (c .before .before .before .before .before .before .before .bring .ensures)) .1) (c .before .before .before .len-of .ensures) (c .before .before .steps-of .ensures)) (c .before .before .before .before .before .before .before .before .before .before .before .before .before .before .before .before .before .before .before .pre .1 .0)))
 
 put-switch-number-of-requires-2 : (t : ℕ) → put-switch-lts.Need-number-of-requires-2 (put-switch-claims t) (put-switch-at t) put-switch.Post
 put-switch-number-of-requires-2 t c κs = search needs
 
-put-switch-get-at-requires-2 : (t : ℕ) → put-switch-lts.Need-get-at-requires-2 (put-switch-claims t) (put-switch-at t) put-switch.Post
-put-switch-get-at-requires-2 t c κs = let thef1 = (switch-few₁ ((c .before .before .before .before .before .before .before .before .before .before .before .before .before .before .before .before .before .before .pre .1 .0) .base) refl (as-node (c .before .before .before .before .before .before .before .before .before .before .before .before .before .before .number-of .ensures) (c .before .before .before .before .before .before .before .before .before .before .get-at .ensures .0)) (found-there (c .before .before .before .before .before .before .before .if1 .left) (c .before .before .before .before .before .before .before .before .before .before .get-at .ensures .1) (c .before .before .before .before .before .before .len-of .ensures) (c .before .before .before .before .before .steps-of .ensures)) (c .before .before .before .before .before .before .before .before .before .before .before .before .before .before .before .before .before .before .pre .1 .0)) in default-ready (c .before .before .before .before .before .before .before .before .before .before .before .before .before .before .before .before .before .before .pre .1 .0) refl (omega (arith, c .before .before .before .number-of2 .ensures, (c .before .before .before .before .before .before .before .before .before .before .before .before .before .before .before .before .before .before .pre .1 .0) .known .1 .1)) (c .before .before .before .before .before .before .before .before .before .before .get-at .ensures .0 .kept .long) (omega (arith, thef1)) (omega arith) (omega (arith, thef1, (c .before .before .before .before .before .before .before .before .before .before .before .before .before .before .before .before .before .before .pre .1 .1 .1)))
+put-switch-get-node-requires-2 : (t : ℕ) → put-switch-lts.Need-get-node-requires-2 (put-switch-claims t) (put-switch-at t) put-switch.Post
+put-switch-get-node-requires-2 t c κs = let thef1 = (switch-few₁ ((c .before .before .before .before .before .before .before .before .before .before .before .before .before .before .before .before .before .before .before .before .before .before .before .pre .1 .0) .base) refl (as-node (c .before .before .before .before .before .before .before .before .before .before .before .before .before .before .before .before .before .before .before .number-of .ensures) ((bring-gives ((c .before .before .before .before .before .before .before .before .before .before .before .before .before .before .before .before .before .before .before .before .before .before .before .pre .1 .0) .base) (c .before .before .before .before .before .before .before .before .before .before .before .before .before .before .before .get-node .ensures) (c .before .before .before .before .before .before .before .before .before .before .before .bring .ensures)) .0)) (found-there (c .before .before .before .before .before .before .before .before .if1 .left) ((bring-gives ((c .before .before .before .before .before .before .before .before .before .before .before .before .before .before .before .before .before .before .before .before .before .before .before .pre .1 .0) .base) (c .before .before .before .before .before .before .before .before .before .before .before .before .before .before .before .get-node .ensures) (c .before .before .before .before .before .before .before .before .before .before .before .bring .ensures)) .1) (c .before .before .before .before .before .before .before .len-of .ensures) (c .before .before .before .before .before .before .steps-of .ensures)) (c .before .before .before .before .before .before .before .before .before .before .before .before .before .before .before .before .before .before .before .before .before .before .before .pre .1 .0)) in default-ready (c .before .before .before .before .before .before .before .before .before .before .before .before .before .before .before .before .before .before .before .before .before .before .before .pre .1 .0) refl (omega (arith, c .before .before .before .number-of2 .ensures, (c .before .before .before .before .before .before .before .before .before .before .before .before .before .before .before .before .before .before .before .before .before .before .before .pre .1 .0) .known .1 .1)) ((bring-gives ((c .before .before .before .before .before .before .before .before .before .before .before .before .before .before .before .before .before .before .before .before .before .before .before .pre .1 .0) .base) (c .before .before .before .before .before .before .before .before .before .before .before .before .before .before .before .get-node .ensures) (c .before .before .before .before .before .before .before .before .before .before .before .bring .ensures)) .0 .kept .long) (omega (arith, thef1)) (omega arith) (omega (arith, thef1, (c .before .before .before .before .before .before .before .before .before .before .before .before .before .before .before .before .before .before .before .before .before .before .before .pre .1 .1 .1)))
+
+put-switch-bring-requires-2 : (t : ℕ) → put-switch-lts.Need-bring-requires-2 (put-switch-claims t) (put-switch-at t) put-switch.Post
+put-switch-bring-requires-2 t c κs = let thef1 = (switch-few₁ ((c .before .before .before .before .before .before .before .before .before .before .before .before .before .before .before .before .before .before .before .before .before .before .before .before .before .before .before .pre .1 .0) .base) refl (as-node (c .before .before .before .before .before .before .before .before .before .before .before .before .before .before .before .before .before .before .before .before .before .before .before .number-of .ensures) ((bring-gives ((c .before .before .before .before .before .before .before .before .before .before .before .before .before .before .before .before .before .before .before .before .before .before .before .before .before .before .before .pre .1 .0) .base) (c .before .before .before .before .before .before .before .before .before .before .before .before .before .before .before .before .before .before .before .get-node .ensures) (c .before .before .before .before .before .before .before .before .before .before .before .before .before .before .before .bring .ensures)) .0)) (found-there (c .before .before .before .before .before .before .before .before .before .before .before .before .if1 .left) ((bring-gives ((c .before .before .before .before .before .before .before .before .before .before .before .before .before .before .before .before .before .before .before .before .before .before .before .before .before .before .before .pre .1 .0) .base) (c .before .before .before .before .before .before .before .before .before .before .before .before .before .before .before .before .before .before .before .get-node .ensures) (c .before .before .before .before .before .before .before .before .before .before .before .before .before .before .before .bring .ensures)) .1) (c .before .before .before .before .before .before .before .before .before .before .before .len-of .ensures) (c .before .before .before .before .before .before .before .before .before .before .steps-of .ensures)) (c .before .before .before .before .before .before .before .before .before .before .before .before .before .before .before .before .before .before .before .before .before .before .before .before .before .before .before .pre .1 .0)) in λ h. movable (default-ready (c .before .before .before .before .before .before .before .before .before .before .before .before .before .before .before .before .before .before .before .before .before .before .before .before .before .before .before .pre .1 .0) refl (omega (arith, c .before .before .before .before .before .before .before .number-of2 .ensures, (c .before .before .before .before .before .before .before .before .before .before .before .before .before .before .before .before .before .before .before .before .before .before .before .before .before .before .before .pre .1 .0) .known .1 .1)) ((bring-gives ((c .before .before .before .before .before .before .before .before .before .before .before .before .before .before .before .before .before .before .before .before .before .before .before .before .before .before .before .pre .1 .0) .base) (c .before .before .before .before .before .before .before .before .before .before .before .before .before .before .before .before .before .before .before .get-node .ensures) (c .before .before .before .before .before .before .before .before .before .before .before .before .before .before .before .bring .ensures)) .0 .kept .long) (omega (arith, thef1)) (omega arith) (omega (arith, thef1, (c .before .before .before .before .before .before .before .before .before .before .before .before .before .before .before .before .before .before .before .before .before .before .before .before .before .before .before .pre .1 .1 .1)))) (c .before .before .before .get-node2 .ensures) h
 
 put-switch-returns-2 : (t : ℕ) → put-switch-lts.Need-returns-2 (put-switch-claims t) (put-switch-at t) put-switch.Post
-put-switch-returns-2 t c = as-taken (taken-refused (c .if2 .taken)) (switch-refused₂ ((c .before .before .before .before .before .before .before .before .before .before .before .before .before .before .before .before .before .before .before .before .before .before .pre .1 .0) .base) refl (as-node (c .before .before .before .before .before .before .before .before .before .before .before .before .before .before .before .before .before .before .number-of .ensures) (c .before .before .before .before .before .before .before .before .before .before .before .before .before .before .get-at .ensures .0)) (found-there (c .before .before .before .before .before .before .before .before .before .before .before .if1 .left) (c .before .before .before .before .before .before .before .before .before .before .before .before .before .before .get-at .ensures .1) (c .before .before .before .before .before .before .before .before .before .before .len-of .ensures) (c .before .before .before .before .before .before .before .before .before .steps-of .ensures)) refl (as-node (c .before .before .before .before .before .before .before .number-of2 .ensures) (c .before .before .before .get-at2 .ensures .0)) (found-refused (c .if2 .taken)))
+put-switch-returns-2 t c = as-taken (taken-refused (c .if2 .taken)) (switch-refused₂ ((c .before .before .before .before .before .before .before .before .before .before .before .before .before .before .before .before .before .before .before .before .before .before .before .before .before .before .before .before .before .before .before .pre .1 .0) .base) refl (as-node (c .before .before .before .before .before .before .before .before .before .before .before .before .before .before .before .before .before .before .before .before .before .before .before .before .before .before .before .number-of .ensures) ((bring-gives ((c .before .before .before .before .before .before .before .before .before .before .before .before .before .before .before .before .before .before .before .before .before .before .before .before .before .before .before .before .before .before .before .pre .1 .0) .base) (c .before .before .before .before .before .before .before .before .before .before .before .before .before .before .before .before .before .before .before .before .before .before .before .get-node .ensures) (c .before .before .before .before .before .before .before .before .before .before .before .before .before .before .before .before .before .before .before .bring .ensures)) .0)) (found-there (c .before .before .before .before .before .before .before .before .before .before .before .before .before .before .before .before .if1 .left) ((bring-gives ((c .before .before .before .before .before .before .before .before .before .before .before .before .before .before .before .before .before .before .before .before .before .before .before .before .before .before .before .before .before .before .before .pre .1 .0) .base) (c .before .before .before .before .before .before .before .before .before .before .before .before .before .before .before .before .before .before .before .before .before .before .before .get-node .ensures) (c .before .before .before .before .before .before .before .before .before .before .before .before .before .before .before .before .before .before .before .bring .ensures)) .1) (c .before .before .before .before .before .before .before .before .before .before .before .before .before .before .before .len-of .ensures) (c .before .before .before .before .before .before .before .before .before .before .before .before .before .before .steps-of .ensures)) refl (as-node (c .before .before .before .before .before .before .before .before .before .before .before .number-of2 .ensures) ((bring-gives (omega (arith, (c .before .before .before .before .before .before .before .before .before .before .before .before .before .before .before .before .before .before .before .before .before .before .before .before .before .before .before .before .before .before .before .pre .1 .0) .base)) (c .before .before .before .before .before .before .before .get-node2 .ensures) (c .before .before .before .bring2 .ensures)) .0)) (found-refused (c .if2 .taken)))
 
 put-switch-same-length-2 : (t : ℕ) → put-switch-lts.Need-same-length-2 (put-switch-claims t) (put-switch-at t) put-switch.Post
 put-switch-same-length-2 t c = put-switch-returns-2 t c .frame .long
 
 put-switch-slice-read-unfit : (t : ℕ) → put-switch-lts.Need-slice-read-unfit (put-switch-claims t) (put-switch-at t) put-switch.Post
-put-switch-slice-read-unfit t c = omega (arith, (switch-few₁ ((c .before .before .before .before .before .before .before .before .before .before .before .before .before .before .before .before .before .before .before .before .before .before .before .pre .1 .0) .base) refl (as-node (c .before .before .before .before .before .before .before .before .before .before .before .before .before .before .before .before .before .before .before .number-of .ensures) (c .before .before .before .before .before .before .before .before .before .before .before .before .before .before .before .get-at .ensures .0)) (found-there (c .before .before .before .before .before .before .before .before .before .before .before .before .if1 .left) (c .before .before .before .before .before .before .before .before .before .before .before .before .before .before .before .get-at .ensures .1) (c .before .before .before .before .before .before .before .before .before .before .before .len-of .ensures) (c .before .before .before .before .before .before .before .before .before .before .steps-of .ensures)) (c .before .before .before .before .before .before .before .before .before .before .before .before .before .before .before .before .before .before .before .before .before .before .before .pre .1 .0)), (switch-few₂ ((c .before .before .before .before .before .before .before .before .before .before .before .before .before .before .before .before .before .before .before .before .before .before .before .pre .1 .0) .base) refl (as-node (c .before .before .before .before .before .before .before .before .before .before .before .before .before .before .before .before .before .before .before .number-of .ensures) (c .before .before .before .before .before .before .before .before .before .before .before .before .before .before .before .get-at .ensures .0)) (found-there (c .before .before .before .before .before .before .before .before .before .before .before .before .if1 .left) (c .before .before .before .before .before .before .before .before .before .before .before .before .before .before .before .get-at .ensures .1) (c .before .before .before .before .before .before .before .before .before .before .before .len-of .ensures) (c .before .before .before .before .before .before .before .before .before .before .steps-of .ensures)) refl (as-node (c .before .before .before .before .before .before .before .before .number-of2 .ensures) (c .before .before .before .before .get-at2 .ensures .0)) (found-there (c .before .if2 .left) (c .before .before .before .before .get-at2 .ensures .1) refl refl) (c .before .before .before .before .before .before .before .before .before .before .before .before .before .before .before .before .before .before .before .before .before .before .before .pre .1 .0)), (c .before .before .before .before .before .before .before .before .before .before .before .before .before .before .before .before .before .before .before .before .before .before .before .pre .1 .1 .1))
+put-switch-slice-read-unfit t c = omega (arith, (switch-few₁ ((c .before .before .before .before .before .before .before .before .before .before .before .before .before .before .before .before .before .before .before .before .before .before .before .before .before .before .before .before .before .before .before .before .pre .1 .0) .base) refl (as-node (c .before .before .before .before .before .before .before .before .before .before .before .before .before .before .before .before .before .before .before .before .before .before .before .before .before .before .before .before .number-of .ensures) ((bring-gives ((c .before .before .before .before .before .before .before .before .before .before .before .before .before .before .before .before .before .before .before .before .before .before .before .before .before .before .before .before .before .before .before .before .pre .1 .0) .base) (c .before .before .before .before .before .before .before .before .before .before .before .before .before .before .before .before .before .before .before .before .before .before .before .before .get-node .ensures) (c .before .before .before .before .before .before .before .before .before .before .before .before .before .before .before .before .before .before .before .before .bring .ensures)) .0)) (found-there (c .before .before .before .before .before .before .before .before .before .before .before .before .before .before .before .before .before .if1 .left) ((bring-gives ((c .before .before .before .before .before .before .before .before .before .before .before .before .before .before .before .before .before .before .before .before .before .before .before .before .before .before .before .before .before .before .before .before .pre .1 .0) .base) (c .before .before .before .before .before .before .before .before .before .before .before .before .before .before .before .before .before .before .before .before .before .before .before .before .get-node .ensures) (c .before .before .before .before .before .before .before .before .before .before .before .before .before .before .before .before .before .before .before .before .bring .ensures)) .1) (c .before .before .before .before .before .before .before .before .before .before .before .before .before .before .before .before .len-of .ensures) (c .before .before .before .before .before .before .before .before .before .before .before .before .before .before .before .steps-of .ensures)) (c .before .before .before .before .before .before .before .before .before .before .before .before .before .before .before .before .before .before .before .before .before .before .before .before .before .before .before .before .before .before .before .before .pre .1 .0)), (switch-few₂ ((c .before .before .before .before .before .before .before .before .before .before .before .before .before .before .before .before .before .before .before .before .before .before .before .before .before .before .before .before .before .before .before .before .pre .1 .0) .base) refl (as-node (c .before .before .before .before .before .before .before .before .before .before .before .before .before .before .before .before .before .before .before .before .before .before .before .before .before .before .before .before .number-of .ensures) ((bring-gives ((c .before .before .before .before .before .before .before .before .before .before .before .before .before .before .before .before .before .before .before .before .before .before .before .before .before .before .before .before .before .before .before .before .pre .1 .0) .base) (c .before .before .before .before .before .before .before .before .before .before .before .before .before .before .before .before .before .before .before .before .before .before .before .before .get-node .ensures) (c .before .before .before .before .before .before .before .before .before .before .before .before .before .before .before .before .before .before .before .before .bring .ensures)) .0)) (found-there (c .before .before .before .before .before .before .before .before .before .before .before .before .before .before .before .before .before .if1 .left) ((bring-gives ((c .before .before .before .before .before .before .before .before .before .before .before .before .before .before .before .before .before .before .before .before .before .before .before .before .before .before .before .before .before .before .before .before .pre .1 .0) .base) (c .before .before .before .before .before .before .before .before .before .before .before .before .before .before .before .before .before .before .before .before .before .before .before .before .get-node .ensures) (c .before .before .before .before .before .before .before .before .before .before .before .before .before .before .before .before .before .before .before .before .bring .ensures)) .1) (c .before .before .before .before .before .before .before .before .before .before .before .before .before .before .before .before .len-of .ensures) (c .before .before .before .before .before .before .before .before .before .before .before .before .before .before .before .steps-of .ensures)) refl (as-node (c .before .before .before .before .before .before .before .before .before .before .before .before .number-of2 .ensures) ((bring-gives (omega (arith, (c .before .before .before .before .before .before .before .before .before .before .before .before .before .before .before .before .before .before .before .before .before .before .before .before .before .before .before .before .before .before .before .before .pre .1 .0) .base)) (c .before .before .before .before .before .before .before .before .get-node2 .ensures) (c .before .before .before .before .bring2 .ensures)) .0)) (found-there (c .before .if2 .left) ((bring-gives (omega (arith, (c .before .before .before .before .before .before .before .before .before .before .before .before .before .before .before .before .before .before .before .before .before .before .before .before .before .before .before .before .before .before .before .before .pre .1 .0) .base)) (c .before .before .before .before .before .before .before .before .get-node2 .ensures) (c .before .before .before .before .bring2 .ensures)) .1) refl refl) (c .before .before .before .before .before .before .before .before .before .before .before .before .before .before .before .before .before .before .before .before .before .before .before .before .before .before .before .before .before .before .before .before .pre .1 .0)), (c .before .before .before .before .before .before .before .before .before .before .before .before .before .before .before .before .before .before .before .before .before .before .before .before .before .before .before .before .before .before .before .before .pre .1 .1 .1))
 
 put-switch-unfit-requires : (t : ℕ) → put-switch-lts.Need-unfit-requires (put-switch-claims t) (put-switch-at t) put-switch.Post
 put-switch-unfit-requires t c κs = search needs
 
 put-switch-returns-3 : (t : ℕ) → put-switch-lts.Need-returns-3 (put-switch-claims t) (put-switch-at t) put-switch.Post
-put-switch-returns-3 t c = as-taken (taken-refused (omega arith)) (switch-43 ((c .before .before .before .before .before .before .before .before .before .before .before .before .before .before .before .before .before .before .before .before .before .before .before .before .before .pre .1 .0) .base) refl (as-node (c .before .before .before .before .before .before .before .before .before .before .before .before .before .before .before .before .before .before .before .before .before .number-of .ensures) (c .before .before .before .before .before .before .before .before .before .before .before .before .before .before .before .before .before .get-at .ensures .0)) (found-there (c .before .before .before .before .before .before .before .before .before .before .before .before .before .before .if1 .left) (c .before .before .before .before .before .before .before .before .before .before .before .before .before .before .before .before .before .get-at .ensures .1) (c .before .before .before .before .before .before .before .before .before .before .before .before .before .len-of .ensures) (c .before .before .before .before .before .before .before .before .before .before .before .before .steps-of .ensures)) refl (as-node (c .before .before .before .before .before .before .before .before .before .before .number-of2 .ensures) (c .before .before .before .before .before .before .get-at2 .ensures .0)) (found-there (c .before .before .before .if2 .left) (c .before .before .before .before .before .before .get-at2 .ensures .1) refl refl) (unfit-no _ (c .before .unfit .ensures) (c .if3 .taken)))
+put-switch-returns-3 t c = as-taken (taken-refused (omega arith)) (switch-43 ((c .before .before .before .before .before .before .before .before .before .before .before .before .before .before .before .before .before .before .before .before .before .before .before .before .before .before .before .before .before .before .before .before .before .before .pre .1 .0) .base) refl (as-node (c .before .before .before .before .before .before .before .before .before .before .before .before .before .before .before .before .before .before .before .before .before .before .before .before .before .before .before .before .before .before .number-of .ensures) ((bring-gives ((c .before .before .before .before .before .before .before .before .before .before .before .before .before .before .before .before .before .before .before .before .before .before .before .before .before .before .before .before .before .before .before .before .before .before .pre .1 .0) .base) (c .before .before .before .before .before .before .before .before .before .before .before .before .before .before .before .before .before .before .before .before .before .before .before .before .before .before .get-node .ensures) (c .before .before .before .before .before .before .before .before .before .before .before .before .before .before .before .before .before .before .before .before .before .before .bring .ensures)) .0)) (found-there (c .before .before .before .before .before .before .before .before .before .before .before .before .before .before .before .before .before .before .before .if1 .left) ((bring-gives ((c .before .before .before .before .before .before .before .before .before .before .before .before .before .before .before .before .before .before .before .before .before .before .before .before .before .before .before .before .before .before .before .before .before .before .pre .1 .0) .base) (c .before .before .before .before .before .before .before .before .before .before .before .before .before .before .before .before .before .before .before .before .before .before .before .before .before .before .get-node .ensures) (c .before .before .before .before .before .before .before .before .before .before .before .before .before .before .before .before .before .before .before .before .before .before .bring .ensures)) .1) (c .before .before .before .before .before .before .before .before .before .before .before .before .before .before .before .before .before .before .len-of .ensures) (c .before .before .before .before .before .before .before .before .before .before .before .before .before .before .before .before .before .steps-of .ensures)) refl (as-node (c .before .before .before .before .before .before .before .before .before .before .before .before .before .before .number-of2 .ensures) ((bring-gives (omega (arith, (c .before .before .before .before .before .before .before .before .before .before .before .before .before .before .before .before .before .before .before .before .before .before .before .before .before .before .before .before .before .before .before .before .before .before .pre .1 .0) .base)) (c .before .before .before .before .before .before .before .before .before .before .get-node2 .ensures) (c .before .before .before .before .before .before .bring2 .ensures)) .0)) (found-there (c .before .before .before .if2 .left) ((bring-gives (omega (arith, (c .before .before .before .before .before .before .before .before .before .before .before .before .before .before .before .before .before .before .before .before .before .before .before .before .before .before .before .before .before .before .before .before .before .before .pre .1 .0) .base)) (c .before .before .before .before .before .before .before .before .before .before .get-node2 .ensures) (c .before .before .before .before .before .before .bring2 .ensures)) .1) refl refl) (unfit-no _ (c .before .unfit .ensures) (c .if3 .taken)))
 
 put-switch-same-length-3 : (t : ℕ) → put-switch-lts.Need-same-length-3 (put-switch-claims t) (put-switch-at t) put-switch.Post
 put-switch-same-length-3 t c = put-switch-returns-3 t c .frame .long
@@ -1037,11 +1067,11 @@ put-switch-len-of-requires-2 t c κs = search needs
 put-switch-steps-of-requires-2 : (t : ℕ) → put-switch-lts.Need-steps-of-requires-2 (put-switch-claims t) (put-switch-at t) put-switch.Post
 put-switch-steps-of-requires-2 t c κs = search needs
 
-put-switch-sub-put-under : (t : ℕ) → put-switch-lts.Need-sub-put-under (put-switch-claims t) (put-switch-at t) put-switch.Post
-put-switch-sub-put-under t c = omega (arith, (switch-few₂ ((c .before .before .before .before .before .before .before .before .before .before .before .before .before .before .before .before .before .before .before .before .before .before .before .before .before .before .before .pre .1 .0) .base) refl (as-node (c .before .before .before .before .before .before .before .before .before .before .before .before .before .before .before .before .before .before .before .before .before .before .before .number-of .ensures) (c .before .before .before .before .before .before .before .before .before .before .before .before .before .before .before .before .before .before .before .get-at .ensures .0)) (found-there (c .before .before .before .before .before .before .before .before .before .before .before .before .before .before .before .before .if1 .left) (c .before .before .before .before .before .before .before .before .before .before .before .before .before .before .before .before .before .before .before .get-at .ensures .1) (c .before .before .before .before .before .before .before .before .before .before .before .before .before .before .before .len-of .ensures) (c .before .before .before .before .before .before .before .before .before .before .before .before .before .before .steps-of .ensures)) refl (as-node (c .before .before .before .before .before .before .before .before .before .before .before .before .number-of2 .ensures) (c .before .before .before .before .before .before .before .before .get-at2 .ensures .0)) (found-there (c .before .before .before .before .before .if2 .left) (c .before .before .before .before .before .before .before .before .get-at2 .ensures .1) (c .before .len-of2 .ensures) (c .steps-of2 .ensures)) (c .before .before .before .before .before .before .before .before .before .before .before .before .before .before .before .before .before .before .before .before .before .before .before .before .before .before .before .pre .1 .0)))
+put-switch-sub-to : (t : ℕ) → put-switch-lts.Need-sub-to (put-switch-claims t) (put-switch-at t) put-switch.Post
+put-switch-sub-to t c = omega (arith, (switch-few₂ ((c .before .before .before .before .before .before .before .before .before .before .before .before .before .before .before .before .before .before .before .before .before .before .before .before .before .before .before .before .before .before .before .before .before .before .before .before .before .pre .1 .0) .base) refl (as-node (c .before .before .before .before .before .before .before .before .before .before .before .before .before .before .before .before .before .before .before .before .before .before .before .before .before .before .before .before .before .before .before .before .before .number-of .ensures) ((bring-gives ((c .before .before .before .before .before .before .before .before .before .before .before .before .before .before .before .before .before .before .before .before .before .before .before .before .before .before .before .before .before .before .before .before .before .before .before .before .before .pre .1 .0) .base) (c .before .before .before .before .before .before .before .before .before .before .before .before .before .before .before .before .before .before .before .before .before .before .before .before .before .before .before .before .before .get-node .ensures) (c .before .before .before .before .before .before .before .before .before .before .before .before .before .before .before .before .before .before .before .before .before .before .before .before .before .bring .ensures)) .0)) (found-there (c .before .before .before .before .before .before .before .before .before .before .before .before .before .before .before .before .before .before .before .before .before .before .if1 .left) ((bring-gives ((c .before .before .before .before .before .before .before .before .before .before .before .before .before .before .before .before .before .before .before .before .before .before .before .before .before .before .before .before .before .before .before .before .before .before .before .before .before .pre .1 .0) .base) (c .before .before .before .before .before .before .before .before .before .before .before .before .before .before .before .before .before .before .before .before .before .before .before .before .before .before .before .before .before .get-node .ensures) (c .before .before .before .before .before .before .before .before .before .before .before .before .before .before .before .before .before .before .before .before .before .before .before .before .before .bring .ensures)) .1) (c .before .before .before .before .before .before .before .before .before .before .before .before .before .before .before .before .before .before .before .before .before .len-of .ensures) (c .before .before .before .before .before .before .before .before .before .before .before .before .before .before .before .before .before .before .before .before .steps-of .ensures)) refl (as-node (c .before .before .before .before .before .before .before .before .before .before .before .before .before .before .before .before .before .number-of2 .ensures) ((bring-gives (omega (arith, (c .before .before .before .before .before .before .before .before .before .before .before .before .before .before .before .before .before .before .before .before .before .before .before .before .before .before .before .before .before .before .before .before .before .before .before .before .before .pre .1 .0) .base)) (c .before .before .before .before .before .before .before .before .before .before .before .before .before .get-node2 .ensures) (c .before .before .before .before .before .before .before .before .before .bring2 .ensures)) .0)) (found-there (c .before .before .before .before .before .before .if2 .left) ((bring-gives (omega (arith, (c .before .before .before .before .before .before .before .before .before .before .before .before .before .before .before .before .before .before .before .before .before .before .before .before .before .before .before .before .before .before .before .before .before .before .before .before .before .pre .1 .0) .base)) (c .before .before .before .before .before .before .before .before .before .before .before .before .before .get-node2 .ensures) (c .before .before .before .before .before .before .before .before .before .bring2 .ensures)) .1) (c .before .before .len-of2 .ensures) (c .before .steps-of2 .ensures)) (c .before .before .before .before .before .before .before .before .before .before .before .before .before .before .before .before .before .before .before .before .before .before .before .before .before .before .before .before .before .before .before .before .before .before .before .before .before .pre .1 .0)))
 
-put-switch-add-put-under : (t : ℕ) → put-switch-lts.Need-add-put-under (put-switch-claims t) (put-switch-at t) put-switch.Post
-put-switch-add-put-under t c = record { fits = omega (arith, (switch-few₁ ((c .before .before .before .before .before .before .before .before .before .before .before .before .before .before .before .before .before .before .before .before .before .before .before .before .before .before .before .pre .1 .0) .base) refl (as-node (c .before .before .before .before .before .before .before .before .before .before .before .before .before .before .before .before .before .before .before .before .before .before .before .number-of .ensures) (c .before .before .before .before .before .before .before .before .before .before .before .before .before .before .before .before .before .before .before .get-at .ensures .0)) (found-there (c .before .before .before .before .before .before .before .before .before .before .before .before .before .before .before .before .if1 .left) (c .before .before .before .before .before .before .before .before .before .before .before .before .before .before .before .before .before .before .before .get-at .ensures .1) (c .before .before .before .before .before .before .before .before .before .before .before .before .before .before .before .len-of .ensures) (c .before .before .before .before .before .before .before .before .before .before .before .before .before .before .steps-of .ensures)) (c .before .before .before .before .before .before .before .before .before .before .before .before .before .before .before .before .before .before .before .before .before .before .before .before .before .before .before .pre .1 .0)), (switch-few₂ ((c .before .before .before .before .before .before .before .before .before .before .before .before .before .before .before .before .before .before .before .before .before .before .before .before .before .before .before .pre .1 .0) .base) refl (as-node (c .before .before .before .before .before .before .before .before .before .before .before .before .before .before .before .before .before .before .before .before .before .before .before .number-of .ensures) (c .before .before .before .before .before .before .before .before .before .before .before .before .before .before .before .before .before .before .before .get-at .ensures .0)) (found-there (c .before .before .before .before .before .before .before .before .before .before .before .before .before .before .before .before .if1 .left) (c .before .before .before .before .before .before .before .before .before .before .before .before .before .before .before .before .before .before .before .get-at .ensures .1) (c .before .before .before .before .before .before .before .before .before .before .before .before .before .before .before .len-of .ensures) (c .before .before .before .before .before .before .before .before .before .before .before .before .before .before .steps-of .ensures)) refl (as-node (c .before .before .before .before .before .before .before .before .before .before .before .before .number-of2 .ensures) (c .before .before .before .before .before .before .before .before .get-at2 .ensures .0)) (found-there (c .before .before .before .before .before .if2 .left) (c .before .before .before .before .before .before .before .before .get-at2 .ensures .1) (c .before .len-of2 .ensures) (c .steps-of2 .ensures)) (c .before .before .before .before .before .before .before .before .before .before .before .before .before .before .before .before .before .before .before .before .before .before .before .before .before .before .before .pre .1 .0)), (c .before .before .before .before .before .before .before .before .before .before .before .before .before .before .before .before .before .before .before .before .before .before .before .before .before .before .before .pre .1 .1 .1)) }
+put-switch-add-to : (t : ℕ) → put-switch-lts.Need-add-to (put-switch-claims t) (put-switch-at t) put-switch.Post
+put-switch-add-to t c = record { fits = omega (arith, (switch-few₁ ((c .before .before .before .before .before .before .before .before .before .before .before .before .before .before .before .before .before .before .before .before .before .before .before .before .before .before .before .before .before .before .before .before .before .before .before .before .before .pre .1 .0) .base) refl (as-node (c .before .before .before .before .before .before .before .before .before .before .before .before .before .before .before .before .before .before .before .before .before .before .before .before .before .before .before .before .before .before .before .before .before .number-of .ensures) ((bring-gives ((c .before .before .before .before .before .before .before .before .before .before .before .before .before .before .before .before .before .before .before .before .before .before .before .before .before .before .before .before .before .before .before .before .before .before .before .before .before .pre .1 .0) .base) (c .before .before .before .before .before .before .before .before .before .before .before .before .before .before .before .before .before .before .before .before .before .before .before .before .before .before .before .before .before .get-node .ensures) (c .before .before .before .before .before .before .before .before .before .before .before .before .before .before .before .before .before .before .before .before .before .before .before .before .before .bring .ensures)) .0)) (found-there (c .before .before .before .before .before .before .before .before .before .before .before .before .before .before .before .before .before .before .before .before .before .before .if1 .left) ((bring-gives ((c .before .before .before .before .before .before .before .before .before .before .before .before .before .before .before .before .before .before .before .before .before .before .before .before .before .before .before .before .before .before .before .before .before .before .before .before .before .pre .1 .0) .base) (c .before .before .before .before .before .before .before .before .before .before .before .before .before .before .before .before .before .before .before .before .before .before .before .before .before .before .before .before .before .get-node .ensures) (c .before .before .before .before .before .before .before .before .before .before .before .before .before .before .before .before .before .before .before .before .before .before .before .before .before .bring .ensures)) .1) (c .before .before .before .before .before .before .before .before .before .before .before .before .before .before .before .before .before .before .before .before .before .len-of .ensures) (c .before .before .before .before .before .before .before .before .before .before .before .before .before .before .before .before .before .before .before .before .steps-of .ensures)) (c .before .before .before .before .before .before .before .before .before .before .before .before .before .before .before .before .before .before .before .before .before .before .before .before .before .before .before .before .before .before .before .before .before .before .before .before .before .pre .1 .0)), (switch-few₂ ((c .before .before .before .before .before .before .before .before .before .before .before .before .before .before .before .before .before .before .before .before .before .before .before .before .before .before .before .before .before .before .before .before .before .before .before .before .before .pre .1 .0) .base) refl (as-node (c .before .before .before .before .before .before .before .before .before .before .before .before .before .before .before .before .before .before .before .before .before .before .before .before .before .before .before .before .before .before .before .before .before .number-of .ensures) ((bring-gives ((c .before .before .before .before .before .before .before .before .before .before .before .before .before .before .before .before .before .before .before .before .before .before .before .before .before .before .before .before .before .before .before .before .before .before .before .before .before .pre .1 .0) .base) (c .before .before .before .before .before .before .before .before .before .before .before .before .before .before .before .before .before .before .before .before .before .before .before .before .before .before .before .before .before .get-node .ensures) (c .before .before .before .before .before .before .before .before .before .before .before .before .before .before .before .before .before .before .before .before .before .before .before .before .before .bring .ensures)) .0)) (found-there (c .before .before .before .before .before .before .before .before .before .before .before .before .before .before .before .before .before .before .before .before .before .before .if1 .left) ((bring-gives ((c .before .before .before .before .before .before .before .before .before .before .before .before .before .before .before .before .before .before .before .before .before .before .before .before .before .before .before .before .before .before .before .before .before .before .before .before .before .pre .1 .0) .base) (c .before .before .before .before .before .before .before .before .before .before .before .before .before .before .before .before .before .before .before .before .before .before .before .before .before .before .before .before .before .get-node .ensures) (c .before .before .before .before .before .before .before .before .before .before .before .before .before .before .before .before .before .before .before .before .before .before .before .before .before .bring .ensures)) .1) (c .before .before .before .before .before .before .before .before .before .before .before .before .before .before .before .before .before .before .before .before .before .len-of .ensures) (c .before .before .before .before .before .before .before .before .before .before .before .before .before .before .before .before .before .before .before .before .steps-of .ensures)) refl (as-node (c .before .before .before .before .before .before .before .before .before .before .before .before .before .before .before .before .before .number-of2 .ensures) ((bring-gives (omega (arith, (c .before .before .before .before .before .before .before .before .before .before .before .before .before .before .before .before .before .before .before .before .before .before .before .before .before .before .before .before .before .before .before .before .before .before .before .before .before .pre .1 .0) .base)) (c .before .before .before .before .before .before .before .before .before .before .before .before .before .get-node2 .ensures) (c .before .before .before .before .before .before .before .before .before .bring2 .ensures)) .0)) (found-there (c .before .before .before .before .before .before .if2 .left) ((bring-gives (omega (arith, (c .before .before .before .before .before .before .before .before .before .before .before .before .before .before .before .before .before .before .before .before .before .before .before .before .before .before .before .before .before .before .before .before .before .before .before .before .before .pre .1 .0) .base)) (c .before .before .before .before .before .before .before .before .before .before .before .before .before .get-node2 .ensures) (c .before .before .before .before .before .before .before .before .before .bring2 .ensures)) .1) (c .before .before .len-of2 .ensures) (c .before .steps-of2 .ensures)) (c .before .before .before .before .before .before .before .before .before .before .before .before .before .before .before .before .before .before .before .before .before .before .before .before .before .before .before .before .before .before .before .before .before .before .before .before .before .pre .1 .0)), (c .before .before .before .before .before .before .before .before .before .before .before .before .before .before .before .before .before .before .before .before .before .before .before .before .before .before .before .before .before .before .before .before .before .before .before .before .before .pre .1 .1 .1)) }
 
 put-switch-number-of-requires-3 : (t : ℕ) → put-switch-lts.Need-number-of-requires-3 (put-switch-claims t) (put-switch-at t) put-switch.Post
 put-switch-number-of-requires-3 t c κs = search needs
@@ -1049,17 +1079,17 @@ put-switch-number-of-requires-3 t c κs = search needs
 put-switch-number-of-requires-4 : (t : ℕ) → put-switch-lts.Need-number-of-requires-4 (put-switch-claims t) (put-switch-at t) put-switch.Post
 put-switch-number-of-requires-4 t c κs = search needs
 
-put-switch-add-put-under-2 : (t : ℕ) → put-switch-lts.Need-add-put-under-2 (put-switch-claims t) (put-switch-at t) put-switch.Post
-put-switch-add-put-under-2 t c = record { fits = omega (arith, (switch-few₁ ((c .before .before .before .before .before .before .before .before .before .before .before .before .before .before .before .before .before .before .before .before .before .before .before .before .before .before .before .before .before .before .before .pre .1 .0) .base) refl (as-node (c .before .before .before .before .before .before .before .before .before .before .before .before .before .before .before .before .before .before .before .before .before .before .before .before .before .before .before .number-of .ensures) (c .before .before .before .before .before .before .before .before .before .before .before .before .before .before .before .before .before .before .before .before .before .before .before .get-at .ensures .0)) (found-there (c .before .before .before .before .before .before .before .before .before .before .before .before .before .before .before .before .before .before .before .before .if1 .left) (c .before .before .before .before .before .before .before .before .before .before .before .before .before .before .before .before .before .before .before .before .before .before .before .get-at .ensures .1) (c .before .before .before .before .before .before .before .before .before .before .before .before .before .before .before .before .before .before .before .len-of .ensures) (c .before .before .before .before .before .before .before .before .before .before .before .before .before .before .before .before .before .before .steps-of .ensures)) (c .before .before .before .before .before .before .before .before .before .before .before .before .before .before .before .before .before .before .before .before .before .before .before .before .before .before .before .before .before .before .before .pre .1 .0)), (switch-few₂ ((c .before .before .before .before .before .before .before .before .before .before .before .before .before .before .before .before .before .before .before .before .before .before .before .before .before .before .before .before .before .before .before .pre .1 .0) .base) refl (as-node (c .before .before .before .before .before .before .before .before .before .before .before .before .before .before .before .before .before .before .before .before .before .before .before .before .before .before .before .number-of .ensures) (c .before .before .before .before .before .before .before .before .before .before .before .before .before .before .before .before .before .before .before .before .before .before .before .get-at .ensures .0)) (found-there (c .before .before .before .before .before .before .before .before .before .before .before .before .before .before .before .before .before .before .before .before .if1 .left) (c .before .before .before .before .before .before .before .before .before .before .before .before .before .before .before .before .before .before .before .before .before .before .before .get-at .ensures .1) (c .before .before .before .before .before .before .before .before .before .before .before .before .before .before .before .before .before .before .before .len-of .ensures) (c .before .before .before .before .before .before .before .before .before .before .before .before .before .before .before .before .before .before .steps-of .ensures)) refl (as-node (c .before .before .before .before .before .before .before .before .before .before .before .before .before .before .before .before .number-of2 .ensures) (c .before .before .before .before .before .before .before .before .before .before .before .before .get-at2 .ensures .0)) (found-there (c .before .before .before .before .before .before .before .before .before .if2 .left) (c .before .before .before .before .before .before .before .before .before .before .before .before .get-at2 .ensures .1) (c .before .before .before .before .before .len-of2 .ensures) (c .before .before .before .before .steps-of2 .ensures)) (c .before .before .before .before .before .before .before .before .before .before .before .before .before .before .before .before .before .before .before .before .before .before .before .before .before .before .before .before .before .before .before .pre .1 .0)), (c .before .before .before .before .before .before .before .before .before .before .before .before .before .before .before .before .before .before .before .before .before .before .before .before .before .before .before .before .before .before .before .pre .1 .0) .few) }
+put-switch-add-put-under : (t : ℕ) → put-switch-lts.Need-add-put-under (put-switch-claims t) (put-switch-at t) put-switch.Post
+put-switch-add-put-under t c = record { fits = omega (arith, (switch-few₁ ((c .before .before .before .before .before .before .before .before .before .before .before .before .before .before .before .before .before .before .before .before .before .before .before .before .before .before .before .before .before .before .before .before .before .before .before .before .before .before .before .before .before .pre .1 .0) .base) refl (as-node (c .before .before .before .before .before .before .before .before .before .before .before .before .before .before .before .before .before .before .before .before .before .before .before .before .before .before .before .before .before .before .before .before .before .before .before .before .before .number-of .ensures) ((bring-gives ((c .before .before .before .before .before .before .before .before .before .before .before .before .before .before .before .before .before .before .before .before .before .before .before .before .before .before .before .before .before .before .before .before .before .before .before .before .before .before .before .before .before .pre .1 .0) .base) (c .before .before .before .before .before .before .before .before .before .before .before .before .before .before .before .before .before .before .before .before .before .before .before .before .before .before .before .before .before .before .before .before .before .get-node .ensures) (c .before .before .before .before .before .before .before .before .before .before .before .before .before .before .before .before .before .before .before .before .before .before .before .before .before .before .before .before .before .bring .ensures)) .0)) (found-there (c .before .before .before .before .before .before .before .before .before .before .before .before .before .before .before .before .before .before .before .before .before .before .before .before .before .before .if1 .left) ((bring-gives ((c .before .before .before .before .before .before .before .before .before .before .before .before .before .before .before .before .before .before .before .before .before .before .before .before .before .before .before .before .before .before .before .before .before .before .before .before .before .before .before .before .before .pre .1 .0) .base) (c .before .before .before .before .before .before .before .before .before .before .before .before .before .before .before .before .before .before .before .before .before .before .before .before .before .before .before .before .before .before .before .before .before .get-node .ensures) (c .before .before .before .before .before .before .before .before .before .before .before .before .before .before .before .before .before .before .before .before .before .before .before .before .before .before .before .before .before .bring .ensures)) .1) (c .before .before .before .before .before .before .before .before .before .before .before .before .before .before .before .before .before .before .before .before .before .before .before .before .before .len-of .ensures) (c .before .before .before .before .before .before .before .before .before .before .before .before .before .before .before .before .before .before .before .before .before .before .before .before .steps-of .ensures)) (c .before .before .before .before .before .before .before .before .before .before .before .before .before .before .before .before .before .before .before .before .before .before .before .before .before .before .before .before .before .before .before .before .before .before .before .before .before .before .before .before .before .pre .1 .0)), (switch-few₂ ((c .before .before .before .before .before .before .before .before .before .before .before .before .before .before .before .before .before .before .before .before .before .before .before .before .before .before .before .before .before .before .before .before .before .before .before .before .before .before .before .before .before .pre .1 .0) .base) refl (as-node (c .before .before .before .before .before .before .before .before .before .before .before .before .before .before .before .before .before .before .before .before .before .before .before .before .before .before .before .before .before .before .before .before .before .before .before .before .before .number-of .ensures) ((bring-gives ((c .before .before .before .before .before .before .before .before .before .before .before .before .before .before .before .before .before .before .before .before .before .before .before .before .before .before .before .before .before .before .before .before .before .before .before .before .before .before .before .before .before .pre .1 .0) .base) (c .before .before .before .before .before .before .before .before .before .before .before .before .before .before .before .before .before .before .before .before .before .before .before .before .before .before .before .before .before .before .before .before .before .get-node .ensures) (c .before .before .before .before .before .before .before .before .before .before .before .before .before .before .before .before .before .before .before .before .before .before .before .before .before .before .before .before .before .bring .ensures)) .0)) (found-there (c .before .before .before .before .before .before .before .before .before .before .before .before .before .before .before .before .before .before .before .before .before .before .before .before .before .before .if1 .left) ((bring-gives ((c .before .before .before .before .before .before .before .before .before .before .before .before .before .before .before .before .before .before .before .before .before .before .before .before .before .before .before .before .before .before .before .before .before .before .before .before .before .before .before .before .before .pre .1 .0) .base) (c .before .before .before .before .before .before .before .before .before .before .before .before .before .before .before .before .before .before .before .before .before .before .before .before .before .before .before .before .before .before .before .before .before .get-node .ensures) (c .before .before .before .before .before .before .before .before .before .before .before .before .before .before .before .before .before .before .before .before .before .before .before .before .before .before .before .before .before .bring .ensures)) .1) (c .before .before .before .before .before .before .before .before .before .before .before .before .before .before .before .before .before .before .before .before .before .before .before .before .before .len-of .ensures) (c .before .before .before .before .before .before .before .before .before .before .before .before .before .before .before .before .before .before .before .before .before .before .before .before .steps-of .ensures)) refl (as-node (c .before .before .before .before .before .before .before .before .before .before .before .before .before .before .before .before .before .before .before .before .before .number-of2 .ensures) ((bring-gives (omega (arith, (c .before .before .before .before .before .before .before .before .before .before .before .before .before .before .before .before .before .before .before .before .before .before .before .before .before .before .before .before .before .before .before .before .before .before .before .before .before .before .before .before .before .pre .1 .0) .base)) (c .before .before .before .before .before .before .before .before .before .before .before .before .before .before .before .before .before .get-node2 .ensures) (c .before .before .before .before .before .before .before .before .before .before .before .before .before .bring2 .ensures)) .0)) (found-there (c .before .before .before .before .before .before .before .before .before .before .if2 .left) ((bring-gives (omega (arith, (c .before .before .before .before .before .before .before .before .before .before .before .before .before .before .before .before .before .before .before .before .before .before .before .before .before .before .before .before .before .before .before .before .before .before .before .before .before .before .before .before .before .pre .1 .0) .base)) (c .before .before .before .before .before .before .before .before .before .before .before .before .before .before .before .before .before .get-node2 .ensures) (c .before .before .before .before .before .before .before .before .before .before .before .before .before .bring2 .ensures)) .1) (c .before .before .before .before .before .before .len-of2 .ensures) (c .before .before .before .before .before .steps-of2 .ensures)) (c .before .before .before .before .before .before .before .before .before .before .before .before .before .before .before .before .before .before .before .before .before .before .before .before .before .before .before .before .before .before .before .before .before .before .before .before .before .before .before .before .before .pre .1 .0)), (c .before .before .before .before .before .before .before .before .before .before .before .before .before .before .before .before .before .before .before .before .before .before .before .before .before .before .before .before .before .before .before .before .before .before .before .before .before .before .before .before .before .pre .1 .0) .few) }
 
-put-switch-add-put-under-3 : (t : ℕ) → put-switch-lts.Need-add-put-under-3 (put-switch-claims t) (put-switch-at t) put-switch.Post
-put-switch-add-put-under-3 t c = record { fits = omega (arith, (switch-few₁ ((c .before .before .before .before .before .before .before .before .before .before .before .before .before .before .before .before .before .before .before .before .before .before .before .before .before .before .before .before .before .before .before .pre .1 .0) .base) refl (as-node (c .before .before .before .before .before .before .before .before .before .before .before .before .before .before .before .before .before .before .before .before .before .before .before .before .before .before .before .number-of .ensures) (c .before .before .before .before .before .before .before .before .before .before .before .before .before .before .before .before .before .before .before .before .before .before .before .get-at .ensures .0)) (found-there (c .before .before .before .before .before .before .before .before .before .before .before .before .before .before .before .before .before .before .before .before .if1 .left) (c .before .before .before .before .before .before .before .before .before .before .before .before .before .before .before .before .before .before .before .before .before .before .before .get-at .ensures .1) (c .before .before .before .before .before .before .before .before .before .before .before .before .before .before .before .before .before .before .before .len-of .ensures) (c .before .before .before .before .before .before .before .before .before .before .before .before .before .before .before .before .before .before .steps-of .ensures)) (c .before .before .before .before .before .before .before .before .before .before .before .before .before .before .before .before .before .before .before .before .before .before .before .before .before .before .before .before .before .before .before .pre .1 .0)), (switch-few₂ ((c .before .before .before .before .before .before .before .before .before .before .before .before .before .before .before .before .before .before .before .before .before .before .before .before .before .before .before .before .before .before .before .pre .1 .0) .base) refl (as-node (c .before .before .before .before .before .before .before .before .before .before .before .before .before .before .before .before .before .before .before .before .before .before .before .before .before .before .before .number-of .ensures) (c .before .before .before .before .before .before .before .before .before .before .before .before .before .before .before .before .before .before .before .before .before .before .before .get-at .ensures .0)) (found-there (c .before .before .before .before .before .before .before .before .before .before .before .before .before .before .before .before .before .before .before .before .if1 .left) (c .before .before .before .before .before .before .before .before .before .before .before .before .before .before .before .before .before .before .before .before .before .before .before .get-at .ensures .1) (c .before .before .before .before .before .before .before .before .before .before .before .before .before .before .before .before .before .before .before .len-of .ensures) (c .before .before .before .before .before .before .before .before .before .before .before .before .before .before .before .before .before .before .steps-of .ensures)) refl (as-node (c .before .before .before .before .before .before .before .before .before .before .before .before .before .before .before .before .number-of2 .ensures) (c .before .before .before .before .before .before .before .before .before .before .before .before .get-at2 .ensures .0)) (found-there (c .before .before .before .before .before .before .before .before .before .if2 .left) (c .before .before .before .before .before .before .before .before .before .before .before .before .get-at2 .ensures .1) (c .before .before .before .before .before .len-of2 .ensures) (c .before .before .before .before .steps-of2 .ensures)) (c .before .before .before .before .before .before .before .before .before .before .before .before .before .before .before .before .before .before .before .before .before .before .before .before .before .before .before .before .before .before .before .pre .1 .0)), (c .before .before .before .before .before .before .before .before .before .before .before .before .before .before .before .before .before .before .before .before .before .before .before .before .before .before .before .before .before .before .before .pre .1 .0) .few) }
+put-switch-add-put-under-2 : (t : ℕ) → put-switch-lts.Need-add-put-under-2 (put-switch-claims t) (put-switch-at t) put-switch.Post
+put-switch-add-put-under-2 t c = record { fits = omega (arith, (switch-few₁ ((c .before .before .before .before .before .before .before .before .before .before .before .before .before .before .before .before .before .before .before .before .before .before .before .before .before .before .before .before .before .before .before .before .before .before .before .before .before .before .before .before .before .pre .1 .0) .base) refl (as-node (c .before .before .before .before .before .before .before .before .before .before .before .before .before .before .before .before .before .before .before .before .before .before .before .before .before .before .before .before .before .before .before .before .before .before .before .before .before .number-of .ensures) ((bring-gives ((c .before .before .before .before .before .before .before .before .before .before .before .before .before .before .before .before .before .before .before .before .before .before .before .before .before .before .before .before .before .before .before .before .before .before .before .before .before .before .before .before .before .pre .1 .0) .base) (c .before .before .before .before .before .before .before .before .before .before .before .before .before .before .before .before .before .before .before .before .before .before .before .before .before .before .before .before .before .before .before .before .before .get-node .ensures) (c .before .before .before .before .before .before .before .before .before .before .before .before .before .before .before .before .before .before .before .before .before .before .before .before .before .before .before .before .before .bring .ensures)) .0)) (found-there (c .before .before .before .before .before .before .before .before .before .before .before .before .before .before .before .before .before .before .before .before .before .before .before .before .before .before .if1 .left) ((bring-gives ((c .before .before .before .before .before .before .before .before .before .before .before .before .before .before .before .before .before .before .before .before .before .before .before .before .before .before .before .before .before .before .before .before .before .before .before .before .before .before .before .before .before .pre .1 .0) .base) (c .before .before .before .before .before .before .before .before .before .before .before .before .before .before .before .before .before .before .before .before .before .before .before .before .before .before .before .before .before .before .before .before .before .get-node .ensures) (c .before .before .before .before .before .before .before .before .before .before .before .before .before .before .before .before .before .before .before .before .before .before .before .before .before .before .before .before .before .bring .ensures)) .1) (c .before .before .before .before .before .before .before .before .before .before .before .before .before .before .before .before .before .before .before .before .before .before .before .before .before .len-of .ensures) (c .before .before .before .before .before .before .before .before .before .before .before .before .before .before .before .before .before .before .before .before .before .before .before .before .steps-of .ensures)) (c .before .before .before .before .before .before .before .before .before .before .before .before .before .before .before .before .before .before .before .before .before .before .before .before .before .before .before .before .before .before .before .before .before .before .before .before .before .before .before .before .before .pre .1 .0)), (switch-few₂ ((c .before .before .before .before .before .before .before .before .before .before .before .before .before .before .before .before .before .before .before .before .before .before .before .before .before .before .before .before .before .before .before .before .before .before .before .before .before .before .before .before .before .pre .1 .0) .base) refl (as-node (c .before .before .before .before .before .before .before .before .before .before .before .before .before .before .before .before .before .before .before .before .before .before .before .before .before .before .before .before .before .before .before .before .before .before .before .before .before .number-of .ensures) ((bring-gives ((c .before .before .before .before .before .before .before .before .before .before .before .before .before .before .before .before .before .before .before .before .before .before .before .before .before .before .before .before .before .before .before .before .before .before .before .before .before .before .before .before .before .pre .1 .0) .base) (c .before .before .before .before .before .before .before .before .before .before .before .before .before .before .before .before .before .before .before .before .before .before .before .before .before .before .before .before .before .before .before .before .before .get-node .ensures) (c .before .before .before .before .before .before .before .before .before .before .before .before .before .before .before .before .before .before .before .before .before .before .before .before .before .before .before .before .before .bring .ensures)) .0)) (found-there (c .before .before .before .before .before .before .before .before .before .before .before .before .before .before .before .before .before .before .before .before .before .before .before .before .before .before .if1 .left) ((bring-gives ((c .before .before .before .before .before .before .before .before .before .before .before .before .before .before .before .before .before .before .before .before .before .before .before .before .before .before .before .before .before .before .before .before .before .before .before .before .before .before .before .before .before .pre .1 .0) .base) (c .before .before .before .before .before .before .before .before .before .before .before .before .before .before .before .before .before .before .before .before .before .before .before .before .before .before .before .before .before .before .before .before .before .get-node .ensures) (c .before .before .before .before .before .before .before .before .before .before .before .before .before .before .before .before .before .before .before .before .before .before .before .before .before .before .before .before .before .bring .ensures)) .1) (c .before .before .before .before .before .before .before .before .before .before .before .before .before .before .before .before .before .before .before .before .before .before .before .before .before .len-of .ensures) (c .before .before .before .before .before .before .before .before .before .before .before .before .before .before .before .before .before .before .before .before .before .before .before .before .steps-of .ensures)) refl (as-node (c .before .before .before .before .before .before .before .before .before .before .before .before .before .before .before .before .before .before .before .before .before .number-of2 .ensures) ((bring-gives (omega (arith, (c .before .before .before .before .before .before .before .before .before .before .before .before .before .before .before .before .before .before .before .before .before .before .before .before .before .before .before .before .before .before .before .before .before .before .before .before .before .before .before .before .before .pre .1 .0) .base)) (c .before .before .before .before .before .before .before .before .before .before .before .before .before .before .before .before .before .get-node2 .ensures) (c .before .before .before .before .before .before .before .before .before .before .before .before .before .bring2 .ensures)) .0)) (found-there (c .before .before .before .before .before .before .before .before .before .before .if2 .left) ((bring-gives (omega (arith, (c .before .before .before .before .before .before .before .before .before .before .before .before .before .before .before .before .before .before .before .before .before .before .before .before .before .before .before .before .before .before .before .before .before .before .before .before .before .before .before .before .before .pre .1 .0) .base)) (c .before .before .before .before .before .before .before .before .before .before .before .before .before .before .before .before .before .get-node2 .ensures) (c .before .before .before .before .before .before .before .before .before .before .before .before .before .bring2 .ensures)) .1) (c .before .before .before .before .before .before .len-of2 .ensures) (c .before .before .before .before .before .steps-of2 .ensures)) (c .before .before .before .before .before .before .before .before .before .before .before .before .before .before .before .before .before .before .before .before .before .before .before .before .before .before .before .before .before .before .before .before .before .before .before .before .before .before .before .before .before .pre .1 .0)), (c .before .before .before .before .before .before .before .before .before .before .before .before .before .before .before .before .before .before .before .before .before .before .before .before .before .before .before .before .before .before .before .before .before .before .before .before .before .before .before .before .before .pre .1 .0) .few) }
 
 put-switch-put-under-requires : (t : ℕ) → put-switch-lts.Need-put-under-requires (put-switch-claims t) (put-switch-at t) put-switch.Post
-put-switch-put-under-requires t c κs = (omega (arith, c .before .before .before .before .before .before .before .before .before .before .before .before .before .before .before .before .before .before .before .before .before .before .before .before .before .before .before .before .before .before .before .pre .0), (as-ready (inside-named (c .before .before .before .number-of3 .ensures) (c .before .before .number-of4 .ensures)) (switch-ready ((c .before .before .before .before .before .before .before .before .before .before .before .before .before .before .before .before .before .before .before .before .before .before .before .before .before .before .before .before .before .before .before .pre .1 .0) .base) refl (as-node (c .before .before .before .before .before .before .before .before .before .before .before .before .before .before .before .before .before .before .before .before .before .before .before .before .before .before .before .number-of .ensures) (c .before .before .before .before .before .before .before .before .before .before .before .before .before .before .before .before .before .before .before .before .before .before .before .get-at .ensures .0)) (found-there (c .before .before .before .before .before .before .before .before .before .before .before .before .before .before .before .before .before .before .before .before .if1 .left) (c .before .before .before .before .before .before .before .before .before .before .before .before .before .before .before .before .before .before .before .before .before .before .before .get-at .ensures .1) (c .before .before .before .before .before .before .before .before .before .before .before .before .before .before .before .before .before .before .before .len-of .ensures) (c .before .before .before .before .before .before .before .before .before .before .before .before .before .before .before .before .before .before .steps-of .ensures)) refl (as-node (c .before .before .before .before .before .before .before .before .before .before .before .before .before .before .before .before .number-of2 .ensures) (c .before .before .before .before .before .before .before .before .before .before .before .before .get-at2 .ensures .0)) (found-there (c .before .before .before .before .before .before .before .before .before .if2 .left) (c .before .before .before .before .before .before .before .before .before .before .before .before .get-at2 .ensures .1) (c .before .before .before .before .before .len-of2 .ensures) (c .before .before .before .before .steps-of2 .ensures)) (c .before .before .before .before .before .before .before .before .before .before .before .before .before .before .before .before .before .before .before .before .before .before .before .before .before .before .before .before .before .before .before .pre .1 .0) (omega (arith, (switch-few₁ ((c .before .before .before .before .before .before .before .before .before .before .before .before .before .before .before .before .before .before .before .before .before .before .before .before .before .before .before .before .before .before .before .pre .1 .0) .base) refl (as-node (c .before .before .before .before .before .before .before .before .before .before .before .before .before .before .before .before .before .before .before .before .before .before .before .before .before .before .before .number-of .ensures) (c .before .before .before .before .before .before .before .before .before .before .before .before .before .before .before .before .before .before .before .before .before .before .before .get-at .ensures .0)) (found-there (c .before .before .before .before .before .before .before .before .before .before .before .before .before .before .before .before .before .before .before .before .if1 .left) (c .before .before .before .before .before .before .before .before .before .before .before .before .before .before .before .before .before .before .before .before .before .before .before .get-at .ensures .1) (c .before .before .before .before .before .before .before .before .before .before .before .before .before .before .before .before .before .before .before .len-of .ensures) (c .before .before .before .before .before .before .before .before .before .before .before .before .before .before .before .before .before .before .steps-of .ensures)) (c .before .before .before .before .before .before .before .before .before .before .before .before .before .before .before .before .before .before .before .before .before .before .before .before .before .before .before .before .before .before .before .pre .1 .0)), (switch-few₂ ((c .before .before .before .before .before .before .before .before .before .before .before .before .before .before .before .before .before .before .before .before .before .before .before .before .before .before .before .before .before .before .before .pre .1 .0) .base) refl (as-node (c .before .before .before .before .before .before .before .before .before .before .before .before .before .before .before .before .before .before .before .before .before .before .before .before .before .before .before .number-of .ensures) (c .before .before .before .before .before .before .before .before .before .before .before .before .before .before .before .before .before .before .before .before .before .before .before .get-at .ensures .0)) (found-there (c .before .before .before .before .before .before .before .before .before .before .before .before .before .before .before .before .before .before .before .before .if1 .left) (c .before .before .before .before .before .before .before .before .before .before .before .before .before .before .before .before .before .before .before .before .before .before .before .get-at .ensures .1) (c .before .before .before .before .before .before .before .before .before .before .before .before .before .before .before .before .before .before .before .len-of .ensures) (c .before .before .before .before .before .before .before .before .before .before .before .before .before .before .before .before .before .before .steps-of .ensures)) refl (as-node (c .before .before .before .before .before .before .before .before .before .before .before .before .before .before .before .before .number-of2 .ensures) (c .before .before .before .before .before .before .before .before .before .before .before .before .get-at2 .ensures .0)) (found-there (c .before .before .before .before .before .before .before .before .before .if2 .left) (c .before .before .before .before .before .before .before .before .before .before .before .before .get-at2 .ensures .1) (c .before .before .before .before .before .len-of2 .ensures) (c .before .before .before .before .steps-of2 .ensures)) (c .before .before .before .before .before .before .before .before .before .before .before .before .before .before .before .before .before .before .before .before .before .before .before .before .before .before .before .before .before .before .before .pre .1 .0)))) (c .before .before .before .before .before .before .before .before .before .before .before .before .before .before .before .before .before .before .before .before .before .before .before .before .before .before .before .before .before .before .before .pre .1 .1 .1)), ((c .before .before .before .before .before .before .before .before .before .before .before .before .before .before .before .before .before .before .before .before .before .before .before .before .before .before .before .before .before .before .before .pre .1 .1 .0), switch-spans ((c .before .before .before .before .before .before .before .before .before .before .before .before .before .before .before .before .before .before .before .before .before .before .before .before .before .before .before .before .before .before .before .pre .1 .0) .base) refl (as-node (c .before .before .before .before .before .before .before .before .before .before .before .before .before .before .before .before .before .before .before .before .before .before .before .before .before .before .before .number-of .ensures) (c .before .before .before .before .before .before .before .before .before .before .before .before .before .before .before .before .before .before .before .before .before .before .before .get-at .ensures .0)) (found-there (c .before .before .before .before .before .before .before .before .before .before .before .before .before .before .before .before .before .before .before .before .if1 .left) (c .before .before .before .before .before .before .before .before .before .before .before .before .before .before .before .before .before .before .before .before .before .before .before .get-at .ensures .1) (c .before .before .before .before .before .before .before .before .before .before .before .before .before .before .before .before .before .before .before .len-of .ensures) (c .before .before .before .before .before .before .before .before .before .before .before .before .before .before .before .before .before .before .steps-of .ensures)) refl (as-node (c .before .before .before .before .before .before .before .before .before .before .before .before .before .before .before .before .number-of2 .ensures) (c .before .before .before .before .before .before .before .before .before .before .before .before .get-at2 .ensures .0)) (found-there (c .before .before .before .before .before .before .before .before .before .if2 .left) (c .before .before .before .before .before .before .before .before .before .before .before .before .get-at2 .ensures .1) (c .before .before .before .before .before .len-of2 .ensures) (c .before .before .before .before .steps-of2 .ensures)) (c .before .before .before .before .before .before .before .before .before .before .before .before .before .before .before .before .before .before .before .before .before .before .before .before .before .before .before .before .before .before .before .pre .1 .0))))
+put-switch-put-under-requires t c κs = (omega (arith, c .before .before .before .before .before .before .before .before .before .before .before .before .before .before .before .before .before .before .before .before .before .before .before .before .before .before .before .before .before .before .before .before .before .before .before .before .before .before .before .before .before .pre .0), (as-ready (inside-named (c .before .before .before .number-of3 .ensures) (c .before .before .number-of4 .ensures)) (switch-ready ((c .before .before .before .before .before .before .before .before .before .before .before .before .before .before .before .before .before .before .before .before .before .before .before .before .before .before .before .before .before .before .before .before .before .before .before .before .before .before .before .before .before .pre .1 .0) .base) refl (as-node (c .before .before .before .before .before .before .before .before .before .before .before .before .before .before .before .before .before .before .before .before .before .before .before .before .before .before .before .before .before .before .before .before .before .before .before .before .before .number-of .ensures) ((bring-gives ((c .before .before .before .before .before .before .before .before .before .before .before .before .before .before .before .before .before .before .before .before .before .before .before .before .before .before .before .before .before .before .before .before .before .before .before .before .before .before .before .before .before .pre .1 .0) .base) (c .before .before .before .before .before .before .before .before .before .before .before .before .before .before .before .before .before .before .before .before .before .before .before .before .before .before .before .before .before .before .before .before .before .get-node .ensures) (c .before .before .before .before .before .before .before .before .before .before .before .before .before .before .before .before .before .before .before .before .before .before .before .before .before .before .before .before .before .bring .ensures)) .0)) (found-there (c .before .before .before .before .before .before .before .before .before .before .before .before .before .before .before .before .before .before .before .before .before .before .before .before .before .before .if1 .left) ((bring-gives ((c .before .before .before .before .before .before .before .before .before .before .before .before .before .before .before .before .before .before .before .before .before .before .before .before .before .before .before .before .before .before .before .before .before .before .before .before .before .before .before .before .before .pre .1 .0) .base) (c .before .before .before .before .before .before .before .before .before .before .before .before .before .before .before .before .before .before .before .before .before .before .before .before .before .before .before .before .before .before .before .before .before .get-node .ensures) (c .before .before .before .before .before .before .before .before .before .before .before .before .before .before .before .before .before .before .before .before .before .before .before .before .before .before .before .before .before .bring .ensures)) .1) (c .before .before .before .before .before .before .before .before .before .before .before .before .before .before .before .before .before .before .before .before .before .before .before .before .before .len-of .ensures) (c .before .before .before .before .before .before .before .before .before .before .before .before .before .before .before .before .before .before .before .before .before .before .before .before .steps-of .ensures)) refl (as-node (c .before .before .before .before .before .before .before .before .before .before .before .before .before .before .before .before .before .before .before .before .before .number-of2 .ensures) ((bring-gives (omega (arith, (c .before .before .before .before .before .before .before .before .before .before .before .before .before .before .before .before .before .before .before .before .before .before .before .before .before .before .before .before .before .before .before .before .before .before .before .before .before .before .before .before .before .pre .1 .0) .base)) (c .before .before .before .before .before .before .before .before .before .before .before .before .before .before .before .before .before .get-node2 .ensures) (c .before .before .before .before .before .before .before .before .before .before .before .before .before .bring2 .ensures)) .0)) (found-there (c .before .before .before .before .before .before .before .before .before .before .if2 .left) ((bring-gives (omega (arith, (c .before .before .before .before .before .before .before .before .before .before .before .before .before .before .before .before .before .before .before .before .before .before .before .before .before .before .before .before .before .before .before .before .before .before .before .before .before .before .before .before .before .pre .1 .0) .base)) (c .before .before .before .before .before .before .before .before .before .before .before .before .before .before .before .before .before .get-node2 .ensures) (c .before .before .before .before .before .before .before .before .before .before .before .before .before .bring2 .ensures)) .1) (c .before .before .before .before .before .before .len-of2 .ensures) (c .before .before .before .before .before .steps-of2 .ensures)) (c .before .before .before .before .before .before .before .before .before .before .before .before .before .before .before .before .before .before .before .before .before .before .before .before .before .before .before .before .before .before .before .before .before .before .before .before .before .before .before .before .before .pre .1 .0) (omega (arith, (switch-few₁ ((c .before .before .before .before .before .before .before .before .before .before .before .before .before .before .before .before .before .before .before .before .before .before .before .before .before .before .before .before .before .before .before .before .before .before .before .before .before .before .before .before .before .pre .1 .0) .base) refl (as-node (c .before .before .before .before .before .before .before .before .before .before .before .before .before .before .before .before .before .before .before .before .before .before .before .before .before .before .before .before .before .before .before .before .before .before .before .before .before .number-of .ensures) ((bring-gives ((c .before .before .before .before .before .before .before .before .before .before .before .before .before .before .before .before .before .before .before .before .before .before .before .before .before .before .before .before .before .before .before .before .before .before .before .before .before .before .before .before .before .pre .1 .0) .base) (c .before .before .before .before .before .before .before .before .before .before .before .before .before .before .before .before .before .before .before .before .before .before .before .before .before .before .before .before .before .before .before .before .before .get-node .ensures) (c .before .before .before .before .before .before .before .before .before .before .before .before .before .before .before .before .before .before .before .before .before .before .before .before .before .before .before .before .before .bring .ensures)) .0)) (found-there (c .before .before .before .before .before .before .before .before .before .before .before .before .before .before .before .before .before .before .before .before .before .before .before .before .before .before .if1 .left) ((bring-gives ((c .before .before .before .before .before .before .before .before .before .before .before .before .before .before .before .before .before .before .before .before .before .before .before .before .before .before .before .before .before .before .before .before .before .before .before .before .before .before .before .before .before .pre .1 .0) .base) (c .before .before .before .before .before .before .before .before .before .before .before .before .before .before .before .before .before .before .before .before .before .before .before .before .before .before .before .before .before .before .before .before .before .get-node .ensures) (c .before .before .before .before .before .before .before .before .before .before .before .before .before .before .before .before .before .before .before .before .before .before .before .before .before .before .before .before .before .bring .ensures)) .1) (c .before .before .before .before .before .before .before .before .before .before .before .before .before .before .before .before .before .before .before .before .before .before .before .before .before .len-of .ensures) (c .before .before .before .before .before .before .before .before .before .before .before .before .before .before .before .before .before .before .before .before .before .before .before .before .steps-of .ensures)) (c .before .before .before .before .before .before .before .before .before .before .before .before .before .before .before .before .before .before .before .before .before .before .before .before .before .before .before .before .before .before .before .before .before .before .before .before .before .before .before .before .before .pre .1 .0)), (switch-few₂ ((c .before .before .before .before .before .before .before .before .before .before .before .before .before .before .before .before .before .before .before .before .before .before .before .before .before .before .before .before .before .before .before .before .before .before .before .before .before .before .before .before .before .pre .1 .0) .base) refl (as-node (c .before .before .before .before .before .before .before .before .before .before .before .before .before .before .before .before .before .before .before .before .before .before .before .before .before .before .before .before .before .before .before .before .before .before .before .before .before .number-of .ensures) ((bring-gives ((c .before .before .before .before .before .before .before .before .before .before .before .before .before .before .before .before .before .before .before .before .before .before .before .before .before .before .before .before .before .before .before .before .before .before .before .before .before .before .before .before .before .pre .1 .0) .base) (c .before .before .before .before .before .before .before .before .before .before .before .before .before .before .before .before .before .before .before .before .before .before .before .before .before .before .before .before .before .before .before .before .before .get-node .ensures) (c .before .before .before .before .before .before .before .before .before .before .before .before .before .before .before .before .before .before .before .before .before .before .before .before .before .before .before .before .before .bring .ensures)) .0)) (found-there (c .before .before .before .before .before .before .before .before .before .before .before .before .before .before .before .before .before .before .before .before .before .before .before .before .before .before .if1 .left) ((bring-gives ((c .before .before .before .before .before .before .before .before .before .before .before .before .before .before .before .before .before .before .before .before .before .before .before .before .before .before .before .before .before .before .before .before .before .before .before .before .before .before .before .before .before .pre .1 .0) .base) (c .before .before .before .before .before .before .before .before .before .before .before .before .before .before .before .before .before .before .before .before .before .before .before .before .before .before .before .before .before .before .before .before .before .get-node .ensures) (c .before .before .before .before .before .before .before .before .before .before .before .before .before .before .before .before .before .before .before .before .before .before .before .before .before .before .before .before .before .bring .ensures)) .1) (c .before .before .before .before .before .before .before .before .before .before .before .before .before .before .before .before .before .before .before .before .before .before .before .before .before .len-of .ensures) (c .before .before .before .before .before .before .before .before .before .before .before .before .before .before .before .before .before .before .before .before .before .before .before .before .steps-of .ensures)) refl (as-node (c .before .before .before .before .before .before .before .before .before .before .before .before .before .before .before .before .before .before .before .before .before .number-of2 .ensures) ((bring-gives (omega (arith, (c .before .before .before .before .before .before .before .before .before .before .before .before .before .before .before .before .before .before .before .before .before .before .before .before .before .before .before .before .before .before .before .before .before .before .before .before .before .before .before .before .before .pre .1 .0) .base)) (c .before .before .before .before .before .before .before .before .before .before .before .before .before .before .before .before .before .get-node2 .ensures) (c .before .before .before .before .before .before .before .before .before .before .before .before .before .bring2 .ensures)) .0)) (found-there (c .before .before .before .before .before .before .before .before .before .before .if2 .left) ((bring-gives (omega (arith, (c .before .before .before .before .before .before .before .before .before .before .before .before .before .before .before .before .before .before .before .before .before .before .before .before .before .before .before .before .before .before .before .before .before .before .before .before .before .before .before .before .before .pre .1 .0) .base)) (c .before .before .before .before .before .before .before .before .before .before .before .before .before .before .before .before .before .get-node2 .ensures) (c .before .before .before .before .before .before .before .before .before .before .before .before .before .bring2 .ensures)) .1) (c .before .before .before .before .before .before .len-of2 .ensures) (c .before .before .before .before .before .steps-of2 .ensures)) (c .before .before .before .before .before .before .before .before .before .before .before .before .before .before .before .before .before .before .before .before .before .before .before .before .before .before .before .before .before .before .before .before .before .before .before .before .before .before .before .before .before .pre .1 .0)))) (c .before .before .before .before .before .before .before .before .before .before .before .before .before .before .before .before .before .before .before .before .before .before .before .before .before .before .before .before .before .before .before .before .before .before .before .before .before .before .before .before .before .pre .1 .1 .1)), ((c .before .before .before .before .before .before .before .before .before .before .before .before .before .before .before .before .before .before .before .before .before .before .before .before .before .before .before .before .before .before .before .before .before .before .before .before .before .before .before .before .before .pre .1 .1 .0), switch-spans ((c .before .before .before .before .before .before .before .before .before .before .before .before .before .before .before .before .before .before .before .before .before .before .before .before .before .before .before .before .before .before .before .before .before .before .before .before .before .before .before .before .before .pre .1 .0) .base) refl (as-node (c .before .before .before .before .before .before .before .before .before .before .before .before .before .before .before .before .before .before .before .before .before .before .before .before .before .before .before .before .before .before .before .before .before .before .before .before .before .number-of .ensures) ((bring-gives ((c .before .before .before .before .before .before .before .before .before .before .before .before .before .before .before .before .before .before .before .before .before .before .before .before .before .before .before .before .before .before .before .before .before .before .before .before .before .before .before .before .before .pre .1 .0) .base) (c .before .before .before .before .before .before .before .before .before .before .before .before .before .before .before .before .before .before .before .before .before .before .before .before .before .before .before .before .before .before .before .before .before .get-node .ensures) (c .before .before .before .before .before .before .before .before .before .before .before .before .before .before .before .before .before .before .before .before .before .before .before .before .before .before .before .before .before .bring .ensures)) .0)) (found-there (c .before .before .before .before .before .before .before .before .before .before .before .before .before .before .before .before .before .before .before .before .before .before .before .before .before .before .if1 .left) ((bring-gives ((c .before .before .before .before .before .before .before .before .before .before .before .before .before .before .before .before .before .before .before .before .before .before .before .before .before .before .before .before .before .before .before .before .before .before .before .before .before .before .before .before .before .pre .1 .0) .base) (c .before .before .before .before .before .before .before .before .before .before .before .before .before .before .before .before .before .before .before .before .before .before .before .before .before .before .before .before .before .before .before .before .before .get-node .ensures) (c .before .before .before .before .before .before .before .before .before .before .before .before .before .before .before .before .before .before .before .before .before .before .before .before .before .before .before .before .before .bring .ensures)) .1) (c .before .before .before .before .before .before .before .before .before .before .before .before .before .before .before .before .before .before .before .before .before .before .before .before .before .len-of .ensures) (c .before .before .before .before .before .before .before .before .before .before .before .before .before .before .before .before .before .before .before .before .before .before .before .before .steps-of .ensures)) refl (as-node (c .before .before .before .before .before .before .before .before .before .before .before .before .before .before .before .before .before .before .before .before .before .number-of2 .ensures) ((bring-gives (omega (arith, (c .before .before .before .before .before .before .before .before .before .before .before .before .before .before .before .before .before .before .before .before .before .before .before .before .before .before .before .before .before .before .before .before .before .before .before .before .before .before .before .before .before .pre .1 .0) .base)) (c .before .before .before .before .before .before .before .before .before .before .before .before .before .before .before .before .before .get-node2 .ensures) (c .before .before .before .before .before .before .before .before .before .before .before .before .before .bring2 .ensures)) .0)) (found-there (c .before .before .before .before .before .before .before .before .before .before .if2 .left) ((bring-gives (omega (arith, (c .before .before .before .before .before .before .before .before .before .before .before .before .before .before .before .before .before .before .before .before .before .before .before .before .before .before .before .before .before .before .before .before .before .before .before .before .before .before .before .before .before .pre .1 .0) .base)) (c .before .before .before .before .before .before .before .before .before .before .before .before .before .before .before .before .before .get-node2 .ensures) (c .before .before .before .before .before .before .before .before .before .before .before .before .before .bring2 .ensures)) .1) (c .before .before .before .before .before .before .len-of2 .ensures) (c .before .before .before .before .before .steps-of2 .ensures)) (c .before .before .before .before .before .before .before .before .before .before .before .before .before .before .before .before .before .before .before .before .before .before .before .before .before .before .before .before .before .before .before .before .before .before .before .before .before .before .before .before .before .pre .1 .0))))
 
 put-switch-returns-4 : (t : ℕ) → put-switch-lts.Need-returns-4 (put-switch-claims t) (put-switch-at t) put-switch.Post
-put-switch-returns-4 t c = switch-under ((c .before .before .before .before .before .before .before .before .before .before .before .before .before .before .before .before .before .before .before .before .before .before .before .before .before .before .before .before .before .before .before .before .before .before .pre .1 .0) .base) refl (as-node (c .before .before .before .before .before .before .before .before .before .before .before .before .before .before .before .before .before .before .before .before .before .before .before .before .before .before .before .before .before .before .number-of .ensures) (c .before .before .before .before .before .before .before .before .before .before .before .before .before .before .before .before .before .before .before .before .before .before .before .before .before .before .get-at .ensures .0)) (found-there (c .before .before .before .before .before .before .before .before .before .before .before .before .before .before .before .before .before .before .before .before .before .before .before .if1 .left) (c .before .before .before .before .before .before .before .before .before .before .before .before .before .before .before .before .before .before .before .before .before .before .before .before .before .before .get-at .ensures .1) (c .before .before .before .before .before .before .before .before .before .before .before .before .before .before .before .before .before .before .before .before .before .before .len-of .ensures) (c .before .before .before .before .before .before .before .before .before .before .before .before .before .before .before .before .before .before .before .before .before .steps-of .ensures)) refl (as-node (c .before .before .before .before .before .before .before .before .before .before .before .before .before .before .before .before .before .before .before .number-of2 .ensures) (c .before .before .before .before .before .before .before .before .before .before .before .before .before .before .before .get-at2 .ensures .0)) (found-there (c .before .before .before .before .before .before .before .before .before .before .before .before .if2 .left) (c .before .before .before .before .before .before .before .before .before .before .before .before .before .before .before .get-at2 .ensures .1) (c .before .before .before .before .before .before .before .before .len-of2 .ensures) (c .before .before .before .before .before .before .before .steps-of2 .ensures)) (fit-low _ (c .before .before .before .before .before .before .before .before .before .before .unfit .ensures) (c .before .before .before .before .before .before .before .before .before .if3 .left)) (fit-high _ (c .before .before .before .before .before .before .before .before .before .before .unfit .ensures) (c .before .before .before .before .before .before .before .before .before .if3 .left)) (c .before .before .before .before .before .before .before .before .before .before .before .before .before .before .before .before .before .before .before .before .before .before .before .before .before .before .before .before .before .before .before .before .before .before .pre .1 .0) (as-inside (c .before .before .before .before .before .before .number-of3 .ensures) (c .before .before .before .before .before .number-of4 .ensures) (c .before .before .put-under .ensures))
+put-switch-returns-4 t c = switch-under ((c .before .before .before .before .before .before .before .before .before .before .before .before .before .before .before .before .before .before .before .before .before .before .before .before .before .before .before .before .before .before .before .before .before .before .before .before .before .before .before .before .before .before .before .before .pre .1 .0) .base) refl (as-node (c .before .before .before .before .before .before .before .before .before .before .before .before .before .before .before .before .before .before .before .before .before .before .before .before .before .before .before .before .before .before .before .before .before .before .before .before .before .before .before .before .number-of .ensures) ((bring-gives ((c .before .before .before .before .before .before .before .before .before .before .before .before .before .before .before .before .before .before .before .before .before .before .before .before .before .before .before .before .before .before .before .before .before .before .before .before .before .before .before .before .before .before .before .before .pre .1 .0) .base) (c .before .before .before .before .before .before .before .before .before .before .before .before .before .before .before .before .before .before .before .before .before .before .before .before .before .before .before .before .before .before .before .before .before .before .before .before .get-node .ensures) (c .before .before .before .before .before .before .before .before .before .before .before .before .before .before .before .before .before .before .before .before .before .before .before .before .before .before .before .before .before .before .before .before .bring .ensures)) .0)) (found-there (c .before .before .before .before .before .before .before .before .before .before .before .before .before .before .before .before .before .before .before .before .before .before .before .before .before .before .before .before .before .if1 .left) ((bring-gives ((c .before .before .before .before .before .before .before .before .before .before .before .before .before .before .before .before .before .before .before .before .before .before .before .before .before .before .before .before .before .before .before .before .before .before .before .before .before .before .before .before .before .before .before .before .pre .1 .0) .base) (c .before .before .before .before .before .before .before .before .before .before .before .before .before .before .before .before .before .before .before .before .before .before .before .before .before .before .before .before .before .before .before .before .before .before .before .before .get-node .ensures) (c .before .before .before .before .before .before .before .before .before .before .before .before .before .before .before .before .before .before .before .before .before .before .before .before .before .before .before .before .before .before .before .before .bring .ensures)) .1) (c .before .before .before .before .before .before .before .before .before .before .before .before .before .before .before .before .before .before .before .before .before .before .before .before .before .before .before .before .len-of .ensures) (c .before .before .before .before .before .before .before .before .before .before .before .before .before .before .before .before .before .before .before .before .before .before .before .before .before .before .before .steps-of .ensures)) refl (as-node (c .before .before .before .before .before .before .before .before .before .before .before .before .before .before .before .before .before .before .before .before .before .before .before .before .number-of2 .ensures) ((bring-gives (omega (arith, (c .before .before .before .before .before .before .before .before .before .before .before .before .before .before .before .before .before .before .before .before .before .before .before .before .before .before .before .before .before .before .before .before .before .before .before .before .before .before .before .before .before .before .before .before .pre .1 .0) .base)) (c .before .before .before .before .before .before .before .before .before .before .before .before .before .before .before .before .before .before .before .before .get-node2 .ensures) (c .before .before .before .before .before .before .before .before .before .before .before .before .before .before .before .before .bring2 .ensures)) .0)) (found-there (c .before .before .before .before .before .before .before .before .before .before .before .before .before .if2 .left) ((bring-gives (omega (arith, (c .before .before .before .before .before .before .before .before .before .before .before .before .before .before .before .before .before .before .before .before .before .before .before .before .before .before .before .before .before .before .before .before .before .before .before .before .before .before .before .before .before .before .before .before .pre .1 .0) .base)) (c .before .before .before .before .before .before .before .before .before .before .before .before .before .before .before .before .before .before .before .before .get-node2 .ensures) (c .before .before .before .before .before .before .before .before .before .before .before .before .before .before .before .before .bring2 .ensures)) .1) (c .before .before .before .before .before .before .before .before .before .len-of2 .ensures) (c .before .before .before .before .before .before .before .before .steps-of2 .ensures)) (fit-low _ (c .before .before .before .before .before .before .before .before .before .before .before .unfit .ensures) (c .before .before .before .before .before .before .before .before .before .before .if3 .left)) (fit-high _ (c .before .before .before .before .before .before .before .before .before .before .before .unfit .ensures) (c .before .before .before .before .before .before .before .before .before .before .if3 .left)) (c .before .before .before .before .before .before .before .before .before .before .before .before .before .before .before .before .before .before .before .before .before .before .before .before .before .before .before .before .before .before .before .before .before .before .before .before .before .before .before .before .before .before .before .before .pre .1 .0) (as-inside (c .before .before .before .before .before .before .number-of3 .ensures) (c .before .before .before .before .before .number-of4 .ensures) (c .before .before .put-under .ensures))
 
 put-switch-same-length-4 : (t : ℕ) → put-switch-lts.Need-same-length-4 (put-switch-claims t) (put-switch-at t) put-switch.Post
 put-switch-same-length-4 t c = put-switch-returns-4 t c .frame .long
@@ -1082,17 +1112,20 @@ put-truth-case-start-of-requires t c κs = search needs
 put-truth-case-len-of-requires : (t : ℕ) → put-truth-case-lts.Need-len-of-requires (put-truth-case-claims t) (put-truth-case-at t) put-truth-case.Post
 put-truth-case-len-of-requires t c κs = search needs
 
+put-truth-case-add-end : (t : ℕ) → put-truth-case-lts.Need-add-end (put-truth-case-claims t) (put-truth-case-at t) put-truth-case.Post
+put-truth-case-add-end t c = let z = (sizes (subject-ready (c .before .before .before .before .before .before .before .before .before .before .before .pre .1) ((c .before .before .before .before .before .before .before .before .before .before .before .pre .1) .known .1 .subject .inside)) (as-node (c .before .before .before .before .before .before .before .number-of .ensures) (c .before .before .before .before .before .get-node .ensures)) (found-as (c .before .before .if1 .left) (c .before .start-of .ensures) (c .len-of .ensures) refl)) in record { fits = omega (arith, (c .before .before .before .before .before .before .before .before .before .before .before .pre .1) .room, z .short, z .low) }
+
 put-truth-case-steps-of-requires : (t : ℕ) → put-truth-case-lts.Need-steps-of-requires (put-truth-case-claims t) (put-truth-case-at t) put-truth-case.Post
 put-truth-case-steps-of-requires t c κs = search needs
 
-put-truth-case-add-end : (t : ℕ) → put-truth-case-lts.Need-add-end (put-truth-case-claims t) (put-truth-case-at t) put-truth-case.Post
-put-truth-case-add-end t c = let thez = (sizes (subject-ready (c .before .before .before .before .before .before .before .before .before .before .before .before .pre .1) ((c .before .before .before .before .before .before .before .before .before .before .before .before .pre .1) .known .1 .subject .inside)) (as-node (c .before .before .before .before .before .before .before .before .number-of .ensures) (c .before .before .before .before .before .before .get-node .ensures)) (found-as (c .before .before .before .if1 .left) (c .before .before .start-of .ensures) (c .before .len-of .ensures) (c .steps-of .ensures))) in record { fits = omega (arith, (c .before .before .before .before .before .before .before .before .before .before .before .before .pre .1) .room, thez .short, thez .low) }
+put-truth-case-add-s : (t : ℕ) → put-truth-case-lts.Need-add-s (put-truth-case-claims t) (put-truth-case-at t) put-truth-case.Post
+put-truth-case-add-s t c = record { fits = omega (arith, (sizes (subject-ready (c .before .before .before .before .before .before .before .before .before .before .before .before .pre .1) ((c .before .before .before .before .before .before .before .before .before .before .before .before .pre .1) .known .1 .subject .inside)) (as-node (c .before .before .before .before .before .before .before .before .number-of .ensures) (c .before .before .before .before .before .before .get-node .ensures)) (found-as (c .before .before .before .if1 .left) (c .before .before .start-of .ensures) (c .before .len-of .ensures) (c .steps-of .ensures))) .steps, (c .before .before .before .before .before .before .before .before .before .before .before .before .pre .1) .few) }
+
+put-truth-case-sub-to : (t : ℕ) → put-truth-case-lts.Need-sub-to (put-truth-case-claims t) (put-truth-case-at t) put-truth-case.Post
+put-truth-case-sub-to t c = omega (arith, (sizes (subject-ready (c .before .before .before .before .before .before .before .before .before .before .before .before .before .pre .1) ((c .before .before .before .before .before .before .before .before .before .before .before .before .before .pre .1) .known .1 .subject .inside)) (as-node (c .before .before .before .before .before .before .before .before .before .number-of .ensures) (c .before .before .before .before .before .before .before .get-node .ensures)) (found-as (c .before .before .before .before .if1 .left) (c .before .before .before .start-of .ensures) (c .before .before .len-of .ensures) (c .before .steps-of .ensures))) .steps)
 
 put-truth-case-above-requires : (t : ℕ) → put-truth-case-lts.Need-above-requires (put-truth-case-claims t) (put-truth-case-at t) put-truth-case.Post
-put-truth-case-above-requires t c κs = let thez = (sizes (subject-ready (c .before .before .before .before .before .before .before .before .before .before .before .before .pre .1) ((c .before .before .before .before .before .before .before .before .before .before .before .before .pre .1) .known .1 .subject .inside)) (as-node (c .before .before .before .before .before .before .before .before .number-of .ensures) (c .before .before .before .before .before .before .get-node .ensures)) (found-as (c .before .before .before .if1 .left) (c .before .before .start-of .ensures) (c .before .len-of .ensures) (c .steps-of .ensures))) in (thez .low, omega (arith, (c .before .before .before .before .before .before .before .before .before .before .before .before .pre .1) .room, thez .short))
-
-put-truth-case-sub-shape-of : (t : ℕ) → put-truth-case-lts.Need-sub-shape-of (put-truth-case-claims t) (put-truth-case-at t) put-truth-case.Post
-put-truth-case-sub-shape-of t c = omega (arith, (sizes (subject-ready (c .before .before .before .before .before .before .before .before .before .before .before .before .before .before .pre .1) ((c .before .before .before .before .before .before .before .before .before .before .before .before .before .before .pre .1) .known .1 .subject .inside)) (as-node (c .before .before .before .before .before .before .before .before .before .before .number-of .ensures) (c .before .before .before .before .before .before .before .before .get-node .ensures)) (found-as (c .before .before .before .before .before .if1 .left) (c .before .before .before .before .start-of .ensures) (c .before .before .before .len-of .ensures) (c .before .before .steps-of .ensures))) .steps)
+put-truth-case-above-requires t c κs = let z = (sizes (subject-ready (c .before .before .before .before .before .before .before .before .before .before .before .before .before .pre .1) ((c .before .before .before .before .before .before .before .before .before .before .before .before .before .pre .1) .known .1 .subject .inside)) (as-node (c .before .before .before .before .before .before .before .before .before .number-of .ensures) (c .before .before .before .before .before .before .before .get-node .ensures)) (found-as (c .before .before .before .before .if1 .left) (c .before .before .before .start-of .ensures) (c .before .before .len-of .ensures) (c .before .steps-of .ensures))) in (z .low, omega (arith, (c .before .before .before .before .before .before .before .before .before .before .before .before .before .pre .1) .room, z .short))
 
 put-truth-case-byte-of-requires : (t : ℕ) → put-truth-case-lts.Need-byte-of-requires (put-truth-case-claims t) (put-truth-case-at t) put-truth-case.Post
 put-truth-case-byte-of-requires t c κs = search needs
@@ -1100,141 +1133,70 @@ put-truth-case-byte-of-requires t c κs = search needs
 put-truth-case-byte-of-requires-2 : (t : ℕ) → put-truth-case-lts.Need-byte-of-requires-2 (put-truth-case-claims t) (put-truth-case-at t) put-truth-case.Post
 put-truth-case-byte-of-requires-2 t c κs = search needs
 
-put-truth-case-sub-shape-of-2 : (t : ℕ) → put-truth-case-lts.Need-sub-shape-of-2 (put-truth-case-claims t) (put-truth-case-at t) put-truth-case.Post
-put-truth-case-sub-shape-of-2 t c = search needs
+put-truth-case-sub-truth-branch : (t : ℕ) → put-truth-case-lts.Need-sub-truth-branch (put-truth-case-claims t) (put-truth-case-at t) put-truth-case.Post
+put-truth-case-sub-truth-branch t c = search needs
 
-put-truth-case-part-shape-of-start : (t : ℕ) → put-truth-case-lts.Need-part-shape-of-start (put-truth-case-claims t) (put-truth-case-at t) put-truth-case.Post
-put-truth-case-part-shape-of-start t c = search needs
+put-truth-case-part-truth-branch-start : (t : ℕ) → put-truth-case-lts.Need-part-truth-branch-start (put-truth-case-claims t) (put-truth-case-at t) put-truth-case.Post
+put-truth-case-part-truth-branch-start t c = search needs
 
-put-truth-case-part-shape-of-end : (t : ℕ) → put-truth-case-lts.Need-part-shape-of-end (put-truth-case-claims t) (put-truth-case-at t) put-truth-case.Post
-put-truth-case-part-shape-of-end t c = let thez = (sizes (subject-ready (c .before .before .before .before .before .before .before .before .before .before .before .before .before .before .before .before .before .pre .1) ((c .before .before .before .before .before .before .before .before .before .before .before .before .before .before .before .before .before .pre .1) .known .1 .subject .inside)) (as-node (c .before .before .before .before .before .before .before .before .before .before .before .before .before .number-of .ensures) (c .before .before .before .before .before .before .before .before .before .before .before .get-node .ensures)) (found-as (c .before .before .before .before .before .before .before .before .if1 .left) (c .before .before .before .before .before .before .before .start-of .ensures) (c .before .before .before .before .before .before .len-of .ensures) (c .before .before .before .before .before .steps-of .ensures))) in omega (arith, (c .before .before .before .before .before .before .before .before .before .before .before .before .before .before .before .before .before .pre .1) .room, (c .before .before .before .before .before .before .before .before .before .before .before .before .before .before .before .before .before .pre .1) .long, thez .short, thez .low, c .before .before .before .before .before .before .before .before .before .before .before .get-node .ensures .kept .long)
+put-truth-case-part-truth-branch-end : (t : ℕ) → put-truth-case-lts.Need-part-truth-branch-end (put-truth-case-claims t) (put-truth-case-at t) put-truth-case.Post
+put-truth-case-part-truth-branch-end t c = let z = (sizes (subject-ready (c .before .before .before .before .before .before .before .before .before .before .before .before .before .before .before .before .before .pre .1) ((c .before .before .before .before .before .before .before .before .before .before .before .before .before .before .before .before .before .pre .1) .known .1 .subject .inside)) (as-node (c .before .before .before .before .before .before .before .before .before .before .before .before .before .number-of .ensures) (c .before .before .before .before .before .before .before .before .before .before .before .get-node .ensures)) (found-as (c .before .before .before .before .before .before .before .before .if1 .left) (c .before .before .before .before .before .before .before .start-of .ensures) (c .before .before .before .before .before .before .len-of .ensures) (c .before .before .before .before .before .steps-of .ensures))) in omega (arith, (c .before .before .before .before .before .before .before .before .before .before .before .before .before .before .before .before .before .pre .1) .room, (c .before .before .before .before .before .before .before .before .before .before .before .before .before .before .before .before .before .pre .1) .long, z .short, z .low, c .before .before .before .before .before .before .before .before .before .before .before .get-node .ensures .kept .long)
 
-put-truth-case-shape-of-requires : (t : ℕ) → put-truth-case-lts.Need-shape-of-requires (put-truth-case-claims t) (put-truth-case-at t) put-truth-case.Post
-put-truth-case-shape-of-requires t c κs = search needs
-
-put-truth-case-enum-told : (t : ℕ) → put-truth-case-lts.Need-enum-told (put-truth-case-claims t) (put-truth-case-at t) put-truth-case.Post
-put-truth-case-enum-told t c = search needs
-
-put-truth-case-choose-requires : (t : ℕ) → put-truth-case-lts.Need-choose-requires (put-truth-case-claims t) (put-truth-case-at t) put-truth-case.Post
-put-truth-case-choose-requires t c κs = search needs
-
-put-truth-case-enum-told-2 : (t : ℕ) → put-truth-case-lts.Need-enum-told-2 (put-truth-case-claims t) (put-truth-case-at t) put-truth-case.Post
-put-truth-case-enum-told-2 t c = search needs
-
-put-truth-case-number-of-requires-2 : (t : ℕ) → put-truth-case-lts.Need-number-of-requires-2 (put-truth-case-claims t) (put-truth-case-at t) put-truth-case.Post
-put-truth-case-number-of-requires-2 t c κs = search needs
-
-put-truth-case-slice-aggregate-put-both :
-    (t : ℕ) → put-truth-case-lts.Need-slice-aggregate-put-both (put-truth-case-claims t) (put-truth-case-at t) put-truth-case.Post
-put-truth-case-slice-aggregate-put-both t c = search needs
-
-put-truth-case-add-put-both : (t : ℕ) → put-truth-case-lts.Need-add-put-both (put-truth-case-claims t) (put-truth-case-at t) put-truth-case.Post
-put-truth-case-add-put-both t c = record { fits = omega (arith, (sizes (subject-ready (c .before .before .before .before .before .before .before .before .before .before .before .before .before .before .before .before .before .before .before .before .before .before .before .before .before .before .before .before .pre .1) ((c .before .before .before .before .before .before .before .before .before .before .before .before .before .before .before .before .before .before .before .before .before .before .before .before .before .before .before .before .pre .1) .known .1 .subject .inside)) (as-node (c .before .before .before .before .before .before .before .before .before .before .before .before .before .before .before .before .before .before .before .before .before .before .before .before .number-of .ensures) (c .before .before .before .before .before .before .before .before .before .before .before .before .before .before .before .before .before .before .before .before .before .before .get-node .ensures)) (found-as (c .before .before .before .before .before .before .before .before .before .before .before .before .before .before .before .before .before .before .before .if1 .left) (c .before .before .before .before .before .before .before .before .before .before .before .before .before .before .before .before .before .before .start-of .ensures) (c .before .before .before .before .before .before .before .before .before .before .before .before .before .before .before .before .before .len-of .ensures) (c .before .before .before .before .before .before .before .before .before .before .before .before .before .before .before .before .steps-of .ensures))) .steps, (c .before .before .before .before .before .before .before .before .before .before .before .before .before .before .before .before .before .before .before .before .before .before .before .before .before .before .before .before .pre .1) .few) }
-
-put-truth-case-put-both-requires : (t : ℕ) → put-truth-case-lts.Need-put-both-requires (put-truth-case-claims t) (put-truth-case-at t) put-truth-case.Post
-put-truth-case-put-both-requires t c κs = (omega (arith, c .before .before .before .before .before .before .before .before .before .before .before .before .before .before .before .before .before .before .before .before .before .before .before .before .before .before .before .before .pre .0), (after-subject ((c .before .before .before .before .before .before .before .before .before .before .before .before .before .before .before .before .before .before .before .before .before .before .before .before .before .before .before .before .pre .1) .base) (as-node (c .before .before .before .before .before .before .before .before .before .before .before .before .before .before .before .before .before .before .before .before .before .before .before .before .number-of .ensures) (c .before .before .before .before .before .before .before .before .before .before .before .before .before .before .before .before .before .before .before .before .before .before .get-node .ensures)) (found-as (c .before .before .before .before .before .before .before .before .before .before .before .before .before .before .before .before .before .before .before .if1 .left) (c .before .before .before .before .before .before .before .before .before .before .before .before .before .before .before .before .before .before .start-of .ensures) (c .before .before .before .before .before .before .before .before .before .before .before .before .before .before .before .before .before .len-of .ensures) (c .before .before .before .before .before .before .before .before .before .before .before .before .before .before .before .before .steps-of .ensures)) (c .before .before .before .before .before .before .before .before .before .before .before .before .before .before .before .above .ensures) (c .before .before .before .before .before .before .before .before .before .before .before .before .before .before .before .before .before .before .before .before .before .before .before .before .before .before .before .before .pre .1) (omega (arith, c .before .before .before .number-of2 .ensures, (c .before .before .before .before .before .before .before .before .before .before .before .before .before .before .before .before .before .before .before .before .before .before .before .before .before .before .before .before .pre .1) .known .1 .no .inside), (omega (arith, c .before .before .before .before .before .before .before .before .before .before .before .before .before .before .before .before .before .before .before .before .before .before .before .before .number-of .ensures, ((c .before .before .before .before .before .before .before .before .before .before .before .before .before .before .before .before .before .before .before .before .before .before .before .before .before .before .before .before .pre .1) .known .1 .subject .inside)))) (omega (arith, (sizes (subject-ready (c .before .before .before .before .before .before .before .before .before .before .before .before .before .before .before .before .before .before .before .before .before .before .before .before .before .before .before .before .pre .1) ((c .before .before .before .before .before .before .before .before .before .before .before .before .before .before .before .before .before .before .before .before .before .before .before .before .before .before .before .before .pre .1) .known .1 .subject .inside)) (as-node (c .before .before .before .before .before .before .before .before .before .before .before .before .before .before .before .before .before .before .before .before .before .before .before .before .number-of .ensures) (c .before .before .before .before .before .before .before .before .before .before .before .before .before .before .before .before .before .before .before .before .before .before .get-node .ensures)) (found-as (c .before .before .before .before .before .before .before .before .before .before .before .before .before .before .before .before .before .before .before .if1 .left) (c .before .before .before .before .before .before .before .before .before .before .before .before .before .before .before .before .before .before .start-of .ensures) (c .before .before .before .before .before .before .before .before .before .before .before .before .before .before .before .before .before .len-of .ensures) (c .before .before .before .before .before .before .before .before .before .before .before .before .before .before .before .before .steps-of .ensures))) .steps)), view-false))
-
-put-truth-case-enum-told-3 : (t : ℕ) → put-truth-case-lts.Need-enum-told-3 (put-truth-case-claims t) (put-truth-case-at t) put-truth-case.Post
-put-truth-case-enum-told-3 t c = search needs
-
-put-truth-case-number-of-requires-3 : (t : ℕ) → put-truth-case-lts.Need-number-of-requires-3 (put-truth-case-claims t) (put-truth-case-at t) put-truth-case.Post
-put-truth-case-number-of-requires-3 t c κs = search needs
-
-put-truth-case-slice-aggregate-put-both-2 :
-    (t : ℕ) → put-truth-case-lts.Need-slice-aggregate-put-both-2 (put-truth-case-claims t) (put-truth-case-at t) put-truth-case.Post
-put-truth-case-slice-aggregate-put-both-2 t c = search needs
-
-put-truth-case-add-put-both-2 : (t : ℕ) → put-truth-case-lts.Need-add-put-both-2 (put-truth-case-claims t) (put-truth-case-at t) put-truth-case.Post
-put-truth-case-add-put-both-2 t c = record { fits = omega (arith, (sizes (subject-ready (c .before .before .before .before .before .before .before .before .before .before .before .before .before .before .before .before .before .before .before .before .before .before .before .before .before .before .before .before .pre .1) ((c .before .before .before .before .before .before .before .before .before .before .before .before .before .before .before .before .before .before .before .before .before .before .before .before .before .before .before .before .pre .1) .known .1 .subject .inside)) (as-node (c .before .before .before .before .before .before .before .before .before .before .before .before .before .before .before .before .before .before .before .before .before .before .before .before .number-of .ensures) (c .before .before .before .before .before .before .before .before .before .before .before .before .before .before .before .before .before .before .before .before .before .before .get-node .ensures)) (found-as (c .before .before .before .before .before .before .before .before .before .before .before .before .before .before .before .before .before .before .before .if1 .left) (c .before .before .before .before .before .before .before .before .before .before .before .before .before .before .before .before .before .before .start-of .ensures) (c .before .before .before .before .before .before .before .before .before .before .before .before .before .before .before .before .before .len-of .ensures) (c .before .before .before .before .before .before .before .before .before .before .before .before .before .before .before .before .steps-of .ensures))) .steps, (c .before .before .before .before .before .before .before .before .before .before .before .before .before .before .before .before .before .before .before .before .before .before .before .before .before .before .before .before .pre .1) .few) }
-
-put-truth-case-put-both-requires-2 : (t : ℕ) → put-truth-case-lts.Need-put-both-requires-2 (put-truth-case-claims t) (put-truth-case-at t) put-truth-case.Post
-put-truth-case-put-both-requires-2 t c κs = (omega (arith, c .before .before .before .before .before .before .before .before .before .before .before .before .before .before .before .before .before .before .before .before .before .before .before .before .before .before .before .before .pre .0), (after-subject ((c .before .before .before .before .before .before .before .before .before .before .before .before .before .before .before .before .before .before .before .before .before .before .before .before .before .before .before .before .pre .1) .base) (as-node (c .before .before .before .before .before .before .before .before .before .before .before .before .before .before .before .before .before .before .before .before .before .before .before .before .number-of .ensures) (c .before .before .before .before .before .before .before .before .before .before .before .before .before .before .before .before .before .before .before .before .before .before .get-node .ensures)) (found-as (c .before .before .before .before .before .before .before .before .before .before .before .before .before .before .before .before .before .before .before .if1 .left) (c .before .before .before .before .before .before .before .before .before .before .before .before .before .before .before .before .before .before .start-of .ensures) (c .before .before .before .before .before .before .before .before .before .before .before .before .before .before .before .before .before .len-of .ensures) (c .before .before .before .before .before .before .before .before .before .before .before .before .before .before .before .before .steps-of .ensures)) (c .before .before .before .before .before .before .before .before .before .before .before .before .before .before .before .above .ensures) (c .before .before .before .before .before .before .before .before .before .before .before .before .before .before .before .before .before .before .before .before .before .before .before .before .before .before .before .before .pre .1) (omega (arith, c .before .before .before .number-of3 .ensures, (c .before .before .before .before .before .before .before .before .before .before .before .before .before .before .before .before .before .before .before .before .before .before .before .before .before .before .before .before .pre .1) .known .1 .yes .inside), (omega (arith, c .before .before .before .before .before .before .before .before .before .before .before .before .before .before .before .before .before .before .before .before .before .before .before .before .number-of .ensures, ((c .before .before .before .before .before .before .before .before .before .before .before .before .before .before .before .before .before .before .before .before .before .before .before .before .before .before .before .before .pre .1) .known .1 .subject .inside)))) (omega (arith, (sizes (subject-ready (c .before .before .before .before .before .before .before .before .before .before .before .before .before .before .before .before .before .before .before .before .before .before .before .before .before .before .before .before .pre .1) ((c .before .before .before .before .before .before .before .before .before .before .before .before .before .before .before .before .before .before .before .before .before .before .before .before .before .before .before .before .pre .1) .known .1 .subject .inside)) (as-node (c .before .before .before .before .before .before .before .before .before .before .before .before .before .before .before .before .before .before .before .before .before .before .before .before .number-of .ensures) (c .before .before .before .before .before .before .before .before .before .before .before .before .before .before .before .before .before .before .before .before .before .before .get-node .ensures)) (found-as (c .before .before .before .before .before .before .before .before .before .before .before .before .before .before .before .before .before .before .before .if1 .left) (c .before .before .before .before .before .before .before .before .before .before .before .before .before .before .before .before .before .before .start-of .ensures) (c .before .before .before .before .before .before .before .before .before .before .before .before .before .before .before .before .before .len-of .ensures) (c .before .before .before .before .before .before .before .before .before .before .before .before .before .before .before .before .steps-of .ensures))) .steps)), view-true))
-
-put-truth-case-enum-told-4 : (t : ℕ) → put-truth-case-lts.Need-enum-told-4 (put-truth-case-claims t) (put-truth-case-at t) put-truth-case.Post
-put-truth-case-enum-told-4 t c = search needs
-
-put-truth-case-enum-told-5 : (t : ℕ) → put-truth-case-lts.Need-enum-told-5 (put-truth-case-claims t) (put-truth-case-at t) put-truth-case.Post
-put-truth-case-enum-told-5 t c = search needs
-
-put-truth-case-choose-requires-2 : (t : ℕ) → put-truth-case-lts.Need-choose-requires-2 (put-truth-case-claims t) (put-truth-case-at t) put-truth-case.Post
-put-truth-case-choose-requires-2 t c κs = search needs
-
-put-truth-case-enum-told-6 : (t : ℕ) → put-truth-case-lts.Need-enum-told-6 (put-truth-case-claims t) (put-truth-case-at t) put-truth-case.Post
-put-truth-case-enum-told-6 t c = search needs
-
-put-truth-case-number-of-requires-4 : (t : ℕ) → put-truth-case-lts.Need-number-of-requires-4 (put-truth-case-claims t) (put-truth-case-at t) put-truth-case.Post
-put-truth-case-number-of-requires-4 t c κs = search needs
-
-put-truth-case-slice-aggregate-put-both-3 :
-    (t : ℕ) → put-truth-case-lts.Need-slice-aggregate-put-both-3 (put-truth-case-claims t) (put-truth-case-at t) put-truth-case.Post
-put-truth-case-slice-aggregate-put-both-3 t c = search needs
-
-put-truth-case-add-put-both-3 : (t : ℕ) → put-truth-case-lts.Need-add-put-both-3 (put-truth-case-claims t) (put-truth-case-at t) put-truth-case.Post
-put-truth-case-add-put-both-3 t c = record { fits = omega (arith, (sizes (subject-ready (c .before .before .before .before .before .before .before .before .before .before .before .before .before .before .before .before .before .before .before .before .before .before .before .before .before .before .before .before .pre .1) ((c .before .before .before .before .before .before .before .before .before .before .before .before .before .before .before .before .before .before .before .before .before .before .before .before .before .before .before .before .pre .1) .known .1 .subject .inside)) (as-node (c .before .before .before .before .before .before .before .before .before .before .before .before .before .before .before .before .before .before .before .before .before .before .before .before .number-of .ensures) (c .before .before .before .before .before .before .before .before .before .before .before .before .before .before .before .before .before .before .before .before .before .before .get-node .ensures)) (found-as (c .before .before .before .before .before .before .before .before .before .before .before .before .before .before .before .before .before .before .before .if1 .left) (c .before .before .before .before .before .before .before .before .before .before .before .before .before .before .before .before .before .before .start-of .ensures) (c .before .before .before .before .before .before .before .before .before .before .before .before .before .before .before .before .before .len-of .ensures) (c .before .before .before .before .before .before .before .before .before .before .before .before .before .before .before .before .steps-of .ensures))) .steps, (c .before .before .before .before .before .before .before .before .before .before .before .before .before .before .before .before .before .before .before .before .before .before .before .before .before .before .before .before .pre .1) .few) }
-
-put-truth-case-put-both-requires-3 : (t : ℕ) → put-truth-case-lts.Need-put-both-requires-3 (put-truth-case-claims t) (put-truth-case-at t) put-truth-case.Post
-put-truth-case-put-both-requires-3 t c κs = (omega (arith, c .before .before .before .before .before .before .before .before .before .before .before .before .before .before .before .before .before .before .before .before .before .before .before .before .before .before .before .before .pre .0), (after-subject ((c .before .before .before .before .before .before .before .before .before .before .before .before .before .before .before .before .before .before .before .before .before .before .before .before .before .before .before .before .pre .1) .base) (as-node (c .before .before .before .before .before .before .before .before .before .before .before .before .before .before .before .before .before .before .before .before .before .before .before .before .number-of .ensures) (c .before .before .before .before .before .before .before .before .before .before .before .before .before .before .before .before .before .before .before .before .before .before .get-node .ensures)) (found-as (c .before .before .before .before .before .before .before .before .before .before .before .before .before .before .before .before .before .before .before .if1 .left) (c .before .before .before .before .before .before .before .before .before .before .before .before .before .before .before .before .before .before .start-of .ensures) (c .before .before .before .before .before .before .before .before .before .before .before .before .before .before .before .before .before .len-of .ensures) (c .before .before .before .before .before .before .before .before .before .before .before .before .before .before .before .before .steps-of .ensures)) (c .before .before .before .before .before .before .before .before .before .before .before .before .before .before .before .above .ensures) (c .before .before .before .before .before .before .before .before .before .before .before .before .before .before .before .before .before .before .before .before .before .before .before .before .before .before .before .before .pre .1) (omega (arith, c .before .before .before .number-of4 .ensures, (c .before .before .before .before .before .before .before .before .before .before .before .before .before .before .before .before .before .before .before .before .before .before .before .before .before .before .before .before .pre .1) .known .1 .no .inside), (omega (arith, c .before .before .before .before .before .before .before .before .before .before .before .before .before .before .before .before .before .before .before .before .before .before .before .before .number-of .ensures, ((c .before .before .before .before .before .before .before .before .before .before .before .before .before .before .before .before .before .before .before .before .before .before .before .before .before .before .before .before .pre .1) .known .1 .subject .inside)))) (omega (arith, (sizes (subject-ready (c .before .before .before .before .before .before .before .before .before .before .before .before .before .before .before .before .before .before .before .before .before .before .before .before .before .before .before .before .pre .1) ((c .before .before .before .before .before .before .before .before .before .before .before .before .before .before .before .before .before .before .before .before .before .before .before .before .before .before .before .before .pre .1) .known .1 .subject .inside)) (as-node (c .before .before .before .before .before .before .before .before .before .before .before .before .before .before .before .before .before .before .before .before .before .before .before .before .number-of .ensures) (c .before .before .before .before .before .before .before .before .before .before .before .before .before .before .before .before .before .before .before .before .before .before .get-node .ensures)) (found-as (c .before .before .before .before .before .before .before .before .before .before .before .before .before .before .before .before .before .before .before .if1 .left) (c .before .before .before .before .before .before .before .before .before .before .before .before .before .before .before .before .before .before .start-of .ensures) (c .before .before .before .before .before .before .before .before .before .before .before .before .before .before .before .before .before .len-of .ensures) (c .before .before .before .before .before .before .before .before .before .before .before .before .before .before .before .before .steps-of .ensures))) .steps)), view-false))
-
-put-truth-case-enum-told-7 : (t : ℕ) → put-truth-case-lts.Need-enum-told-7 (put-truth-case-claims t) (put-truth-case-at t) put-truth-case.Post
-put-truth-case-enum-told-7 t c = search needs
-
-put-truth-case-number-of-requires-5 : (t : ℕ) → put-truth-case-lts.Need-number-of-requires-5 (put-truth-case-claims t) (put-truth-case-at t) put-truth-case.Post
-put-truth-case-number-of-requires-5 t c κs = search needs
-
-put-truth-case-slice-aggregate-put-both-4 :
-    (t : ℕ) → put-truth-case-lts.Need-slice-aggregate-put-both-4 (put-truth-case-claims t) (put-truth-case-at t) put-truth-case.Post
-put-truth-case-slice-aggregate-put-both-4 t c = search needs
-
-put-truth-case-add-put-both-4 : (t : ℕ) → put-truth-case-lts.Need-add-put-both-4 (put-truth-case-claims t) (put-truth-case-at t) put-truth-case.Post
-put-truth-case-add-put-both-4 t c = record { fits = omega (arith, (sizes (subject-ready (c .before .before .before .before .before .before .before .before .before .before .before .before .before .before .before .before .before .before .before .before .before .before .before .before .before .before .before .before .pre .1) ((c .before .before .before .before .before .before .before .before .before .before .before .before .before .before .before .before .before .before .before .before .before .before .before .before .before .before .before .before .pre .1) .known .1 .subject .inside)) (as-node (c .before .before .before .before .before .before .before .before .before .before .before .before .before .before .before .before .before .before .before .before .before .before .before .before .number-of .ensures) (c .before .before .before .before .before .before .before .before .before .before .before .before .before .before .before .before .before .before .before .before .before .before .get-node .ensures)) (found-as (c .before .before .before .before .before .before .before .before .before .before .before .before .before .before .before .before .before .before .before .if1 .left) (c .before .before .before .before .before .before .before .before .before .before .before .before .before .before .before .before .before .before .start-of .ensures) (c .before .before .before .before .before .before .before .before .before .before .before .before .before .before .before .before .before .len-of .ensures) (c .before .before .before .before .before .before .before .before .before .before .before .before .before .before .before .before .steps-of .ensures))) .steps, (c .before .before .before .before .before .before .before .before .before .before .before .before .before .before .before .before .before .before .before .before .before .before .before .before .before .before .before .before .pre .1) .few) }
-
-put-truth-case-put-both-requires-4 : (t : ℕ) → put-truth-case-lts.Need-put-both-requires-4 (put-truth-case-claims t) (put-truth-case-at t) put-truth-case.Post
-put-truth-case-put-both-requires-4 t c κs = (omega (arith, c .before .before .before .before .before .before .before .before .before .before .before .before .before .before .before .before .before .before .before .before .before .before .before .before .before .before .before .before .pre .0), (after-subject ((c .before .before .before .before .before .before .before .before .before .before .before .before .before .before .before .before .before .before .before .before .before .before .before .before .before .before .before .before .pre .1) .base) (as-node (c .before .before .before .before .before .before .before .before .before .before .before .before .before .before .before .before .before .before .before .before .before .before .before .before .number-of .ensures) (c .before .before .before .before .before .before .before .before .before .before .before .before .before .before .before .before .before .before .before .before .before .before .get-node .ensures)) (found-as (c .before .before .before .before .before .before .before .before .before .before .before .before .before .before .before .before .before .before .before .if1 .left) (c .before .before .before .before .before .before .before .before .before .before .before .before .before .before .before .before .before .before .start-of .ensures) (c .before .before .before .before .before .before .before .before .before .before .before .before .before .before .before .before .before .len-of .ensures) (c .before .before .before .before .before .before .before .before .before .before .before .before .before .before .before .before .steps-of .ensures)) (c .before .before .before .before .before .before .before .before .before .before .before .before .before .before .before .above .ensures) (c .before .before .before .before .before .before .before .before .before .before .before .before .before .before .before .before .before .before .before .before .before .before .before .before .before .before .before .before .pre .1) (omega (arith, c .before .before .before .number-of5 .ensures, (c .before .before .before .before .before .before .before .before .before .before .before .before .before .before .before .before .before .before .before .before .before .before .before .before .before .before .before .before .pre .1) .known .1 .yes .inside), (omega (arith, c .before .before .before .before .before .before .before .before .before .before .before .before .before .before .before .before .before .before .before .before .before .before .before .before .number-of .ensures, ((c .before .before .before .before .before .before .before .before .before .before .before .before .before .before .before .before .before .before .before .before .before .before .before .before .before .before .before .before .pre .1) .known .1 .subject .inside)))) (omega (arith, (sizes (subject-ready (c .before .before .before .before .before .before .before .before .before .before .before .before .before .before .before .before .before .before .before .before .before .before .before .before .before .before .before .before .pre .1) ((c .before .before .before .before .before .before .before .before .before .before .before .before .before .before .before .before .before .before .before .before .before .before .before .before .before .before .before .before .pre .1) .known .1 .subject .inside)) (as-node (c .before .before .before .before .before .before .before .before .before .before .before .before .before .before .before .before .before .before .before .before .before .before .before .before .number-of .ensures) (c .before .before .before .before .before .before .before .before .before .before .before .before .before .before .before .before .before .before .before .before .before .before .get-node .ensures)) (found-as (c .before .before .before .before .before .before .before .before .before .before .before .before .before .before .before .before .before .before .before .if1 .left) (c .before .before .before .before .before .before .before .before .before .before .before .before .before .before .before .before .before .before .start-of .ensures) (c .before .before .before .before .before .before .before .before .before .before .before .before .before .before .before .before .before .len-of .ensures) (c .before .before .before .before .before .before .before .before .before .before .before .before .before .before .before .before .steps-of .ensures))) .steps)), view-true))
-
-put-truth-case-enum-told-8 : (t : ℕ) → put-truth-case-lts.Need-enum-told-8 (put-truth-case-claims t) (put-truth-case-at t) put-truth-case.Post
-put-truth-case-enum-told-8 t c = search needs
+put-truth-case-truth-branch-requires : (t : ℕ) → put-truth-case-lts.Need-truth-branch-requires (put-truth-case-claims t) (put-truth-case-at t) put-truth-case.Post
+put-truth-case-truth-branch-requires t c κs = search needs
 
 put-truth-case-returns-2 : (t : ℕ) → put-truth-case-lts.Need-returns-2 (put-truth-case-claims t) (put-truth-case-at t) put-truth-case.Post
-put-truth-case-returns-2 t c = false-no ((c .before .before .before .before .before .before .before .before .before .before .before .before .before .before .before .before .before .before .before .before .before .before .before .before .before .before .before .before .before .before .before .pre .1) .base) (as-node (c .before .before .before .before .before .before .before .before .before .before .before .before .before .before .before .before .before .before .before .before .before .before .before .before .before .before .before .number-of .ensures) (c .before .before .before .before .before .before .before .before .before .before .before .before .before .before .before .before .before .before .before .before .before .before .before .before .before .get-node .ensures)) (found-as (c .before .before .before .before .before .before .before .before .before .before .before .before .before .before .before .before .before .before .before .before .before .before .if1 .left) (c .before .before .before .before .before .before .before .before .before .before .before .before .before .before .before .before .before .before .before .before .before .start-of .ensures) (c .before .before .before .before .before .before .before .before .before .before .before .before .before .before .before .before .before .before .before .before .len-of .ensures) (c .before .before .before .before .before .before .before .before .before .before .before .before .before .before .before .before .before .before .before .steps-of .ensures)) (c .before .before .before .before .before .before .before .before .before .before .before .before .before .before .before .before .before .before .above .ensures) (c .before .before .before .before .before .before .before .before .before .before .before .before .shape-of .ensures) (c .before .before .before .before .before .before .before .before .before .before .enum-told .given .1) (ap (λ (i : ℕ). passesBytes i (now (c .before .before .before .before .before .before .before .before .before .before .before .before .before .before .before .before .before .before .before .before .before .before .before .before .before .before .before .before .before .before .before .args .view))) (c .before .before .before .before .before .before .before .before .before .before .before .before .before .before .before .before .byte-of .ensures)) (first-kept _ _ (c .before .before .before .before .before .before .before .before .before .choose .ensures) (c .before .before .before .before .before .before .before .enum-told2 .given .1)) (as-pair (c .before .before .before .before .before .before .number-of2 .ensures) (c .before .before .before .before .before .before .before .before .before .before .before .before .before .before .before .before .before .before .before .before .before .before .before .before .before .before .before .number-of .ensures) (c .before .before .put-both .ensures))
+put-truth-case-returns-2 t c = as-taken (taken-refused (truth-code (truth-says _ _ _ (rw (c .before .before .before .before .before .byte-of .ensures, c .before .before .before .before .byte-of2 .ensures) at (c .before .truth-branch .ensures))))) (truth-not ((c .before .before .before .before .before .before .before .before .before .before .before .before .before .before .before .before .before .before .before .before .pre .1) .base) (as-node (c .before .before .before .before .before .before .before .before .before .before .before .before .before .before .before .before .number-of .ensures) (c .before .before .before .before .before .before .before .before .before .before .before .before .before .before .get-node .ensures)) (found-as (c .before .before .before .before .before .before .before .before .before .before .before .if1 .left) (c .before .before .before .before .before .before .before .before .before .before .start-of .ensures) (c .before .before .before .before .before .before .before .before .before .len-of .ensures) (c .before .before .before .before .before .before .before .before .steps-of .ensures)) (c .before .before .before .before .before .before .above .ensures) refl (truth-says _ _ _ (rw (c .before .before .before .before .before .byte-of .ensures, c .before .before .before .before .byte-of2 .ensures) at (c .before .truth-branch .ensures))) (c .if2 .taken))
 
 put-truth-case-same-length-2 : (t : ℕ) → put-truth-case-lts.Need-same-length-2 (put-truth-case-claims t) (put-truth-case-at t) put-truth-case.Post
 put-truth-case-same-length-2 t c = put-truth-case-returns-2 t c .frame .long
 
+put-truth-case-cast-number-of : (t : ℕ) → put-truth-case-lts.Need-cast-number-of (put-truth-case-claims t) (put-truth-case-at t) put-truth-case.Post
+put-truth-case-cast-number-of t c = record { fits = omega (arith, c .if2 .left) }
+
+put-truth-case-mul-number-of : (t : ℕ) → put-truth-case-lts.Need-mul-number-of (put-truth-case-claims t) (put-truth-case-at t) put-truth-case.Post
+put-truth-case-mul-number-of t c = record { fits = omega (arith, c .if2 .left) }
+
+put-truth-case-add-number-of : (t : ℕ) → put-truth-case-lts.Need-add-number-of (put-truth-case-claims t) (put-truth-case-at t) put-truth-case.Post
+put-truth-case-add-number-of t c = record { fits = omega (arith, c .if2 .left) }
+
+put-truth-case-number-of-requires-2 : (t : ℕ) → put-truth-case-lts.Need-number-of-requires-2 (put-truth-case-claims t) (put-truth-case-at t) put-truth-case.Post
+put-truth-case-number-of-requires-2 t c κs = search needs
+
+put-truth-case-cast-t34 : (t : ℕ) → put-truth-case-lts.Need-cast-t34 (put-truth-case-claims t) (put-truth-case-at t) put-truth-case.Post
+put-truth-case-cast-t34 t c = record { fits = omega (arith, c .before .if2 .left) }
+
+put-truth-case-slice-aggregate-put-both :
+    (t : ℕ) → put-truth-case-lts.Need-slice-aggregate-put-both (
+      number-of-reads.Asked,
+      number-of-reads.Learnt,
+      get-node-reads.Asked,
+      get-node-reads.Learnt,
+      start-of-reads.Asked,
+      start-of-reads.Learnt,
+      len-of-reads.Asked,
+      len-of-reads.Learnt,
+      steps-of-reads.Asked,
+      steps-of-reads.Learnt,
+      above-reads.Asked,
+      above-reads.Learnt,
+      byte-of-reads.Asked,
+      byte-of-reads.Learnt,
+      truth-branch-reads.Asked,
+      truth-branch-reads.Learnt,
+      put-both-below t,
+      put-both.Post,
+    ) (put-truth-case-at t) put-truth-case.Post
+put-truth-case-slice-aggregate-put-both t c = search needs
+
+put-truth-case-put-both-requires : (t : ℕ) → put-truth-case-lts.Need-put-both-requires (put-truth-case-claims t) (put-truth-case-at t) put-truth-case.Post
+put-truth-case-put-both-requires t c κs = (omega (arith, c .before .before .before .before .before .before .before .before .before .before .before .before .before .before .before .before .before .before .before .before .before .before .before .before .pre .0), (after-subject ((c .before .before .before .before .before .before .before .before .before .before .before .before .before .before .before .before .before .before .before .before .before .before .before .before .pre .1) .base) (as-node (c .before .before .before .before .before .before .before .before .before .before .before .before .before .before .before .before .before .before .before .before .number-of .ensures) (c .before .before .before .before .before .before .before .before .before .before .before .before .before .before .before .before .before .before .get-node .ensures)) (found-as (c .before .before .before .before .before .before .before .before .before .before .before .before .before .before .before .if1 .left) (c .before .before .before .before .before .before .before .before .before .before .before .before .before .before .start-of .ensures) (c .before .before .before .before .before .before .before .before .before .before .before .before .before .len-of .ensures) (c .before .before .before .before .before .before .before .before .before .before .before .before .steps-of .ensures)) (c .before .before .before .before .before .before .before .before .before .before .above .ensures) (c .before .before .before .before .before .before .before .before .before .before .before .before .before .before .before .before .before .before .before .before .before .before .before .before .pre .1) ((node-inside (now (c .before .before .before .before .before .before .before .before .before .before .before .before .before .before .before .before .before .before .before .before .before .before .before .before .args .sheet)) (c .before .before .before .before .before .before .before .before .before .before .before .before .before .before .before .before .before .before .before .before .before .before .before .before .args .n) (c .before .before .before .before .before .truth-branch .result) (c .before .before .before .number-of2 .ensures) (omega (arith, c .before .before .before .before .if2 .left)) ((c .before .before .before .before .before .before .before .before .before .before .before .before .before .before .before .before .before .before .before .before .before .before .before .before .pre .1) .known .1 .no .inside) ((c .before .before .before .before .before .before .before .before .before .before .before .before .before .before .before .before .before .before .before .before .before .before .before .before .pre .1) .known .1 .yes .inside)), (omega (arith, c .before .before .before .before .before .before .before .before .before .before .before .before .before .before .before .before .before .before .before .before .number-of .ensures, ((c .before .before .before .before .before .before .before .before .before .before .before .before .before .before .before .before .before .before .before .before .before .before .before .before .pre .1) .known .1 .subject .inside)))) (omega (arith, (sizes (subject-ready (c .before .before .before .before .before .before .before .before .before .before .before .before .before .before .before .before .before .before .before .before .before .before .before .before .pre .1) ((c .before .before .before .before .before .before .before .before .before .before .before .before .before .before .before .before .before .before .before .before .before .before .before .before .pre .1) .known .1 .subject .inside)) (as-node (c .before .before .before .before .before .before .before .before .before .before .before .before .before .before .before .before .before .before .before .before .number-of .ensures) (c .before .before .before .before .before .before .before .before .before .before .before .before .before .before .before .before .before .before .get-node .ensures)) (found-as (c .before .before .before .before .before .before .before .before .before .before .before .before .before .before .before .if1 .left) (c .before .before .before .before .before .before .before .before .before .before .before .before .before .before .start-of .ensures) (c .before .before .before .before .before .before .before .before .before .before .before .before .before .len-of .ensures) (c .before .before .before .before .before .before .before .before .before .before .before .before .steps-of .ensures))) .steps)), view-truth (omega (arith, c .before .before .before .before .if2 .left))))
+
 put-truth-case-returns-3 : (t : ℕ) → put-truth-case-lts.Need-returns-3 (put-truth-case-claims t) (put-truth-case-at t) put-truth-case.Post
-put-truth-case-returns-3 t c = let w = first-left _ _ (c .before .before .before .before .before .before .before .before .before .choose .ensures) (c .before .before .before .before .before .before .before .enum-told3 .given .1) in false-yes ((c .before .before .before .before .before .before .before .before .before .before .before .before .before .before .before .before .before .before .before .before .before .before .before .before .before .before .before .before .before .before .before .pre .1) .base) (as-node (c .before .before .before .before .before .before .before .before .before .before .before .before .before .before .before .before .before .before .before .before .before .before .before .before .before .before .before .number-of .ensures) (c .before .before .before .before .before .before .before .before .before .before .before .before .before .before .before .before .before .before .before .before .before .before .before .before .before .get-node .ensures)) (found-as (c .before .before .before .before .before .before .before .before .before .before .before .before .before .before .before .before .before .before .before .before .before .before .if1 .left) (c .before .before .before .before .before .before .before .before .before .before .before .before .before .before .before .before .before .before .before .before .before .start-of .ensures) (c .before .before .before .before .before .before .before .before .before .before .before .before .before .before .before .before .before .before .before .before .len-of .ensures) (c .before .before .before .before .before .before .before .before .before .before .before .before .before .before .before .before .before .before .before .steps-of .ensures)) (c .before .before .before .before .before .before .before .before .before .before .before .before .before .before .before .before .before .before .above .ensures) (c .before .before .before .before .before .before .before .before .before .before .before .before .shape-of .ensures) (c .before .before .before .before .before .before .before .before .before .before .enum-told .given .1) (ap (λ (i : ℕ). passesBytes i (now (c .before .before .before .before .before .before .before .before .before .before .before .before .before .before .before .before .before .before .before .before .before .before .before .before .before .before .before .before .before .before .before .args .view))) (c .before .before .before .before .before .before .before .before .before .before .before .before .before .before .before .before .byte-of .ensures)) (w .0) (ap (λ (i : ℕ). passesBytes i (now (c .before .before .before .before .before .before .before .before .before .before .before .before .before .before .before .before .before .before .before .before .before .before .before .before .before .before .before .before .before .before .before .args .view))) (c .before .before .before .before .before .before .before .before .before .before .before .before .before .before .before .byte-of2 .ensures)) (w .1) (as-pair (c .before .before .before .before .before .before .number-of3 .ensures) (c .before .before .before .before .before .before .before .before .before .before .before .before .before .before .before .before .before .before .before .before .before .before .before .before .before .before .before .number-of .ensures) (c .before .before .put-both2 .ensures))
+put-truth-case-returns-3 t c = truth-both ((c .before .before .before .before .before .before .before .before .before .before .before .before .before .before .before .before .before .before .before .before .before .before .before .before .before .before .before .pre .1) .base) (as-node (c .before .before .before .before .before .before .before .before .before .before .before .before .before .before .before .before .before .before .before .before .before .before .before .number-of .ensures) (c .before .before .before .before .before .before .before .before .before .before .before .before .before .before .before .before .before .before .before .before .before .get-node .ensures)) (found-as (c .before .before .before .before .before .before .before .before .before .before .before .before .before .before .before .before .before .before .if1 .left) (c .before .before .before .before .before .before .before .before .before .before .before .before .before .before .before .before .before .start-of .ensures) (c .before .before .before .before .before .before .before .before .before .before .before .before .before .before .before .before .len-of .ensures) (c .before .before .before .before .before .before .before .before .before .before .before .before .before .before .before .steps-of .ensures)) (c .before .before .before .before .before .before .before .before .before .before .before .before .before .above .ensures) refl (truth-says _ _ _ (rw (c .before .before .before .before .before .before .before .before .before .before .before .before .byte-of .ensures, c .before .before .before .before .before .before .before .before .before .before .before .byte-of2 .ensures) at (c .before .before .before .before .before .before .before .before .truth-branch .ensures))) (omega (arith, c .before .before .before .before .before .before .before .if2 .left)) (node-first (now (c .before .before .before .before .before .before .before .before .before .before .before .before .before .before .before .before .before .before .before .before .before .before .before .before .before .before .before .args .sheet)) (c .before .before .before .before .before .before .before .before .before .before .before .before .before .before .before .before .before .before .before .before .before .before .before .before .before .before .before .args .n) (c .before .before .before .before .before .before .before .before .truth-branch .result) (c .before .before .before .before .before .before .number-of2 .ensures)) (node-second (now (c .before .before .before .before .before .before .before .before .before .before .before .before .before .before .before .before .before .before .before .before .before .before .before .before .before .before .before .args .sheet)) (c .before .before .before .before .before .before .before .before .before .before .before .before .before .before .before .before .before .before .before .before .before .before .before .before .before .before .before .args .n) (c .before .before .before .before .before .before .before .before .truth-branch .result) (c .before .before .before .before .before .before .number-of2 .ensures)) (as-pair refl (c .before .before .before .before .before .before .before .before .before .before .before .before .before .before .before .before .before .before .before .before .before .before .before .number-of .ensures) (c .before .before .put-both .ensures))
 
 put-truth-case-same-length-3 : (t : ℕ) → put-truth-case-lts.Need-same-length-3 (put-truth-case-claims t) (put-truth-case-at t) put-truth-case.Post
 put-truth-case-same-length-3 t c = put-truth-case-returns-3 t c .frame .long
-
-put-truth-case-returns-4 : (t : ℕ) → put-truth-case-lts.Need-returns-4 (put-truth-case-claims t) (put-truth-case-at t) put-truth-case.Post
-put-truth-case-returns-4 t c = let w = none-says _ _ _ (c .before .before .choose .ensures) (c .enum-told4 .given .1) in as-taken (taken-refused (omega arith)) (false-53 ((c .before .before .before .before .before .before .before .before .before .before .before .before .before .before .before .before .before .before .before .before .before .before .before .before .pre .1) .base) (as-node (c .before .before .before .before .before .before .before .before .before .before .before .before .before .before .before .before .before .before .before .before .number-of .ensures) (c .before .before .before .before .before .before .before .before .before .before .before .before .before .before .before .before .before .before .get-node .ensures)) (found-as (c .before .before .before .before .before .before .before .before .before .before .before .before .before .before .before .if1 .left) (c .before .before .before .before .before .before .before .before .before .before .before .before .before .before .start-of .ensures) (c .before .before .before .before .before .before .before .before .before .before .before .before .before .len-of .ensures) (c .before .before .before .before .before .before .before .before .before .before .before .before .steps-of .ensures)) (c .before .before .before .before .before .before .before .before .before .before .before .above .ensures) (c .before .before .before .before .before .shape-of .ensures) (c .before .before .before .enum-told .given .1) (ap (λ (i : ℕ). passesBytes i (now (c .before .before .before .before .before .before .before .before .before .before .before .before .before .before .before .before .before .before .before .before .before .before .before .before .args .view))) (c .before .before .before .before .before .before .before .before .before .byte-of .ensures)) (w .0) (ap (λ (i : ℕ). passesBytes i (now (c .before .before .before .before .before .before .before .before .before .before .before .before .before .before .before .before .before .before .before .before .before .before .before .before .args .view))) (c .before .before .before .before .before .before .before .before .byte-of2 .ensures)) (w .1))
-
-put-truth-case-same-length-4 : (t : ℕ) → put-truth-case-lts.Need-same-length-4 (put-truth-case-claims t) (put-truth-case-at t) put-truth-case.Post
-put-truth-case-same-length-4 t c = put-truth-case-returns-4 t c .frame .long
-
-put-truth-case-returns-5 : (t : ℕ) → put-truth-case-lts.Need-returns-5 (put-truth-case-claims t) (put-truth-case-at t) put-truth-case.Post
-put-truth-case-returns-5 t c = let w = second-left _ _ (c .before .before .before .before .before .before .before .before .before .choose2 .ensures) (c .before .before .before .before .before .before .before .enum-told6 .given .1) in true-no ((c .before .before .before .before .before .before .before .before .before .before .before .before .before .before .before .before .before .before .before .before .before .before .before .before .before .before .before .before .before .before .before .pre .1) .base) (as-node (c .before .before .before .before .before .before .before .before .before .before .before .before .before .before .before .before .before .before .before .before .before .before .before .before .before .before .before .number-of .ensures) (c .before .before .before .before .before .before .before .before .before .before .before .before .before .before .before .before .before .before .before .before .before .before .before .before .before .get-node .ensures)) (found-as (c .before .before .before .before .before .before .before .before .before .before .before .before .before .before .before .before .before .before .before .before .before .before .if1 .left) (c .before .before .before .before .before .before .before .before .before .before .before .before .before .before .before .before .before .before .before .before .before .start-of .ensures) (c .before .before .before .before .before .before .before .before .before .before .before .before .before .before .before .before .before .before .before .before .len-of .ensures) (c .before .before .before .before .before .before .before .before .before .before .before .before .before .before .before .before .before .before .before .steps-of .ensures)) (c .before .before .before .before .before .before .before .before .before .before .before .before .before .before .before .before .before .before .above .ensures) (c .before .before .before .before .before .before .before .before .before .before .before .before .shape-of .ensures) (c .before .before .before .before .before .before .before .before .before .before .enum-told5 .given .1) (ap (λ (i : ℕ). passesBytes i (now (c .before .before .before .before .before .before .before .before .before .before .before .before .before .before .before .before .before .before .before .before .before .before .before .before .before .before .before .before .before .before .before .args .view))) (c .before .before .before .before .before .before .before .before .before .before .before .before .before .before .before .byte-of2 .ensures)) (w .0) (ap (λ (i : ℕ). passesBytes i (now (c .before .before .before .before .before .before .before .before .before .before .before .before .before .before .before .before .before .before .before .before .before .before .before .before .before .before .before .before .before .before .before .args .view))) (c .before .before .before .before .before .before .before .before .before .before .before .before .before .before .before .before .byte-of .ensures)) (w .1) (as-pair (c .before .before .before .before .before .before .number-of4 .ensures) (c .before .before .before .before .before .before .before .before .before .before .before .before .before .before .before .before .before .before .before .before .before .before .before .before .before .before .before .number-of .ensures) (c .before .before .put-both3 .ensures))
-
-put-truth-case-same-length-5 : (t : ℕ) → put-truth-case-lts.Need-same-length-5 (put-truth-case-claims t) (put-truth-case-at t) put-truth-case.Post
-put-truth-case-same-length-5 t c = put-truth-case-returns-5 t c .frame .long
-
-put-truth-case-returns-6 : (t : ℕ) → put-truth-case-lts.Need-returns-6 (put-truth-case-claims t) (put-truth-case-at t) put-truth-case.Post
-put-truth-case-returns-6 t c = true-yes ((c .before .before .before .before .before .before .before .before .before .before .before .before .before .before .before .before .before .before .before .before .before .before .before .before .before .before .before .before .before .before .before .pre .1) .base) (as-node (c .before .before .before .before .before .before .before .before .before .before .before .before .before .before .before .before .before .before .before .before .before .before .before .before .before .before .before .number-of .ensures) (c .before .before .before .before .before .before .before .before .before .before .before .before .before .before .before .before .before .before .before .before .before .before .before .before .before .get-node .ensures)) (found-as (c .before .before .before .before .before .before .before .before .before .before .before .before .before .before .before .before .before .before .before .before .before .before .if1 .left) (c .before .before .before .before .before .before .before .before .before .before .before .before .before .before .before .before .before .before .before .before .before .start-of .ensures) (c .before .before .before .before .before .before .before .before .before .before .before .before .before .before .before .before .before .before .before .before .len-of .ensures) (c .before .before .before .before .before .before .before .before .before .before .before .before .before .before .before .before .before .before .before .steps-of .ensures)) (c .before .before .before .before .before .before .before .before .before .before .before .before .before .before .before .before .before .before .above .ensures) (c .before .before .before .before .before .before .before .before .before .before .before .before .shape-of .ensures) (c .before .before .before .before .before .before .before .before .before .before .enum-told5 .given .1) (ap (λ (i : ℕ). passesBytes i (now (c .before .before .before .before .before .before .before .before .before .before .before .before .before .before .before .before .before .before .before .before .before .before .before .before .before .before .before .before .before .before .before .args .view))) (c .before .before .before .before .before .before .before .before .before .before .before .before .before .before .before .byte-of2 .ensures)) (second-kept _ _ (c .before .before .before .before .before .before .before .before .before .choose2 .ensures) (c .before .before .before .before .before .before .before .enum-told7 .given .1)) (as-pair (c .before .before .before .before .before .before .number-of5 .ensures) (c .before .before .before .before .before .before .before .before .before .before .before .before .before .before .before .before .before .before .before .before .before .before .before .before .before .before .before .number-of .ensures) (c .before .before .put-both4 .ensures))
-
-put-truth-case-same-length-6 : (t : ℕ) → put-truth-case-lts.Need-same-length-6 (put-truth-case-claims t) (put-truth-case-at t) put-truth-case.Post
-put-truth-case-same-length-6 t c = put-truth-case-returns-6 t c .frame .long
-
-put-truth-case-returns-7 : (t : ℕ) → put-truth-case-lts.Need-returns-7 (put-truth-case-claims t) (put-truth-case-at t) put-truth-case.Post
-put-truth-case-returns-7 t c = let w = none-says _ _ _ (c .before .before .choose2 .ensures) (c .enum-told8 .given .1) in as-taken (taken-refused (omega arith)) (true-53 ((c .before .before .before .before .before .before .before .before .before .before .before .before .before .before .before .before .before .before .before .before .before .before .before .before .pre .1) .base) (as-node (c .before .before .before .before .before .before .before .before .before .before .before .before .before .before .before .before .before .before .before .before .number-of .ensures) (c .before .before .before .before .before .before .before .before .before .before .before .before .before .before .before .before .before .before .get-node .ensures)) (found-as (c .before .before .before .before .before .before .before .before .before .before .before .before .before .before .before .if1 .left) (c .before .before .before .before .before .before .before .before .before .before .before .before .before .before .start-of .ensures) (c .before .before .before .before .before .before .before .before .before .before .before .before .before .len-of .ensures) (c .before .before .before .before .before .before .before .before .before .before .before .before .steps-of .ensures)) (c .before .before .before .before .before .before .before .before .before .before .before .above .ensures) (c .before .before .before .before .before .shape-of .ensures) (c .before .before .before .enum-told5 .given .1) (ap (λ (i : ℕ). passesBytes i (now (c .before .before .before .before .before .before .before .before .before .before .before .before .before .before .before .before .before .before .before .before .before .before .before .before .args .view))) (c .before .before .before .before .before .before .before .before .byte-of2 .ensures)) (w .1) (ap (λ (i : ℕ). passesBytes i (now (c .before .before .before .before .before .before .before .before .before .before .before .before .before .before .before .before .before .before .before .before .before .before .before .before .args .view))) (c .before .before .before .before .before .before .before .before .before .byte-of .ensures)) (w .0))
-
-put-truth-case-same-length-7 : (t : ℕ) → put-truth-case-lts.Need-same-length-7 (put-truth-case-claims t) (put-truth-case-at t) put-truth-case.Post
-put-truth-case-same-length-7 t c = put-truth-case-returns-7 t c .frame .long
-
-put-truth-case-returns-8 : (t : ℕ) → put-truth-case-lts.Need-returns-8 (put-truth-case-claims t) (put-truth-case-at t) put-truth-case.Post
-put-truth-case-returns-8 t c = as-taken (taken-refused (omega arith)) (truth-43 ((c .before .before .before .before .before .before .before .before .before .before .before .before .before .before .before .before .before .before .before .before .pre .1) .base) (as-node (c .before .before .before .before .before .before .before .before .before .before .before .before .before .before .before .before .number-of .ensures) (c .before .before .before .before .before .before .before .before .before .before .before .before .before .before .get-node .ensures)) (found-as (c .before .before .before .before .before .before .before .before .before .before .before .if1 .left) (c .before .before .before .before .before .before .before .before .before .before .start-of .ensures) (c .before .before .before .before .before .before .before .before .before .len-of .ensures) (c .before .before .before .before .before .before .before .before .steps-of .ensures)) (c .before .before .before .before .before .before .before .above .ensures) (c .before .shape-of .ensures) (tags.not-false _ (c .match .keys3)) (tags.not-true _ (c .match .keys3)))
-
-put-truth-case-same-length-8 : (t : ℕ) → put-truth-case-lts.Need-same-length-8 (put-truth-case-claims t) (put-truth-case-at t) put-truth-case.Post
-put-truth-case-same-length-8 t c = put-truth-case-returns-8 t c .frame .long
 
 put-under-put-inside-requires : (t : ℕ) → put-under-lts.Need-put-inside-requires (put-under-claims t) (put-under-at t) put-under.Post
 put-under-put-inside-requires t c κs = let thesf = (spans-few (c .before .before .before .before .before .pre .1 .1 .1) ((c .before .before .before .before .before .pre .1 .0) .base)) in (omega (arith, c .before .before .before .before .before .pre .0), (under-ready₁ (opened (now (c .before .before .before .before .before .args .slots)) (c .before .before .before .before .before .args .parts .start) (c .before .before .before .before .before .args .parts .first) (c .before .before .before .before .before .args .parts .second) (c .before .before .before .before .before .pre .1 .1 .0) refl (λ _ _. refl)) (c .before .before .before .before .before .pre .1 .0) (omega arith) (c .before .before .before .before .before .pre .1 .1 .0) (c .before .before .before .before .before .pre .1 .1 .1), (omega (arith, (c .before .before .before .before .before .pre .1 .1 .0) .some, (c .before .before .before .before .before .pre .1 .1 .0) .slots), omega (arith, (c .before .before .before .before .before .pre .1 .1 .0) .some, (c .before .before .before .before .before .pre .1 .1 .0) .more-cells), omega (arith, thesf, (c .before .before .before .before .before .pre .1 .0) .room, (c .before .before .before .before .before .pre .1 .1 .0) .some), omega (arith, thesf))))
@@ -1280,26 +1242,7 @@ pub +put-add+put-both+put-call+put-front+put-inside+put-list-case+put-node+put-p
     μ-put-switch
     μ-put-truth-case
     μ-put-under
-    (λ t. put-add-lts.spec (
-      shape-of-reads.Asked,
-      shape-of-reads.Learnt,
-      byte-of-reads.Asked,
-      byte-of-reads.Learnt,
-      number-reads.Asked,
-      number-reads.Learnt,
-      high-reads.Asked,
-      high-reads.Learnt,
-      low-reads.Asked,
-      low-reads.Learnt,
-      number-of-reads.Asked,
-      number-of-reads.Learnt,
-      put-node-below t,
-      put-node.Post,
-      taken-reads.Asked,
-      taken-reads.Learnt,
-      took-reads.Asked,
-      took-reads.Learnt,
-    )
+    (λ t. put-add-lts.spec (put-add-claims t)
     (put-add-at t)
     put-add.Post
     (put-add-shape-of-requires t)
@@ -1321,14 +1264,7 @@ pub +put-add+put-both+put-call+put-front+put-inside+put-list-case+put-node+put-p
     (put-add-took-requires t)
     (put-add-same-length-2 t)
     (put-add-returns-4 t))
-    (λ t. put-both-lts.spec (
-      put-node-below t,
-      put-node.Post,
-      taken-reads.Asked,
-      taken-reads.Learnt,
-      took-reads.Asked,
-      took-reads.Learnt,
-    )
+    (λ t. put-both-lts.spec (put-both-claims t)
     (put-both-at t)
     put-both.Post
     (put-both-put-node-requires t)
@@ -1345,22 +1281,7 @@ pub +put-add+put-both+put-call+put-front+put-inside+put-list-case+put-node+put-p
     (put-both-took-requires t)
     (put-both-same-length-3 t)
     (put-both-returns-3 t))
-    (λ t. put-call-lts.spec (
-      number-of-reads.Asked,
-      number-of-reads.Learnt,
-      section-root-reads.Asked,
-      section-root-reads.Learnt,
-      pick-two-reads.Asked,
-      pick-two-reads.Learnt,
-      pick-cells-reads.Asked,
-      pick-cells-reads.Learnt,
-      put-node-below t,
-      put-node.Post,
-      taken-reads.Asked,
-      taken-reads.Learnt,
-      took-reads.Asked,
-      took-reads.Learnt,
-    )
+    (λ t. put-call-lts.spec (put-call-claims t)
     (put-call-at t)
     put-call.Post
     (put-call-number-of-requires t)
@@ -1380,18 +1301,7 @@ pub +put-add+put-both+put-call+put-front+put-inside+put-list-case+put-node+put-p
     (put-call-took-requires t)
     (put-call-same-length-2 t)
     (put-call-returns-4 t))
-    (λ t. put-front-lts.spec (
-      shape-of-reads.Asked,
-      shape-of-reads.Learnt,
-      first-part-reads.Asked,
-      first-part-reads.Learnt,
-      second-part-reads.Asked,
-      second-part-reads.Learnt,
-      number-of-reads.Asked,
-      number-of-reads.Learnt,
-      put-both-below t,
-      put-both.Post,
-    )
+    (λ t. put-front-lts.spec (put-front-claims t)
     (put-front-at t)
     put-front.Post
     (put-front-shape-of-requires t)
@@ -1400,18 +1310,22 @@ pub +put-add+put-both+put-call+put-front+put-inside+put-list-case+put-node+put-p
     (put-front-first-part-requires t)
     (put-front-second-part-requires t)
     (put-front-number-of-requires t)
-    (put-front-number-of-requires-2 t)
-    (put-front-put-both-requires t)
+    (put-front-put-node-requires t)
     (put-front-same-length t)
-    (put-front-returns-2 t))
-    (λ t. put-inside-lts.spec (
-      add-two-reads.Asked,
-      add-two-reads.Learnt,
-      add-cells-reads.Asked,
-      add-cells-reads.Learnt,
-      put-node-below t,
-      put-node.Post,
-    )
+    (put-front-returns-2 t)
+    (put-front-taken-requires t)
+    (put-front-sub-to t)
+    (put-front-number-of-requires-2 t)
+    (put-front-put-node-requires-2 t)
+    (put-front-same-length-2 t)
+    (put-front-returns-3 t)
+    (put-front-add-took t)
+    (put-front-taken-requires-2 t)
+    (put-front-add-took-2 t)
+    (put-front-took-requires t)
+    (put-front-same-length-3 t)
+    (put-front-returns-4 t))
+    (λ t. put-inside-lts.spec (put-inside-claims t)
     (put-inside-at t)
     put-inside.Post
     (put-inside-mul-slots t)
@@ -1428,32 +1342,7 @@ pub +put-add+put-both+put-call+put-front+put-inside+put-list-case+put-node+put-p
     (put-inside-put-node-requires t)
     (put-inside-same-length t)
     (put-inside-returns t))
-    (λ t. put-list-case-lts.spec (
-      number-of-reads.Asked,
-      number-of-reads.Learnt,
-      get-node-reads.Asked,
-      get-node-reads.Learnt,
-      start-of-reads.Asked,
-      start-of-reads.Learnt,
-      len-of-reads.Asked,
-      len-of-reads.Learnt,
-      steps-of-reads.Asked,
-      steps-of-reads.Learnt,
-      above-reads.Asked,
-      above-reads.Learnt,
-      byte-of-reads.Asked,
-      byte-of-reads.Learnt,
-      shape-of-reads.Asked,
-      shape-of-reads.Learnt,
-      choose-reads.Asked,
-      choose-reads.Learnt,
-      put-both-below t,
-      put-both.Post,
-      put-switch-below t,
-      put-switch.Post,
-      put-under-below t,
-      put-under.Post,
-    )
+    (λ t. put-list-case-lts.spec (put-list-case-claims t)
     (put-list-case-at t)
     put-list-case.Post
     (put-list-case-number-of-requires t)
@@ -1462,42 +1351,30 @@ pub +put-add+put-both+put-call+put-front+put-inside+put-list-case+put-node+put-p
     (put-list-case-returns t)
     (put-list-case-start-of-requires t)
     (put-list-case-len-of-requires t)
-    (put-list-case-steps-of-requires t)
     (put-list-case-add-end t)
+    (put-list-case-steps-of-requires t)
+    (put-list-case-add-s t)
+    (put-list-case-sub-to t)
     (put-list-case-above-requires t)
-    (put-list-case-sub-shape-of t)
     (put-list-case-byte-of-requires t)
     (put-list-case-byte-of-requires-2 t)
-    (put-list-case-sub-shape-of-2 t)
-    (put-list-case-part-shape-of-start t)
-    (put-list-case-part-shape-of-end t)
-    (put-list-case-shape-of-requires t)
+    (put-list-case-sub-list-branch t)
+    (put-list-case-part-list-branch-start t)
+    (put-list-case-part-list-branch-end t)
+    (put-list-case-list-branch-requires t)
     (put-list-case-enum-told t)
-    (put-list-case-choose-requires t)
-    (put-list-case-enum-told-2 t)
     (put-list-case-number-of-requires-2 t)
     (put-list-case-slice-aggregate-put-both t)
-    (put-list-case-add-put-both t)
     (put-list-case-put-both-requires t)
-    (put-list-case-enum-told-3 t)
-    (put-list-case-add-put-switch t)
-    (put-list-case-put-switch-requires t)
-    (put-list-case-enum-told-4 t)
     (put-list-case-enum-known-mid t)
-    (put-list-case-choose-requires-2 t)
-    (put-list-case-enum-told-5 t)
     (put-list-case-number-of-requires-3 t)
-    (put-list-case-slice-aggregate-put-both-2 t)
-    (put-list-case-add-put-both-2 t)
-    (put-list-case-put-both-requires-2 t)
-    (put-list-case-enum-told-6 t)
-    (put-list-case-number-of-requires-4 t)
-    (put-list-case-add-put-under t)
-    (put-list-case-sub-t58 t)
-    (put-list-case-sub-t59 t)
-    (put-list-case-add-put-under-2 t)
+    (put-list-case-add-t41 t)
+    (put-list-case-sub-t42 t)
+    (put-list-case-sub-t43 t)
     (put-list-case-put-under-requires t)
-    (put-list-case-enum-told-7 t)
+    (put-list-case-enum-told-2 t)
+    (put-list-case-put-switch-requires t)
+    (put-list-case-enum-known-code t)
     (put-list-case-same-length-2 t)
     (put-list-case-returns-2 t)
     (put-list-case-same-length-3 t)
@@ -1505,39 +1382,8 @@ pub +put-add+put-both+put-call+put-front+put-inside+put-list-case+put-node+put-p
     (put-list-case-same-length-4 t)
     (put-list-case-returns-4 t)
     (put-list-case-same-length-5 t)
-    (put-list-case-returns-5 t)
-    (put-list-case-same-length-6 t)
-    (put-list-case-returns-6 t)
-    (put-list-case-same-length-7 t)
-    (put-list-case-returns-7 t)
-    (put-list-case-same-length-8 t)
-    (put-list-case-returns-8 t))
-    (λ t. put-node-lts.spec (
-      entry-reads.Asked,
-      entry-reads.Learnt,
-      byte-of-reads.Asked,
-      byte-of-reads.Learnt,
-      put-var-reads.Asked,
-      put-var-reads.Learnt,
-      put-constant-reads.Asked,
-      put-constant-reads.Learnt,
-      put-number-reads.Asked,
-      put-number-reads.Learnt,
-      put-front-below t,
-      put-front.Post,
-      put-pair-below t,
-      put-pair.Post,
-      put-list-case-below t,
-      put-list-case.Post,
-      put-truth-case-below t,
-      put-truth-case.Post,
-      put-split-below t,
-      put-split.Post,
-      put-call-below t,
-      put-call.Post,
-      put-add-below t,
-      put-add.Post,
-    )
+    (put-list-case-returns-5 t))
+    (λ t. put-node-lts.spec (put-node-claims t)
     (put-node-at t)
     put-node.Post
     (put-node-entry-requires t)
@@ -1579,18 +1425,7 @@ pub +put-add+put-both+put-call+put-front+put-inside+put-list-case+put-node+put-p
     (put-node-returns-12 t)
     (put-node-same-length-8 t)
     (put-node-returns-13 t))
-    (λ t. put-pair-lts.spec (
-      shape-of-reads.Asked,
-      shape-of-reads.Learnt,
-      first-part-reads.Asked,
-      first-part-reads.Learnt,
-      second-part-reads.Asked,
-      second-part-reads.Learnt,
-      number-of-reads.Asked,
-      number-of-reads.Learnt,
-      put-both-below t,
-      put-both.Post,
-    )
+    (λ t. put-pair-lts.spec (put-pair-claims t)
     (put-pair-at t)
     put-pair.Post
     (put-pair-shape-of-requires t)
@@ -1599,24 +1434,22 @@ pub +put-add+put-both+put-call+put-front+put-inside+put-list-case+put-node+put-p
     (put-pair-first-part-requires t)
     (put-pair-second-part-requires t)
     (put-pair-number-of-requires t)
-    (put-pair-number-of-requires-2 t)
-    (put-pair-put-both-requires t)
+    (put-pair-put-node-requires t)
     (put-pair-same-length t)
-    (put-pair-returns-2 t))
-    (λ t. put-rebuilt-lts.spec (
-      place-of-reads.Asked,
-      place-of-reads.Learnt,
-      unfit-reads.Asked,
-      unfit-reads.Learnt,
-      rebuild-reads.Asked,
-      rebuild-reads.Learnt,
-      put-node-below t,
-      put-node.Post,
-      taken-reads.Asked,
-      taken-reads.Learnt,
-      took-reads.Asked,
-      took-reads.Learnt,
-    )
+    (put-pair-returns-2 t)
+    (put-pair-taken-requires t)
+    (put-pair-sub-to t)
+    (put-pair-number-of-requires-2 t)
+    (put-pair-put-node-requires-2 t)
+    (put-pair-same-length-2 t)
+    (put-pair-returns-3 t)
+    (put-pair-add-took t)
+    (put-pair-taken-requires-2 t)
+    (put-pair-add-took-2 t)
+    (put-pair-took-requires t)
+    (put-pair-same-length-3 t)
+    (put-pair-returns-4 t))
+    (λ t. put-rebuilt-lts.spec (put-rebuilt-claims t)
     (put-rebuilt-at t)
     put-rebuilt.Post
     (put-rebuilt-mul-place-of t)
@@ -1645,24 +1478,7 @@ pub +put-add+put-both+put-call+put-front+put-inside+put-list-case+put-node+put-p
     (put-rebuilt-took-requires t)
     (put-rebuilt-same-length-2 t)
     (put-rebuilt-returns-4 t))
-    (λ t. put-split-lts.spec (
-      number-of-reads.Asked,
-      number-of-reads.Learnt,
-      get-node-reads.Asked,
-      get-node-reads.Learnt,
-      start-of-reads.Asked,
-      start-of-reads.Learnt,
-      len-of-reads.Asked,
-      len-of-reads.Learnt,
-      steps-of-reads.Asked,
-      steps-of-reads.Learnt,
-      above-reads.Asked,
-      above-reads.Learnt,
-      shape-of-reads.Asked,
-      shape-of-reads.Learnt,
-      put-under-below t,
-      put-under.Post,
-    )
+    (λ t. put-split-lts.spec (put-split-claims t)
     (put-split-at t)
     put-split.Post
     (put-split-number-of-requires t)
@@ -1671,51 +1487,40 @@ pub +put-add+put-both+put-call+put-front+put-inside+put-list-case+put-node+put-p
     (put-split-returns t)
     (put-split-start-of-requires t)
     (put-split-len-of-requires t)
-    (put-split-steps-of-requires t)
     (put-split-add-end t)
+    (put-split-steps-of-requires t)
+    (put-split-add-s t)
+    (put-split-sub-to t)
     (put-split-above-requires t)
     (put-split-sub-shape-of t)
-    (put-split-sub-shape-of-2 t)
     (put-split-part-shape-of-start t)
     (put-split-part-shape-of-end t)
     (put-split-shape-of-requires t)
     (put-split-enum-known-mid t)
     (put-split-same-length-2 t)
     (put-split-returns-2 t)
-    (put-split-add-put-under t)
+    (put-split-add-t27 t)
     (put-split-sub-t30 t)
     (put-split-sub-t31 t)
     (put-split-number-of-requires-2 t)
-    (put-split-add-put-under-2 t)
     (put-split-put-under-requires t)
     (put-split-same-length-3 t)
     (put-split-returns-3 t))
-    (λ t. put-switch-lts.spec (
-      number-of-reads.Asked,
-      number-of-reads.Learnt,
-      get-at-reads.Asked,
-      get-at-reads.Learnt,
-      len-of-reads.Asked,
-      len-of-reads.Learnt,
-      steps-of-reads.Asked,
-      steps-of-reads.Learnt,
-      unfit-reads.Asked,
-      unfit-reads.Learnt,
-      put-under-below t,
-      put-under.Post,
-    )
+    (λ t. put-switch-lts.spec (put-switch-claims t)
     (put-switch-at t)
     put-switch.Post
     (put-switch-number-of-requires t)
-    (put-switch-get-at-requires t)
+    (put-switch-get-node-requires t)
+    (put-switch-bring-requires t)
     (put-switch-same-length t)
     (put-switch-returns t)
     (put-switch-len-of-requires t)
     (put-switch-steps-of-requires t)
     (put-switch-add-mid t)
-    (put-switch-sub-left t)
+    (put-switch-sub-two t)
     (put-switch-number-of-requires-2 t)
-    (put-switch-get-at-requires-2 t)
+    (put-switch-get-node-requires-2 t)
+    (put-switch-bring-requires-2 t)
     (put-switch-same-length-2 t)
     (put-switch-returns-2 t)
     (put-switch-slice-read-unfit t)
@@ -1724,37 +1529,16 @@ pub +put-add+put-both+put-call+put-front+put-inside+put-list-case+put-node+put-p
     (put-switch-returns-3 t)
     (put-switch-len-of-requires-2 t)
     (put-switch-steps-of-requires-2 t)
-    (put-switch-sub-put-under t)
-    (put-switch-add-put-under t)
+    (put-switch-sub-to t)
+    (put-switch-add-to t)
     (put-switch-number-of-requires-3 t)
     (put-switch-number-of-requires-4 t)
+    (put-switch-add-put-under t)
     (put-switch-add-put-under-2 t)
-    (put-switch-add-put-under-3 t)
     (put-switch-put-under-requires t)
     (put-switch-same-length-4 t)
     (put-switch-returns-4 t))
-    (λ t. put-truth-case-lts.spec (
-      number-of-reads.Asked,
-      number-of-reads.Learnt,
-      get-node-reads.Asked,
-      get-node-reads.Learnt,
-      start-of-reads.Asked,
-      start-of-reads.Learnt,
-      len-of-reads.Asked,
-      len-of-reads.Learnt,
-      steps-of-reads.Asked,
-      steps-of-reads.Learnt,
-      above-reads.Asked,
-      above-reads.Learnt,
-      byte-of-reads.Asked,
-      byte-of-reads.Learnt,
-      shape-of-reads.Asked,
-      shape-of-reads.Learnt,
-      choose-reads.Asked,
-      choose-reads.Learnt,
-      put-both-below t,
-      put-both.Post,
-    )
+    (λ t. put-truth-case-lts.spec (put-truth-case-claims t)
     (put-truth-case-at t)
     put-truth-case.Post
     (put-truth-case-number-of-requires t)
@@ -1763,64 +1547,29 @@ pub +put-add+put-both+put-call+put-front+put-inside+put-list-case+put-node+put-p
     (put-truth-case-returns t)
     (put-truth-case-start-of-requires t)
     (put-truth-case-len-of-requires t)
-    (put-truth-case-steps-of-requires t)
     (put-truth-case-add-end t)
+    (put-truth-case-steps-of-requires t)
+    (put-truth-case-add-s t)
+    (put-truth-case-sub-to t)
     (put-truth-case-above-requires t)
-    (put-truth-case-sub-shape-of t)
     (put-truth-case-byte-of-requires t)
     (put-truth-case-byte-of-requires-2 t)
-    (put-truth-case-sub-shape-of-2 t)
-    (put-truth-case-part-shape-of-start t)
-    (put-truth-case-part-shape-of-end t)
-    (put-truth-case-shape-of-requires t)
-    (put-truth-case-enum-told t)
-    (put-truth-case-choose-requires t)
-    (put-truth-case-enum-told-2 t)
-    (put-truth-case-number-of-requires-2 t)
-    (put-truth-case-slice-aggregate-put-both t)
-    (put-truth-case-add-put-both t)
-    (put-truth-case-put-both-requires t)
-    (put-truth-case-enum-told-3 t)
-    (put-truth-case-number-of-requires-3 t)
-    (put-truth-case-slice-aggregate-put-both-2 t)
-    (put-truth-case-add-put-both-2 t)
-    (put-truth-case-put-both-requires-2 t)
-    (put-truth-case-enum-told-4 t)
-    (put-truth-case-enum-told-5 t)
-    (put-truth-case-choose-requires-2 t)
-    (put-truth-case-enum-told-6 t)
-    (put-truth-case-number-of-requires-4 t)
-    (put-truth-case-slice-aggregate-put-both-3 t)
-    (put-truth-case-add-put-both-3 t)
-    (put-truth-case-put-both-requires-3 t)
-    (put-truth-case-enum-told-7 t)
-    (put-truth-case-number-of-requires-5 t)
-    (put-truth-case-slice-aggregate-put-both-4 t)
-    (put-truth-case-add-put-both-4 t)
-    (put-truth-case-put-both-requires-4 t)
-    (put-truth-case-enum-told-8 t)
+    (put-truth-case-sub-truth-branch t)
+    (put-truth-case-part-truth-branch-start t)
+    (put-truth-case-part-truth-branch-end t)
+    (put-truth-case-truth-branch-requires t)
     (put-truth-case-same-length-2 t)
     (put-truth-case-returns-2 t)
+    (put-truth-case-cast-number-of t)
+    (put-truth-case-mul-number-of t)
+    (put-truth-case-add-number-of t)
+    (put-truth-case-number-of-requires-2 t)
+    (put-truth-case-cast-t34 t)
+    (put-truth-case-slice-aggregate-put-both t)
+    (put-truth-case-put-both-requires t)
     (put-truth-case-same-length-3 t)
-    (put-truth-case-returns-3 t)
-    (put-truth-case-same-length-4 t)
-    (put-truth-case-returns-4 t)
-    (put-truth-case-same-length-5 t)
-    (put-truth-case-returns-5 t)
-    (put-truth-case-same-length-6 t)
-    (put-truth-case-returns-6 t)
-    (put-truth-case-same-length-7 t)
-    (put-truth-case-returns-7 t)
-    (put-truth-case-same-length-8 t)
-    (put-truth-case-returns-8 t))
-    λ t. put-under-lts.spec (
-      put-inside-below t,
-      put-inside.Post,
-      taken-reads.Asked,
-      taken-reads.Learnt,
-      put-rebuilt-below t,
-      put-rebuilt.Post,
-    )
+    (put-truth-case-returns-3 t))
+    λ t. put-under-lts.spec (put-under-claims t)
     (put-under-at t)
     put-under.Post
     (put-under-put-inside-requires t)
