@@ -24,6 +24,10 @@ entryRefusal zero left = 40
 entryRefusal (suc l) zero = 41
 entryRefusal (suc l) (suc n) = 0
 
+-- the answer of a get as one number: below 256 it is a refusal; otherwise the length, the start and the steps stand above the low byte
+unfoldable pub packed : (start len steps : ℕ) → ℕ
+packed start len steps = 256 * len + 16777216 * start + 1099511627776 * steps
+
 -- entries x and y of a list, at its front
 abbrev pub pickedTwo : List ℕ → ℕ → ℕ → List ℕ
 pickedTwo l x y = set (set l 0 (getD l x 0)) 1 (getD l y 0)

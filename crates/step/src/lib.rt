@@ -3,10 +3,10 @@
 ghost use mathlib.Core.Path.{_≡_};
 ghost use mathlib.Core.List.{[], _∷_};
 ghost use Prim.Native.Nat.{_+_, _*_, _/_, _%_, _≤_, _<_};
-ghost use lib.ListN.{length};
+ghost use lib.ListN.{length, getD};
 ghost use lib.Seq.{paste};
 ghost use Rattle.value.specs.Parts.{shapeOf, passesBytes, sameBytes};
-ghost use Rattle.step.specs.Step.{When, pickedTwo, addedTwo, nowhere, placeOf, entryRefusal, testRefusal, chosen, truthBranch, listBranch, judged, unfitRest};
+ghost use Rattle.step.specs.Step.{When, packed, pickedTwo, addedTwo, nowhere, placeOf, entryRefusal, testRefusal, chosen, truthBranch, listBranch, judged, unfitRest};
 use value::Shape;
 
 /// The variables in scope, at most 110: where each one's bytes start and how many they are.
@@ -138,6 +138,23 @@ pub fn store(arena: &mut [u8], at: usize, from: &[u8])
         arena[at + i] = from[i];
         i += 1;
     }
+}
+
+/// The answer of a get of variable x, of `count` in scope: where its value starts (16 bits, from bit 24 on), its length (16 bits, from bit 8
+/// on), and one step (from bit 40 on); refusal 42 where it is not in scope.
+pub fn variable(starts: &[u16], lens: &[u16], count: usize, x: usize) -> usize
+    ensures { λ r. ⌜ When ((x < count) × (x < length (now (starts .entry))) × (x < length (now (lens .entry)))) r (packed (getD (now (starts .entry)) x 0) (getD (now (lens .entry)) x 0) 1) 42 ⌝ }
+{
+    if count <= x {
+        return 42;
+    }
+    if starts.len() <= x {
+        return 42;
+    }
+    if lens.len() <= x {
+        return 42;
+    }
+    256 * (lens[x] as usize) + 16777216 * (starts[x] as usize) + 1099511627776
 }
 
 /// What a branch is refused with that a test judges: 46 where it says no, 0 where it says yes.

@@ -1,20 +1,18 @@
--- The answer of a get as one number, and what it says.
+-- What the answer of a get, which is one number, says.
 use mathlib.Core.Path.{_≡_, refl, sym, ap, _∙_}
 use mathlib.Core.Bool.{Bool, true, false}
 use Prim.Native.Nat.{ℕ, _+_, _*_, _/_, _%_, _≤_, _<_}
 use native.Mathlib.Omega.{arith}
 use lib.Dec.{ltb}
 use borrow.Author.Tests.{lt-ltb, le-ltb}
+use Rattle.step.specs.Step.{packed}
 
 -- a value that starts there and is so long, and the steps taken; or a refusal
 pub data Found : Type 0 where
   Done : (start len steps : ℕ) → Found
   Refused : ℕ → Found
 
--- below 256 it is a refusal; otherwise the length, the start and the steps stand above the low byte
-unfoldable pub packed : (start len steps : ℕ) → ℕ
-packed start len steps = 256 * len + 16777216 * start + 1099511627776 * steps
-
+-- its parts
 unfoldable pub lenOf : ℕ → ℕ
 lenOf a = (a / 256) % 65536
 

@@ -7,7 +7,8 @@ use native.Mathlib.Omega.{arith}
 use Rattle.rules.specs.Outcome.{Out}
 use Rattle.value.specs.Value.{Value}
 use Rattle.step.specs.declared.Scope.{Scope}
-use Rattle.walk.specs.Found.{Found, Done, Refused, found, packed, lenOf, startOf, stepsOf, len-small, found-refused, found-done, found-as, packed-done}
+use Rattle.step.specs.Step.{packed}
+use Rattle.walk.specs.Found.{Found, Done, Refused, found, lenOf, startOf, stepsOf, len-small, found-refused, found-done, found-as, packed-done}
 use Rattle.walk.specs.Parts.{kept-then, Copied}
 use native.Mathlib.Decide.{decLt}
 use lib.ListN.{length}

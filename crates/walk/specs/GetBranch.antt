@@ -10,7 +10,8 @@ use Rattle.value.specs.Tests.{passes, holds}
 use Rattle.value.specs.Parts.{passesBytes}
 use Rattle.rules.specs.Rules.{tested}
 use Rattle.step.specs.declared.Scope.{Scope}
-use Rattle.walk.specs.Found.{Found, Done, Refused, found, packed, lenOf, startOf, stepsOf, len-small, start-small, found-refused, found-done, packed-done}
+use Rattle.step.specs.Step.{packed}
+use Rattle.walk.specs.Found.{Found, Done, Refused, found, lenOf, startOf, stepsOf, len-small, start-small, found-refused, found-done, packed-done}
 use Rattle.walk.specs.Parts.{part, kept-below, kept-then, Copied}
 use Rattle.walk.specs.Arena.{onStack, below-within}
 use Rattle.walk.specs.Seen.{held-passes}

@@ -13,8 +13,8 @@ use Rattle.sheet.specs.declared.Node.the-variants.{Var, False, True, Empty, Num
 use Rattle.rules.specs.Rules.{getNode}
 use Rattle.rules.specs.Readable.{nil-readable, truth-readable, number-readable}
 use Rattle.step.specs.declared.Scope.{Scope}
-use Rattle.walk.specs.Found.{Found, Done, Refused, found, packed, packed-done, found-refused}
-use Rattle.step.specs.Step.{When}
+use Rattle.walk.specs.Found.{Found, Done, Refused, found, packed-done, found-refused}
+use Rattle.step.specs.Step.{When, packed}
 use native.Mathlib.Decide.{decLt}
 use Rattle.walk.specs.Parts.{part, kept-refl, kept-then, kept-set, part-one, part-cons, Marked, marked-kept, marked-part}
 use Rattle.walk.specs.Arena.{onStack, below-ends, below-later}
@@ -67,13 +67,16 @@ stands {sc = sc} {x = x} w h =
     }
 
 -- what the code's answer says
-pub var-gives : {b s starts : List ℕ} {sc : Scope} {top left l x r : ℕ} {t : Task} → Ready s starts b sc top (suc l) (suc left) t → When (x < sc .count) r (packed (getD (sc .starts) x 0) (getD (sc .lens) x 0) 1) 42
-    → Gives b b s sc top top left 1 (found r) l (body (Var x))
+pub var-gives : {b s starts : List ℕ} {sc : Scope} {top left l x r : ℕ} {t : Task} → Ready s starts b sc top (suc l) (suc left) t
+    → When ((x < sc .count) × (x < length (sc .starts)) × (x < length (sc .lens))) r (packed (getD (sc .starts) x 0) (getD (sc .lens) x 0) 1) 42 → Gives b b s sc top top left 1 (found r) l (body (Var x))
 var-gives {b} {s} {sc = sc} {top = top} {left = left} {l = l} {x = x} {r = r} w e = go (decLt x (sc .count))
   where
     go : Dec (x < sc .count) → Gives b b s sc top top left 1 (found r) l (body (Var x))
-    go (yes h) = let z = stands w h in as-found (packed-done (e .inside h) (z .start-small) (z .some) (omega (arith, z .short))) (var-done h (w .base))
-    go (no n) = let q : r ≡ 42 = e .outside n in as-found (found-refused (omega arith) ∙ ap Refused q) (var-42 (omega arith))
+    go (yes h) =
+        let z = stands w h in
+        let q = e .inside (h, omega (arith, z .slot, w .scoped .starts-long), omega (arith, z .slot, w .scoped .lens-long)) in
+        as-found (packed-done q (z .start-small) (z .some) (omega (arith, z .short))) (var-done h (w .base))
+    go (no n) = let q : r ≡ 42 = e .outside (λ p. n (p .0)) in as-found (found-refused (omega arith) ∙ ap Refused q) (var-42 (omega arith))
 
 -- CONSTANTS
 

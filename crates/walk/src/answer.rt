@@ -2,7 +2,8 @@
 //! get, the length of the value (16 bits), its start (16 bits) and the steps; for a put, the steps.
 ghost use mathlib.Core.Path.{_≡_};
 ghost use Prim.Native.Nat.{_*_, _/_, _<_, _≤_};
-ghost use Rattle.walk.specs.Found.{packed, lenOf, startOf, stepsOf};
+ghost use Rattle.step.specs.Step.{packed};
+ghost use Rattle.walk.specs.Found.{lenOf, startOf, stepsOf};
 
 /// A value was got: where it starts, its length, and the steps taken.
 pub fn found(start: usize, len: usize, steps: usize) -> usize

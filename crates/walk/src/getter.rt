@@ -5,8 +5,8 @@ ghost use mathlib.Core.Path.{_≡_};
 ghost use mathlib.Core.List.{List};
 ghost use Prim.Native.Nat.{ℕ, suc, _+_, _*_, _≤_, _<_};
 ghost use lib.ListN.{length, set, getD};
-ghost use Rattle.step.specs.Step.{When};
-ghost use Rattle.walk.specs.Found.{found, packed};
+ghost use Rattle.step.specs.Step.{When, packed};
+ghost use Rattle.walk.specs.Found.{found};
 ghost use Rattle.walk.specs.Gets.{Ready, Gives, enter, body, scope, frontAt, pairAt, listCaseAt, truthCaseAt, splitAt, callAt, addAt};
 ghost use Rattle.walk.specs.GetLeaf.{numbered};
 ghost use Rattle.walk.specs.GetAt.{Movable, Brought};
@@ -31,14 +31,9 @@ pub struct At {
 }
 
 fn get_var(sheet: &[u8], starts: &[u16; 110], lens: &[u16; 110], n: u16, count: usize) -> usize
-    requires { ⌜ (count ≤ 110) × (getD (now sheet) (n + 1) 0 < count → (getD (now starts) (getD (now sheet) (n + 1) 0) 0 < 65536) × (getD (now lens) (getD (now sheet) (n + 1) 0) 0 < 65536)) ⌝ }
-    ensures { λ r. ⌜ When (getD (now (sheet .entry)) (n + 1) 0 < count) r (packed (getD (now (starts .entry)) (getD (now (sheet .entry)) (n + 1) 0) 0) (getD (now (lens .entry)) (getD (now (sheet .entry)) (n + 1) 0) 0) 1) 42 ⌝ }
+    ensures { λ r. ⌜ When ((getD (now (sheet .entry)) (n + 1) 0 < count) × (getD (now (sheet .entry)) (n + 1) 0 < length (now (starts .entry))) × (getD (now (sheet .entry)) (n + 1) 0 < length (now (lens .entry)))) r (packed (getD (now (starts .entry)) (getD (now (sheet .entry)) (n + 1) 0) 0) (getD (now (lens .entry)) (getD (now (sheet .entry)) (n + 1) 0) 0) 1) 42 ⌝ }
 {
-    let x = sheet::number_of(sheet, n, 1);
-    if count <= x {
-        return 42;
-    }
-    found(starts[x] as usize, lens[x] as usize, 1)
+    step::variable(starts, lens, count, sheet::number_of(sheet, n, 1))
 }
 
 // False, True and the empty list are one byte, their kind.

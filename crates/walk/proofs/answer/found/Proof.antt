@@ -1,7 +1,7 @@
 -- `found` meets its contract.
 -- Assumes nothing.
 use mathlib.Core.Path.{refl}
-use Rattle.walk.specs.Found.{packed}
+use Rattle.step.specs.Step.{packed}
 use borrow.Author.Needs.{needs}
 use Rattle.walk.proofs.answer.found.Statement.{statement}
 use Rattle.walk.proofs.answer.found.Tie as tie

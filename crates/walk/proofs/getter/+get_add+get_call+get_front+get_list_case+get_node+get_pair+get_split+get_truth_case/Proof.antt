@@ -10,7 +10,7 @@ use Rattle.walk.specs.Gets.{as-node, as-found, as-branch, two-pushed, tw
 use Rattle.walk.specs.GetReady.{sizes}
 use Rattle.step.specs.StepLaws.{entered}
 use Rattle.walk.specs.GetEnter.{enter-refused, entry-small, enter-ready, enter-body, lent-few, lent-start, lent-made, kind-var, kind-false, kind-true, kind-empty, kind-number, kind-front, kind-pair, kind-list-case, kind-truth-case, kind-split, kind-call, kind-add}
-use Rattle.walk.specs.GetLeaf.{stands, var-gives, false-done, true-done, empty-done, number-done}
+use Rattle.walk.specs.GetLeaf.{var-gives, false-done, true-done, empty-done, number-done}
 use Rattle.walk.specs.GetTwo.{unfit-no, fit-low, fit-high, two-ready₁, two-ready₂, pair-refused₁, pair-refused₂, pair-44, pair-done, front-refused₁, front-refused₂, front-43, front-44, front-done}
 use Rattle.walk.specs.GetAt.{movable, bring-gives, found-there}
 use Rattle.walk.specs.GetBranch.{judgeable, judge-gives}
@@ -572,7 +572,7 @@ get-node-byte-of-requires : (t : ℕ) → get-node-lts.Need-byte-of-requires (ge
 get-node-byte-of-requires t c κs = search needs
 
 get-node-get-var-requires : (t : ℕ) → get-node-lts.Need-get-var-requires (get-node-claims t) (get-node-at t) get-node.Post
-get-node-get-var-requires t c κs = let thed = (entered _ _ (c .before .before .before .before .before .before .entry .ensures) (c .before .before .before .before .before .if1 .left)) in (omega (arith, (c .before .before .before .before .before .before .before .before .before .pre .1) .slots, thed .0), λ h. let z = stands (enter-ready (c .before .before .before .before .before .before .before .before .before .pre .1) (thed .0) (thed .1) (kind-var (lent-made ((c .before .before .before .before .before .before .before .before .before .pre .1) .lent) ((c .before .before .before .before .before .before .before .before .before .pre .1) .known)) (c .before .byte-of .ensures) (c .match .keys1))) h in (z .start-small, omega (arith, z .short)))
+get-node-get-var-requires t c κs = search needs
 
 get-node-get-constant-requires : (t : ℕ) → get-node-lts.Need-get-constant-requires (get-node-claims t) (get-node-at t) get-node.Post
 get-node-get-constant-requires t c κs = let thed = (entered _ _ (c .before .before .before .before .before .before .before .entry .ensures) (c .before .before .before .before .before .before .if1 .left)) in (omega (arith, (c .before .before .before .before .before .before .before .before .before .before .pre .1) .long, (c .before .before .before .before .before .before .before .before .before .before .pre .1) .room, thed .0), omega (arith, (c .before .before .before .before .before .before .before .before .before .before .pre .1) .room, thed .0))
