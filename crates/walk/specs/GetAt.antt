@@ -1,7 +1,7 @@
 -- A value brought to the top of the stack: what the walk then shows.
 use mathlib.Core.Path.{_≡_, refl, sym, ap, _∙_}
 use mathlib.Core.List.{List}
-use Prim.Native.Nat.{ℕ, _+_, _≤_, _<_}
+use Prim.Native.Nat.{ℕ, _+_, _*_, _≤_, _<_}
 use native.Mathlib.Nat.{le-refl}
 use native.Mathlib.Omega.{arith}
 use Rattle.rules.specs.Outcome.{Out}
@@ -14,8 +14,8 @@ use native.Mathlib.Decide.{decLt}
 use lib.ListN.{length}
 use Rattle.walk.specs.Arena.{onStack}
 use Rattle.walk.specs.Answers.{as-done}
-use Rattle.walk.specs.Gets.{Task, enter, Ready, Gives, got, Exact, as-found}
-use Rattle.walk.specs.GetReady.{sizes}
+use Rattle.walk.specs.Gets.{Task, Gives, got, Exact, as-found}
+use Rattle.walk.specs.GetReady.{Sized}
 
 -- the value that the answer g tells of, and the place at `top` for it
 pub record Movable (a : List ℕ) (top g : ℕ) : Type 0 where
@@ -61,27 +61,42 @@ brought {top = top} {len = len} {n = n} base g e m = record {
 }
 
 -- what `bring` asks
-pub movable : {s starts b a : List ℕ} {sc : Scope} {top levels left x g : ℕ} → Ready s starts b sc top levels left (enter x) → Gives b a s sc top top left 0 (found g) levels (enter x) → 256 ≤ g → Movable a top g
-movable {s} {starts} {b} {a} {sc} {top} {levels} {left} {x} {g} w h n =
-    let z = sizes w h (found-done n) in
-    let l : length a ≡ 65536 = h .kept .long ∙ w .long in
+pub movable : {a : List ℕ} {top left levels g : ℕ} → Sized top left levels (found g) → length a ≡ 65536 → top + 257 * levels ≤ 65536 → left ≤ 1000000 → 256 ≤ g → Movable a top g
+movable w long room few n =
+    let z = w .at (found-done n) in
     record {
-      inside = omega (arith, w .room, z .short, z .low, z .deep);
-      room = omega (arith, w .room, z .short, z .deep);
-      low = omega (arith, w .room, z .deep);
+      inside = omega (arith, z .short, z .low, z .deep);
+      room = omega (arith, z .short, z .deep);
+      low = omega (arith, z .deep);
       some = z .some;
-      few = omega (arith, w .few, z .steps);
+      few = omega (arith, z .steps);
     }
 
 -- and what it gives
-pub bring-gives : {b a a₂ s : List ℕ} {sc : Scope} {top left l g r : ℕ} {t : Task} → 32256 ≤ top → Gives b a s sc top top left 0 (found g) l t → Brought top g a a₂ r
-    → Gives b a₂ s sc top top left 0 (found r) l t × Exact top (found r)
-bring-gives {b} {a} {a₂} {s} {sc} {top} {left} {l} {g} {r} {t} base h m = go (decLt g 256)
+pub record Up (b a s : List ℕ) (sc : Scope) (top left : ℕ) (r : Found) (l : ℕ) (t : Task) : Type 0 where
+  pub gives : Gives b a s sc top top left 0 r l t
+  pub exact : Exact top r
+  pub sized : Sized top left l r
+
+pub bring-gives : {b a a₂ s : List ℕ} {sc : Scope} {top left l g r : ℕ} {t : Task} → 32256 ≤ top → Gives b a s sc top top left 0 (found g) l t → Sized top left l (found g) → Brought top g a a₂ r
+    → Up b a₂ s sc top left (found r) l t
+bring-gives {b} {a} {a₂} {s} {sc} {top} {left} {l} {g} {r} {t} base h w m = go (decLt g 256)
   where
-    go : Dec (g < 256) → Gives b a₂ s sc top top left 0 (found r) l t × Exact top (found r)
-    go (yes y) = let e = m .refused y in (rw (e .0, e .1) h, not-there (ap found (e .0) ∙ found-refused y))
+    go : Dec (g < 256) → Up b a₂ s sc top left (found r) l t
+    go (yes y) = let e = m .refused y in record { gives = rw (e .0, e .1) h; exact = not-there (ap found (e .0) ∙ found-refused y); sized = rw (e .0) w }
     go (no n) =
         let q : 256 ≤ g = omega arith in
         let v = m .moved q in
         let d = packed-done (v .is) (v .low) (v .some) (len-small g) in
-        (as-found d (brought base h (found-done q) (v .copied)), there d)
+        let z = w .at (found-done q) in
+        record {
+          gives = as-found d (brought base h (found-done q) (v .copied));
+          exact = there d;
+          sized = record {
+            at = λ {start} {len} {n = k} e.
+                let x : start ≡ top = cc in
+                let y : len ≡ lenOf g = cc in
+                let u : k ≡ stepsOf g = cc in
+                rw (x, y, u) (record { low = le-refl top; some = z .some; short = z .short; steps = z .steps; deep = z .deep });
+          };
+        }

@@ -16,8 +16,8 @@ use Rattle.walk.specs.Parts.{part, kept-below, kept-then, Copied}
 use Rattle.walk.specs.Arena.{onStack, below-within}
 use Rattle.walk.specs.Seen.{held-passes}
 use Rattle.walk.specs.Answers.{finish, then-done, then-refused, give-yes, give-no}
-use Rattle.walk.specs.Gets.{enter, branch, run, Ready, Gives, got, not-got, as-found}
-use Rattle.walk.specs.GetReady.{sizes}
+use Rattle.walk.specs.Gets.{enter, branch, run, Gives, got, not-got, as-found}
+use Rattle.walk.specs.GetReady.{Sized}
 
 -- the value that the answer g tells of is in the arena, and so many steps can be told
 pub record Judgeable (a : List ℕ) (g spent : ℕ) : Type 0 where
@@ -86,13 +86,11 @@ module _ {b a s : List ℕ} {sc : Scope} {from top left spent test x l : ℕ} {r
     }
 
 -- what `judge_branch` asks
-pub judgeable : {s starts b a : List ℕ} {sc : Scope} {top levels left spent x g : ℕ} → Ready s starts b sc top levels left (enter x) → Gives b a s sc top top left 0 (found g) levels (enter x) → spent + left ≤ 1000001
-    → 256 ≤ g → Judgeable a g spent
-judgeable {s} {starts} {b} {a} {sc} {top} {levels} {left} {spent} {x} {g} w h f n =
-    let z = sizes w h (found-done n) in
-    let l : length a ≡ 65536 = h .kept .long ∙ w .long in
+pub judgeable : {a : List ℕ} {top left levels spent g : ℕ} → Sized top left levels (found g) → length a ≡ 65536 → top + 257 * levels ≤ 65536 → spent + left ≤ 1000001 → 256 ≤ g → Judgeable a g spent
+judgeable w long room few n =
+    let z = w .at (found-done n) in
     record {
-      inside = omega (arith, w .room, z .short, z .low, z .deep);
+      inside = omega (arith, z .short, z .low, z .deep);
       some = z .some;
       few = omega (arith, z .steps);
     }

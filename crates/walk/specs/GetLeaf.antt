@@ -16,7 +16,7 @@ use Rattle.step.specs.declared.Scope.{Scope}
 use Rattle.walk.specs.Found.{Found, Done, Refused, found, packed-done, found-refused}
 use Rattle.step.specs.Step.{When, packed}
 use native.Mathlib.Decide.{decLt}
-use Rattle.walk.specs.Parts.{part, kept-refl, kept-then, kept-set, part-one, part-cons, Marked, marked-kept, marked-part}
+use Rattle.walk.specs.Parts.{part, kept-refl, kept-then, kept-set, part-one, part-cons, Marked, marked, marked-kept, marked-part}
 use Rattle.walk.specs.Arena.{onStack, below-ends, below-later}
 use Rattle.walk.specs.Seen.{elem-at, elem-none, held-some, held-short}
 use Rattle.walk.specs.Answers.{finish, give, give-none}
@@ -79,6 +79,9 @@ var-gives {b} {s} {sc = sc} {top = top} {left = left} {l = l} {x = x} {r = r} w 
     go (no n) = let q : r ≡ 42 = e .outside (λ p. n (p .0)) in as-found (found-refused (omega arith) ∙ ap Refused q) (var-42 (omega arith))
 
 -- CONSTANTS
+
+pub marked-as : {k top : ℕ} {b a : List ℕ} → a ≡ set b top k → top < length b → Marked k top b a
+marked-as {k} {top} {b} e h = rw e (marked k top b h)
 
 -- one byte was written, the bytes of the value v
 module _ {k : ℕ} {b a : List ℕ} {top : ℕ} {r : Found} (base : 32256 ≤ top) (m : Marked k top b a) (e : r ≡ Done top 1 1) where

@@ -55,3 +55,10 @@ sizes {left = left} w g e =
     let d = got g (w .lent .sh) (w .lent .read) (w .env) (w .scoped) e in
     let q = within-done left _ (d .is) in
     record { low = d .low; some = held-some (d .held); short = held-short (d .held); steps = q .1; deep = deep (w .lent .sh) _ (w .env) (q .0) }
+
+-- the same, whatever was found
+pub record Sized (top left levels : ℕ) (r : Found) : Type 0 where
+  pub at : {start len n : ℕ} → r ≡ Done start len n → Sizes top start len n left levels
+
+pub sized : {s starts b a : List ℕ} {sc : Scope} {top levels left x : ℕ} {r : Found} → Ready s starts b sc top levels left (enter x) → Gives b a s sc top top left 0 r levels (enter x) → Sized top left levels r
+sized w g = record { at = λ e. sizes w g e }

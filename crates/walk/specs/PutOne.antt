@@ -122,9 +122,6 @@ module _ {b lens s : List ℕ} {P : Value → Type 0} {sc : Scope} {cells : Owne
         told = λ w. let d = did g (given-picked px py is ic w) q in into w (last-done (1 + k) (d .is) refl (record { is = refl; written = written-at (ap (λ (c : Owners). c .count) ic) (d .written) }));
       }
 
-      pub call-few : {k : ℕ} → r ≡ Done k → k ≤ left
-      call-few q = did-few g (given-picked px py is ic (w₀ .given)) q
-
 -- A SUM
 
 numbered : {view : List ℕ} {q : Shape} {m : ℕ} {v : Value} → q ≡ shapeOf view → q ≡ is.Number m → Shown view v → NumberOf v m
@@ -180,6 +177,3 @@ module _ {b lens s view : List ℕ} {sc : Scope} {cells : Owners} {top left l x 
               let d = did g (given-shown w (less e j le eh el (w .shown))) n in
               give 51 _ (numbered e j (w .shown) .seen) (give-yes 52 _ _ le λ _. last-done (1 + i) (d .is) refl (record { is = refl; written = d .written }));
         }
-
-        pub add-few : {i : ℕ} {starts : List ℕ} → r ≡ Done i → Ready s starts b lens (Shown view) sc cells (cells .count) top (suc l) (suc left) (body (Add x k)) → i ≤ left
-        add-few n w = did-few g (given-shown (w .given) (less e j le eh el (w .given .shown))) n

@@ -216,9 +216,6 @@ module _ {a lens s : List ℕ} {sc : Scope} {cells : Owners} {top start first se
           told = λ w. let z = did g (given-whole w) d in into w (last-done (spent + i) (z .is) refl (record { is = refl; written = z .written }));
         }
 
-        pub rebuilt-few : {starts : List ℕ} {i total levels : ℕ} {T : Task} → r₂ ≡ Done i → Ready s starts a lens Any sc cells (cells .count + 2) top levels total T → i ≤ left
-        rebuilt-few d w = did-few g (given-whole (w .given)) d
-
 -- where the values stand, for the code's indices
 pub rebuilt-places : {s starts a lens : List ℕ} {sc : Scope} {cells : Owners} {top levels left start first second : ℕ} {T : Task} {f r : Span}
     → Ready s starts a lens Any sc cells (cells .count + 2) top levels left T → SomeSpans a top start first second → Placed lens (cells .count) start first second f r

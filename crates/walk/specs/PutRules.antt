@@ -24,7 +24,7 @@ use Rattle.walk.specs.Answers.{Told, serves, denies, Answers, refuse}
 use Rattle.walk.specs.Gets as gets
 use Rattle.walk.specs.Cells.{Frame, Written, Named}
 use Rattle.walk.specs.Frames.{frame-refl, env-framed, written-kept}
-use Rattle.walk.specs.Puts.{Task, enter, run, Given, Served, Denied, Gives}
+use Rattle.walk.specs.Puts.{Ready, Task, enter, run, Given, Served, Denied, Gives}
 
 module _ {A : Type 0} {S : A → ℕ → Type 0} {D : ℕ → Type 0} {spent left : ℕ} where
   -- a last call was done, or refused
@@ -81,6 +81,14 @@ module _ {b a lens lens′ s : List ℕ} {P : Value → Type 0} {sc : Scope} {ce
   -- it took no more steps than were left
   pub did-few : {k : ℕ} → r ≡ Done k → k ≤ left
   did-few d = within-done left (run l sh (cells .count) t μ σ v W) (did d .is) .1
+
+-- the same, whatever was answered
+pub record Few (left : ℕ) (r : Put) : Type 0 where
+  pub at : {k : ℕ} → r ≡ Done k → k ≤ left
+
+pub few : {s starts b a lens lens′ : List ℕ} {P : Value → Type 0} {sc : Scope} {cells : Owners} {m top levels left : ℕ} {r : Put} {t : Task} → Ready s starts b lens P sc cells m top levels left t
+    → Gives b a lens lens′ s P sc cells m top left 0 r levels t → Few left r
+few w g = record { at = λ e. did-few g (w .given) e }
 
 -- with no level left nothing is got
 none-left : (left : ℕ) (sh : Sheet) (x : ℕ) (μ : Values) {v : Value} {n : ℕ} → within left (get zero sh x μ) ≡ done v n → ⊥

@@ -65,9 +65,6 @@ module _ {b a₁ lens lens₁ s : List ℕ} {P : Value → Type 0} {sc : Scope} 
   both-refused₁ e = record { frame = g₁ .frame; long = g₁ .long; told = λ w. then-refused _ _ (not-did g₁ w e .1) (record { is = refl }) }
 
   module _ {k : ℕ} (e₁ : r₁ ≡ Done k) where
-    pub both-few : {starts : List ℕ} {left′ levels : ℕ} {t : Task} → Ready s starts b lens P sc cells (cells .count) top levels left′ t → k ≤ left
-    both-few w = did-few g₁ (w .given) e₁
-
     pub both-ready₂ : {starts other : List ℕ} {y total : ℕ} {u : Value} → Ready s starts b lens P sc cells (cells .count) top l total (Two x y u) → left ≤ total → SomeView other
         → Ready s starts a₁ lens₁ (Shown other) sc cells (cells .count) top l (left - k) (enter y)
     unfolding run
@@ -94,10 +91,6 @@ module _ {b a₁ lens lens₁ s : List ℕ} {P : Value → Type 0} {sc : Scope} 
             let d′ = did g₂ (given-after w (g₁ .frame) (d .written) q) e in
             then-done _ _ (d .is) (last-done (spent + k + j) (d′ .is) refl (record { is = refl; written = d′ .written }));
       }
-
-      pub both-sum : {j left′ levels : ℕ} {starts : List ℕ} {t : Task} → r₂ ≡ Done j → Ready s starts b lens P sc cells (cells .count) top levels left′ t → k + j ≤ left
-      unfolding run
-      both-sum e w = let d = did g₁ (w .given) e₁ in omega (arith, did-few g₁ (w .given) e₁, did-few g₂ (given-after (w .given) (g₁ .frame) (d .written) q) e)
 
 -- A VIEW TAKEN APART
 

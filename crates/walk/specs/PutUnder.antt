@@ -114,9 +114,6 @@ module _ {b lens lens₁ s : List ℕ} {P : Value → Type 0} {sc sc′ : Scope}
           → Given a₁ lens₂ s Any sc cells (cells .count + 2) top sh μ σ v (did g₁ (given-inner o w t) e₁ .cells)
       given-rest w t = given-after w (g₁ .frame) (written-at (ap (λ (c : Owners). c .count) (o .owners)) (did g₁ (given-inner o w t) e₁ .written)) tt
 
-      pub under-few : {starts : List ℕ} {total levels : ℕ} {T : Task} → Ready s starts b lens P sc cells (cells .count) top levels total T → SomeSpans b top start first second → k ≤ left
-      under-few w t = did-few g₁ (given-inner o (w .given) (t .spans)) e₁
-
       pub under-ready₂ : {starts : List ℕ} {y kind total rest : ℕ} {f₀ u₀ : Value} → Ready s starts b lens P sc cells (cells .count) top l total (inside kind x y f₀ u₀) → rest ≤ total
           → SomeSpans b top start first second → Ready s starts a₁ lens₂ Any sc cells (cells .count + 2) top l rest (rebuilt kind y vfalse vfalse)
       under-ready₂ w h t = ready-for w (w .known .0 .1, w .known .1) (given-rest (w .given) (t .spans)) (g₁ .frame .long) h (le-refl _) (le-refl _) (w .room)

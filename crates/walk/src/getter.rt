@@ -9,6 +9,7 @@ ghost use Rattle.step.specs.Step.{When, packed};
 ghost use Rattle.walk.specs.Found.{found};
 ghost use Rattle.walk.specs.Gets.{Ready, Gives, enter, body, scope, frontAt, pairAt, listCaseAt, truthCaseAt, splitAt, callAt, addAt};
 ghost use Rattle.walk.specs.GetLeaf.{numbered};
+ghost use Rattle.walk.specs.GetReady.{Sized};
 ghost use Rattle.walk.specs.GetAt.{Movable, Brought};
 ghost use Rattle.walk.specs.GetBranch.{Judgeable, Judged};
 ghost use Rattle.walk.specs.GetCase.{Above};
@@ -112,6 +113,7 @@ pub fn get_node(
 ) -> usize
     requires { ⌜ Ready (now sheet) (now table) (now arena) (scope (at .count) (now starts) (now lens)) (at .top) (at .levels) (at .left) (enter node) ⌝ }
     ensures { λ r. ⌜ Gives (now (arena .entry)) (now (arena .exit)) (now (sheet .entry)) (scope (at .count) (now (starts .entry)) (now (lens .entry))) (at .top) (at .top) (at .left) 0 (found r) (at .levels) (enter node) ⌝ }
+    ensures { λ r. ⌜ Sized (at .top) (at .left) (at .levels) (found r) ⌝ }
 {
     let refusal = step::entry(at.levels, at.left);
     if refusal != 0 {

@@ -14,6 +14,7 @@ ghost use Rattle.walk.specs.Taken.{taken};
 ghost use Rattle.walk.specs.Gets.{scope, varAt, frontAt, pairAt, listCaseAt, truthCaseAt, splitAt, callAt, addAt};
 ghost use Rattle.walk.specs.Puts.{Ready, Inner, Gives, Any, Spans, SomeSpans, SomeView, owners, enter, body, pair, inside, rebuilt, switchAt};
 ghost use Rattle.walk.specs.PutLeaf.{Leaf, numberBytes};
+ghost use Rattle.walk.specs.PutRules.{Few};
 ghost use Rattle.walk.specs.Gather.{Counted};
 use crate::answer::len_of;
 use crate::answer::start_of;
@@ -101,6 +102,7 @@ pub fn put_node(
 ) -> usize
     requires { ⌜ Ready (now sheet) (now table) (now arena) (now slots) (Shown (now view)) (scope (at .count) (now starts) (now lens)) (owners (at .cells) (now cells)) (at .cells) (at .top) (at .levels) (at .left) (enter node) ⌝ }
     ensures { λ r. ⌜ Gives (now (arena .entry)) (now (arena .exit)) (now (slots .entry)) (now (slots .exit)) (now (sheet .entry)) (Shown (now (view .entry))) (scope (at .count) (now (starts .entry)) (now (lens .entry))) (owners (at .cells) (now (cells .entry))) (at .cells) (at .top) (at .left) 0 (taken r) (at .levels) (enter node) ⌝ }
+    ensures { λ r. ⌜ Few (at .left) (taken r) ⌝ }
 {
     let refusal = step::entry(at.levels, at.left);
     if refusal != 0 {
@@ -270,6 +272,7 @@ fn put_inside(
     requires { ⌜ Ready (now sheet) (now table) (now arena) (addedTwo (now slots) (at .cells) 0 0) (Shown (now view)) (pushed (pushed (scope (at .count) (now starts) (now lens)) (parts .start) (parts .first)) (parts .start + parts .first) (parts .second)) (moreCells (owners (at .cells) (now cells)) (at .count)) (at .cells + 2) (at .top) (at .levels) (at .left) (enter branch) ⌝ }
     requires { ⌜ (at .count + 2 ≤ 110) × (at .cells + 2 ≤ 110) × (parts .start + parts .first < 65536) × (parts .second < 65536) ⌝ }
     ensures { λ r. ⌜ Gives (now (arena .entry)) (now (arena .exit)) (addedTwo (now (slots .entry)) (at .cells) 0 0) (now (slots .exit)) (now (sheet .entry)) (Shown (now (view .entry))) (pushed (pushed (scope (at .count) (now (starts .entry)) (now (lens .entry))) (parts .start) (parts .first)) (parts .start + parts .first) (parts .second)) (moreCells (owners (at .cells) (now (cells .entry))) (at .count)) (at .cells + 2) (at .top) (at .left) 0 (taken r) (at .levels) (enter branch) ⌝ }
+    ensures { λ r. ⌜ Few (at .left) (taken r) ⌝ }
 {
     let start = parts.start;
     let first = parts.first;

@@ -16,13 +16,13 @@ get-node-requires : tie.Need-get-node-requires
 get-node-requires c κs = plan-ready (c .before .before .before .before .before .before .before .before .before .before .before .before .before .before .pre) (c .before .before .before .before .before .before .before .before .before .copy-in .ensures)
 
 bring-requires : tie.Need-bring-requires
-bring-requires c κs = λ h. movable (plan-ready (c .before .before .before .before .before .before .before .before .before .before .before .before .before .before .before .before .before .before .pre) (c .before .before .before .before .before .before .before .before .before .before .before .before .before .copy-in .ensures)) (c .before .before .before .get-node .ensures) h
+bring-requires c κs = λ h. let w = plan-ready (c .before .before .before .before .before .before .before .before .before .before .before .before .before .before .before .before .before .before .pre) (c .before .before .before .before .before .before .before .before .before .before .before .before .before .copy-in .ensures) in movable (c .before .before .before .get-node .ensures .1) (omega (arith, c .before .before .before .get-node .ensures .0 .kept .long, w .long)) (w .room) (w .few) h
 
 cast-t25 : tie.Need-cast-t25
 cast-t25 c = search needs
 
 returns : tie.Need-returns
-returns c = plan-got (c .before .before .before .before .before .before .before .before .before .before .before .before .before .before .before .before .before .before .before .before .before .before .pre) (c .before .before .before .before .before .before .before .before .before .before .before .before .before .before .before .before .before .copy-in .ensures) ((bring-gives (omega arith) (c .before .before .before .before .before .before .before .get-node .ensures) (c .before .before .before .bring .ensures)) .0) ((bring-gives (omega arith) (c .before .before .before .before .before .before .before .get-node .ensures) (c .before .before .before .bring .ensures)) .1) (same-refused (found-refused (c .if1 .taken)))
+returns c = plan-got (c .before .before .before .before .before .before .before .before .before .before .before .before .before .before .before .before .before .before .before .before .before .before .pre) (c .before .before .before .before .before .before .before .before .before .before .before .before .before .before .before .before .before .copy-in .ensures) ((bring-gives (omega arith) (c .before .before .before .before .before .before .before .get-node .ensures .0) (c .before .before .before .before .before .before .before .get-node .ensures .1) (c .before .before .before .bring .ensures)) .gives) ((bring-gives (omega arith) (c .before .before .before .before .before .before .before .get-node .ensures .0) (c .before .before .before .before .before .before .before .get-node .ensures .1) (c .before .before .before .bring .ensures)) .exact) (same-refused (found-refused (c .if1 .taken)))
 
 same-length : tie.Need-same-length
 same-length c = returns c .long
@@ -34,7 +34,7 @@ steps-of-requires : tie.Need-steps-of-requires
 steps-of-requires c κs = search needs
 
 returns-2 : tie.Need-returns-2
-returns-2 c = plan-got (c .before .before .before .before .before .before .before .before .before .before .before .before .before .before .before .before .before .before .before .before .before .before .before .before .pre) (c .before .before .before .before .before .before .before .before .before .before .before .before .before .before .before .before .before .before .before .copy-in .ensures) ((bring-gives (omega arith) (c .before .before .before .before .before .before .before .before .before .get-node .ensures) (c .before .before .before .before .before .bring .ensures)) .0) ((bring-gives (omega arith) (c .before .before .before .before .before .before .before .before .before .get-node .ensures) (c .before .before .before .before .before .bring .ensures)) .1) (same-done (found-as (c .before .before .if1 .left) refl (c .before .len-of .ensures) (c .steps-of .ensures)))
+returns-2 c = plan-got (c .before .before .before .before .before .before .before .before .before .before .before .before .before .before .before .before .before .before .before .before .before .before .before .before .pre) (c .before .before .before .before .before .before .before .before .before .before .before .before .before .before .before .before .before .before .before .copy-in .ensures) ((bring-gives (omega arith) (c .before .before .before .before .before .before .before .before .before .get-node .ensures .0) (c .before .before .before .before .before .before .before .before .before .get-node .ensures .1) (c .before .before .before .before .before .bring .ensures)) .gives) ((bring-gives (omega arith) (c .before .before .before .before .before .before .before .before .before .get-node .ensures .0) (c .before .before .before .before .before .before .before .before .before .get-node .ensures .1) (c .before .before .before .before .before .bring .ensures)) .exact) (same-done (found-as (c .before .before .if1 .left) refl (c .before .len-of .ensures) (c .steps-of .ensures)))
 
 same-length-2 : tie.Need-same-length-2
 same-length-2 c = returns-2 c .long

@@ -20,19 +20,19 @@ cast-t29 : tie.Need-cast-t29
 cast-t29 c = search needs
 
 returns : tie.Need-returns
-returns c = put-refused (c .before .before .before .before .before .before .before .before .before .before .before .before .before .before .before .before .before .before .before .before .before .before .before .pre .0) (c .before .before .before .before .before .before .before .before .before .before .before .before .before .before .before .before .before .before .before .before .before .before .before .pre .1) (c .before .before .before .before .before .before .before .before .before .before .before .before .before .before .before .before .before .copy-in .ensures) (c .before .before .before .before .before .before .before .before .before .before .before .before .first-cells .ensures) (c .before .before .before .put-node .ensures) (taken-refused (c .if1 .taken))
+returns c = put-refused (c .before .before .before .before .before .before .before .before .before .before .before .before .before .before .before .before .before .before .before .before .before .before .before .pre .0) (c .before .before .before .before .before .before .before .before .before .before .before .before .before .before .before .before .before .before .before .before .before .before .before .pre .1) (c .before .before .before .before .before .before .before .before .before .before .before .before .before .before .before .before .before .copy-in .ensures) (c .before .before .before .before .before .before .before .before .before .before .before .before .first-cells .ensures) (c .before .before .before .put-node .ensures .0) (taken-refused (c .if1 .taken))
 
 same-length : tie.Need-same-length
 same-length c = returns c .long
 
 gather-requires : tie.Need-gather-requires
-gather-requires c κs = put-placed (c .before .before .before .before .before .before .before .before .before .before .before .before .before .before .before .before .before .before .before .before .before .before .before .before .before .pre .0) (c .before .before .before .before .before .before .before .before .before .before .before .before .before .before .before .before .before .before .before .before .before .before .before .before .before .pre .1) (c .before .before .before .before .before .before .before .before .before .before .before .before .before .before .before .before .before .before .before .copy-in .ensures) (c .before .before .before .before .before .before .before .before .before .before .before .before .before .before .first-cells .ensures) (c .before .before .before .before .before .put-node .ensures) (taken-done (c .before .before .if1 .left))
+gather-requires c κs = put-placed (c .before .before .before .before .before .before .before .before .before .before .before .before .before .before .before .before .before .before .before .before .before .before .before .before .before .pre .0) (c .before .before .before .before .before .before .before .before .before .before .before .before .before .before .before .before .before .before .before .before .before .before .before .before .before .pre .1) (c .before .before .before .before .before .before .before .before .before .before .before .before .before .before .before .before .before .before .before .copy-in .ensures) (c .before .before .before .before .before .before .before .before .before .before .before .before .before .before .first-cells .ensures) (c .before .before .before .before .before .put-node .ensures .0) (taken-done (c .before .before .if1 .left))
 
 taken-requires : tie.Need-taken-requires
 taken-requires c κs = search needs
 
 returns-2 : tie.Need-returns-2
-returns-2 c = put-done (c .before .before .before .before .before .before .before .before .before .before .before .before .before .before .before .before .before .before .before .before .before .before .before .before .before .before .before .before .before .pre .0) (c .before .before .before .before .before .before .before .before .before .before .before .before .before .before .before .before .before .before .before .before .before .before .before .before .before .before .before .before .before .pre .1) (c .before .before .before .before .before .before .before .before .before .before .before .before .before .before .before .before .before .before .before .before .before .before .before .copy-in .ensures) (c .before .before .before .before .before .before .before .before .before .before .before .before .before .before .before .before .before .before .first-cells .ensures) (c .before .before .before .before .before .before .before .before .before .put-node .ensures) (taken-as (c .before .before .before .before .before .before .if1 .left) (c .taken .ensures)) (c .before .before .before .gather .ensures)
+returns-2 c = put-done (c .before .before .before .before .before .before .before .before .before .before .before .before .before .before .before .before .before .before .before .before .before .before .before .before .before .before .before .before .before .pre .0) (c .before .before .before .before .before .before .before .before .before .before .before .before .before .before .before .before .before .before .before .before .before .before .before .before .before .before .before .before .before .pre .1) (c .before .before .before .before .before .before .before .before .before .before .before .before .before .before .before .before .before .before .before .before .before .before .before .copy-in .ensures) (c .before .before .before .before .before .before .before .before .before .before .before .before .before .before .before .before .before .before .first-cells .ensures) (c .before .before .before .before .before .before .before .before .before .put-node .ensures .0) (taken-as (c .before .before .before .before .before .before .if1 .left) (c .taken .ensures)) (c .before .before .before .gather .ensures)
 
 same-length-2 : tie.Need-same-length-2
 same-length-2 c = returns-2 c .long

@@ -8,19 +8,19 @@ use denote.Ref.{now}
 use Rattle.walk.specs.Found.{found-refused, found-as}
 use Rattle.walk.specs.Taken.{taken-refused, taken-as, took-done}
 use Rattle.walk.specs.Gets.{as-node, two-pushed, two-picked}
-use Rattle.walk.specs.GetReady.{sizes}
 use Rattle.walk.specs.GetAt.{movable, bring-gives, found-there}
 use Rattle.walk.specs.GetTwo.{unfit-no, fit-low, fit-high}
 use Rattle.walk.specs.GetCall.{section-as}
 use Rattle.walk.specs.GetAdd.{sum-as}
 use Rattle.walk.specs.GetEnter.{entry-small, lent-start, lent-made, kind-var, kind-false, kind-true, kind-empty, kind-number, kind-front, kind-pair, kind-list-case, kind-truth-case, kind-split, kind-call, kind-add}
 use Rattle.walk.specs.Puts.{enter, aList, aPair, as-taken, as-task, as-pair, as-inside, as-ready, ready-in, gives-in, pair-named, inside-named, more-owned, picked-owned}
+use Rattle.walk.specs.PutRules.{few}
 use Rattle.walk.specs.PutEnter.{put-refused, put-body, body-ready, node-few}
 use Rattle.walk.specs.PutLeaf.{leaf-ready, false-gives, true-gives, empty-gives, number-gives}
-use Rattle.walk.specs.PutTwo.{both-ready₁, both-ready₂, both-few, both-sum, both-refused₁, both-refused₂, both-done, front-51, pair-51, front-ready, pair-ready, front-both, pair-both}
-use Rattle.walk.specs.PutOne.{call-first, call-second, call-ready, call-refused, call-done, call-few, add-51, add-52, add-ready, add-refused, add-done, add-few}
-use Rattle.walk.specs.PutUnder.{opened, spans-few, under-ready₁, under-ready₂, under-spans, under-few, under-refused, under-done}
-use Rattle.walk.specs.PutRebuilt.{placed, rebuilt-places, rebuilt-43, rebuilt-44, rebuilt-ready, rebuilt-refused, rebuilt-done, rebuilt-few, rebuilt-count}
+use Rattle.walk.specs.PutTwo.{both-ready₁, both-ready₂, both-refused₁, both-refused₂, both-done, front-51, pair-51, front-ready, pair-ready, front-both, pair-both}
+use Rattle.walk.specs.PutOne.{call-first, call-second, call-ready, call-refused, call-done, add-51, add-52, add-ready, add-refused, add-done}
+use Rattle.walk.specs.PutUnder.{opened, spans-few, under-ready₁, under-ready₂, under-spans, under-refused, under-done}
+use Rattle.walk.specs.PutRebuilt.{placed, rebuilt-places, rebuilt-43, rebuilt-44, rebuilt-ready, rebuilt-refused, rebuilt-done, rebuilt-count}
 use Rattle.walk.specs.PutCase.{view-nil, view-truth, subject-ready, after-subject, inner, front-spans, pair-spans, front-inside, pair-inside, switch-room, list-refused, truth-refused, split-refused}
 use Rattle.walk.specs.PutList.{list-not, list-both, list-switch, list-under, front-told, empty-told, list-code}
 use Rattle.walk.specs.PutTruth.{truth-not, truth-both, truth-code, node-first, node-second, node-inside, split-43, split-under}
@@ -328,7 +328,7 @@ put-add-put-node-requires : (t : ℕ) → put-add-lts.Need-put-node-requires (pu
 put-add-put-node-requires t c κs = (omega (arith, c .before .before .before .before .before .before .before .before .before .before .before .before .before .before .before .before .before .pre .0), as-ready (ap enter (sym (c .before .before .before .number-of .ensures))) (add-ready (c .before .before .before .before .before .before .before .before .before .before .before .before .before .shape-of .ensures) (c .before .before .before .before .before .before .before .before .before .before .before .m .given .1) (omega (arith, c .before .before .before .before .before .before .if1 .left, (sum-as (c .before .before .before .before .before .before .before .number .ensures) (c .before .before .before .before .before .before .before .before .before .byte-of .ensures) (c .before .before .before .before .before .before .before .before .byte-of2 .ensures)))) (rw (sum-as (c .before .before .before .before .before .before .before .number .ensures) (c .before .before .before .before .before .before .before .before .before .byte-of .ensures) (c .before .before .before .before .before .before .before .before .byte-of2 .ensures)) at (c .before .before .before .before .before .high .ensures)) (rw (sum-as (c .before .before .before .before .before .before .before .number .ensures) (c .before .before .before .before .before .before .before .before .before .byte-of .ensures) (c .before .before .before .before .before .before .before .before .byte-of2 .ensures)) at (c .before .before .before .before .low .ensures)) (c .before .before .before .before .before .before .before .before .before .before .before .before .before .before .before .before .before .pre .1)))
 
 put-add-returns-3 : (t : ℕ) → put-add-lts.Need-returns-3 (put-add-claims t) (put-add-at t) put-add.Post
-put-add-returns-3 t c = as-taken (taken-refused (c .if2 .taken)) (add-refused (c .before .before .before .before .before .before .before .before .before .before .before .before .before .before .before .before .before .shape-of .ensures) (c .before .before .before .before .before .before .before .before .before .before .before .before .before .before .before .m .given .1) (omega (arith, c .before .before .before .before .before .before .before .before .before .before .if1 .left, (sum-as (c .before .before .before .before .before .before .before .before .before .before .before .number .ensures) (c .before .before .before .before .before .before .before .before .before .before .before .before .before .byte-of .ensures) (c .before .before .before .before .before .before .before .before .before .before .before .before .byte-of2 .ensures)))) (rw (sum-as (c .before .before .before .before .before .before .before .before .before .before .before .number .ensures) (c .before .before .before .before .before .before .before .before .before .before .before .before .before .byte-of .ensures) (c .before .before .before .before .before .before .before .before .before .before .before .before .byte-of2 .ensures)) at (c .before .before .before .before .before .before .before .before .before .high .ensures)) (rw (sum-as (c .before .before .before .before .before .before .before .before .before .before .before .number .ensures) (c .before .before .before .before .before .before .before .before .before .before .before .before .before .byte-of .ensures) (c .before .before .before .before .before .before .before .before .before .before .before .before .byte-of2 .ensures)) at (c .before .before .before .before .before .before .before .before .low .ensures)) (as-task (ap enter (c .before .before .before .before .before .before .before .number-of .ensures)) (c .before .before .before .put-node .ensures)) (taken-refused (c .if2 .taken)))
+put-add-returns-3 t c = as-taken (taken-refused (c .if2 .taken)) (add-refused (c .before .before .before .before .before .before .before .before .before .before .before .before .before .before .before .before .before .shape-of .ensures) (c .before .before .before .before .before .before .before .before .before .before .before .before .before .before .before .m .given .1) (omega (arith, c .before .before .before .before .before .before .before .before .before .before .if1 .left, (sum-as (c .before .before .before .before .before .before .before .before .before .before .before .number .ensures) (c .before .before .before .before .before .before .before .before .before .before .before .before .before .byte-of .ensures) (c .before .before .before .before .before .before .before .before .before .before .before .before .byte-of2 .ensures)))) (rw (sum-as (c .before .before .before .before .before .before .before .before .before .before .before .number .ensures) (c .before .before .before .before .before .before .before .before .before .before .before .before .before .byte-of .ensures) (c .before .before .before .before .before .before .before .before .before .before .before .before .byte-of2 .ensures)) at (c .before .before .before .before .before .before .before .before .before .high .ensures)) (rw (sum-as (c .before .before .before .before .before .before .before .before .before .before .before .number .ensures) (c .before .before .before .before .before .before .before .before .before .before .before .before .before .byte-of .ensures) (c .before .before .before .before .before .before .before .before .before .before .before .before .byte-of2 .ensures)) at (c .before .before .before .before .before .before .before .before .low .ensures)) (as-task (ap enter (c .before .before .before .before .before .before .before .number-of .ensures)) (c .before .before .before .put-node .ensures .0)) (taken-refused (c .if2 .taken)))
 
 put-add-same-length : (t : ℕ) → put-add-lts.Need-same-length (put-add-claims t) (put-add-at t) put-add.Post
 put-add-same-length t c = put-add-returns-3 t c .frame .long
@@ -337,13 +337,13 @@ put-add-taken-requires : (t : ℕ) → put-add-lts.Need-taken-requires (put-add-
 put-add-taken-requires t c κs = search needs
 
 put-add-add-took : (t : ℕ) → put-add-lts.Need-add-took (put-add-claims t) (put-add-at t) put-add.Post
-put-add-add-took t c = record { fits = omega (arith, add-few (c .before .before .before .before .before .before .before .before .before .before .before .before .before .before .before .before .before .before .shape-of .ensures) (c .before .before .before .before .before .before .before .before .before .before .before .before .before .before .before .before .m .given .1) (omega (arith, c .before .before .before .before .before .before .before .before .before .before .before .if1 .left, (sum-as (c .before .before .before .before .before .before .before .before .before .before .before .before .number .ensures) (c .before .before .before .before .before .before .before .before .before .before .before .before .before .before .byte-of .ensures) (c .before .before .before .before .before .before .before .before .before .before .before .before .before .byte-of2 .ensures)))) (rw (sum-as (c .before .before .before .before .before .before .before .before .before .before .before .before .number .ensures) (c .before .before .before .before .before .before .before .before .before .before .before .before .before .before .byte-of .ensures) (c .before .before .before .before .before .before .before .before .before .before .before .before .before .byte-of2 .ensures)) at (c .before .before .before .before .before .before .before .before .before .before .high .ensures)) (rw (sum-as (c .before .before .before .before .before .before .before .before .before .before .before .before .number .ensures) (c .before .before .before .before .before .before .before .before .before .before .before .before .before .before .byte-of .ensures) (c .before .before .before .before .before .before .before .before .before .before .before .before .before .byte-of2 .ensures)) at (c .before .before .before .before .before .before .before .before .before .low .ensures)) (as-task (ap enter (c .before .before .before .before .before .before .before .before .number-of .ensures)) (c .before .before .before .before .put-node .ensures)) (taken-as (c .before .if2 .left) (c .taken .ensures)) (c .before .before .before .before .before .before .before .before .before .before .before .before .before .before .before .before .before .before .before .before .before .before .pre .1), (c .before .before .before .before .before .before .before .before .before .before .before .before .before .before .before .before .before .before .before .before .before .before .pre .1) .few) }
+put-add-add-took t c = record { fits = omega (arith, c .before .before .before .before .put-node .ensures .1 .at (taken-as (c .before .if2 .left) (c .taken .ensures)), (c .before .before .before .before .before .before .before .before .before .before .before .before .before .before .before .before .before .before .before .before .before .before .pre .1) .few) }
 
 put-add-took-requires : (t : ℕ) → put-add-lts.Need-took-requires (put-add-claims t) (put-add-at t) put-add.Post
-put-add-took-requires t c κs = omega (arith, add-few (c .before .before .before .before .before .before .before .before .before .before .before .before .before .before .before .before .before .before .shape-of .ensures) (c .before .before .before .before .before .before .before .before .before .before .before .before .before .before .before .before .m .given .1) (omega (arith, c .before .before .before .before .before .before .before .before .before .before .before .if1 .left, (sum-as (c .before .before .before .before .before .before .before .before .before .before .before .before .number .ensures) (c .before .before .before .before .before .before .before .before .before .before .before .before .before .before .byte-of .ensures) (c .before .before .before .before .before .before .before .before .before .before .before .before .before .byte-of2 .ensures)))) (rw (sum-as (c .before .before .before .before .before .before .before .before .before .before .before .before .number .ensures) (c .before .before .before .before .before .before .before .before .before .before .before .before .before .before .byte-of .ensures) (c .before .before .before .before .before .before .before .before .before .before .before .before .before .byte-of2 .ensures)) at (c .before .before .before .before .before .before .before .before .before .before .high .ensures)) (rw (sum-as (c .before .before .before .before .before .before .before .before .before .before .before .before .number .ensures) (c .before .before .before .before .before .before .before .before .before .before .before .before .before .before .byte-of .ensures) (c .before .before .before .before .before .before .before .before .before .before .before .before .before .byte-of2 .ensures)) at (c .before .before .before .before .before .before .before .before .before .low .ensures)) (as-task (ap enter (c .before .before .before .before .before .before .before .before .number-of .ensures)) (c .before .before .before .before .put-node .ensures)) (taken-as (c .before .if2 .left) (c .taken .ensures)) (c .before .before .before .before .before .before .before .before .before .before .before .before .before .before .before .before .before .before .before .before .before .before .pre .1), (c .before .before .before .before .before .before .before .before .before .before .before .before .before .before .before .before .before .before .before .before .before .before .pre .1) .few)
+put-add-took-requires t c κs = omega (arith, c .before .before .before .before .put-node .ensures .1 .at (taken-as (c .before .if2 .left) (c .taken .ensures)), (c .before .before .before .before .before .before .before .before .before .before .before .before .before .before .before .before .before .before .before .before .before .before .pre .1) .few)
 
 put-add-returns-4 : (t : ℕ) → put-add-lts.Need-returns-4 (put-add-claims t) (put-add-at t) put-add.Post
-put-add-returns-4 t c = as-taken (took-done (c .took .ensures) (omega arith)) (add-done (c .before .before .before .before .before .before .before .before .before .before .before .before .before .before .before .before .before .before .before .shape-of .ensures) (c .before .before .before .before .before .before .before .before .before .before .before .before .before .before .before .before .before .m .given .1) (omega (arith, c .before .before .before .before .before .before .before .before .before .before .before .before .if1 .left, (sum-as (c .before .before .before .before .before .before .before .before .before .before .before .before .before .number .ensures) (c .before .before .before .before .before .before .before .before .before .before .before .before .before .before .before .byte-of .ensures) (c .before .before .before .before .before .before .before .before .before .before .before .before .before .before .byte-of2 .ensures)))) (rw (sum-as (c .before .before .before .before .before .before .before .before .before .before .before .before .before .number .ensures) (c .before .before .before .before .before .before .before .before .before .before .before .before .before .before .before .byte-of .ensures) (c .before .before .before .before .before .before .before .before .before .before .before .before .before .before .byte-of2 .ensures)) at (c .before .before .before .before .before .before .before .before .before .before .before .high .ensures)) (rw (sum-as (c .before .before .before .before .before .before .before .before .before .before .before .before .before .number .ensures) (c .before .before .before .before .before .before .before .before .before .before .before .before .before .before .before .byte-of .ensures) (c .before .before .before .before .before .before .before .before .before .before .before .before .before .before .byte-of2 .ensures)) at (c .before .before .before .before .before .before .before .before .before .before .low .ensures)) (as-task (ap enter (c .before .before .before .before .before .before .before .before .before .number-of .ensures)) (c .before .before .before .before .before .put-node .ensures)) (taken-as (c .before .before .if2 .left) (c .before .taken .ensures)))
+put-add-returns-4 t c = as-taken (took-done (c .took .ensures) (omega arith)) (add-done (c .before .before .before .before .before .before .before .before .before .before .before .before .before .before .before .before .before .before .before .shape-of .ensures) (c .before .before .before .before .before .before .before .before .before .before .before .before .before .before .before .before .before .m .given .1) (omega (arith, c .before .before .before .before .before .before .before .before .before .before .before .before .if1 .left, (sum-as (c .before .before .before .before .before .before .before .before .before .before .before .before .before .number .ensures) (c .before .before .before .before .before .before .before .before .before .before .before .before .before .before .before .byte-of .ensures) (c .before .before .before .before .before .before .before .before .before .before .before .before .before .before .byte-of2 .ensures)))) (rw (sum-as (c .before .before .before .before .before .before .before .before .before .before .before .before .before .number .ensures) (c .before .before .before .before .before .before .before .before .before .before .before .before .before .before .before .byte-of .ensures) (c .before .before .before .before .before .before .before .before .before .before .before .before .before .before .byte-of2 .ensures)) at (c .before .before .before .before .before .before .before .before .before .before .before .high .ensures)) (rw (sum-as (c .before .before .before .before .before .before .before .before .before .before .before .before .before .number .ensures) (c .before .before .before .before .before .before .before .before .before .before .before .before .before .before .before .byte-of .ensures) (c .before .before .before .before .before .before .before .before .before .before .before .before .before .before .byte-of2 .ensures)) at (c .before .before .before .before .before .before .before .before .before .before .low .ensures)) (as-task (ap enter (c .before .before .before .before .before .before .before .before .before .number-of .ensures)) (c .before .before .before .before .before .put-node .ensures .0)) (taken-as (c .before .before .if2 .left) (c .before .taken .ensures)))
 
 put-add-same-length-2 : (t : ℕ) → put-add-lts.Need-same-length-2 (put-add-claims t) (put-add-at t) put-add.Post
 put-add-same-length-2 t c = put-add-returns-4 t c .frame .long
@@ -355,40 +355,40 @@ put-both-same-length : (t : ℕ) → put-both-lts.Need-same-length (put-both-cla
 put-both-same-length t c = search needs
 
 put-both-returns : (t : ℕ) → put-both-lts.Need-returns (put-both-claims t) (put-both-at t) put-both.Post
-put-both-returns t c = λ u h. as-taken (taken-refused (c .if1 .taken)) (both-refused₁ (c .before .before .before .put-node .ensures) (taken-refused (c .if1 .taken)))
+put-both-returns t c = λ u h. as-taken (taken-refused (c .if1 .taken)) (both-refused₁ (c .before .before .before .put-node .ensures .0) (taken-refused (c .if1 .taken)))
 
 put-both-taken-requires : (t : ℕ) → put-both-lts.Need-taken-requires (put-both-claims t) (put-both-at t) put-both.Post
 put-both-taken-requires t c κs = search needs
 
 put-both-sub-took : (t : ℕ) → put-both-lts.Need-sub-took (put-both-claims t) (put-both-at t) put-both.Post
-put-both-sub-took t c = omega (arith, both-few (c .before .before .before .before .before .put-node .ensures) (taken-as (c .before .before .if1 .left) (c .before .taken .ensures)) (c .before .before .before .before .before .before .before .before .before .before .before .before .pre .1 .0))
+put-both-sub-took t c = omega (arith, (c .before .before .before .before .before .put-node .ensures .1 .at (taken-as (c .before .before .if1 .left) (c .before .taken .ensures))))
 
 put-both-put-node-requires-2 : (t : ℕ) → put-both-lts.Need-put-node-requires-2 (put-both-claims t) (put-both-at t) put-both.Post
-put-both-put-node-requires-2 t c κs = (omega (arith, c .before .before .before .before .before .before .before .before .before .before .before .before .before .before .pre .0), both-ready₂ (c .before .before .before .before .before .before .before .put-node .ensures) (taken-as (c .before .before .before .before .if1 .left) (c .before .before .before .taken .ensures)) (c .before .before .before .before .before .before .before .before .before .before .before .before .before .before .pre .1 .0) (omega arith) (c .before .before .before .before .before .before .before .before .before .before .before .before .before .before .pre .1 .1))
+put-both-put-node-requires-2 t c κs = (omega (arith, c .before .before .before .before .before .before .before .before .before .before .before .before .before .before .pre .0), both-ready₂ (c .before .before .before .before .before .before .before .put-node .ensures .0) (taken-as (c .before .before .before .before .if1 .left) (c .before .before .before .taken .ensures)) (c .before .before .before .before .before .before .before .before .before .before .before .before .before .before .pre .1 .0) (omega arith) (c .before .before .before .before .before .before .before .before .before .before .before .before .before .before .pre .1 .1))
 
 put-both-same-length-2 : (t : ℕ) → put-both-lts.Need-same-length-2 (put-both-claims t) (put-both-at t) put-both.Post
 put-both-same-length-2 t c = search needs
 
 put-both-returns-2 : (t : ℕ) → put-both-lts.Need-returns-2 (put-both-claims t) (put-both-at t) put-both.Post
-put-both-returns-2 t c = λ u h. as-taken (taken-refused (c .if2 .taken)) (both-refused₂ (c .before .before .before .before .before .before .before .before .before .before .before .put-node .ensures) (taken-as (c .before .before .before .before .before .before .before .before .if1 .left) (c .before .before .before .before .before .before .before .taken .ensures)) ((c .before .before .before .before .before .before .before .before .before .before .before .before .before .before .before .before .before .before .pre .1 .0) .base) (c .before .before .before .put-node2 .ensures) h (taken-refused (c .if2 .taken)))
+put-both-returns-2 t c = λ u h. as-taken (taken-refused (c .if2 .taken)) (both-refused₂ (c .before .before .before .before .before .before .before .before .before .before .before .put-node .ensures .0) (taken-as (c .before .before .before .before .before .before .before .before .if1 .left) (c .before .before .before .before .before .before .before .taken .ensures)) ((c .before .before .before .before .before .before .before .before .before .before .before .before .before .before .before .before .before .before .pre .1 .0) .base) (c .before .before .before .put-node2 .ensures .0) h (taken-refused (c .if2 .taken)))
 
 put-both-add-took : (t : ℕ) → put-both-lts.Need-add-took (put-both-claims t) (put-both-at t) put-both.Post
-put-both-add-took t c = record { fits = omega (arith, both-few (c .before .before .before .before .before .before .before .before .before .before .before .put-node .ensures) (taken-as (c .before .before .before .before .before .before .before .before .if1 .left) (c .before .before .before .before .before .before .before .taken .ensures)) (c .before .before .before .before .before .before .before .before .before .before .before .before .before .before .before .before .before .before .pre .1 .0), (c .before .before .before .before .before .before .before .before .before .before .before .before .before .before .before .before .before .before .pre .1 .0) .few) }
+put-both-add-took t c = record { fits = omega (arith, (c .before .before .before .before .before .before .before .before .before .before .before .put-node .ensures .1 .at (taken-as (c .before .before .before .before .before .before .before .before .if1 .left) (c .before .before .before .before .before .before .before .taken .ensures))), (c .before .before .before .before .before .before .before .before .before .before .before .before .before .before .before .before .before .before .pre .1 .0) .few) }
 
 put-both-taken-requires-2 : (t : ℕ) → put-both-lts.Need-taken-requires-2 (put-both-claims t) (put-both-at t) put-both.Post
 put-both-taken-requires-2 t c κs = search needs
 
 put-both-add-took-2 : (t : ℕ) → put-both-lts.Need-add-took-2 (put-both-claims t) (put-both-at t) put-both.Post
-put-both-add-took-2 t c = record { fits = omega (arith, (both-sum (c .before .before .before .before .before .before .before .before .before .before .before .before .put-node .ensures) (taken-as (c .before .before .before .before .before .before .before .before .before .if1 .left) (c .before .before .before .before .before .before .before .before .taken .ensures)) ((c .before .before .before .before .before .before .before .before .before .before .before .before .before .before .before .before .before .before .before .pre .1 .0) .base) (c .before .before .before .before .put-node2 .ensures) (c .before .before .before .before .before .before .before .before .before .before .before .before .before .before .before .before .before .before .before .pre .1 .1 .shown) (taken-as (c .before .if2 .left) (c .taken2 .ensures)) (c .before .before .before .before .before .before .before .before .before .before .before .before .before .before .before .before .before .before .before .pre .1 .0)), (c .before .before .before .before .before .before .before .before .before .before .before .before .before .before .before .before .before .before .before .pre .1 .0) .few) }
+put-both-add-took-2 t c = record { fits = omega (arith, c .before .before .before .before .before .before .before .before .before .before .before .before .put-node .ensures .1 .at (taken-as (c .before .before .before .before .before .before .before .before .before .if1 .left) (c .before .before .before .before .before .before .before .before .taken .ensures)), c .before .before .before .before .put-node2 .ensures .1 .at (taken-as (c .before .if2 .left) (c .taken2 .ensures)), (c .before .before .before .before .before .before .before .before .before .before .before .before .before .before .before .before .before .before .before .pre .1 .0) .few) }
 
 put-both-took-requires : (t : ℕ) → put-both-lts.Need-took-requires (put-both-claims t) (put-both-at t) put-both.Post
-put-both-took-requires t c κs = omega (arith, (both-sum (c .before .before .before .before .before .before .before .before .before .before .before .before .put-node .ensures) (taken-as (c .before .before .before .before .before .before .before .before .before .if1 .left) (c .before .before .before .before .before .before .before .before .taken .ensures)) ((c .before .before .before .before .before .before .before .before .before .before .before .before .before .before .before .before .before .before .before .pre .1 .0) .base) (c .before .before .before .before .put-node2 .ensures) (c .before .before .before .before .before .before .before .before .before .before .before .before .before .before .before .before .before .before .before .pre .1 .1 .shown) (taken-as (c .before .if2 .left) (c .taken2 .ensures)) (c .before .before .before .before .before .before .before .before .before .before .before .before .before .before .before .before .before .before .before .pre .1 .0)), (c .before .before .before .before .before .before .before .before .before .before .before .before .before .before .before .before .before .before .before .pre .1 .0) .few)
+put-both-took-requires t c κs = omega (arith, c .before .before .before .before .before .before .before .before .before .before .before .before .put-node .ensures .1 .at (taken-as (c .before .before .before .before .before .before .before .before .before .if1 .left) (c .before .before .before .before .before .before .before .before .taken .ensures)), c .before .before .before .before .put-node2 .ensures .1 .at (taken-as (c .before .if2 .left) (c .taken2 .ensures)), (c .before .before .before .before .before .before .before .before .before .before .before .before .before .before .before .before .before .before .before .pre .1 .0) .few)
 
 put-both-same-length-3 : (t : ℕ) → put-both-lts.Need-same-length-3 (put-both-claims t) (put-both-at t) put-both.Post
 put-both-same-length-3 t c = search needs
 
 put-both-returns-3 : (t : ℕ) → put-both-lts.Need-returns-3 (put-both-claims t) (put-both-at t) put-both.Post
-put-both-returns-3 t c = λ u h. as-taken (took-done (c .took .ensures) (omega (arith, c .before .before .before .before .before .before .before .before .before .taken .ensures, c .before .before .before .before .before .before .before .before .before .before .if1 .left))) (both-done (c .before .before .before .before .before .before .before .before .before .before .before .before .before .put-node .ensures) (taken-as (c .before .before .before .before .before .before .before .before .before .before .if1 .left) (c .before .before .before .before .before .before .before .before .before .taken .ensures)) ((c .before .before .before .before .before .before .before .before .before .before .before .before .before .before .before .before .before .before .before .before .pre .1 .0) .base) (c .before .before .before .before .before .put-node2 .ensures) h (taken-as (c .before .before .if2 .left) (c .before .taken2 .ensures)))
+put-both-returns-3 t c = λ u h. as-taken (took-done (c .took .ensures) (omega (arith, c .before .before .before .before .before .before .before .before .before .taken .ensures, c .before .before .before .before .before .before .before .before .before .before .if1 .left))) (both-done (c .before .before .before .before .before .before .before .before .before .before .before .before .before .put-node .ensures .0) (taken-as (c .before .before .before .before .before .before .before .before .before .before .if1 .left) (c .before .before .before .before .before .before .before .before .before .taken .ensures)) ((c .before .before .before .before .before .before .before .before .before .before .before .before .before .before .before .before .before .before .before .before .pre .1 .0) .base) (c .before .before .before .before .before .put-node2 .ensures .0) h (taken-as (c .before .before .if2 .left) (c .before .taken2 .ensures)))
 
 put-call-number-of-requires : (t : ℕ) → put-call-lts.Need-number-of-requires (put-call-claims t) (put-call-at t) put-call.Post
 put-call-number-of-requires t c κs = search needs
@@ -421,7 +421,7 @@ put-call-put-node-requires : (t : ℕ) → put-call-lts.Need-put-node-requires (
 put-call-put-node-requires t c κs = (omega (arith, c .before .before .before .before .before .before .before .before .before .before .before .before .before .before .before .before .before .before .before .pre .0), call-ready (omega (arith, c .before .before .before .before .before .before .before .before .before .before .before .before .before .before .before .number-of .ensures, c .before .before .before .before .before .before .before .before .before .before .before .before .if1 .left)) (omega (arith, c .before .before .before .before .before .before .before .before .before .before .before .before .before .before .number-of2 .ensures, c .before .before .before .before .before .before .before .before .before .before .if2 .left)) (two-picked (c .before .before .before .before .before .before .before .before .before .before .before .before .before .before .before .before .before .before .before .args .at .count) (c .before .before .before .before .before .before .before .before .before .before .before .before .before .before .before .before .before .before .before .args .starts .now) (c .before .before .before .before .before .before .before .before .before .before .before .before .before .before .before .before .before .before .before .args .lens .now) (c .before .before .before .before .before .before .before .before .before .before .before .before .before .before .before .number-of .ensures) (c .before .before .before .before .before .before .before .before .before .before .before .before .before .before .number-of2 .ensures) (c .before .before .before .before .before .before .before .pick-two .ensures .inside (omega (arith, c .before .before .before .before .before .before .before .before .before .before .before .before .if1 .left, (c .before .before .before .before .before .before .before .before .before .before .before .before .before .before .before .before .before .before .before .pre .1) .slots), omega (arith, c .before .before .before .before .before .before .before .before .before .before .if2 .left, (c .before .before .before .before .before .before .before .before .before .before .before .before .before .before .before .before .before .before .before .pre .1) .slots))) (c .before .before .before .before .before .before .pick-two2 .ensures .inside (omega (arith, c .before .before .before .before .before .before .before .before .before .before .before .before .if1 .left, (c .before .before .before .before .before .before .before .before .before .before .before .before .before .before .before .before .before .before .before .pre .1) .slots), omega (arith, c .before .before .before .before .before .before .before .before .before .before .if2 .left, (c .before .before .before .before .before .before .before .before .before .before .before .before .before .before .before .before .before .before .before .pre .1) .slots)))) (picked-owned (c .before .before .before .before .before .before .before .before .before .before .before .before .before .before .before .before .before .before .before .args .cells .now) (c .before .before .before .before .before .before .before .before .before .before .before .before .before .before .before .before .before .before .before .args .at .cells) (c .before .before .before .before .before .before .before .before .before .before .before .before .before .before .before .number-of .ensures) (c .before .before .before .before .before .before .before .before .before .before .before .before .before .before .number-of2 .ensures) (c .before .before .before .before .before .pick-cells .ensures .inside (omega (arith, c .before .before .before .before .before .before .before .before .before .before .before .before .if1 .left, (c .before .before .before .before .before .before .before .before .before .before .before .before .before .before .before .before .before .before .before .pre .1) .slots), omega (arith, c .before .before .before .before .before .before .before .before .before .before .if2 .left, (c .before .before .before .before .before .before .before .before .before .before .before .before .before .before .before .before .before .before .before .pre .1) .slots)))) (c .before .before .before .before .before .before .before .before .before .before .before .before .before .before .before .before .before .before .before .pre .1) (section-as (c .before .before .before .before .before .before .before .before .before .before .before .before .before .before .before .before .before .before .before .args .sheet .now) (c .before .before .before .before .before .before .before .before .section-root .ensures) (c .before .before .before .before .before .before .before .before .before .number-of3 .ensures)))
 
 put-call-returns-3 : (t : ℕ) → put-call-lts.Need-returns-3 (put-call-claims t) (put-call-at t) put-call.Post
-put-call-returns-3 t c = as-taken (taken-refused (c .if3 .taken)) (call-refused (omega (arith, c .before .before .before .before .before .before .before .before .before .before .before .before .before .before .before .before .before .before .before .number-of .ensures, c .before .before .before .before .before .before .before .before .before .before .before .before .before .before .before .before .if1 .left)) (omega (arith, c .before .before .before .before .before .before .before .before .before .before .before .before .before .before .before .before .before .before .number-of2 .ensures, c .before .before .before .before .before .before .before .before .before .before .before .before .before .before .if2 .left)) (two-picked (c .before .before .before .before .before .before .before .before .before .before .before .before .before .before .before .before .before .before .before .before .before .before .before .args .at .count) (c .before .before .before .before .before .before .before .before .before .before .before .before .before .before .before .before .before .before .before .before .before .before .before .args .starts .now) (c .before .before .before .before .before .before .before .before .before .before .before .before .before .before .before .before .before .before .before .before .before .before .before .args .lens .now) (c .before .before .before .before .before .before .before .before .before .before .before .before .before .before .before .before .before .before .before .number-of .ensures) (c .before .before .before .before .before .before .before .before .before .before .before .before .before .before .before .before .before .before .number-of2 .ensures) (c .before .before .before .before .before .before .before .before .before .before .before .pick-two .ensures .inside (omega (arith, c .before .before .before .before .before .before .before .before .before .before .before .before .before .before .before .before .if1 .left, (c .before .before .before .before .before .before .before .before .before .before .before .before .before .before .before .before .before .before .before .before .before .before .before .pre .1) .slots), omega (arith, c .before .before .before .before .before .before .before .before .before .before .before .before .before .before .if2 .left, (c .before .before .before .before .before .before .before .before .before .before .before .before .before .before .before .before .before .before .before .before .before .before .before .pre .1) .slots))) (c .before .before .before .before .before .before .before .before .before .before .pick-two2 .ensures .inside (omega (arith, c .before .before .before .before .before .before .before .before .before .before .before .before .before .before .before .before .if1 .left, (c .before .before .before .before .before .before .before .before .before .before .before .before .before .before .before .before .before .before .before .before .before .before .before .pre .1) .slots), omega (arith, c .before .before .before .before .before .before .before .before .before .before .before .before .before .before .if2 .left, (c .before .before .before .before .before .before .before .before .before .before .before .before .before .before .before .before .before .before .before .before .before .before .before .pre .1) .slots)))) (picked-owned (c .before .before .before .before .before .before .before .before .before .before .before .before .before .before .before .before .before .before .before .before .before .before .before .args .cells .now) (c .before .before .before .before .before .before .before .before .before .before .before .before .before .before .before .before .before .before .before .before .before .before .before .args .at .cells) (c .before .before .before .before .before .before .before .before .before .before .before .before .before .before .before .before .before .before .before .number-of .ensures) (c .before .before .before .before .before .before .before .before .before .before .before .before .before .before .before .before .before .before .number-of2 .ensures) (c .before .before .before .before .before .before .before .before .before .pick-cells .ensures .inside (omega (arith, c .before .before .before .before .before .before .before .before .before .before .before .before .before .before .before .before .if1 .left, (c .before .before .before .before .before .before .before .before .before .before .before .before .before .before .before .before .before .before .before .before .before .before .before .pre .1) .slots), omega (arith, c .before .before .before .before .before .before .before .before .before .before .before .before .before .before .if2 .left, (c .before .before .before .before .before .before .before .before .before .before .before .before .before .before .before .before .before .before .before .before .before .before .before .pre .1) .slots)))) (c .before .before .before .put-node .ensures) (c .before .before .before .before .before .before .before .before .before .before .before .before .before .before .before .before .before .before .before .before .before .before .before .pre .1) (section-as (c .before .before .before .before .before .before .before .before .before .before .before .before .before .before .before .before .before .before .before .before .before .before .before .args .sheet .now) (c .before .before .before .before .before .before .before .before .before .before .before .before .section-root .ensures) (c .before .before .before .before .before .before .before .before .before .before .before .before .before .number-of3 .ensures)) (taken-refused (c .if3 .taken)))
+put-call-returns-3 t c = as-taken (taken-refused (c .if3 .taken)) (call-refused (omega (arith, c .before .before .before .before .before .before .before .before .before .before .before .before .before .before .before .before .before .before .before .number-of .ensures, c .before .before .before .before .before .before .before .before .before .before .before .before .before .before .before .before .if1 .left)) (omega (arith, c .before .before .before .before .before .before .before .before .before .before .before .before .before .before .before .before .before .before .number-of2 .ensures, c .before .before .before .before .before .before .before .before .before .before .before .before .before .before .if2 .left)) (two-picked (c .before .before .before .before .before .before .before .before .before .before .before .before .before .before .before .before .before .before .before .before .before .before .before .args .at .count) (c .before .before .before .before .before .before .before .before .before .before .before .before .before .before .before .before .before .before .before .before .before .before .before .args .starts .now) (c .before .before .before .before .before .before .before .before .before .before .before .before .before .before .before .before .before .before .before .before .before .before .before .args .lens .now) (c .before .before .before .before .before .before .before .before .before .before .before .before .before .before .before .before .before .before .before .number-of .ensures) (c .before .before .before .before .before .before .before .before .before .before .before .before .before .before .before .before .before .before .number-of2 .ensures) (c .before .before .before .before .before .before .before .before .before .before .before .pick-two .ensures .inside (omega (arith, c .before .before .before .before .before .before .before .before .before .before .before .before .before .before .before .before .if1 .left, (c .before .before .before .before .before .before .before .before .before .before .before .before .before .before .before .before .before .before .before .before .before .before .before .pre .1) .slots), omega (arith, c .before .before .before .before .before .before .before .before .before .before .before .before .before .before .if2 .left, (c .before .before .before .before .before .before .before .before .before .before .before .before .before .before .before .before .before .before .before .before .before .before .before .pre .1) .slots))) (c .before .before .before .before .before .before .before .before .before .before .pick-two2 .ensures .inside (omega (arith, c .before .before .before .before .before .before .before .before .before .before .before .before .before .before .before .before .if1 .left, (c .before .before .before .before .before .before .before .before .before .before .before .before .before .before .before .before .before .before .before .before .before .before .before .pre .1) .slots), omega (arith, c .before .before .before .before .before .before .before .before .before .before .before .before .before .before .if2 .left, (c .before .before .before .before .before .before .before .before .before .before .before .before .before .before .before .before .before .before .before .before .before .before .before .pre .1) .slots)))) (picked-owned (c .before .before .before .before .before .before .before .before .before .before .before .before .before .before .before .before .before .before .before .before .before .before .before .args .cells .now) (c .before .before .before .before .before .before .before .before .before .before .before .before .before .before .before .before .before .before .before .before .before .before .before .args .at .cells) (c .before .before .before .before .before .before .before .before .before .before .before .before .before .before .before .before .before .before .before .number-of .ensures) (c .before .before .before .before .before .before .before .before .before .before .before .before .before .before .before .before .before .before .number-of2 .ensures) (c .before .before .before .before .before .before .before .before .before .pick-cells .ensures .inside (omega (arith, c .before .before .before .before .before .before .before .before .before .before .before .before .before .before .before .before .if1 .left, (c .before .before .before .before .before .before .before .before .before .before .before .before .before .before .before .before .before .before .before .before .before .before .before .pre .1) .slots), omega (arith, c .before .before .before .before .before .before .before .before .before .before .before .before .before .before .if2 .left, (c .before .before .before .before .before .before .before .before .before .before .before .before .before .before .before .before .before .before .before .before .before .before .before .pre .1) .slots)))) (c .before .before .before .put-node .ensures .0) (c .before .before .before .before .before .before .before .before .before .before .before .before .before .before .before .before .before .before .before .before .before .before .before .pre .1) (section-as (c .before .before .before .before .before .before .before .before .before .before .before .before .before .before .before .before .before .before .before .before .before .before .before .args .sheet .now) (c .before .before .before .before .before .before .before .before .before .before .before .before .section-root .ensures) (c .before .before .before .before .before .before .before .before .before .before .before .before .before .number-of3 .ensures)) (taken-refused (c .if3 .taken)))
 
 put-call-same-length : (t : ℕ) → put-call-lts.Need-same-length (put-call-claims t) (put-call-at t) put-call.Post
 put-call-same-length t c = put-call-returns-3 t c .frame .long
@@ -430,13 +430,13 @@ put-call-taken-requires : (t : ℕ) → put-call-lts.Need-taken-requires (put-ca
 put-call-taken-requires t c κs = search needs
 
 put-call-add-took : (t : ℕ) → put-call-lts.Need-add-took (put-call-claims t) (put-call-at t) put-call.Post
-put-call-add-took t c = record { fits = omega (arith, (call-few (omega (arith, c .before .before .before .before .before .before .before .before .before .before .before .before .before .before .before .before .before .before .before .before .number-of .ensures, c .before .before .before .before .before .before .before .before .before .before .before .before .before .before .before .before .before .if1 .left)) (omega (arith, c .before .before .before .before .before .before .before .before .before .before .before .before .before .before .before .before .before .before .before .number-of2 .ensures, c .before .before .before .before .before .before .before .before .before .before .before .before .before .before .before .if2 .left)) (two-picked (c .before .before .before .before .before .before .before .before .before .before .before .before .before .before .before .before .before .before .before .before .before .before .before .before .args .at .count) (c .before .before .before .before .before .before .before .before .before .before .before .before .before .before .before .before .before .before .before .before .before .before .before .before .args .starts .now) (c .before .before .before .before .before .before .before .before .before .before .before .before .before .before .before .before .before .before .before .before .before .before .before .before .args .lens .now) (c .before .before .before .before .before .before .before .before .before .before .before .before .before .before .before .before .before .before .before .before .number-of .ensures) (c .before .before .before .before .before .before .before .before .before .before .before .before .before .before .before .before .before .before .before .number-of2 .ensures) (c .before .before .before .before .before .before .before .before .before .before .before .before .pick-two .ensures .inside (omega (arith, c .before .before .before .before .before .before .before .before .before .before .before .before .before .before .before .before .before .if1 .left, (c .before .before .before .before .before .before .before .before .before .before .before .before .before .before .before .before .before .before .before .before .before .before .before .before .pre .1) .slots), omega (arith, c .before .before .before .before .before .before .before .before .before .before .before .before .before .before .before .if2 .left, (c .before .before .before .before .before .before .before .before .before .before .before .before .before .before .before .before .before .before .before .before .before .before .before .before .pre .1) .slots))) (c .before .before .before .before .before .before .before .before .before .before .before .pick-two2 .ensures .inside (omega (arith, c .before .before .before .before .before .before .before .before .before .before .before .before .before .before .before .before .before .if1 .left, (c .before .before .before .before .before .before .before .before .before .before .before .before .before .before .before .before .before .before .before .before .before .before .before .before .pre .1) .slots), omega (arith, c .before .before .before .before .before .before .before .before .before .before .before .before .before .before .before .if2 .left, (c .before .before .before .before .before .before .before .before .before .before .before .before .before .before .before .before .before .before .before .before .before .before .before .before .pre .1) .slots)))) (picked-owned (c .before .before .before .before .before .before .before .before .before .before .before .before .before .before .before .before .before .before .before .before .before .before .before .before .args .cells .now) (c .before .before .before .before .before .before .before .before .before .before .before .before .before .before .before .before .before .before .before .before .before .before .before .before .args .at .cells) (c .before .before .before .before .before .before .before .before .before .before .before .before .before .before .before .before .before .before .before .before .number-of .ensures) (c .before .before .before .before .before .before .before .before .before .before .before .before .before .before .before .before .before .before .before .number-of2 .ensures) (c .before .before .before .before .before .before .before .before .before .before .pick-cells .ensures .inside (omega (arith, c .before .before .before .before .before .before .before .before .before .before .before .before .before .before .before .before .before .if1 .left, (c .before .before .before .before .before .before .before .before .before .before .before .before .before .before .before .before .before .before .before .before .before .before .before .before .pre .1) .slots), omega (arith, c .before .before .before .before .before .before .before .before .before .before .before .before .before .before .before .if2 .left, (c .before .before .before .before .before .before .before .before .before .before .before .before .before .before .before .before .before .before .before .before .before .before .before .before .pre .1) .slots)))) (c .before .before .before .before .put-node .ensures) (c .before .before .before .before .before .before .before .before .before .before .before .before .before .before .before .before .before .before .before .before .before .before .before .before .pre .1) (section-as (c .before .before .before .before .before .before .before .before .before .before .before .before .before .before .before .before .before .before .before .before .before .before .before .before .args .sheet .now) (c .before .before .before .before .before .before .before .before .before .before .before .before .before .section-root .ensures) (c .before .before .before .before .before .before .before .before .before .before .before .before .before .before .number-of3 .ensures)) (taken-as (c .before .if3 .left) (c .taken .ensures))), (c .before .before .before .before .before .before .before .before .before .before .before .before .before .before .before .before .before .before .before .before .before .before .before .before .pre .1) .few) }
+put-call-add-took t c = record { fits = omega (arith, c .before .before .before .before .put-node .ensures .1 .at (taken-as (c .before .if3 .left) (c .taken .ensures)), (c .before .before .before .before .before .before .before .before .before .before .before .before .before .before .before .before .before .before .before .before .before .before .before .before .pre .1) .few) }
 
 put-call-took-requires : (t : ℕ) → put-call-lts.Need-took-requires (put-call-claims t) (put-call-at t) put-call.Post
-put-call-took-requires t c κs = omega (arith, (call-few (omega (arith, c .before .before .before .before .before .before .before .before .before .before .before .before .before .before .before .before .before .before .before .before .number-of .ensures, c .before .before .before .before .before .before .before .before .before .before .before .before .before .before .before .before .before .if1 .left)) (omega (arith, c .before .before .before .before .before .before .before .before .before .before .before .before .before .before .before .before .before .before .before .number-of2 .ensures, c .before .before .before .before .before .before .before .before .before .before .before .before .before .before .before .if2 .left)) (two-picked (c .before .before .before .before .before .before .before .before .before .before .before .before .before .before .before .before .before .before .before .before .before .before .before .before .args .at .count) (c .before .before .before .before .before .before .before .before .before .before .before .before .before .before .before .before .before .before .before .before .before .before .before .before .args .starts .now) (c .before .before .before .before .before .before .before .before .before .before .before .before .before .before .before .before .before .before .before .before .before .before .before .before .args .lens .now) (c .before .before .before .before .before .before .before .before .before .before .before .before .before .before .before .before .before .before .before .before .number-of .ensures) (c .before .before .before .before .before .before .before .before .before .before .before .before .before .before .before .before .before .before .before .number-of2 .ensures) (c .before .before .before .before .before .before .before .before .before .before .before .before .pick-two .ensures .inside (omega (arith, c .before .before .before .before .before .before .before .before .before .before .before .before .before .before .before .before .before .if1 .left, (c .before .before .before .before .before .before .before .before .before .before .before .before .before .before .before .before .before .before .before .before .before .before .before .before .pre .1) .slots), omega (arith, c .before .before .before .before .before .before .before .before .before .before .before .before .before .before .before .if2 .left, (c .before .before .before .before .before .before .before .before .before .before .before .before .before .before .before .before .before .before .before .before .before .before .before .before .pre .1) .slots))) (c .before .before .before .before .before .before .before .before .before .before .before .pick-two2 .ensures .inside (omega (arith, c .before .before .before .before .before .before .before .before .before .before .before .before .before .before .before .before .before .if1 .left, (c .before .before .before .before .before .before .before .before .before .before .before .before .before .before .before .before .before .before .before .before .before .before .before .before .pre .1) .slots), omega (arith, c .before .before .before .before .before .before .before .before .before .before .before .before .before .before .before .if2 .left, (c .before .before .before .before .before .before .before .before .before .before .before .before .before .before .before .before .before .before .before .before .before .before .before .before .pre .1) .slots)))) (picked-owned (c .before .before .before .before .before .before .before .before .before .before .before .before .before .before .before .before .before .before .before .before .before .before .before .before .args .cells .now) (c .before .before .before .before .before .before .before .before .before .before .before .before .before .before .before .before .before .before .before .before .before .before .before .before .args .at .cells) (c .before .before .before .before .before .before .before .before .before .before .before .before .before .before .before .before .before .before .before .before .number-of .ensures) (c .before .before .before .before .before .before .before .before .before .before .before .before .before .before .before .before .before .before .before .number-of2 .ensures) (c .before .before .before .before .before .before .before .before .before .before .pick-cells .ensures .inside (omega (arith, c .before .before .before .before .before .before .before .before .before .before .before .before .before .before .before .before .before .if1 .left, (c .before .before .before .before .before .before .before .before .before .before .before .before .before .before .before .before .before .before .before .before .before .before .before .before .pre .1) .slots), omega (arith, c .before .before .before .before .before .before .before .before .before .before .before .before .before .before .before .if2 .left, (c .before .before .before .before .before .before .before .before .before .before .before .before .before .before .before .before .before .before .before .before .before .before .before .before .pre .1) .slots)))) (c .before .before .before .before .put-node .ensures) (c .before .before .before .before .before .before .before .before .before .before .before .before .before .before .before .before .before .before .before .before .before .before .before .before .pre .1) (section-as (c .before .before .before .before .before .before .before .before .before .before .before .before .before .before .before .before .before .before .before .before .before .before .before .before .args .sheet .now) (c .before .before .before .before .before .before .before .before .before .before .before .before .before .section-root .ensures) (c .before .before .before .before .before .before .before .before .before .before .before .before .before .before .number-of3 .ensures)) (taken-as (c .before .if3 .left) (c .taken .ensures))), (c .before .before .before .before .before .before .before .before .before .before .before .before .before .before .before .before .before .before .before .before .before .before .before .before .pre .1) .few)
+put-call-took-requires t c κs = omega (arith, c .before .before .before .before .put-node .ensures .1 .at (taken-as (c .before .if3 .left) (c .taken .ensures)), (c .before .before .before .before .before .before .before .before .before .before .before .before .before .before .before .before .before .before .before .before .before .before .before .before .pre .1) .few)
 
 put-call-returns-4 : (t : ℕ) → put-call-lts.Need-returns-4 (put-call-claims t) (put-call-at t) put-call.Post
-put-call-returns-4 t c = as-taken (took-done (c .took .ensures) (omega arith)) (call-done (omega (arith, c .before .before .before .before .before .before .before .before .before .before .before .before .before .before .before .before .before .before .before .before .before .number-of .ensures, c .before .before .before .before .before .before .before .before .before .before .before .before .before .before .before .before .before .before .if1 .left)) (omega (arith, c .before .before .before .before .before .before .before .before .before .before .before .before .before .before .before .before .before .before .before .before .number-of2 .ensures, c .before .before .before .before .before .before .before .before .before .before .before .before .before .before .before .before .if2 .left)) (two-picked (c .before .before .before .before .before .before .before .before .before .before .before .before .before .before .before .before .before .before .before .before .before .before .before .before .before .args .at .count) (c .before .before .before .before .before .before .before .before .before .before .before .before .before .before .before .before .before .before .before .before .before .before .before .before .before .args .starts .now) (c .before .before .before .before .before .before .before .before .before .before .before .before .before .before .before .before .before .before .before .before .before .before .before .before .before .args .lens .now) (c .before .before .before .before .before .before .before .before .before .before .before .before .before .before .before .before .before .before .before .before .before .number-of .ensures) (c .before .before .before .before .before .before .before .before .before .before .before .before .before .before .before .before .before .before .before .before .number-of2 .ensures) (c .before .before .before .before .before .before .before .before .before .before .before .before .before .pick-two .ensures .inside (omega (arith, c .before .before .before .before .before .before .before .before .before .before .before .before .before .before .before .before .before .before .if1 .left, (c .before .before .before .before .before .before .before .before .before .before .before .before .before .before .before .before .before .before .before .before .before .before .before .before .before .pre .1) .slots), omega (arith, c .before .before .before .before .before .before .before .before .before .before .before .before .before .before .before .before .if2 .left, (c .before .before .before .before .before .before .before .before .before .before .before .before .before .before .before .before .before .before .before .before .before .before .before .before .before .pre .1) .slots))) (c .before .before .before .before .before .before .before .before .before .before .before .before .pick-two2 .ensures .inside (omega (arith, c .before .before .before .before .before .before .before .before .before .before .before .before .before .before .before .before .before .before .if1 .left, (c .before .before .before .before .before .before .before .before .before .before .before .before .before .before .before .before .before .before .before .before .before .before .before .before .before .pre .1) .slots), omega (arith, c .before .before .before .before .before .before .before .before .before .before .before .before .before .before .before .before .if2 .left, (c .before .before .before .before .before .before .before .before .before .before .before .before .before .before .before .before .before .before .before .before .before .before .before .before .before .pre .1) .slots)))) (picked-owned (c .before .before .before .before .before .before .before .before .before .before .before .before .before .before .before .before .before .before .before .before .before .before .before .before .before .args .cells .now) (c .before .before .before .before .before .before .before .before .before .before .before .before .before .before .before .before .before .before .before .before .before .before .before .before .before .args .at .cells) (c .before .before .before .before .before .before .before .before .before .before .before .before .before .before .before .before .before .before .before .before .before .number-of .ensures) (c .before .before .before .before .before .before .before .before .before .before .before .before .before .before .before .before .before .before .before .before .number-of2 .ensures) (c .before .before .before .before .before .before .before .before .before .before .before .pick-cells .ensures .inside (omega (arith, c .before .before .before .before .before .before .before .before .before .before .before .before .before .before .before .before .before .before .if1 .left, (c .before .before .before .before .before .before .before .before .before .before .before .before .before .before .before .before .before .before .before .before .before .before .before .before .before .pre .1) .slots), omega (arith, c .before .before .before .before .before .before .before .before .before .before .before .before .before .before .before .before .if2 .left, (c .before .before .before .before .before .before .before .before .before .before .before .before .before .before .before .before .before .before .before .before .before .before .before .before .before .pre .1) .slots)))) (c .before .before .before .before .before .put-node .ensures) (c .before .before .before .before .before .before .before .before .before .before .before .before .before .before .before .before .before .before .before .before .before .before .before .before .before .pre .1) (section-as (c .before .before .before .before .before .before .before .before .before .before .before .before .before .before .before .before .before .before .before .before .before .before .before .before .before .args .sheet .now) (c .before .before .before .before .before .before .before .before .before .before .before .before .before .before .section-root .ensures) (c .before .before .before .before .before .before .before .before .before .before .before .before .before .before .before .number-of3 .ensures)) (taken-as (c .before .before .if3 .left) (c .before .taken .ensures)))
+put-call-returns-4 t c = as-taken (took-done (c .took .ensures) (omega arith)) (call-done (omega (arith, c .before .before .before .before .before .before .before .before .before .before .before .before .before .before .before .before .before .before .before .before .before .number-of .ensures, c .before .before .before .before .before .before .before .before .before .before .before .before .before .before .before .before .before .before .if1 .left)) (omega (arith, c .before .before .before .before .before .before .before .before .before .before .before .before .before .before .before .before .before .before .before .before .number-of2 .ensures, c .before .before .before .before .before .before .before .before .before .before .before .before .before .before .before .before .if2 .left)) (two-picked (c .before .before .before .before .before .before .before .before .before .before .before .before .before .before .before .before .before .before .before .before .before .before .before .before .before .args .at .count) (c .before .before .before .before .before .before .before .before .before .before .before .before .before .before .before .before .before .before .before .before .before .before .before .before .before .args .starts .now) (c .before .before .before .before .before .before .before .before .before .before .before .before .before .before .before .before .before .before .before .before .before .before .before .before .before .args .lens .now) (c .before .before .before .before .before .before .before .before .before .before .before .before .before .before .before .before .before .before .before .before .before .number-of .ensures) (c .before .before .before .before .before .before .before .before .before .before .before .before .before .before .before .before .before .before .before .before .number-of2 .ensures) (c .before .before .before .before .before .before .before .before .before .before .before .before .before .pick-two .ensures .inside (omega (arith, c .before .before .before .before .before .before .before .before .before .before .before .before .before .before .before .before .before .before .if1 .left, (c .before .before .before .before .before .before .before .before .before .before .before .before .before .before .before .before .before .before .before .before .before .before .before .before .before .pre .1) .slots), omega (arith, c .before .before .before .before .before .before .before .before .before .before .before .before .before .before .before .before .if2 .left, (c .before .before .before .before .before .before .before .before .before .before .before .before .before .before .before .before .before .before .before .before .before .before .before .before .before .pre .1) .slots))) (c .before .before .before .before .before .before .before .before .before .before .before .before .pick-two2 .ensures .inside (omega (arith, c .before .before .before .before .before .before .before .before .before .before .before .before .before .before .before .before .before .before .if1 .left, (c .before .before .before .before .before .before .before .before .before .before .before .before .before .before .before .before .before .before .before .before .before .before .before .before .before .pre .1) .slots), omega (arith, c .before .before .before .before .before .before .before .before .before .before .before .before .before .before .before .before .if2 .left, (c .before .before .before .before .before .before .before .before .before .before .before .before .before .before .before .before .before .before .before .before .before .before .before .before .before .pre .1) .slots)))) (picked-owned (c .before .before .before .before .before .before .before .before .before .before .before .before .before .before .before .before .before .before .before .before .before .before .before .before .before .args .cells .now) (c .before .before .before .before .before .before .before .before .before .before .before .before .before .before .before .before .before .before .before .before .before .before .before .before .before .args .at .cells) (c .before .before .before .before .before .before .before .before .before .before .before .before .before .before .before .before .before .before .before .before .before .number-of .ensures) (c .before .before .before .before .before .before .before .before .before .before .before .before .before .before .before .before .before .before .before .before .number-of2 .ensures) (c .before .before .before .before .before .before .before .before .before .before .before .pick-cells .ensures .inside (omega (arith, c .before .before .before .before .before .before .before .before .before .before .before .before .before .before .before .before .before .before .if1 .left, (c .before .before .before .before .before .before .before .before .before .before .before .before .before .before .before .before .before .before .before .before .before .before .before .before .before .pre .1) .slots), omega (arith, c .before .before .before .before .before .before .before .before .before .before .before .before .before .before .before .before .if2 .left, (c .before .before .before .before .before .before .before .before .before .before .before .before .before .before .before .before .before .before .before .before .before .before .before .before .before .pre .1) .slots)))) (c .before .before .before .before .before .put-node .ensures .0) (c .before .before .before .before .before .before .before .before .before .before .before .before .before .before .before .before .before .before .before .before .before .before .before .before .before .pre .1) (section-as (c .before .before .before .before .before .before .before .before .before .before .before .before .before .before .before .before .before .before .before .before .before .before .before .before .before .args .sheet .now) (c .before .before .before .before .before .before .before .before .before .before .before .before .before .before .section-root .ensures) (c .before .before .before .before .before .before .before .before .before .before .before .before .before .before .before .number-of3 .ensures)) (taken-as (c .before .before .if3 .left) (c .before .taken .ensures)))
 
 put-call-same-length-2 : (t : ℕ) → put-call-lts.Need-same-length-2 (put-call-claims t) (put-call-at t) put-call.Post
 put-call-same-length-2 t c = put-call-returns-4 t c .frame .long
@@ -463,7 +463,7 @@ put-front-put-node-requires : (t : ℕ) → put-front-lts.Need-put-node-requires
 put-front-put-node-requires t c κs = (omega (arith, c .before .before .before .before .before .before .before .before .before .before .before .before .pre .0), both-ready₁ (as-ready (pair-named (c .before .before .number-of .ensures) refl) ((front-ready (c .before .before .before .before .before .before .before .before .shape-of .ensures) (c .before .before .before .before .first-part .ensures) (c .before .before .before .second-part .ensures) (c .before .before .before .before .before .before .before .before .before .before .before .before .pre .1) (c .before .before .before .before .before .before .mid .given .1)) .0)) (omega arith))
 
 put-front-returns-2 : (t : ℕ) → put-front-lts.Need-returns-2 (put-front-claims t) (put-front-at t) put-front.Post
-put-front-returns-2 t c = front-both (c .before .before .before .before .before .before .before .before .before .before .before .before .shape-of .ensures) (c .before .before .before .before .before .before .before .before .first-part .ensures) (c .before .before .before .before .before .before .before .second-part .ensures) (as-pair (c .before .before .before .before .before .before .number-of .ensures) refl (λ u h. as-taken (taken-refused (c .if1 .taken)) (both-refused₁ (c .before .before .before .put-node .ensures) (taken-refused (c .if1 .taken))))) (c .before .before .before .before .before .before .before .before .before .before .before .before .before .before .before .before .pre .1) (c .before .before .before .before .before .before .before .before .before .before .mid .given .1)
+put-front-returns-2 t c = front-both (c .before .before .before .before .before .before .before .before .before .before .before .before .shape-of .ensures) (c .before .before .before .before .before .before .before .before .first-part .ensures) (c .before .before .before .before .before .before .before .second-part .ensures) (as-pair (c .before .before .before .before .before .before .number-of .ensures) refl (λ u h. as-taken (taken-refused (c .if1 .taken)) (both-refused₁ (c .before .before .before .put-node .ensures .0) (taken-refused (c .if1 .taken))))) (c .before .before .before .before .before .before .before .before .before .before .before .before .before .before .before .before .pre .1) (c .before .before .before .before .before .before .before .before .before .before .mid .given .1)
 
 put-front-same-length : (t : ℕ) → put-front-lts.Need-same-length (put-front-claims t) (put-front-at t) put-front.Post
 put-front-same-length t c = put-front-returns-2 t c .frame .long
@@ -472,34 +472,34 @@ put-front-taken-requires : (t : ℕ) → put-front-lts.Need-taken-requires (put-
 put-front-taken-requires t c κs = search needs
 
 put-front-sub-to : (t : ℕ) → put-front-lts.Need-sub-to (put-front-claims t) (put-front-at t) put-front.Post
-put-front-sub-to t c = omega (arith, both-few (c .before .before .before .before .before .put-node .ensures) (taken-as (c .before .before .if1 .left) (c .before .taken .ensures)) (as-ready (pair-named (c .before .before .before .before .before .before .before .before .number-of .ensures) refl) ((front-ready (c .before .before .before .before .before .before .before .before .before .before .before .before .before .before .shape-of .ensures) (c .before .before .before .before .before .before .before .before .before .before .first-part .ensures) (c .before .before .before .before .before .before .before .before .before .second-part .ensures) (c .before .before .before .before .before .before .before .before .before .before .before .before .before .before .before .before .before .before .pre .1) (c .before .before .before .before .before .before .before .before .before .before .before .before .mid .given .1)) .0)))
+put-front-sub-to t c = omega (arith, (c .before .before .before .before .before .put-node .ensures .1 .at (taken-as (c .before .before .if1 .left) (c .before .taken .ensures))))
 
 put-front-number-of-requires-2 : (t : ℕ) → put-front-lts.Need-number-of-requires-2 (put-front-claims t) (put-front-at t) put-front.Post
 put-front-number-of-requires-2 t c κs = search needs
 
 put-front-put-node-requires-2 : (t : ℕ) → put-front-lts.Need-put-node-requires-2 (put-front-claims t) (put-front-at t) put-front.Post
-put-front-put-node-requires-2 t c κs = (omega (arith, c .before .before .before .before .before .before .before .before .before .before .before .before .before .before .before .before .before .before .before .before .before .pre .0), both-ready₂ (c .before .before .before .before .before .before .before .before .put-node .ensures) (taken-as (c .before .before .before .before .before .if1 .left) (c .before .before .before .before .taken .ensures)) (as-ready (pair-named (c .before .before .before .before .before .before .before .before .before .before .before .number-of .ensures) (c .before .before .number-of2 .ensures)) ((front-ready (c .before .before .before .before .before .before .before .before .before .before .before .before .before .before .before .before .before .shape-of .ensures) (c .before .before .before .before .before .before .before .before .before .before .before .before .before .first-part .ensures) (c .before .before .before .before .before .before .before .before .before .before .before .before .second-part .ensures) (c .before .before .before .before .before .before .before .before .before .before .before .before .before .before .before .before .before .before .before .before .before .pre .1) (c .before .before .before .before .before .before .before .before .before .before .before .before .before .before .before .mid .given .1)) .0)) (omega arith) ((front-ready (c .before .before .before .before .before .before .before .before .before .before .before .before .before .before .before .before .before .shape-of .ensures) (c .before .before .before .before .before .before .before .before .before .before .before .before .before .first-part .ensures) (c .before .before .before .before .before .before .before .before .before .before .before .before .second-part .ensures) (c .before .before .before .before .before .before .before .before .before .before .before .before .before .before .before .before .before .before .before .before .before .pre .1) (c .before .before .before .before .before .before .before .before .before .before .before .before .before .before .before .mid .given .1)) .1))
+put-front-put-node-requires-2 t c κs = (omega (arith, c .before .before .before .before .before .before .before .before .before .before .before .before .before .before .before .before .before .before .before .before .before .pre .0), both-ready₂ (c .before .before .before .before .before .before .before .before .put-node .ensures .0) (taken-as (c .before .before .before .before .before .if1 .left) (c .before .before .before .before .taken .ensures)) (as-ready (pair-named (c .before .before .before .before .before .before .before .before .before .before .before .number-of .ensures) (c .before .before .number-of2 .ensures)) ((front-ready (c .before .before .before .before .before .before .before .before .before .before .before .before .before .before .before .before .before .shape-of .ensures) (c .before .before .before .before .before .before .before .before .before .before .before .before .before .first-part .ensures) (c .before .before .before .before .before .before .before .before .before .before .before .before .second-part .ensures) (c .before .before .before .before .before .before .before .before .before .before .before .before .before .before .before .before .before .before .before .before .before .pre .1) (c .before .before .before .before .before .before .before .before .before .before .before .before .before .before .before .mid .given .1)) .0)) (omega arith) ((front-ready (c .before .before .before .before .before .before .before .before .before .before .before .before .before .before .before .before .before .shape-of .ensures) (c .before .before .before .before .before .before .before .before .before .before .before .before .before .first-part .ensures) (c .before .before .before .before .before .before .before .before .before .before .before .before .second-part .ensures) (c .before .before .before .before .before .before .before .before .before .before .before .before .before .before .before .before .before .before .before .before .before .pre .1) (c .before .before .before .before .before .before .before .before .before .before .before .before .before .before .before .mid .given .1)) .1))
 
 put-front-returns-3 : (t : ℕ) → put-front-lts.Need-returns-3 (put-front-claims t) (put-front-at t) put-front.Post
-put-front-returns-3 t c = front-both (c .before .before .before .before .before .before .before .before .before .before .before .before .before .before .before .before .before .before .before .before .before .shape-of .ensures) (c .before .before .before .before .before .before .before .before .before .before .before .before .before .before .before .before .before .first-part .ensures) (c .before .before .before .before .before .before .before .before .before .before .before .before .before .before .before .before .second-part .ensures) (as-pair (c .before .before .before .before .before .before .before .before .before .before .before .before .before .before .before .number-of .ensures) (c .before .before .before .before .before .before .number-of2 .ensures) (λ u h. as-taken (taken-refused (c .if2 .taken)) (both-refused₂ (c .before .before .before .before .before .before .before .before .before .before .before .before .put-node .ensures) (taken-as (c .before .before .before .before .before .before .before .before .before .if1 .left) (c .before .before .before .before .before .before .before .before .taken .ensures)) ((c .before .before .before .before .before .before .before .before .before .before .before .before .before .before .before .before .before .before .before .before .before .before .before .before .before .pre .1) .base) (c .before .before .before .put-node2 .ensures) h (taken-refused (c .if2 .taken))))) (c .before .before .before .before .before .before .before .before .before .before .before .before .before .before .before .before .before .before .before .before .before .before .before .before .before .pre .1) (c .before .before .before .before .before .before .before .before .before .before .before .before .before .before .before .before .before .before .before .mid .given .1)
+put-front-returns-3 t c = front-both (c .before .before .before .before .before .before .before .before .before .before .before .before .before .before .before .before .before .before .before .before .before .shape-of .ensures) (c .before .before .before .before .before .before .before .before .before .before .before .before .before .before .before .before .before .first-part .ensures) (c .before .before .before .before .before .before .before .before .before .before .before .before .before .before .before .before .second-part .ensures) (as-pair (c .before .before .before .before .before .before .before .before .before .before .before .before .before .before .before .number-of .ensures) (c .before .before .before .before .before .before .number-of2 .ensures) (λ u h. as-taken (taken-refused (c .if2 .taken)) (both-refused₂ (c .before .before .before .before .before .before .before .before .before .before .before .before .put-node .ensures .0) (taken-as (c .before .before .before .before .before .before .before .before .before .if1 .left) (c .before .before .before .before .before .before .before .before .taken .ensures)) ((c .before .before .before .before .before .before .before .before .before .before .before .before .before .before .before .before .before .before .before .before .before .before .before .before .before .pre .1) .base) (c .before .before .before .put-node2 .ensures .0) h (taken-refused (c .if2 .taken))))) (c .before .before .before .before .before .before .before .before .before .before .before .before .before .before .before .before .before .before .before .before .before .before .before .before .before .pre .1) (c .before .before .before .before .before .before .before .before .before .before .before .before .before .before .before .before .before .before .before .mid .given .1)
 
 put-front-same-length-2 : (t : ℕ) → put-front-lts.Need-same-length-2 (put-front-claims t) (put-front-at t) put-front.Post
 put-front-same-length-2 t c = put-front-returns-3 t c .frame .long
 
 put-front-add-took : (t : ℕ) → put-front-lts.Need-add-took (put-front-claims t) (put-front-at t) put-front.Post
-put-front-add-took t c = record { fits = omega (arith, both-few (c .before .before .before .before .before .before .before .before .before .before .before .before .put-node .ensures) (taken-as (c .before .before .before .before .before .before .before .before .before .if1 .left) (c .before .before .before .before .before .before .before .before .taken .ensures)) (as-ready (pair-named (c .before .before .before .before .before .before .before .before .before .before .before .before .before .before .before .number-of .ensures) refl) ((front-ready (c .before .before .before .before .before .before .before .before .before .before .before .before .before .before .before .before .before .before .before .before .before .shape-of .ensures) (c .before .before .before .before .before .before .before .before .before .before .before .before .before .before .before .before .before .first-part .ensures) (c .before .before .before .before .before .before .before .before .before .before .before .before .before .before .before .before .second-part .ensures) (c .before .before .before .before .before .before .before .before .before .before .before .before .before .before .before .before .before .before .before .before .before .before .before .before .before .pre .1) (c .before .before .before .before .before .before .before .before .before .before .before .before .before .before .before .before .before .before .before .mid .given .1)) .0)), (c .before .before .before .before .before .before .before .before .before .before .before .before .before .before .before .before .before .before .before .before .before .before .before .before .before .pre .1) .few) }
+put-front-add-took t c = record { fits = omega (arith, (c .before .before .before .before .before .before .before .before .before .before .before .before .put-node .ensures .1 .at (taken-as (c .before .before .before .before .before .before .before .before .before .if1 .left) (c .before .before .before .before .before .before .before .before .taken .ensures))), (c .before .before .before .before .before .before .before .before .before .before .before .before .before .before .before .before .before .before .before .before .before .before .before .before .before .pre .1) .few) }
 
 put-front-taken-requires-2 : (t : ℕ) → put-front-lts.Need-taken-requires-2 (put-front-claims t) (put-front-at t) put-front.Post
 put-front-taken-requires-2 t c κs = search needs
 
 put-front-add-took-2 : (t : ℕ) → put-front-lts.Need-add-took-2 (put-front-claims t) (put-front-at t) put-front.Post
-put-front-add-took-2 t c = record { fits = omega (arith, both-sum (c .before .before .before .before .before .before .before .before .before .before .before .before .before .put-node .ensures) (taken-as (c .before .before .before .before .before .before .before .before .before .before .if1 .left) (c .before .before .before .before .before .before .before .before .before .taken .ensures)) ((c .before .before .before .before .before .before .before .before .before .before .before .before .before .before .before .before .before .before .before .before .before .before .before .before .before .before .pre .1) .base) (c .before .before .before .before .put-node2 .ensures) ((front-ready (c .before .before .before .before .before .before .before .before .before .before .before .before .before .before .before .before .before .before .before .before .before .before .shape-of .ensures) (c .before .before .before .before .before .before .before .before .before .before .before .before .before .before .before .before .before .before .first-part .ensures) (c .before .before .before .before .before .before .before .before .before .before .before .before .before .before .before .before .before .second-part .ensures) (c .before .before .before .before .before .before .before .before .before .before .before .before .before .before .before .before .before .before .before .before .before .before .before .before .before .before .pre .1) (c .before .before .before .before .before .before .before .before .before .before .before .before .before .before .before .before .before .before .before .before .mid .given .1)) .1 .shown) (taken-as (c .before .if2 .left) (c .taken2 .ensures)) (as-ready (pair-named (c .before .before .before .before .before .before .before .before .before .before .before .before .before .before .before .before .number-of .ensures) (c .before .before .before .before .before .before .before .number-of2 .ensures)) ((front-ready (c .before .before .before .before .before .before .before .before .before .before .before .before .before .before .before .before .before .before .before .before .before .before .shape-of .ensures) (c .before .before .before .before .before .before .before .before .before .before .before .before .before .before .before .before .before .before .first-part .ensures) (c .before .before .before .before .before .before .before .before .before .before .before .before .before .before .before .before .before .second-part .ensures) (c .before .before .before .before .before .before .before .before .before .before .before .before .before .before .before .before .before .before .before .before .before .before .before .before .before .before .pre .1) (c .before .before .before .before .before .before .before .before .before .before .before .before .before .before .before .before .before .before .before .before .mid .given .1)) .0)), (c .before .before .before .before .before .before .before .before .before .before .before .before .before .before .before .before .before .before .before .before .before .before .before .before .before .before .pre .1) .few) }
+put-front-add-took-2 t c = record { fits = omega (arith, c .before .before .before .before .before .before .before .before .before .before .before .before .before .put-node .ensures .1 .at (taken-as (c .before .before .before .before .before .before .before .before .before .before .if1 .left) (c .before .before .before .before .before .before .before .before .before .taken .ensures)), c .before .before .before .before .put-node2 .ensures .1 .at (taken-as (c .before .if2 .left) (c .taken2 .ensures)), (c .before .before .before .before .before .before .before .before .before .before .before .before .before .before .before .before .before .before .before .before .before .before .before .before .before .before .pre .1) .few) }
 
 put-front-took-requires : (t : ℕ) → put-front-lts.Need-took-requires (put-front-claims t) (put-front-at t) put-front.Post
-put-front-took-requires t c κs = omega (arith, both-sum (c .before .before .before .before .before .before .before .before .before .before .before .before .before .put-node .ensures) (taken-as (c .before .before .before .before .before .before .before .before .before .before .if1 .left) (c .before .before .before .before .before .before .before .before .before .taken .ensures)) ((c .before .before .before .before .before .before .before .before .before .before .before .before .before .before .before .before .before .before .before .before .before .before .before .before .before .before .pre .1) .base) (c .before .before .before .before .put-node2 .ensures) ((front-ready (c .before .before .before .before .before .before .before .before .before .before .before .before .before .before .before .before .before .before .before .before .before .before .shape-of .ensures) (c .before .before .before .before .before .before .before .before .before .before .before .before .before .before .before .before .before .before .first-part .ensures) (c .before .before .before .before .before .before .before .before .before .before .before .before .before .before .before .before .before .second-part .ensures) (c .before .before .before .before .before .before .before .before .before .before .before .before .before .before .before .before .before .before .before .before .before .before .before .before .before .before .pre .1) (c .before .before .before .before .before .before .before .before .before .before .before .before .before .before .before .before .before .before .before .before .mid .given .1)) .1 .shown) (taken-as (c .before .if2 .left) (c .taken2 .ensures)) (as-ready (pair-named (c .before .before .before .before .before .before .before .before .before .before .before .before .before .before .before .before .number-of .ensures) (c .before .before .before .before .before .before .before .number-of2 .ensures)) ((front-ready (c .before .before .before .before .before .before .before .before .before .before .before .before .before .before .before .before .before .before .before .before .before .before .shape-of .ensures) (c .before .before .before .before .before .before .before .before .before .before .before .before .before .before .before .before .before .before .first-part .ensures) (c .before .before .before .before .before .before .before .before .before .before .before .before .before .before .before .before .before .second-part .ensures) (c .before .before .before .before .before .before .before .before .before .before .before .before .before .before .before .before .before .before .before .before .before .before .before .before .before .before .pre .1) (c .before .before .before .before .before .before .before .before .before .before .before .before .before .before .before .before .before .before .before .before .mid .given .1)) .0)), (c .before .before .before .before .before .before .before .before .before .before .before .before .before .before .before .before .before .before .before .before .before .before .before .before .before .before .pre .1) .few)
+put-front-took-requires t c κs = omega (arith, c .before .before .before .before .before .before .before .before .before .before .before .before .before .put-node .ensures .1 .at (taken-as (c .before .before .before .before .before .before .before .before .before .before .if1 .left) (c .before .before .before .before .before .before .before .before .before .taken .ensures)), c .before .before .before .before .put-node2 .ensures .1 .at (taken-as (c .before .if2 .left) (c .taken2 .ensures)), (c .before .before .before .before .before .before .before .before .before .before .before .before .before .before .before .before .before .before .before .before .before .before .before .before .before .before .pre .1) .few)
 
 put-front-returns-4 : (t : ℕ) → put-front-lts.Need-returns-4 (put-front-claims t) (put-front-at t) put-front.Post
-put-front-returns-4 t c = front-both (c .before .before .before .before .before .before .before .before .before .before .before .before .before .before .before .before .before .before .before .before .before .before .before .shape-of .ensures) (c .before .before .before .before .before .before .before .before .before .before .before .before .before .before .before .before .before .before .before .first-part .ensures) (c .before .before .before .before .before .before .before .before .before .before .before .before .before .before .before .before .before .before .second-part .ensures) (as-pair (c .before .before .before .before .before .before .before .before .before .before .before .before .before .before .before .before .before .number-of .ensures) (c .before .before .before .before .before .before .before .before .number-of2 .ensures) (λ u h. as-taken (took-done (c .took .ensures) (omega (arith, c .before .before .before .before .before .before .before .before .before .before .taken .ensures, c .before .before .before .before .before .before .before .before .before .before .before .if1 .left))) (both-done (c .before .before .before .before .before .before .before .before .before .before .before .before .before .before .put-node .ensures) (taken-as (c .before .before .before .before .before .before .before .before .before .before .before .if1 .left) (c .before .before .before .before .before .before .before .before .before .before .taken .ensures)) ((c .before .before .before .before .before .before .before .before .before .before .before .before .before .before .before .before .before .before .before .before .before .before .before .before .before .before .before .pre .1) .base) (c .before .before .before .before .before .put-node2 .ensures) h (taken-as (c .before .before .if2 .left) (c .before .taken2 .ensures))))) (c .before .before .before .before .before .before .before .before .before .before .before .before .before .before .before .before .before .before .before .before .before .before .before .before .before .before .before .pre .1) (c .before .before .before .before .before .before .before .before .before .before .before .before .before .before .before .before .before .before .before .before .before .mid .given .1)
+put-front-returns-4 t c = front-both (c .before .before .before .before .before .before .before .before .before .before .before .before .before .before .before .before .before .before .before .before .before .before .before .shape-of .ensures) (c .before .before .before .before .before .before .before .before .before .before .before .before .before .before .before .before .before .before .before .first-part .ensures) (c .before .before .before .before .before .before .before .before .before .before .before .before .before .before .before .before .before .before .second-part .ensures) (as-pair (c .before .before .before .before .before .before .before .before .before .before .before .before .before .before .before .before .before .number-of .ensures) (c .before .before .before .before .before .before .before .before .number-of2 .ensures) (λ u h. as-taken (took-done (c .took .ensures) (omega (arith, c .before .before .before .before .before .before .before .before .before .before .taken .ensures, c .before .before .before .before .before .before .before .before .before .before .before .if1 .left))) (both-done (c .before .before .before .before .before .before .before .before .before .before .before .before .before .before .put-node .ensures .0) (taken-as (c .before .before .before .before .before .before .before .before .before .before .before .if1 .left) (c .before .before .before .before .before .before .before .before .before .before .taken .ensures)) ((c .before .before .before .before .before .before .before .before .before .before .before .before .before .before .before .before .before .before .before .before .before .before .before .before .before .before .before .pre .1) .base) (c .before .before .before .before .before .put-node2 .ensures .0) h (taken-as (c .before .before .if2 .left) (c .before .taken2 .ensures))))) (c .before .before .before .before .before .before .before .before .before .before .before .before .before .before .before .before .before .before .before .before .before .before .before .before .before .before .before .pre .1) (c .before .before .before .before .before .before .before .before .before .before .before .before .before .before .before .before .before .before .before .before .before .mid .given .1)
 
 put-front-same-length-3 : (t : ℕ) → put-front-lts.Need-same-length-3 (put-front-claims t) (put-front-at t) put-front.Post
 put-front-same-length-3 t c = put-front-returns-4 t c .frame .long
@@ -544,7 +544,7 @@ put-inside-same-length : (t : ℕ) → put-inside-lts.Need-same-length (put-insi
 put-inside-same-length t c = search needs
 
 put-inside-returns : (t : ℕ) → put-inside-lts.Need-returns (put-inside-claims t) (put-inside-at t) put-inside.Post
-put-inside-returns t c = gives-in (two-pushed (c .before .before .before .before .before .before .before .before .before .before .before .before .before .before .before .before .before .before .before .before .args .at .count) _ _ _ _ (c .before .before .before .before .before .before .before .before .before .before .before .before .before .before .before .before .before .before .before .before .args .starts .now) (c .before .before .before .before .before .before .before .before .before .before .before .before .before .before .before .before .before .before .before .before .args .lens .now) (c .before .before .before .before .before .before .before .before .before .before .before .before .add-two .ensures) (c .before .before .before .before .before .before .before .before .before .before .add-two2 .ensures)) (more-owned (c .before .before .before .before .before .before .before .before .before .before .before .before .before .before .before .before .before .before .before .before .args .cells .now) (c .before .before .before .before .before .before .before .before .before .before .before .before .before .before .before .before .before .before .before .before .args .at .count) (c .before .before .before .before .before .before .before .before .before .before .before .before .before .before .before .before .before .before .before .before .args .at .cells) (c .before .before .before .before .before .before .before .before .add-cells .ensures .inside (omega (arith, (c .before .before .before .before .before .before .before .before .before .before .before .before .before .before .before .before .before .before .before .before .pre .1 .1)), omega (arith, (c .before .before .before .before .before .before .before .before .before .before .before .before .before .before .before .before .before .before .before .before .pre .1 .1))))) (c .before .before .put-node .ensures)
+put-inside-returns t c = (gives-in (two-pushed (c .before .before .before .before .before .before .before .before .before .before .before .before .before .before .before .before .before .before .before .before .args .at .count) _ _ _ _ (c .before .before .before .before .before .before .before .before .before .before .before .before .before .before .before .before .before .before .before .before .args .starts .now) (c .before .before .before .before .before .before .before .before .before .before .before .before .before .before .before .before .before .before .before .before .args .lens .now) (c .before .before .before .before .before .before .before .before .before .before .before .before .add-two .ensures) (c .before .before .before .before .before .before .before .before .before .before .add-two2 .ensures)) (more-owned (c .before .before .before .before .before .before .before .before .before .before .before .before .before .before .before .before .before .before .before .before .args .cells .now) (c .before .before .before .before .before .before .before .before .before .before .before .before .before .before .before .before .before .before .before .before .args .at .count) (c .before .before .before .before .before .before .before .before .before .before .before .before .before .before .before .before .before .before .before .before .args .at .cells) (c .before .before .before .before .before .before .before .before .add-cells .ensures .inside (omega (arith, (c .before .before .before .before .before .before .before .before .before .before .before .before .before .before .before .before .before .before .before .before .pre .1 .1)), omega (arith, (c .before .before .before .before .before .before .before .before .before .before .before .before .before .before .before .before .before .before .before .before .pre .1 .1))))) (c .before .before .put-node .ensures .0), c .before .before .put-node .ensures .1)
 
 put-list-case-number-of-requires : (t : ℕ) → put-list-case-lts.Need-number-of-requires (put-list-case-claims t) (put-list-case-at t) put-list-case.Post
 put-list-case-number-of-requires t c κs = search needs
@@ -553,7 +553,7 @@ put-list-case-get-node-requires : (t : ℕ) → put-list-case-lts.Need-get-node-
 put-list-case-get-node-requires t c κs = subject-ready (c .before .before .before .before .before .pre .1) (omega (arith, c .before .number-of .ensures, ((c .before .before .before .before .before .pre .1) .known .1 .subject .inside)))
 
 put-list-case-returns : (t : ℕ) → put-list-case-lts.Need-returns (put-list-case-claims t) (put-list-case-at t) put-list-case.Post
-put-list-case-returns t c = as-taken (taken-refused (c .if1 .taken)) (list-refused ((c .before .before .before .before .before .before .before .before .before .pre .1) .base) (as-node (c .before .before .before .before .before .number-of .ensures) (c .before .before .before .get-node .ensures)) (found-refused (c .if1 .taken)))
+put-list-case-returns t c = as-taken (taken-refused (c .if1 .taken)) (list-refused ((c .before .before .before .before .before .before .before .before .before .pre .1) .base) (as-node (c .before .before .before .before .before .number-of .ensures) (c .before .before .before .get-node .ensures .0)) (found-refused (c .if1 .taken)))
 
 put-list-case-same-length : (t : ℕ) → put-list-case-lts.Need-same-length (put-list-case-claims t) (put-list-case-at t) put-list-case.Post
 put-list-case-same-length t c = put-list-case-returns t c .frame .long
@@ -565,19 +565,19 @@ put-list-case-len-of-requires : (t : ℕ) → put-list-case-lts.Need-len-of-requ
 put-list-case-len-of-requires t c κs = search needs
 
 put-list-case-add-end : (t : ℕ) → put-list-case-lts.Need-add-end (put-list-case-claims t) (put-list-case-at t) put-list-case.Post
-put-list-case-add-end t c = let z = (sizes (subject-ready (c .before .before .before .before .before .before .before .before .before .before .before .pre .1) ((c .before .before .before .before .before .before .before .before .before .before .before .pre .1) .known .1 .subject .inside)) (as-node (c .before .before .before .before .before .before .before .number-of .ensures) (c .before .before .before .before .before .get-node .ensures)) (found-as (c .before .before .if1 .left) (c .before .start-of .ensures) (c .len-of .ensures) refl)) in record { fits = omega (arith, (c .before .before .before .before .before .before .before .before .before .before .before .pre .1) .room, z .short, z .low) }
+put-list-case-add-end t c = let z = (c .before .before .before .before .before .get-node .ensures .1 .at (found-as (c .before .before .if1 .left) (c .before .start-of .ensures) (c .len-of .ensures) refl)) in record { fits = omega (arith, (c .before .before .before .before .before .before .before .before .before .before .before .pre .1) .room, z .short, z .low) }
 
 put-list-case-steps-of-requires : (t : ℕ) → put-list-case-lts.Need-steps-of-requires (put-list-case-claims t) (put-list-case-at t) put-list-case.Post
 put-list-case-steps-of-requires t c κs = search needs
 
 put-list-case-add-s : (t : ℕ) → put-list-case-lts.Need-add-s (put-list-case-claims t) (put-list-case-at t) put-list-case.Post
-put-list-case-add-s t c = record { fits = omega (arith, (sizes (subject-ready (c .before .before .before .before .before .before .before .before .before .before .before .before .pre .1) ((c .before .before .before .before .before .before .before .before .before .before .before .before .pre .1) .known .1 .subject .inside)) (as-node (c .before .before .before .before .before .before .before .before .number-of .ensures) (c .before .before .before .before .before .before .get-node .ensures)) (found-as (c .before .before .before .if1 .left) (c .before .before .start-of .ensures) (c .before .len-of .ensures) (c .steps-of .ensures))) .steps, (c .before .before .before .before .before .before .before .before .before .before .before .before .pre .1) .few) }
+put-list-case-add-s t c = record { fits = omega (arith, (c .before .before .before .before .before .before .get-node .ensures .1 .at (found-as (c .before .before .before .if1 .left) (c .before .before .start-of .ensures) (c .before .len-of .ensures) (c .steps-of .ensures))) .steps, (c .before .before .before .before .before .before .before .before .before .before .before .before .pre .1) .few) }
 
 put-list-case-sub-to : (t : ℕ) → put-list-case-lts.Need-sub-to (put-list-case-claims t) (put-list-case-at t) put-list-case.Post
-put-list-case-sub-to t c = omega (arith, (sizes (subject-ready (c .before .before .before .before .before .before .before .before .before .before .before .before .before .pre .1) ((c .before .before .before .before .before .before .before .before .before .before .before .before .before .pre .1) .known .1 .subject .inside)) (as-node (c .before .before .before .before .before .before .before .before .before .number-of .ensures) (c .before .before .before .before .before .before .before .get-node .ensures)) (found-as (c .before .before .before .before .if1 .left) (c .before .before .before .start-of .ensures) (c .before .before .len-of .ensures) (c .before .steps-of .ensures))) .steps)
+put-list-case-sub-to t c = omega (arith, (c .before .before .before .before .before .before .before .get-node .ensures .1 .at (found-as (c .before .before .before .before .if1 .left) (c .before .before .before .start-of .ensures) (c .before .before .len-of .ensures) (c .before .steps-of .ensures))) .steps)
 
 put-list-case-above-requires : (t : ℕ) → put-list-case-lts.Need-above-requires (put-list-case-claims t) (put-list-case-at t) put-list-case.Post
-put-list-case-above-requires t c κs = let z = (sizes (subject-ready (c .before .before .before .before .before .before .before .before .before .before .before .before .before .pre .1) ((c .before .before .before .before .before .before .before .before .before .before .before .before .before .pre .1) .known .1 .subject .inside)) (as-node (c .before .before .before .before .before .before .before .before .before .number-of .ensures) (c .before .before .before .before .before .before .before .get-node .ensures)) (found-as (c .before .before .before .before .if1 .left) (c .before .before .before .start-of .ensures) (c .before .before .len-of .ensures) (c .before .steps-of .ensures))) in (z .low, omega (arith, (c .before .before .before .before .before .before .before .before .before .before .before .before .before .pre .1) .room, z .short))
+put-list-case-above-requires t c κs = let z = (c .before .before .before .before .before .before .before .get-node .ensures .1 .at (found-as (c .before .before .before .before .if1 .left) (c .before .before .before .start-of .ensures) (c .before .before .len-of .ensures) (c .before .steps-of .ensures))) in (z .low, omega (arith, (c .before .before .before .before .before .before .before .before .before .before .before .before .before .pre .1) .room, z .short))
 
 put-list-case-byte-of-requires : (t : ℕ) → put-list-case-lts.Need-byte-of-requires (put-list-case-claims t) (put-list-case-at t) put-list-case.Post
 put-list-case-byte-of-requires t c κs = search needs
@@ -592,7 +592,7 @@ put-list-case-part-list-branch-start : (t : ℕ) → put-list-case-lts.Need-part
 put-list-case-part-list-branch-start t c = search needs
 
 put-list-case-part-list-branch-end : (t : ℕ) → put-list-case-lts.Need-part-list-branch-end (put-list-case-claims t) (put-list-case-at t) put-list-case.Post
-put-list-case-part-list-branch-end t c = let z = (sizes (subject-ready (c .before .before .before .before .before .before .before .before .before .before .before .before .before .before .before .before .before .pre .1) ((c .before .before .before .before .before .before .before .before .before .before .before .before .before .before .before .before .before .pre .1) .known .1 .subject .inside)) (as-node (c .before .before .before .before .before .before .before .before .before .before .before .before .before .number-of .ensures) (c .before .before .before .before .before .before .before .before .before .before .before .get-node .ensures)) (found-as (c .before .before .before .before .before .before .before .before .if1 .left) (c .before .before .before .before .before .before .before .start-of .ensures) (c .before .before .before .before .before .before .len-of .ensures) (c .before .before .before .before .before .steps-of .ensures))) in omega (arith, (c .before .before .before .before .before .before .before .before .before .before .before .before .before .before .before .before .before .pre .1) .room, (c .before .before .before .before .before .before .before .before .before .before .before .before .before .before .before .before .before .pre .1) .long, z .short, z .low, c .before .before .before .before .before .before .before .before .before .before .before .get-node .ensures .kept .long)
+put-list-case-part-list-branch-end t c = let z = (c .before .before .before .before .before .before .before .before .before .before .before .get-node .ensures .1 .at (found-as (c .before .before .before .before .before .before .before .before .if1 .left) (c .before .before .before .before .before .before .before .start-of .ensures) (c .before .before .before .before .before .before .len-of .ensures) (c .before .before .before .before .before .steps-of .ensures))) in omega (arith, (c .before .before .before .before .before .before .before .before .before .before .before .before .before .before .before .before .before .pre .1) .room, (c .before .before .before .before .before .before .before .before .before .before .before .before .before .before .before .before .before .pre .1) .long, z .short, z .low, c .before .before .before .before .before .before .before .before .before .before .before .get-node .ensures .0 .kept .long)
 
 put-list-case-list-branch-requires : (t : ℕ) → put-list-case-lts.Need-list-branch-requires (put-list-case-claims t) (put-list-case-at t) put-list-case.Post
 put-list-case-list-branch-requires t c κs = search needs
@@ -607,7 +607,7 @@ put-list-case-slice-aggregate-put-both : (t : ℕ) → put-list-case-lts.Need-sl
 put-list-case-slice-aggregate-put-both t c = search needs
 
 put-list-case-put-both-requires : (t : ℕ) → put-list-case-lts.Need-put-both-requires (put-list-case-claims t) (put-list-case-at t) put-list-case.Post
-put-list-case-put-both-requires t c κs = (omega (arith, c .before .before .before .before .before .before .before .before .before .before .before .before .before .before .before .before .before .before .before .before .before .before .before .before .before .pre .0), (after-subject ((c .before .before .before .before .before .before .before .before .before .before .before .before .before .before .before .before .before .before .before .before .before .before .before .before .before .pre .1) .base) (as-node (c .before .before .before .before .before .before .before .before .before .before .before .before .before .before .before .before .before .before .before .before .before .number-of .ensures) (c .before .before .before .before .before .before .before .before .before .before .before .before .before .before .before .before .before .before .before .get-node .ensures)) (found-as (c .before .before .before .before .before .before .before .before .before .before .before .before .before .before .before .before .if1 .left) (c .before .before .before .before .before .before .before .before .before .before .before .before .before .before .before .start-of .ensures) (c .before .before .before .before .before .before .before .before .before .before .before .before .before .before .len-of .ensures) (c .before .before .before .before .before .before .before .before .before .before .before .before .before .steps-of .ensures)) (c .before .before .before .before .before .before .before .before .before .before .before .above .ensures) (c .before .before .before .before .before .before .before .before .before .before .before .before .before .before .before .before .before .before .before .before .before .before .before .before .before .pre .1) (omega (arith, c .before .before .before .number-of2 .ensures, (c .before .before .before .before .before .before .before .before .before .before .before .before .before .before .before .before .before .before .before .before .before .before .before .before .before .pre .1) .known .1 .empty .inside), (omega (arith, c .before .before .before .before .before .before .before .before .before .before .before .before .before .before .before .before .before .before .before .before .before .number-of .ensures, ((c .before .before .before .before .before .before .before .before .before .before .before .before .before .before .before .before .before .before .before .before .before .before .before .before .before .pre .1) .known .1 .subject .inside)))) (omega (arith, (sizes (subject-ready (c .before .before .before .before .before .before .before .before .before .before .before .before .before .before .before .before .before .before .before .before .before .before .before .before .before .pre .1) ((c .before .before .before .before .before .before .before .before .before .before .before .before .before .before .before .before .before .before .before .before .before .before .before .before .before .pre .1) .known .1 .subject .inside)) (as-node (c .before .before .before .before .before .before .before .before .before .before .before .before .before .before .before .before .before .before .before .before .before .number-of .ensures) (c .before .before .before .before .before .before .before .before .before .before .before .before .before .before .before .before .before .before .before .get-node .ensures)) (found-as (c .before .before .before .before .before .before .before .before .before .before .before .before .before .before .before .before .if1 .left) (c .before .before .before .before .before .before .before .before .before .before .before .before .before .before .before .start-of .ensures) (c .before .before .before .before .before .before .before .before .before .before .before .before .before .before .len-of .ensures) (c .before .before .before .before .before .before .before .before .before .before .before .before .before .steps-of .ensures))) .steps)), view-nil))
+put-list-case-put-both-requires t c κs = (omega (arith, c .before .before .before .before .before .before .before .before .before .before .before .before .before .before .before .before .before .before .before .before .before .before .before .before .before .pre .0), (after-subject ((c .before .before .before .before .before .before .before .before .before .before .before .before .before .before .before .before .before .before .before .before .before .before .before .before .before .pre .1) .base) (as-node (c .before .before .before .before .before .before .before .before .before .before .before .before .before .before .before .before .before .before .before .before .before .number-of .ensures) (c .before .before .before .before .before .before .before .before .before .before .before .before .before .before .before .before .before .before .before .get-node .ensures .0)) (found-as (c .before .before .before .before .before .before .before .before .before .before .before .before .before .before .before .before .if1 .left) (c .before .before .before .before .before .before .before .before .before .before .before .before .before .before .before .start-of .ensures) (c .before .before .before .before .before .before .before .before .before .before .before .before .before .before .len-of .ensures) (c .before .before .before .before .before .before .before .before .before .before .before .before .before .steps-of .ensures)) (c .before .before .before .before .before .before .before .before .before .before .before .above .ensures) (c .before .before .before .before .before .before .before .before .before .before .before .before .before .before .before .before .before .before .before .before .before .before .before .before .before .pre .1) (omega (arith, c .before .before .before .number-of2 .ensures, (c .before .before .before .before .before .before .before .before .before .before .before .before .before .before .before .before .before .before .before .before .before .before .before .before .before .pre .1) .known .1 .empty .inside), (omega (arith, c .before .before .before .before .before .before .before .before .before .before .before .before .before .before .before .before .before .before .before .before .before .number-of .ensures, ((c .before .before .before .before .before .before .before .before .before .before .before .before .before .before .before .before .before .before .before .before .before .before .before .before .before .pre .1) .known .1 .subject .inside)))) (omega (arith, (c .before .before .before .before .before .before .before .before .before .before .before .before .before .before .before .before .before .before .before .get-node .ensures .1 .at (found-as (c .before .before .before .before .before .before .before .before .before .before .before .before .before .before .before .before .if1 .left) (c .before .before .before .before .before .before .before .before .before .before .before .before .before .before .before .start-of .ensures) (c .before .before .before .before .before .before .before .before .before .before .before .before .before .before .len-of .ensures) (c .before .before .before .before .before .before .before .before .before .before .before .before .before .steps-of .ensures))) .steps)), view-nil))
 
 put-list-case-enum-known-mid : (t : ℕ) → put-list-case-lts.Need-enum-known-mid (put-list-case-claims t) (put-list-case-at t) put-list-case.Post
 put-list-case-enum-known-mid t c = search needs
@@ -616,46 +616,46 @@ put-list-case-number-of-requires-3 : (t : ℕ) → put-list-case-lts.Need-number
 put-list-case-number-of-requires-3 t c κs = search needs
 
 put-list-case-add-t41 : (t : ℕ) → put-list-case-lts.Need-add-t41 (put-list-case-claims t) (put-list-case-at t) put-list-case.Post
-put-list-case-add-t41 t c = record { fits = omega (arith, (c .before .before .before .before .before .before .before .before .before .before .before .before .before .before .before .before .before .before .before .before .before .before .before .pre .1) .room, (sizes (subject-ready (c .before .before .before .before .before .before .before .before .before .before .before .before .before .before .before .before .before .before .before .before .before .before .before .pre .1) ((c .before .before .before .before .before .before .before .before .before .before .before .before .before .before .before .before .before .before .before .before .before .before .before .pre .1) .known .1 .subject .inside)) (as-node (c .before .before .before .before .before .before .before .before .before .before .before .before .before .before .before .before .before .before .before .number-of .ensures) (c .before .before .before .before .before .before .before .before .before .before .before .before .before .before .before .before .before .get-node .ensures)) (found-as (c .before .before .before .before .before .before .before .before .before .before .before .before .before .before .if1 .left) (c .before .before .before .before .before .before .before .before .before .before .before .before .before .start-of .ensures) (c .before .before .before .before .before .before .before .before .before .before .before .before .len-of .ensures) (c .before .before .before .before .before .before .before .before .before .before .before .steps-of .ensures))) .low) }
+put-list-case-add-t41 t c = record { fits = omega (arith, (c .before .before .before .before .before .before .before .before .before .before .before .before .before .before .before .before .before .before .before .before .before .before .before .pre .1) .room, (c .before .before .before .before .before .before .before .before .before .before .before .before .before .before .before .before .before .get-node .ensures .1 .at (found-as (c .before .before .before .before .before .before .before .before .before .before .before .before .before .before .if1 .left) (c .before .before .before .before .before .before .before .before .before .before .before .before .before .start-of .ensures) (c .before .before .before .before .before .before .before .before .before .before .before .before .len-of .ensures) (c .before .before .before .before .before .before .before .before .before .before .before .steps-of .ensures))) .low) }
 
 put-list-case-sub-t42 : (t : ℕ) → put-list-case-lts.Need-sub-t42 (put-list-case-claims t) (put-list-case-at t) put-list-case.Post
-put-list-case-sub-t42 t c = omega (arith, front-inside ((c .before .before .before .before .before .before .before .before .before .before .before .before .before .before .before .before .before .before .before .before .before .before .before .pre .1) .base) (as-node (c .before .before .before .before .before .before .before .before .before .before .before .before .before .before .before .before .before .before .before .number-of .ensures) (c .before .before .before .before .before .before .before .before .before .before .before .before .before .before .before .before .before .get-node .ensures)) (found-as (c .before .before .before .before .before .before .before .before .before .before .before .before .before .before .if1 .left) (c .before .before .before .before .before .before .before .before .before .before .before .before .before .start-of .ensures) (c .before .before .before .before .before .before .before .before .before .before .before .before .len-of .ensures) (c .before .before .before .before .before .before .before .before .before .before .before .steps-of .ensures)) (c .before .before .before .before .before .before .before .before .before .above .ensures) refl (c .before .before .before .before .before .before .before .before .before .before .before .before .before .before .before .before .before .before .before .before .before .before .before .pre .1) (front-told (list-says _ _ _ (rw (c .before .before .before .before .before .before .before .before .byte-of .ensures, c .before .before .before .before .before .before .before .byte-of2 .ensures) at (c .before .before .before .before .list-branch .ensures)) (c .before .before .mid .given .1))))
+put-list-case-sub-t42 t c = omega (arith, front-inside ((c .before .before .before .before .before .before .before .before .before .before .before .before .before .before .before .before .before .before .before .before .before .before .before .pre .1) .base) (as-node (c .before .before .before .before .before .before .before .before .before .before .before .before .before .before .before .before .before .before .before .number-of .ensures) (c .before .before .before .before .before .before .before .before .before .before .before .before .before .before .before .before .before .get-node .ensures .0)) (found-as (c .before .before .before .before .before .before .before .before .before .before .before .before .before .before .if1 .left) (c .before .before .before .before .before .before .before .before .before .before .before .before .before .start-of .ensures) (c .before .before .before .before .before .before .before .before .before .before .before .before .len-of .ensures) (c .before .before .before .before .before .before .before .before .before .before .before .steps-of .ensures)) (c .before .before .before .before .before .before .before .before .before .above .ensures) refl (c .before .before .before .before .before .before .before .before .before .before .before .before .before .before .before .before .before .before .before .before .before .before .before .pre .1) (front-told (list-says _ _ _ (rw (c .before .before .before .before .before .before .before .before .byte-of .ensures, c .before .before .before .before .before .before .before .byte-of2 .ensures) at (c .before .before .before .before .list-branch .ensures)) (c .before .before .mid .given .1))))
 
 put-list-case-sub-t43 : (t : ℕ) → put-list-case-lts.Need-sub-t43 (put-list-case-claims t) (put-list-case-at t) put-list-case.Post
-put-list-case-sub-t43 t c = omega (arith, front-inside ((c .before .before .before .before .before .before .before .before .before .before .before .before .before .before .before .before .before .before .before .before .before .before .before .pre .1) .base) (as-node (c .before .before .before .before .before .before .before .before .before .before .before .before .before .before .before .before .before .before .before .number-of .ensures) (c .before .before .before .before .before .before .before .before .before .before .before .before .before .before .before .before .before .get-node .ensures)) (found-as (c .before .before .before .before .before .before .before .before .before .before .before .before .before .before .if1 .left) (c .before .before .before .before .before .before .before .before .before .before .before .before .before .start-of .ensures) (c .before .before .before .before .before .before .before .before .before .before .before .before .len-of .ensures) (c .before .before .before .before .before .before .before .before .before .before .before .steps-of .ensures)) (c .before .before .before .before .before .before .before .before .before .above .ensures) refl (c .before .before .before .before .before .before .before .before .before .before .before .before .before .before .before .before .before .before .before .before .before .before .before .pre .1) (front-told (list-says _ _ _ (rw (c .before .before .before .before .before .before .before .before .byte-of .ensures, c .before .before .before .before .before .before .before .byte-of2 .ensures) at (c .before .before .before .before .list-branch .ensures)) (c .before .before .mid .given .1))))
+put-list-case-sub-t43 t c = omega (arith, front-inside ((c .before .before .before .before .before .before .before .before .before .before .before .before .before .before .before .before .before .before .before .before .before .before .before .pre .1) .base) (as-node (c .before .before .before .before .before .before .before .before .before .before .before .before .before .before .before .before .before .before .before .number-of .ensures) (c .before .before .before .before .before .before .before .before .before .before .before .before .before .before .before .before .before .get-node .ensures .0)) (found-as (c .before .before .before .before .before .before .before .before .before .before .before .before .before .before .if1 .left) (c .before .before .before .before .before .before .before .before .before .before .before .before .before .start-of .ensures) (c .before .before .before .before .before .before .before .before .before .before .before .before .len-of .ensures) (c .before .before .before .before .before .before .before .before .before .before .before .steps-of .ensures)) (c .before .before .before .before .before .before .before .before .before .above .ensures) refl (c .before .before .before .before .before .before .before .before .before .before .before .before .before .before .before .before .before .before .before .before .before .before .before .pre .1) (front-told (list-says _ _ _ (rw (c .before .before .before .before .before .before .before .before .byte-of .ensures, c .before .before .before .before .before .before .before .byte-of2 .ensures) at (c .before .before .before .before .list-branch .ensures)) (c .before .before .mid .given .1))))
 
 put-list-case-put-under-requires : (t : ℕ) → put-list-case-lts.Need-put-under-requires (put-list-case-claims t) (put-list-case-at t) put-list-case.Post
-put-list-case-put-under-requires t c κs = (omega (arith, c .before .before .before .before .before .before .before .before .before .before .before .before .before .before .before .before .before .before .before .before .before .before .before .before .before .pre .0), (after-subject ((c .before .before .before .before .before .before .before .before .before .before .before .before .before .before .before .before .before .before .before .before .before .before .before .before .before .pre .1) .base) (as-node (c .before .before .before .before .before .before .before .before .before .before .before .before .before .before .before .before .before .before .before .before .before .number-of .ensures) (c .before .before .before .before .before .before .before .before .before .before .before .before .before .before .before .before .before .before .before .get-node .ensures)) (found-as (c .before .before .before .before .before .before .before .before .before .before .before .before .before .before .before .before .if1 .left) (c .before .before .before .before .before .before .before .before .before .before .before .before .before .before .before .start-of .ensures) (c .before .before .before .before .before .before .before .before .before .before .before .before .before .before .len-of .ensures) (c .before .before .before .before .before .before .before .before .before .before .before .before .before .steps-of .ensures)) (c .before .before .before .before .before .before .before .before .before .before .before .above .ensures) (c .before .before .before .before .before .before .before .before .before .before .before .before .before .before .before .before .before .before .before .before .before .before .before .before .before .pre .1) ((omega (arith, c .before .before .number-of3 .ensures, (c .before .before .before .before .before .before .before .before .before .before .before .before .before .before .before .before .before .before .before .before .before .before .before .before .before .pre .1) .known .1 .front .inside), (omega (arith, c .before .before .before .before .before .before .before .before .before .before .before .before .before .before .before .before .before .before .before .before .before .number-of .ensures, ((c .before .before .before .before .before .before .before .before .before .before .before .before .before .before .before .before .before .before .before .before .before .before .before .before .before .pre .1) .known .1 .subject .inside)))), aList refl) (omega (arith, (sizes (subject-ready (c .before .before .before .before .before .before .before .before .before .before .before .before .before .before .before .before .before .before .before .before .before .before .before .before .before .pre .1) ((c .before .before .before .before .before .before .before .before .before .before .before .before .before .before .before .before .before .before .before .before .before .before .before .before .before .pre .1) .known .1 .subject .inside)) (as-node (c .before .before .before .before .before .before .before .before .before .before .before .before .before .before .before .before .before .before .before .before .before .number-of .ensures) (c .before .before .before .before .before .before .before .before .before .before .before .before .before .before .before .before .before .before .before .get-node .ensures)) (found-as (c .before .before .before .before .before .before .before .before .before .before .before .before .before .before .before .before .if1 .left) (c .before .before .before .before .before .before .before .before .before .before .before .before .before .before .before .start-of .ensures) (c .before .before .before .before .before .before .before .before .before .before .before .before .before .before .len-of .ensures) (c .before .before .before .before .before .before .before .before .before .before .before .before .before .steps-of .ensures))) .steps)), (inner ((c .before .before .before .before .before .before .before .before .before .before .before .before .before .before .before .before .before .before .before .before .before .before .before .before .before .pre .1) .base) (as-node (c .before .before .before .before .before .before .before .before .before .before .before .before .before .before .before .before .before .before .before .before .before .number-of .ensures) (c .before .before .before .before .before .before .before .before .before .before .before .before .before .before .before .before .before .before .before .get-node .ensures)) (found-as (c .before .before .before .before .before .before .before .before .before .before .before .before .before .before .before .before .if1 .left) (c .before .before .before .before .before .before .before .before .before .before .before .before .before .before .before .start-of .ensures) (c .before .before .before .before .before .before .before .before .before .before .before .before .before .before .len-of .ensures) (c .before .before .before .before .before .before .before .before .before .before .before .before .before .steps-of .ensures)) (c .before .before .before .before .before .before .before .before .before .before .before .above .ensures) (c .before .before .before .before .before .before .before .before .before .before .before .before .before .before .before .before .before .before .before .before .before .before .before .before .before .pre .1), front-spans ((c .before .before .before .before .before .before .before .before .before .before .before .before .before .before .before .before .before .before .before .before .before .before .before .before .before .pre .1) .base) (as-node (c .before .before .before .before .before .before .before .before .before .before .before .before .before .before .before .before .before .before .before .before .before .number-of .ensures) (c .before .before .before .before .before .before .before .before .before .before .before .before .before .before .before .before .before .before .before .get-node .ensures)) (found-as (c .before .before .before .before .before .before .before .before .before .before .before .before .before .before .before .before .if1 .left) (c .before .before .before .before .before .before .before .before .before .before .before .before .before .before .before .start-of .ensures) (c .before .before .before .before .before .before .before .before .before .before .before .before .before .before .len-of .ensures) (c .before .before .before .before .before .before .before .before .before .before .before .before .before .steps-of .ensures)) (c .before .before .before .before .before .before .before .before .before .before .before .above .ensures) refl (c .before .before .before .before .before .before .before .before .before .before .before .before .before .before .before .before .before .before .before .before .before .before .before .before .before .pre .1) (front-told (list-says _ _ _ (rw (c .before .before .before .before .before .before .before .before .before .before .byte-of .ensures, c .before .before .before .before .before .before .before .before .before .byte-of2 .ensures) at (c .before .before .before .before .before .before .list-branch .ensures)) (c .before .before .before .before .mid .given .1))))))
+put-list-case-put-under-requires t c κs = (omega (arith, c .before .before .before .before .before .before .before .before .before .before .before .before .before .before .before .before .before .before .before .before .before .before .before .before .before .pre .0), (after-subject ((c .before .before .before .before .before .before .before .before .before .before .before .before .before .before .before .before .before .before .before .before .before .before .before .before .before .pre .1) .base) (as-node (c .before .before .before .before .before .before .before .before .before .before .before .before .before .before .before .before .before .before .before .before .before .number-of .ensures) (c .before .before .before .before .before .before .before .before .before .before .before .before .before .before .before .before .before .before .before .get-node .ensures .0)) (found-as (c .before .before .before .before .before .before .before .before .before .before .before .before .before .before .before .before .if1 .left) (c .before .before .before .before .before .before .before .before .before .before .before .before .before .before .before .start-of .ensures) (c .before .before .before .before .before .before .before .before .before .before .before .before .before .before .len-of .ensures) (c .before .before .before .before .before .before .before .before .before .before .before .before .before .steps-of .ensures)) (c .before .before .before .before .before .before .before .before .before .before .before .above .ensures) (c .before .before .before .before .before .before .before .before .before .before .before .before .before .before .before .before .before .before .before .before .before .before .before .before .before .pre .1) ((omega (arith, c .before .before .number-of3 .ensures, (c .before .before .before .before .before .before .before .before .before .before .before .before .before .before .before .before .before .before .before .before .before .before .before .before .before .pre .1) .known .1 .front .inside), (omega (arith, c .before .before .before .before .before .before .before .before .before .before .before .before .before .before .before .before .before .before .before .before .before .number-of .ensures, ((c .before .before .before .before .before .before .before .before .before .before .before .before .before .before .before .before .before .before .before .before .before .before .before .before .before .pre .1) .known .1 .subject .inside)))), aList refl) (omega (arith, (c .before .before .before .before .before .before .before .before .before .before .before .before .before .before .before .before .before .before .before .get-node .ensures .1 .at (found-as (c .before .before .before .before .before .before .before .before .before .before .before .before .before .before .before .before .if1 .left) (c .before .before .before .before .before .before .before .before .before .before .before .before .before .before .before .start-of .ensures) (c .before .before .before .before .before .before .before .before .before .before .before .before .before .before .len-of .ensures) (c .before .before .before .before .before .before .before .before .before .before .before .before .before .steps-of .ensures))) .steps)), (inner ((c .before .before .before .before .before .before .before .before .before .before .before .before .before .before .before .before .before .before .before .before .before .before .before .before .before .pre .1) .base) (as-node (c .before .before .before .before .before .before .before .before .before .before .before .before .before .before .before .before .before .before .before .before .before .number-of .ensures) (c .before .before .before .before .before .before .before .before .before .before .before .before .before .before .before .before .before .before .before .get-node .ensures .0)) (found-as (c .before .before .before .before .before .before .before .before .before .before .before .before .before .before .before .before .if1 .left) (c .before .before .before .before .before .before .before .before .before .before .before .before .before .before .before .start-of .ensures) (c .before .before .before .before .before .before .before .before .before .before .before .before .before .before .len-of .ensures) (c .before .before .before .before .before .before .before .before .before .before .before .before .before .steps-of .ensures)) (c .before .before .before .before .before .before .before .before .before .before .before .above .ensures) (c .before .before .before .before .before .before .before .before .before .before .before .before .before .before .before .before .before .before .before .before .before .before .before .before .before .pre .1), front-spans ((c .before .before .before .before .before .before .before .before .before .before .before .before .before .before .before .before .before .before .before .before .before .before .before .before .before .pre .1) .base) (as-node (c .before .before .before .before .before .before .before .before .before .before .before .before .before .before .before .before .before .before .before .before .before .number-of .ensures) (c .before .before .before .before .before .before .before .before .before .before .before .before .before .before .before .before .before .before .before .get-node .ensures .0)) (found-as (c .before .before .before .before .before .before .before .before .before .before .before .before .before .before .before .before .if1 .left) (c .before .before .before .before .before .before .before .before .before .before .before .before .before .before .before .start-of .ensures) (c .before .before .before .before .before .before .before .before .before .before .before .before .before .before .len-of .ensures) (c .before .before .before .before .before .before .before .before .before .before .before .before .before .steps-of .ensures)) (c .before .before .before .before .before .before .before .before .before .before .before .above .ensures) refl (c .before .before .before .before .before .before .before .before .before .before .before .before .before .before .before .before .before .before .before .before .before .before .before .before .before .pre .1) (front-told (list-says _ _ _ (rw (c .before .before .before .before .before .before .before .before .before .before .byte-of .ensures, c .before .before .before .before .before .before .before .before .before .byte-of2 .ensures) at (c .before .before .before .before .before .before .list-branch .ensures)) (c .before .before .before .before .mid .given .1))))))
 
 put-list-case-enum-told-2 : (t : ℕ) → put-list-case-lts.Need-enum-told-2 (put-list-case-claims t) (put-list-case-at t) put-list-case.Post
 put-list-case-enum-told-2 t c = search needs
 
 put-list-case-put-switch-requires : (t : ℕ) → put-list-case-lts.Need-put-switch-requires (put-list-case-claims t) (put-list-case-at t) put-list-case.Post
-put-list-case-put-switch-requires t c κs = (omega (arith, c .before .before .before .before .before .before .before .before .before .before .before .before .before .before .before .before .before .before .before .before .before .before .before .pre .0), (after-subject ((c .before .before .before .before .before .before .before .before .before .before .before .before .before .before .before .before .before .before .before .before .before .before .before .pre .1) .base) (as-node (c .before .before .before .before .before .before .before .before .before .before .before .before .before .before .before .before .before .before .before .number-of .ensures) (c .before .before .before .before .before .before .before .before .before .before .before .before .before .before .before .before .before .get-node .ensures)) (found-as (c .before .before .before .before .before .before .before .before .before .before .before .before .before .before .if1 .left) (c .before .before .before .before .before .before .before .before .before .before .before .before .before .start-of .ensures) (c .before .before .before .before .before .before .before .before .before .before .before .before .len-of .ensures) (c .before .before .before .before .before .before .before .before .before .before .before .steps-of .ensures)) (c .before .before .before .before .before .before .before .before .before .above .ensures) (c .before .before .before .before .before .before .before .before .before .before .before .before .before .before .before .before .before .before .before .before .before .before .before .pre .1) (((c .before .before .before .before .before .before .before .before .before .before .before .before .before .before .before .before .before .before .before .before .before .before .before .pre .1) .known .1 .front .inside, ((c .before .before .before .before .before .before .before .before .before .before .before .before .before .before .before .before .before .before .before .before .before .before .before .pre .1) .known .1 .subject .inside)), ((c .before .before .before .before .before .before .before .before .before .before .before .before .before .before .before .before .before .before .before .before .before .before .before .pre .1) .known .1 .first .inside, (c .before .before .before .before .before .before .before .before .before .before .before .before .before .before .before .before .before .before .before .before .before .before .before .pre .1) .known .1 .rest .inside)) (omega (arith, (sizes (subject-ready (c .before .before .before .before .before .before .before .before .before .before .before .before .before .before .before .before .before .before .before .before .before .before .before .pre .1) ((c .before .before .before .before .before .before .before .before .before .before .before .before .before .before .before .before .before .before .before .before .before .before .before .pre .1) .known .1 .subject .inside)) (as-node (c .before .before .before .before .before .before .before .before .before .before .before .before .before .before .before .before .before .before .before .number-of .ensures) (c .before .before .before .before .before .before .before .before .before .before .before .before .before .before .before .before .before .get-node .ensures)) (found-as (c .before .before .before .before .before .before .before .before .before .before .before .before .before .before .if1 .left) (c .before .before .before .before .before .before .before .before .before .before .before .before .before .start-of .ensures) (c .before .before .before .before .before .before .before .before .before .before .before .before .len-of .ensures) (c .before .before .before .before .before .before .before .before .before .before .before .steps-of .ensures))) .steps)), (inner ((c .before .before .before .before .before .before .before .before .before .before .before .before .before .before .before .before .before .before .before .before .before .before .before .pre .1) .base) (as-node (c .before .before .before .before .before .before .before .before .before .before .before .before .before .before .before .before .before .before .before .number-of .ensures) (c .before .before .before .before .before .before .before .before .before .before .before .before .before .before .before .before .before .get-node .ensures)) (found-as (c .before .before .before .before .before .before .before .before .before .before .before .before .before .before .if1 .left) (c .before .before .before .before .before .before .before .before .before .before .before .before .before .start-of .ensures) (c .before .before .before .before .before .before .before .before .before .before .before .before .len-of .ensures) (c .before .before .before .before .before .before .before .before .before .before .before .steps-of .ensures)) (c .before .before .before .before .before .before .before .before .before .above .ensures) (c .before .before .before .before .before .before .before .before .before .before .before .before .before .before .before .before .before .before .before .before .before .before .before .pre .1), switch-room ((c .before .before .before .before .before .before .before .before .before .before .before .before .before .before .before .before .before .before .before .before .before .before .before .pre .1) .base) (as-node (c .before .before .before .before .before .before .before .before .before .before .before .before .before .before .before .before .before .before .before .number-of .ensures) (c .before .before .before .before .before .before .before .before .before .before .before .before .before .before .before .before .before .get-node .ensures)) (found-as (c .before .before .before .before .before .before .before .before .before .before .before .before .before .before .if1 .left) (c .before .before .before .before .before .before .before .before .before .before .before .before .before .start-of .ensures) (c .before .before .before .before .before .before .before .before .before .before .before .before .len-of .ensures) (c .before .before .before .before .before .before .before .before .before .before .before .steps-of .ensures)) (c .before .before .before .before .before .before .before .before .before .above .ensures) refl (c .before .before .before .before .before .before .before .before .before .before .before .before .before .before .before .before .before .before .before .before .before .before .before .pre .1) (empty-told (list-says _ _ _ (rw (c .before .before .before .before .before .before .before .before .byte-of .ensures, c .before .before .before .before .before .before .before .byte-of2 .ensures) at (c .before .before .before .before .list-branch .ensures)) (c .before .before .enum-told2 .given .1))))))
+put-list-case-put-switch-requires t c κs = (omega (arith, c .before .before .before .before .before .before .before .before .before .before .before .before .before .before .before .before .before .before .before .before .before .before .before .pre .0), (after-subject ((c .before .before .before .before .before .before .before .before .before .before .before .before .before .before .before .before .before .before .before .before .before .before .before .pre .1) .base) (as-node (c .before .before .before .before .before .before .before .before .before .before .before .before .before .before .before .before .before .before .before .number-of .ensures) (c .before .before .before .before .before .before .before .before .before .before .before .before .before .before .before .before .before .get-node .ensures .0)) (found-as (c .before .before .before .before .before .before .before .before .before .before .before .before .before .before .if1 .left) (c .before .before .before .before .before .before .before .before .before .before .before .before .before .start-of .ensures) (c .before .before .before .before .before .before .before .before .before .before .before .before .len-of .ensures) (c .before .before .before .before .before .before .before .before .before .before .before .steps-of .ensures)) (c .before .before .before .before .before .before .before .before .before .above .ensures) (c .before .before .before .before .before .before .before .before .before .before .before .before .before .before .before .before .before .before .before .before .before .before .before .pre .1) (((c .before .before .before .before .before .before .before .before .before .before .before .before .before .before .before .before .before .before .before .before .before .before .before .pre .1) .known .1 .front .inside, ((c .before .before .before .before .before .before .before .before .before .before .before .before .before .before .before .before .before .before .before .before .before .before .before .pre .1) .known .1 .subject .inside)), ((c .before .before .before .before .before .before .before .before .before .before .before .before .before .before .before .before .before .before .before .before .before .before .before .pre .1) .known .1 .first .inside, (c .before .before .before .before .before .before .before .before .before .before .before .before .before .before .before .before .before .before .before .before .before .before .before .pre .1) .known .1 .rest .inside)) (omega (arith, (c .before .before .before .before .before .before .before .before .before .before .before .before .before .before .before .before .before .get-node .ensures .1 .at (found-as (c .before .before .before .before .before .before .before .before .before .before .before .before .before .before .if1 .left) (c .before .before .before .before .before .before .before .before .before .before .before .before .before .start-of .ensures) (c .before .before .before .before .before .before .before .before .before .before .before .before .len-of .ensures) (c .before .before .before .before .before .before .before .before .before .before .before .steps-of .ensures))) .steps)), (inner ((c .before .before .before .before .before .before .before .before .before .before .before .before .before .before .before .before .before .before .before .before .before .before .before .pre .1) .base) (as-node (c .before .before .before .before .before .before .before .before .before .before .before .before .before .before .before .before .before .before .before .number-of .ensures) (c .before .before .before .before .before .before .before .before .before .before .before .before .before .before .before .before .before .get-node .ensures .0)) (found-as (c .before .before .before .before .before .before .before .before .before .before .before .before .before .before .if1 .left) (c .before .before .before .before .before .before .before .before .before .before .before .before .before .start-of .ensures) (c .before .before .before .before .before .before .before .before .before .before .before .before .len-of .ensures) (c .before .before .before .before .before .before .before .before .before .before .before .steps-of .ensures)) (c .before .before .before .before .before .before .before .before .before .above .ensures) (c .before .before .before .before .before .before .before .before .before .before .before .before .before .before .before .before .before .before .before .before .before .before .before .pre .1), switch-room ((c .before .before .before .before .before .before .before .before .before .before .before .before .before .before .before .before .before .before .before .before .before .before .before .pre .1) .base) (as-node (c .before .before .before .before .before .before .before .before .before .before .before .before .before .before .before .before .before .before .before .number-of .ensures) (c .before .before .before .before .before .before .before .before .before .before .before .before .before .before .before .before .before .get-node .ensures .0)) (found-as (c .before .before .before .before .before .before .before .before .before .before .before .before .before .before .if1 .left) (c .before .before .before .before .before .before .before .before .before .before .before .before .before .start-of .ensures) (c .before .before .before .before .before .before .before .before .before .before .before .before .len-of .ensures) (c .before .before .before .before .before .before .before .before .before .before .before .steps-of .ensures)) (c .before .before .before .before .before .before .before .before .before .above .ensures) refl (c .before .before .before .before .before .before .before .before .before .before .before .before .before .before .before .before .before .before .before .before .before .before .before .pre .1) (empty-told (list-says _ _ _ (rw (c .before .before .before .before .before .before .before .before .byte-of .ensures, c .before .before .before .before .before .before .before .byte-of2 .ensures) at (c .before .before .before .before .list-branch .ensures)) (c .before .before .enum-told2 .given .1))))))
 
 put-list-case-enum-known-code : (t : ℕ) → put-list-case-lts.Need-enum-known-code (put-list-case-claims t) (put-list-case-at t) put-list-case.Post
 put-list-case-enum-known-code t c = search needs
 
 put-list-case-returns-2 : (t : ℕ) → put-list-case-lts.Need-returns-2 (put-list-case-claims t) (put-list-case-at t) put-list-case.Post
-put-list-case-returns-2 t c = list-both ((c .before .before .before .before .before .before .before .before .before .before .before .before .before .before .before .before .before .before .before .before .before .before .before .before .before .before .before .before .pre .1) .base) (as-node (c .before .before .before .before .before .before .before .before .before .before .before .before .before .before .before .before .before .before .before .before .before .before .before .before .number-of .ensures) (c .before .before .before .before .before .before .before .before .before .before .before .before .before .before .before .before .before .before .before .before .before .before .get-node .ensures)) (found-as (c .before .before .before .before .before .before .before .before .before .before .before .before .before .before .before .before .before .before .before .if1 .left) (c .before .before .before .before .before .before .before .before .before .before .before .before .before .before .before .before .before .before .start-of .ensures) (c .before .before .before .before .before .before .before .before .before .before .before .before .before .before .before .before .before .len-of .ensures) (c .before .before .before .before .before .before .before .before .before .before .before .before .before .before .before .before .steps-of .ensures)) (c .before .before .before .before .before .before .before .before .before .before .before .before .before .before .above .ensures) refl (list-says _ _ _ (rw (c .before .before .before .before .before .before .before .before .before .before .before .before .before .byte-of .ensures, c .before .before .before .before .before .before .before .before .before .before .before .before .byte-of2 .ensures) at (c .before .before .before .before .before .before .before .before .before .list-branch .ensures)) (c .before .before .before .before .before .before .before .enum-told .given .1)) (as-pair (c .before .before .before .before .before .before .number-of2 .ensures) (c .before .before .before .before .before .before .before .before .before .before .before .before .before .before .before .before .before .before .before .before .before .before .before .before .number-of .ensures) (c .before .before .put-both .ensures))
+put-list-case-returns-2 t c = list-both ((c .before .before .before .before .before .before .before .before .before .before .before .before .before .before .before .before .before .before .before .before .before .before .before .before .before .before .before .before .pre .1) .base) (as-node (c .before .before .before .before .before .before .before .before .before .before .before .before .before .before .before .before .before .before .before .before .before .before .before .before .number-of .ensures) (c .before .before .before .before .before .before .before .before .before .before .before .before .before .before .before .before .before .before .before .before .before .before .get-node .ensures .0)) (found-as (c .before .before .before .before .before .before .before .before .before .before .before .before .before .before .before .before .before .before .before .if1 .left) (c .before .before .before .before .before .before .before .before .before .before .before .before .before .before .before .before .before .before .start-of .ensures) (c .before .before .before .before .before .before .before .before .before .before .before .before .before .before .before .before .before .len-of .ensures) (c .before .before .before .before .before .before .before .before .before .before .before .before .before .before .before .before .steps-of .ensures)) (c .before .before .before .before .before .before .before .before .before .before .before .before .before .before .above .ensures) refl (list-says _ _ _ (rw (c .before .before .before .before .before .before .before .before .before .before .before .before .before .byte-of .ensures, c .before .before .before .before .before .before .before .before .before .before .before .before .byte-of2 .ensures) at (c .before .before .before .before .before .before .before .before .before .list-branch .ensures)) (c .before .before .before .before .before .before .before .enum-told .given .1)) (as-pair (c .before .before .before .before .before .before .number-of2 .ensures) (c .before .before .before .before .before .before .before .before .before .before .before .before .before .before .before .before .before .before .before .before .before .before .before .before .number-of .ensures) (c .before .before .put-both .ensures))
 
 put-list-case-same-length-2 : (t : ℕ) → put-list-case-lts.Need-same-length-2 (put-list-case-claims t) (put-list-case-at t) put-list-case.Post
 put-list-case-same-length-2 t c = put-list-case-returns-2 t c .frame .long
 
 put-list-case-returns-3 : (t : ℕ) → put-list-case-lts.Need-returns-3 (put-list-case-claims t) (put-list-case-at t) put-list-case.Post
-put-list-case-returns-3 t c = list-under ((c .before .before .before .before .before .before .before .before .before .before .before .before .before .before .before .before .before .before .before .before .before .before .before .before .before .before .before .before .pre .1) .base) (as-node (c .before .before .before .before .before .before .before .before .before .before .before .before .before .before .before .before .before .before .before .before .before .before .before .before .number-of .ensures) (c .before .before .before .before .before .before .before .before .before .before .before .before .before .before .before .before .before .before .before .before .before .before .get-node .ensures)) (found-as (c .before .before .before .before .before .before .before .before .before .before .before .before .before .before .before .before .before .before .before .if1 .left) (c .before .before .before .before .before .before .before .before .before .before .before .before .before .before .before .before .before .before .start-of .ensures) (c .before .before .before .before .before .before .before .before .before .before .before .before .before .before .before .before .before .len-of .ensures) (c .before .before .before .before .before .before .before .before .before .before .before .before .before .before .before .before .steps-of .ensures)) (c .before .before .before .before .before .before .before .before .before .before .before .before .before .before .above .ensures) refl (list-says _ _ _ (rw (c .before .before .before .before .before .before .before .before .before .before .before .before .before .byte-of .ensures, c .before .before .before .before .before .before .before .before .before .before .before .before .byte-of2 .ensures) at (c .before .before .before .before .before .before .before .before .before .list-branch .ensures)) (c .before .before .before .before .before .before .before .mid .given .1)) (c .before .before .before .before .before .before .before .before .before .before .before .before .before .before .before .before .before .before .before .before .before .before .before .before .before .before .before .before .pre .1) (as-inside (c .before .before .before .before .before .number-of3 .ensures) (c .before .before .before .before .before .before .before .before .before .before .before .before .before .before .before .before .before .before .before .before .before .before .before .before .number-of .ensures) (c .before .before .put-under .ensures))
+put-list-case-returns-3 t c = list-under ((c .before .before .before .before .before .before .before .before .before .before .before .before .before .before .before .before .before .before .before .before .before .before .before .before .before .before .before .before .pre .1) .base) (as-node (c .before .before .before .before .before .before .before .before .before .before .before .before .before .before .before .before .before .before .before .before .before .before .before .before .number-of .ensures) (c .before .before .before .before .before .before .before .before .before .before .before .before .before .before .before .before .before .before .before .before .before .before .get-node .ensures .0)) (found-as (c .before .before .before .before .before .before .before .before .before .before .before .before .before .before .before .before .before .before .before .if1 .left) (c .before .before .before .before .before .before .before .before .before .before .before .before .before .before .before .before .before .before .start-of .ensures) (c .before .before .before .before .before .before .before .before .before .before .before .before .before .before .before .before .before .len-of .ensures) (c .before .before .before .before .before .before .before .before .before .before .before .before .before .before .before .before .steps-of .ensures)) (c .before .before .before .before .before .before .before .before .before .before .before .before .before .before .above .ensures) refl (list-says _ _ _ (rw (c .before .before .before .before .before .before .before .before .before .before .before .before .before .byte-of .ensures, c .before .before .before .before .before .before .before .before .before .before .before .before .byte-of2 .ensures) at (c .before .before .before .before .before .before .before .before .before .list-branch .ensures)) (c .before .before .before .before .before .before .before .mid .given .1)) (c .before .before .before .before .before .before .before .before .before .before .before .before .before .before .before .before .before .before .before .before .before .before .before .before .before .before .before .before .pre .1) (as-inside (c .before .before .before .before .before .number-of3 .ensures) (c .before .before .before .before .before .before .before .before .before .before .before .before .before .before .before .before .before .before .before .before .before .before .before .before .number-of .ensures) (c .before .before .put-under .ensures))
 
 put-list-case-same-length-3 : (t : ℕ) → put-list-case-lts.Need-same-length-3 (put-list-case-claims t) (put-list-case-at t) put-list-case.Post
 put-list-case-same-length-3 t c = put-list-case-returns-3 t c .frame .long
 
 put-list-case-returns-4 : (t : ℕ) → put-list-case-lts.Need-returns-4 (put-list-case-claims t) (put-list-case-at t) put-list-case.Post
-put-list-case-returns-4 t c = list-switch ((c .before .before .before .before .before .before .before .before .before .before .before .before .before .before .before .before .before .before .before .before .before .before .before .before .before .before .pre .1) .base) (as-node (c .before .before .before .before .before .before .before .before .before .before .before .before .before .before .before .before .before .before .before .before .before .before .number-of .ensures) (c .before .before .before .before .before .before .before .before .before .before .before .before .before .before .before .before .before .before .before .before .get-node .ensures)) (found-as (c .before .before .before .before .before .before .before .before .before .before .before .before .before .before .before .before .before .if1 .left) (c .before .before .before .before .before .before .before .before .before .before .before .before .before .before .before .before .start-of .ensures) (c .before .before .before .before .before .before .before .before .before .before .before .before .before .before .before .len-of .ensures) (c .before .before .before .before .before .before .before .before .before .before .before .before .before .before .steps-of .ensures)) (c .before .before .before .before .before .before .before .before .before .before .before .before .above .ensures) refl (list-says _ _ _ (rw (c .before .before .before .before .before .before .before .before .before .before .before .byte-of .ensures, c .before .before .before .before .before .before .before .before .before .before .byte-of2 .ensures) at (c .before .before .before .before .before .before .before .list-branch .ensures)) (c .before .before .before .before .before .enum-told2 .given .1)) (c .before .before .put-switch .ensures)
+put-list-case-returns-4 t c = list-switch ((c .before .before .before .before .before .before .before .before .before .before .before .before .before .before .before .before .before .before .before .before .before .before .before .before .before .before .pre .1) .base) (as-node (c .before .before .before .before .before .before .before .before .before .before .before .before .before .before .before .before .before .before .before .before .before .before .number-of .ensures) (c .before .before .before .before .before .before .before .before .before .before .before .before .before .before .before .before .before .before .before .before .get-node .ensures .0)) (found-as (c .before .before .before .before .before .before .before .before .before .before .before .before .before .before .before .before .before .if1 .left) (c .before .before .before .before .before .before .before .before .before .before .before .before .before .before .before .before .start-of .ensures) (c .before .before .before .before .before .before .before .before .before .before .before .before .before .before .before .len-of .ensures) (c .before .before .before .before .before .before .before .before .before .before .before .before .before .before .steps-of .ensures)) (c .before .before .before .before .before .before .before .before .before .before .before .before .above .ensures) refl (list-says _ _ _ (rw (c .before .before .before .before .before .before .before .before .before .before .before .byte-of .ensures, c .before .before .before .before .before .before .before .before .before .before .byte-of2 .ensures) at (c .before .before .before .before .before .before .before .list-branch .ensures)) (c .before .before .before .before .before .enum-told2 .given .1)) (c .before .before .put-switch .ensures)
 
 put-list-case-same-length-4 : (t : ℕ) → put-list-case-lts.Need-same-length-4 (put-list-case-claims t) (put-list-case-at t) put-list-case.Post
 put-list-case-same-length-4 t c = put-list-case-returns-4 t c .frame .long
 
 put-list-case-returns-5 : (t : ℕ) → put-list-case-lts.Need-returns-5 (put-list-case-claims t) (put-list-case-at t) put-list-case.Post
-put-list-case-returns-5 t c = as-taken (taken-refused (list-code (list-says _ _ _ (rw (c .before .before .before .before .before .before .before .byte-of .ensures, c .before .before .before .before .before .before .byte-of2 .ensures) at (c .before .before .before .list-branch .ensures)) (c .before .code .given .1)))) (list-not ((c .before .before .before .before .before .before .before .before .before .before .before .before .before .before .before .before .before .before .before .before .before .before .pre .1) .base) (as-node (c .before .before .before .before .before .before .before .before .before .before .before .before .before .before .before .before .before .before .number-of .ensures) (c .before .before .before .before .before .before .before .before .before .before .before .before .before .before .before .before .get-node .ensures)) (found-as (c .before .before .before .before .before .before .before .before .before .before .before .before .before .if1 .left) (c .before .before .before .before .before .before .before .before .before .before .before .before .start-of .ensures) (c .before .before .before .before .before .before .before .before .before .before .before .len-of .ensures) (c .before .before .before .before .before .before .before .before .before .before .steps-of .ensures)) (c .before .before .before .before .before .before .before .before .above .ensures) refl (list-says _ _ _ (rw (c .before .before .before .before .before .before .before .byte-of .ensures, c .before .before .before .before .before .before .byte-of2 .ensures) at (c .before .before .before .list-branch .ensures)) (c .before .code .given .1)))
+put-list-case-returns-5 t c = as-taken (taken-refused (list-code (list-says _ _ _ (rw (c .before .before .before .before .before .before .before .byte-of .ensures, c .before .before .before .before .before .before .byte-of2 .ensures) at (c .before .before .before .list-branch .ensures)) (c .before .code .given .1)))) (list-not ((c .before .before .before .before .before .before .before .before .before .before .before .before .before .before .before .before .before .before .before .before .before .before .pre .1) .base) (as-node (c .before .before .before .before .before .before .before .before .before .before .before .before .before .before .before .before .before .before .number-of .ensures) (c .before .before .before .before .before .before .before .before .before .before .before .before .before .before .before .before .get-node .ensures .0)) (found-as (c .before .before .before .before .before .before .before .before .before .before .before .before .before .if1 .left) (c .before .before .before .before .before .before .before .before .before .before .before .before .start-of .ensures) (c .before .before .before .before .before .before .before .before .before .before .before .len-of .ensures) (c .before .before .before .before .before .before .before .before .before .before .steps-of .ensures)) (c .before .before .before .before .before .before .before .before .above .ensures) refl (list-says _ _ _ (rw (c .before .before .before .before .before .before .before .byte-of .ensures, c .before .before .before .before .before .before .byte-of2 .ensures) at (c .before .before .before .list-branch .ensures)) (c .before .code .given .1)))
 
 put-list-case-same-length-5 : (t : ℕ) → put-list-case-lts.Need-same-length-5 (put-list-case-claims t) (put-list-case-at t) put-list-case.Post
 put-list-case-same-length-5 t c = put-list-case-returns-5 t c .frame .long
@@ -664,7 +664,7 @@ put-node-entry-requires : (t : ℕ) → put-node-lts.Need-entry-requires (put-no
 put-node-entry-requires t c κs = search needs
 
 put-node-returns : (t : ℕ) → put-node-lts.Need-returns (put-node-claims t) (put-node-at t) put-node.Post
-put-node-returns t c = as-taken (taken-refused (entry-small _ _ (c .before .entry .ensures))) (put-refused (c .before .entry .ensures) (c .if1 .taken))
+put-node-returns t c = let g = as-taken (taken-refused (entry-small _ _ (c .before .entry .ensures))) (put-refused (c .before .entry .ensures) (c .if1 .taken)) in (g, few (c .before .before .before .before .before .pre .1) g)
 
 put-node-mul-n : (t : ℕ) → put-node-lts.Need-mul-n (put-node-claims t) (put-node-at t) put-node.Post
 put-node-mul-n t c = record { fits = omega (arith, node-few (c .before .before .before .before .before .pre .1)) }
@@ -718,64 +718,64 @@ put-node-put-add-requires : (t : ℕ) → put-node-lts.Need-put-add-requires (pu
 put-node-put-add-requires t c κs = let thed = (entered _ _ (c .before .before .before .before .before .before .before .before .entry .ensures) (c .before .before .before .before .before .before .before .if1 .left)) in (omega (arith, c .before .before .before .before .before .before .before .before .before .before .before .before .pre .0, thed .0), body-ready (c .before .before .before .before .before .before .before .before .before .before .before .before .pre .1) (thed .0) (thed .1) (kind-add (lent-made ((c .before .before .before .before .before .before .before .before .before .before .before .before .pre .1) .lent) ((c .before .before .before .before .before .before .before .before .before .before .before .before .pre .1) .known)) (c .before .before .before .byte-of .ensures) (c .before .before .match .rest)))
 
 put-node-returns-2 : (t : ℕ) → put-node-lts.Need-returns-2 (put-node-claims t) (put-node-at t) put-node.Post
-put-node-returns-2 t c = let thed = (entered _ _ (c .before .before .before .before .before .before .before .before .before .before .before .entry .ensures) (c .before .before .before .before .before .before .before .before .before .before .if1 .left)) in put-body (c .before .before .before .before .before .before .before .before .before .before .before .before .before .before .before .pre .1) (thed .0) (thed .1) (kind-var (lent-made ((c .before .before .before .before .before .before .before .before .before .before .before .before .before .before .before .pre .1) .lent) ((c .before .before .before .before .before .before .before .before .before .before .before .before .before .before .before .pre .1) .known)) (c .before .before .before .before .before .before .byte-of .ensures) (c .before .before .before .before .before .match .keys1)) (c .before .before .put-var .ensures _ refl _ _ _)
+put-node-returns-2 t c = let thed = (entered _ _ (c .before .before .before .before .before .before .before .before .before .before .before .entry .ensures) (c .before .before .before .before .before .before .before .before .before .before .if1 .left)) in let g = put-body (c .before .before .before .before .before .before .before .before .before .before .before .before .before .before .before .pre .1) (thed .0) (thed .1) (kind-var (lent-made ((c .before .before .before .before .before .before .before .before .before .before .before .before .before .before .before .pre .1) .lent) ((c .before .before .before .before .before .before .before .before .before .before .before .before .before .before .before .pre .1) .known)) (c .before .before .before .before .before .before .byte-of .ensures) (c .before .before .before .before .before .match .keys1)) (c .before .before .put-var .ensures _ refl _ _ _) in (g, few (c .before .before .before .before .before .before .before .before .before .before .before .before .before .before .before .pre .1) g)
 
 put-node-same-length : (t : ℕ) → put-node-lts.Need-same-length (put-node-claims t) (put-node-at t) put-node.Post
-put-node-same-length t c = put-node-returns-2 t c .frame .long
+put-node-same-length t c = put-node-returns-2 t c .0 .frame .long
 
 put-node-returns-3 : (t : ℕ) → put-node-lts.Need-returns-3 (put-node-claims t) (put-node-at t) put-node.Post
-put-node-returns-3 t c = let thed = (entered _ _ (c .before .before .before .before .before .before .before .entry .ensures) (c .before .before .before .before .before .before .if1 .left)) in put-body (c .before .before .before .before .before .before .before .before .before .before .before .pre .1) (thed .0) (thed .1) (kind-false (lent-made ((c .before .before .before .before .before .before .before .before .before .before .before .pre .1) .lent) ((c .before .before .before .before .before .before .before .before .before .before .before .pre .1) .known)) (c .before .before .byte-of .ensures) (c .before .match .keys2)) (false-gives (c .put-constant .ensures) refl)
+put-node-returns-3 t c = let thed = (entered _ _ (c .before .before .before .before .before .before .before .entry .ensures) (c .before .before .before .before .before .before .if1 .left)) in let g = put-body (c .before .before .before .before .before .before .before .before .before .before .before .pre .1) (thed .0) (thed .1) (kind-false (lent-made ((c .before .before .before .before .before .before .before .before .before .before .before .pre .1) .lent) ((c .before .before .before .before .before .before .before .before .before .before .before .pre .1) .known)) (c .before .before .byte-of .ensures) (c .before .match .keys2)) (false-gives (c .put-constant .ensures) refl) in (g, few (c .before .before .before .before .before .before .before .before .before .before .before .pre .1) g)
 
 put-node-returns-4 : (t : ℕ) → put-node-lts.Need-returns-4 (put-node-claims t) (put-node-at t) put-node.Post
-put-node-returns-4 t c = let thed = (entered _ _ (c .before .before .before .before .before .before .before .entry .ensures) (c .before .before .before .before .before .before .if1 .left)) in put-body (c .before .before .before .before .before .before .before .before .before .before .before .pre .1) (thed .0) (thed .1) (kind-true (lent-made ((c .before .before .before .before .before .before .before .before .before .before .before .pre .1) .lent) ((c .before .before .before .before .before .before .before .before .before .before .before .pre .1) .known)) (c .before .before .byte-of .ensures) (c .before .match .keys3)) (true-gives (c .put-constant2 .ensures) refl)
+put-node-returns-4 t c = let thed = (entered _ _ (c .before .before .before .before .before .before .before .entry .ensures) (c .before .before .before .before .before .before .if1 .left)) in let g = put-body (c .before .before .before .before .before .before .before .before .before .before .before .pre .1) (thed .0) (thed .1) (kind-true (lent-made ((c .before .before .before .before .before .before .before .before .before .before .before .pre .1) .lent) ((c .before .before .before .before .before .before .before .before .before .before .before .pre .1) .known)) (c .before .before .byte-of .ensures) (c .before .match .keys3)) (true-gives (c .put-constant2 .ensures) refl) in (g, few (c .before .before .before .before .before .before .before .before .before .before .before .pre .1) g)
 
 put-node-returns-5 : (t : ℕ) → put-node-lts.Need-returns-5 (put-node-claims t) (put-node-at t) put-node.Post
-put-node-returns-5 t c = let thed = (entered _ _ (c .before .before .before .before .before .before .before .entry .ensures) (c .before .before .before .before .before .before .if1 .left)) in put-body (c .before .before .before .before .before .before .before .before .before .before .before .pre .1) (thed .0) (thed .1) (kind-empty (lent-made ((c .before .before .before .before .before .before .before .before .before .before .before .pre .1) .lent) ((c .before .before .before .before .before .before .before .before .before .before .before .pre .1) .known)) (c .before .before .byte-of .ensures) (c .before .match .keys4)) (empty-gives (c .put-constant3 .ensures) refl)
+put-node-returns-5 t c = let thed = (entered _ _ (c .before .before .before .before .before .before .before .entry .ensures) (c .before .before .before .before .before .before .if1 .left)) in let g = put-body (c .before .before .before .before .before .before .before .before .before .before .before .pre .1) (thed .0) (thed .1) (kind-empty (lent-made ((c .before .before .before .before .before .before .before .before .before .before .before .pre .1) .lent) ((c .before .before .before .before .before .before .before .before .before .before .before .pre .1) .known)) (c .before .before .byte-of .ensures) (c .before .match .keys4)) (empty-gives (c .put-constant3 .ensures) refl) in (g, few (c .before .before .before .before .before .before .before .before .before .before .before .pre .1) g)
 
 put-node-returns-6 : (t : ℕ) → put-node-lts.Need-returns-6 (put-node-claims t) (put-node-at t) put-node.Post
-put-node-returns-6 t c = let thed = (entered _ _ (c .before .before .before .before .before .before .before .entry .ensures) (c .before .before .before .before .before .before .if1 .left)) in put-body (c .before .before .before .before .before .before .before .before .before .before .before .pre .1) (thed .0) (thed .1) (kind-number (lent-made ((c .before .before .before .before .before .before .before .before .before .before .before .pre .1) .lent) ((c .before .before .before .before .before .before .before .before .before .before .before .pre .1) .known)) (c .before .before .byte-of .ensures) (c .before .match .keys5)) (number-gives (c .put-number .ensures) refl)
+put-node-returns-6 t c = let thed = (entered _ _ (c .before .before .before .before .before .before .before .entry .ensures) (c .before .before .before .before .before .before .if1 .left)) in let g = put-body (c .before .before .before .before .before .before .before .before .before .before .before .pre .1) (thed .0) (thed .1) (kind-number (lent-made ((c .before .before .before .before .before .before .before .before .before .before .before .pre .1) .lent) ((c .before .before .before .before .before .before .before .before .before .before .before .pre .1) .known)) (c .before .before .byte-of .ensures) (c .before .match .keys5)) (number-gives (c .put-number .ensures) refl) in (g, few (c .before .before .before .before .before .before .before .before .before .before .before .pre .1) g)
 
 put-node-returns-7 : (t : ℕ) → put-node-lts.Need-returns-7 (put-node-claims t) (put-node-at t) put-node.Post
-put-node-returns-7 t c = let thed = (entered _ _ (c .before .before .before .before .before .before .before .before .before .before .before .entry .ensures) (c .before .before .before .before .before .before .before .before .before .before .if1 .left)) in put-body (c .before .before .before .before .before .before .before .before .before .before .before .before .before .before .before .pre .1) (thed .0) (thed .1) (kind-front (lent-made ((c .before .before .before .before .before .before .before .before .before .before .before .before .before .before .before .pre .1) .lent) ((c .before .before .before .before .before .before .before .before .before .before .before .before .before .before .before .pre .1) .known)) (c .before .before .before .before .before .before .byte-of .ensures) (c .before .before .before .before .before .match .keys6)) (c .before .before .put-front .ensures)
+put-node-returns-7 t c = let thed = (entered _ _ (c .before .before .before .before .before .before .before .before .before .before .before .entry .ensures) (c .before .before .before .before .before .before .before .before .before .before .if1 .left)) in let g = put-body (c .before .before .before .before .before .before .before .before .before .before .before .before .before .before .before .pre .1) (thed .0) (thed .1) (kind-front (lent-made ((c .before .before .before .before .before .before .before .before .before .before .before .before .before .before .before .pre .1) .lent) ((c .before .before .before .before .before .before .before .before .before .before .before .before .before .before .before .pre .1) .known)) (c .before .before .before .before .before .before .byte-of .ensures) (c .before .before .before .before .before .match .keys6)) (c .before .before .put-front .ensures) in (g, few (c .before .before .before .before .before .before .before .before .before .before .before .before .before .before .before .pre .1) g)
 
 put-node-same-length-2 : (t : ℕ) → put-node-lts.Need-same-length-2 (put-node-claims t) (put-node-at t) put-node.Post
-put-node-same-length-2 t c = put-node-returns-7 t c .frame .long
+put-node-same-length-2 t c = put-node-returns-7 t c .0 .frame .long
 
 put-node-returns-8 : (t : ℕ) → put-node-lts.Need-returns-8 (put-node-claims t) (put-node-at t) put-node.Post
-put-node-returns-8 t c = let thed = (entered _ _ (c .before .before .before .before .before .before .before .before .before .before .before .entry .ensures) (c .before .before .before .before .before .before .before .before .before .before .if1 .left)) in put-body (c .before .before .before .before .before .before .before .before .before .before .before .before .before .before .before .pre .1) (thed .0) (thed .1) (kind-pair (lent-made ((c .before .before .before .before .before .before .before .before .before .before .before .before .before .before .before .pre .1) .lent) ((c .before .before .before .before .before .before .before .before .before .before .before .before .before .before .before .pre .1) .known)) (c .before .before .before .before .before .before .byte-of .ensures) (c .before .before .before .before .before .match .keys7)) (c .before .before .put-pair .ensures)
+put-node-returns-8 t c = let thed = (entered _ _ (c .before .before .before .before .before .before .before .before .before .before .before .entry .ensures) (c .before .before .before .before .before .before .before .before .before .before .if1 .left)) in let g = put-body (c .before .before .before .before .before .before .before .before .before .before .before .before .before .before .before .pre .1) (thed .0) (thed .1) (kind-pair (lent-made ((c .before .before .before .before .before .before .before .before .before .before .before .before .before .before .before .pre .1) .lent) ((c .before .before .before .before .before .before .before .before .before .before .before .before .before .before .before .pre .1) .known)) (c .before .before .before .before .before .before .byte-of .ensures) (c .before .before .before .before .before .match .keys7)) (c .before .before .put-pair .ensures) in (g, few (c .before .before .before .before .before .before .before .before .before .before .before .before .before .before .before .pre .1) g)
 
 put-node-same-length-3 : (t : ℕ) → put-node-lts.Need-same-length-3 (put-node-claims t) (put-node-at t) put-node.Post
-put-node-same-length-3 t c = put-node-returns-8 t c .frame .long
+put-node-same-length-3 t c = put-node-returns-8 t c .0 .frame .long
 
 put-node-returns-9 : (t : ℕ) → put-node-lts.Need-returns-9 (put-node-claims t) (put-node-at t) put-node.Post
-put-node-returns-9 t c = let thed = (entered _ _ (c .before .before .before .before .before .before .before .before .before .before .before .entry .ensures) (c .before .before .before .before .before .before .before .before .before .before .if1 .left)) in put-body (c .before .before .before .before .before .before .before .before .before .before .before .before .before .before .before .pre .1) (thed .0) (thed .1) (kind-list-case (lent-made ((c .before .before .before .before .before .before .before .before .before .before .before .before .before .before .before .pre .1) .lent) ((c .before .before .before .before .before .before .before .before .before .before .before .before .before .before .before .pre .1) .known)) (c .before .before .before .before .before .before .byte-of .ensures) (c .before .before .before .before .before .match .keys8)) (c .before .before .put-list-case .ensures)
+put-node-returns-9 t c = let thed = (entered _ _ (c .before .before .before .before .before .before .before .before .before .before .before .entry .ensures) (c .before .before .before .before .before .before .before .before .before .before .if1 .left)) in let g = put-body (c .before .before .before .before .before .before .before .before .before .before .before .before .before .before .before .pre .1) (thed .0) (thed .1) (kind-list-case (lent-made ((c .before .before .before .before .before .before .before .before .before .before .before .before .before .before .before .pre .1) .lent) ((c .before .before .before .before .before .before .before .before .before .before .before .before .before .before .before .pre .1) .known)) (c .before .before .before .before .before .before .byte-of .ensures) (c .before .before .before .before .before .match .keys8)) (c .before .before .put-list-case .ensures) in (g, few (c .before .before .before .before .before .before .before .before .before .before .before .before .before .before .before .pre .1) g)
 
 put-node-same-length-4 : (t : ℕ) → put-node-lts.Need-same-length-4 (put-node-claims t) (put-node-at t) put-node.Post
-put-node-same-length-4 t c = put-node-returns-9 t c .frame .long
+put-node-same-length-4 t c = put-node-returns-9 t c .0 .frame .long
 
 put-node-returns-10 : (t : ℕ) → put-node-lts.Need-returns-10 (put-node-claims t) (put-node-at t) put-node.Post
-put-node-returns-10 t c = let thed = (entered _ _ (c .before .before .before .before .before .before .before .before .before .before .before .entry .ensures) (c .before .before .before .before .before .before .before .before .before .before .if1 .left)) in put-body (c .before .before .before .before .before .before .before .before .before .before .before .before .before .before .before .pre .1) (thed .0) (thed .1) (kind-truth-case (lent-made ((c .before .before .before .before .before .before .before .before .before .before .before .before .before .before .before .pre .1) .lent) ((c .before .before .before .before .before .before .before .before .before .before .before .before .before .before .before .pre .1) .known)) (c .before .before .before .before .before .before .byte-of .ensures) (c .before .before .before .before .before .match .keys9)) (c .before .before .put-truth-case .ensures)
+put-node-returns-10 t c = let thed = (entered _ _ (c .before .before .before .before .before .before .before .before .before .before .before .entry .ensures) (c .before .before .before .before .before .before .before .before .before .before .if1 .left)) in let g = put-body (c .before .before .before .before .before .before .before .before .before .before .before .before .before .before .before .pre .1) (thed .0) (thed .1) (kind-truth-case (lent-made ((c .before .before .before .before .before .before .before .before .before .before .before .before .before .before .before .pre .1) .lent) ((c .before .before .before .before .before .before .before .before .before .before .before .before .before .before .before .pre .1) .known)) (c .before .before .before .before .before .before .byte-of .ensures) (c .before .before .before .before .before .match .keys9)) (c .before .before .put-truth-case .ensures) in (g, few (c .before .before .before .before .before .before .before .before .before .before .before .before .before .before .before .pre .1) g)
 
 put-node-same-length-5 : (t : ℕ) → put-node-lts.Need-same-length-5 (put-node-claims t) (put-node-at t) put-node.Post
-put-node-same-length-5 t c = put-node-returns-10 t c .frame .long
+put-node-same-length-5 t c = put-node-returns-10 t c .0 .frame .long
 
 put-node-returns-11 : (t : ℕ) → put-node-lts.Need-returns-11 (put-node-claims t) (put-node-at t) put-node.Post
-put-node-returns-11 t c = let thed = (entered _ _ (c .before .before .before .before .before .before .before .before .before .before .before .entry .ensures) (c .before .before .before .before .before .before .before .before .before .before .if1 .left)) in put-body (c .before .before .before .before .before .before .before .before .before .before .before .before .before .before .before .pre .1) (thed .0) (thed .1) (kind-split (lent-made ((c .before .before .before .before .before .before .before .before .before .before .before .before .before .before .before .pre .1) .lent) ((c .before .before .before .before .before .before .before .before .before .before .before .before .before .before .before .pre .1) .known)) (c .before .before .before .before .before .before .byte-of .ensures) (c .before .before .before .before .before .match .keys10)) (c .before .before .put-split .ensures)
+put-node-returns-11 t c = let thed = (entered _ _ (c .before .before .before .before .before .before .before .before .before .before .before .entry .ensures) (c .before .before .before .before .before .before .before .before .before .before .if1 .left)) in let g = put-body (c .before .before .before .before .before .before .before .before .before .before .before .before .before .before .before .pre .1) (thed .0) (thed .1) (kind-split (lent-made ((c .before .before .before .before .before .before .before .before .before .before .before .before .before .before .before .pre .1) .lent) ((c .before .before .before .before .before .before .before .before .before .before .before .before .before .before .before .pre .1) .known)) (c .before .before .before .before .before .before .byte-of .ensures) (c .before .before .before .before .before .match .keys10)) (c .before .before .put-split .ensures) in (g, few (c .before .before .before .before .before .before .before .before .before .before .before .before .before .before .before .pre .1) g)
 
 put-node-same-length-6 : (t : ℕ) → put-node-lts.Need-same-length-6 (put-node-claims t) (put-node-at t) put-node.Post
-put-node-same-length-6 t c = put-node-returns-11 t c .frame .long
+put-node-same-length-6 t c = put-node-returns-11 t c .0 .frame .long
 
 put-node-returns-12 : (t : ℕ) → put-node-lts.Need-returns-12 (put-node-claims t) (put-node-at t) put-node.Post
-put-node-returns-12 t c = let thed = (entered _ _ (c .before .before .before .before .before .before .before .before .before .before .before .entry .ensures) (c .before .before .before .before .before .before .before .before .before .before .if1 .left)) in put-body (c .before .before .before .before .before .before .before .before .before .before .before .before .before .before .before .pre .1) (thed .0) (thed .1) (kind-call (lent-made ((c .before .before .before .before .before .before .before .before .before .before .before .before .before .before .before .pre .1) .lent) ((c .before .before .before .before .before .before .before .before .before .before .before .before .before .before .before .pre .1) .known)) (c .before .before .before .before .before .before .byte-of .ensures) (c .before .before .before .before .before .match .keys11)) (c .before .before .put-call .ensures)
+put-node-returns-12 t c = let thed = (entered _ _ (c .before .before .before .before .before .before .before .before .before .before .before .entry .ensures) (c .before .before .before .before .before .before .before .before .before .before .if1 .left)) in let g = put-body (c .before .before .before .before .before .before .before .before .before .before .before .before .before .before .before .pre .1) (thed .0) (thed .1) (kind-call (lent-made ((c .before .before .before .before .before .before .before .before .before .before .before .before .before .before .before .pre .1) .lent) ((c .before .before .before .before .before .before .before .before .before .before .before .before .before .before .before .pre .1) .known)) (c .before .before .before .before .before .before .byte-of .ensures) (c .before .before .before .before .before .match .keys11)) (c .before .before .put-call .ensures) in (g, few (c .before .before .before .before .before .before .before .before .before .before .before .before .before .before .before .pre .1) g)
 
 put-node-same-length-7 : (t : ℕ) → put-node-lts.Need-same-length-7 (put-node-claims t) (put-node-at t) put-node.Post
-put-node-same-length-7 t c = put-node-returns-12 t c .frame .long
+put-node-same-length-7 t c = put-node-returns-12 t c .0 .frame .long
 
 put-node-returns-13 : (t : ℕ) → put-node-lts.Need-returns-13 (put-node-claims t) (put-node-at t) put-node.Post
-put-node-returns-13 t c = let thed = (entered _ _ (c .before .before .before .before .before .before .before .before .before .before .before .entry .ensures) (c .before .before .before .before .before .before .before .before .before .before .if1 .left)) in put-body (c .before .before .before .before .before .before .before .before .before .before .before .before .before .before .before .pre .1) (thed .0) (thed .1) (kind-add (lent-made ((c .before .before .before .before .before .before .before .before .before .before .before .before .before .before .before .pre .1) .lent) ((c .before .before .before .before .before .before .before .before .before .before .before .before .before .before .before .pre .1) .known)) (c .before .before .before .before .before .before .byte-of .ensures) (c .before .before .before .before .before .match .rest)) (c .before .before .put-add .ensures)
+put-node-returns-13 t c = let thed = (entered _ _ (c .before .before .before .before .before .before .before .before .before .before .before .entry .ensures) (c .before .before .before .before .before .before .before .before .before .before .if1 .left)) in let g = put-body (c .before .before .before .before .before .before .before .before .before .before .before .before .before .before .before .pre .1) (thed .0) (thed .1) (kind-add (lent-made ((c .before .before .before .before .before .before .before .before .before .before .before .before .before .before .before .pre .1) .lent) ((c .before .before .before .before .before .before .before .before .before .before .before .before .before .before .before .pre .1) .known)) (c .before .before .before .before .before .before .byte-of .ensures) (c .before .before .before .before .before .match .rest)) (c .before .before .put-add .ensures) in (g, few (c .before .before .before .before .before .before .before .before .before .before .before .before .before .before .before .pre .1) g)
 
 put-node-same-length-8 : (t : ℕ) → put-node-lts.Need-same-length-8 (put-node-claims t) (put-node-at t) put-node.Post
-put-node-same-length-8 t c = put-node-returns-13 t c .frame .long
+put-node-same-length-8 t c = put-node-returns-13 t c .0 .frame .long
 
 put-pair-shape-of-requires : (t : ℕ) → put-pair-lts.Need-shape-of-requires (put-pair-claims t) (put-pair-at t) put-pair.Post
 put-pair-shape-of-requires t c κs = search needs
@@ -799,7 +799,7 @@ put-pair-put-node-requires : (t : ℕ) → put-pair-lts.Need-put-node-requires (
 put-pair-put-node-requires t c κs = (omega (arith, c .before .before .before .before .before .before .before .before .before .before .before .before .pre .0), both-ready₁ (as-ready (pair-named (c .before .before .number-of .ensures) refl) ((pair-ready (c .before .before .before .before .before .before .before .before .shape-of .ensures) (c .before .before .before .before .first-part .ensures) (c .before .before .before .second-part .ensures) (c .before .before .before .before .before .before .before .before .before .before .before .before .pre .1) (c .before .before .before .before .before .before .mid .given .1)) .0)) (omega arith))
 
 put-pair-returns-2 : (t : ℕ) → put-pair-lts.Need-returns-2 (put-pair-claims t) (put-pair-at t) put-pair.Post
-put-pair-returns-2 t c = pair-both (c .before .before .before .before .before .before .before .before .before .before .before .before .shape-of .ensures) (c .before .before .before .before .before .before .before .before .first-part .ensures) (c .before .before .before .before .before .before .before .second-part .ensures) (as-pair (c .before .before .before .before .before .before .number-of .ensures) refl (λ u h. as-taken (taken-refused (c .if1 .taken)) (both-refused₁ (c .before .before .before .put-node .ensures) (taken-refused (c .if1 .taken))))) (c .before .before .before .before .before .before .before .before .before .before .before .before .before .before .before .before .pre .1) (c .before .before .before .before .before .before .before .before .before .before .mid .given .1)
+put-pair-returns-2 t c = pair-both (c .before .before .before .before .before .before .before .before .before .before .before .before .shape-of .ensures) (c .before .before .before .before .before .before .before .before .first-part .ensures) (c .before .before .before .before .before .before .before .second-part .ensures) (as-pair (c .before .before .before .before .before .before .number-of .ensures) refl (λ u h. as-taken (taken-refused (c .if1 .taken)) (both-refused₁ (c .before .before .before .put-node .ensures .0) (taken-refused (c .if1 .taken))))) (c .before .before .before .before .before .before .before .before .before .before .before .before .before .before .before .before .pre .1) (c .before .before .before .before .before .before .before .before .before .before .mid .given .1)
 
 put-pair-same-length : (t : ℕ) → put-pair-lts.Need-same-length (put-pair-claims t) (put-pair-at t) put-pair.Post
 put-pair-same-length t c = put-pair-returns-2 t c .frame .long
@@ -808,34 +808,34 @@ put-pair-taken-requires : (t : ℕ) → put-pair-lts.Need-taken-requires (put-pa
 put-pair-taken-requires t c κs = search needs
 
 put-pair-sub-to : (t : ℕ) → put-pair-lts.Need-sub-to (put-pair-claims t) (put-pair-at t) put-pair.Post
-put-pair-sub-to t c = omega (arith, both-few (c .before .before .before .before .before .put-node .ensures) (taken-as (c .before .before .if1 .left) (c .before .taken .ensures)) (as-ready (pair-named (c .before .before .before .before .before .before .before .before .number-of .ensures) refl) ((pair-ready (c .before .before .before .before .before .before .before .before .before .before .before .before .before .before .shape-of .ensures) (c .before .before .before .before .before .before .before .before .before .before .first-part .ensures) (c .before .before .before .before .before .before .before .before .before .second-part .ensures) (c .before .before .before .before .before .before .before .before .before .before .before .before .before .before .before .before .before .before .pre .1) (c .before .before .before .before .before .before .before .before .before .before .before .before .mid .given .1)) .0)))
+put-pair-sub-to t c = omega (arith, (c .before .before .before .before .before .put-node .ensures .1 .at (taken-as (c .before .before .if1 .left) (c .before .taken .ensures))))
 
 put-pair-number-of-requires-2 : (t : ℕ) → put-pair-lts.Need-number-of-requires-2 (put-pair-claims t) (put-pair-at t) put-pair.Post
 put-pair-number-of-requires-2 t c κs = search needs
 
 put-pair-put-node-requires-2 : (t : ℕ) → put-pair-lts.Need-put-node-requires-2 (put-pair-claims t) (put-pair-at t) put-pair.Post
-put-pair-put-node-requires-2 t c κs = (omega (arith, c .before .before .before .before .before .before .before .before .before .before .before .before .before .before .before .before .before .before .before .before .before .pre .0), both-ready₂ (c .before .before .before .before .before .before .before .before .put-node .ensures) (taken-as (c .before .before .before .before .before .if1 .left) (c .before .before .before .before .taken .ensures)) (as-ready (pair-named (c .before .before .before .before .before .before .before .before .before .before .before .number-of .ensures) (c .before .before .number-of2 .ensures)) ((pair-ready (c .before .before .before .before .before .before .before .before .before .before .before .before .before .before .before .before .before .shape-of .ensures) (c .before .before .before .before .before .before .before .before .before .before .before .before .before .first-part .ensures) (c .before .before .before .before .before .before .before .before .before .before .before .before .second-part .ensures) (c .before .before .before .before .before .before .before .before .before .before .before .before .before .before .before .before .before .before .before .before .before .pre .1) (c .before .before .before .before .before .before .before .before .before .before .before .before .before .before .before .mid .given .1)) .0)) (omega arith) ((pair-ready (c .before .before .before .before .before .before .before .before .before .before .before .before .before .before .before .before .before .shape-of .ensures) (c .before .before .before .before .before .before .before .before .before .before .before .before .before .first-part .ensures) (c .before .before .before .before .before .before .before .before .before .before .before .before .second-part .ensures) (c .before .before .before .before .before .before .before .before .before .before .before .before .before .before .before .before .before .before .before .before .before .pre .1) (c .before .before .before .before .before .before .before .before .before .before .before .before .before .before .before .mid .given .1)) .1))
+put-pair-put-node-requires-2 t c κs = (omega (arith, c .before .before .before .before .before .before .before .before .before .before .before .before .before .before .before .before .before .before .before .before .before .pre .0), both-ready₂ (c .before .before .before .before .before .before .before .before .put-node .ensures .0) (taken-as (c .before .before .before .before .before .if1 .left) (c .before .before .before .before .taken .ensures)) (as-ready (pair-named (c .before .before .before .before .before .before .before .before .before .before .before .number-of .ensures) (c .before .before .number-of2 .ensures)) ((pair-ready (c .before .before .before .before .before .before .before .before .before .before .before .before .before .before .before .before .before .shape-of .ensures) (c .before .before .before .before .before .before .before .before .before .before .before .before .before .first-part .ensures) (c .before .before .before .before .before .before .before .before .before .before .before .before .second-part .ensures) (c .before .before .before .before .before .before .before .before .before .before .before .before .before .before .before .before .before .before .before .before .before .pre .1) (c .before .before .before .before .before .before .before .before .before .before .before .before .before .before .before .mid .given .1)) .0)) (omega arith) ((pair-ready (c .before .before .before .before .before .before .before .before .before .before .before .before .before .before .before .before .before .shape-of .ensures) (c .before .before .before .before .before .before .before .before .before .before .before .before .before .first-part .ensures) (c .before .before .before .before .before .before .before .before .before .before .before .before .second-part .ensures) (c .before .before .before .before .before .before .before .before .before .before .before .before .before .before .before .before .before .before .before .before .before .pre .1) (c .before .before .before .before .before .before .before .before .before .before .before .before .before .before .before .mid .given .1)) .1))
 
 put-pair-returns-3 : (t : ℕ) → put-pair-lts.Need-returns-3 (put-pair-claims t) (put-pair-at t) put-pair.Post
-put-pair-returns-3 t c = pair-both (c .before .before .before .before .before .before .before .before .before .before .before .before .before .before .before .before .before .before .before .before .before .shape-of .ensures) (c .before .before .before .before .before .before .before .before .before .before .before .before .before .before .before .before .before .first-part .ensures) (c .before .before .before .before .before .before .before .before .before .before .before .before .before .before .before .before .second-part .ensures) (as-pair (c .before .before .before .before .before .before .before .before .before .before .before .before .before .before .before .number-of .ensures) (c .before .before .before .before .before .before .number-of2 .ensures) (λ u h. as-taken (taken-refused (c .if2 .taken)) (both-refused₂ (c .before .before .before .before .before .before .before .before .before .before .before .before .put-node .ensures) (taken-as (c .before .before .before .before .before .before .before .before .before .if1 .left) (c .before .before .before .before .before .before .before .before .taken .ensures)) ((c .before .before .before .before .before .before .before .before .before .before .before .before .before .before .before .before .before .before .before .before .before .before .before .before .before .pre .1) .base) (c .before .before .before .put-node2 .ensures) h (taken-refused (c .if2 .taken))))) (c .before .before .before .before .before .before .before .before .before .before .before .before .before .before .before .before .before .before .before .before .before .before .before .before .before .pre .1) (c .before .before .before .before .before .before .before .before .before .before .before .before .before .before .before .before .before .before .before .mid .given .1)
+put-pair-returns-3 t c = pair-both (c .before .before .before .before .before .before .before .before .before .before .before .before .before .before .before .before .before .before .before .before .before .shape-of .ensures) (c .before .before .before .before .before .before .before .before .before .before .before .before .before .before .before .before .before .first-part .ensures) (c .before .before .before .before .before .before .before .before .before .before .before .before .before .before .before .before .second-part .ensures) (as-pair (c .before .before .before .before .before .before .before .before .before .before .before .before .before .before .before .number-of .ensures) (c .before .before .before .before .before .before .number-of2 .ensures) (λ u h. as-taken (taken-refused (c .if2 .taken)) (both-refused₂ (c .before .before .before .before .before .before .before .before .before .before .before .before .put-node .ensures .0) (taken-as (c .before .before .before .before .before .before .before .before .before .if1 .left) (c .before .before .before .before .before .before .before .before .taken .ensures)) ((c .before .before .before .before .before .before .before .before .before .before .before .before .before .before .before .before .before .before .before .before .before .before .before .before .before .pre .1) .base) (c .before .before .before .put-node2 .ensures .0) h (taken-refused (c .if2 .taken))))) (c .before .before .before .before .before .before .before .before .before .before .before .before .before .before .before .before .before .before .before .before .before .before .before .before .before .pre .1) (c .before .before .before .before .before .before .before .before .before .before .before .before .before .before .before .before .before .before .before .mid .given .1)
 
 put-pair-same-length-2 : (t : ℕ) → put-pair-lts.Need-same-length-2 (put-pair-claims t) (put-pair-at t) put-pair.Post
 put-pair-same-length-2 t c = put-pair-returns-3 t c .frame .long
 
 put-pair-add-took : (t : ℕ) → put-pair-lts.Need-add-took (put-pair-claims t) (put-pair-at t) put-pair.Post
-put-pair-add-took t c = record { fits = omega (arith, both-few (c .before .before .before .before .before .before .before .before .before .before .before .before .put-node .ensures) (taken-as (c .before .before .before .before .before .before .before .before .before .if1 .left) (c .before .before .before .before .before .before .before .before .taken .ensures)) (as-ready (pair-named (c .before .before .before .before .before .before .before .before .before .before .before .before .before .before .before .number-of .ensures) refl) ((pair-ready (c .before .before .before .before .before .before .before .before .before .before .before .before .before .before .before .before .before .before .before .before .before .shape-of .ensures) (c .before .before .before .before .before .before .before .before .before .before .before .before .before .before .before .before .before .first-part .ensures) (c .before .before .before .before .before .before .before .before .before .before .before .before .before .before .before .before .second-part .ensures) (c .before .before .before .before .before .before .before .before .before .before .before .before .before .before .before .before .before .before .before .before .before .before .before .before .before .pre .1) (c .before .before .before .before .before .before .before .before .before .before .before .before .before .before .before .before .before .before .before .mid .given .1)) .0)), (c .before .before .before .before .before .before .before .before .before .before .before .before .before .before .before .before .before .before .before .before .before .before .before .before .before .pre .1) .few) }
+put-pair-add-took t c = record { fits = omega (arith, (c .before .before .before .before .before .before .before .before .before .before .before .before .put-node .ensures .1 .at (taken-as (c .before .before .before .before .before .before .before .before .before .if1 .left) (c .before .before .before .before .before .before .before .before .taken .ensures))), (c .before .before .before .before .before .before .before .before .before .before .before .before .before .before .before .before .before .before .before .before .before .before .before .before .before .pre .1) .few) }
 
 put-pair-taken-requires-2 : (t : ℕ) → put-pair-lts.Need-taken-requires-2 (put-pair-claims t) (put-pair-at t) put-pair.Post
 put-pair-taken-requires-2 t c κs = search needs
 
 put-pair-add-took-2 : (t : ℕ) → put-pair-lts.Need-add-took-2 (put-pair-claims t) (put-pair-at t) put-pair.Post
-put-pair-add-took-2 t c = record { fits = omega (arith, both-sum (c .before .before .before .before .before .before .before .before .before .before .before .before .before .put-node .ensures) (taken-as (c .before .before .before .before .before .before .before .before .before .before .if1 .left) (c .before .before .before .before .before .before .before .before .before .taken .ensures)) ((c .before .before .before .before .before .before .before .before .before .before .before .before .before .before .before .before .before .before .before .before .before .before .before .before .before .before .pre .1) .base) (c .before .before .before .before .put-node2 .ensures) ((pair-ready (c .before .before .before .before .before .before .before .before .before .before .before .before .before .before .before .before .before .before .before .before .before .before .shape-of .ensures) (c .before .before .before .before .before .before .before .before .before .before .before .before .before .before .before .before .before .before .first-part .ensures) (c .before .before .before .before .before .before .before .before .before .before .before .before .before .before .before .before .before .second-part .ensures) (c .before .before .before .before .before .before .before .before .before .before .before .before .before .before .before .before .before .before .before .before .before .before .before .before .before .before .pre .1) (c .before .before .before .before .before .before .before .before .before .before .before .before .before .before .before .before .before .before .before .before .mid .given .1)) .1 .shown) (taken-as (c .before .if2 .left) (c .taken2 .ensures)) (as-ready (pair-named (c .before .before .before .before .before .before .before .before .before .before .before .before .before .before .before .before .number-of .ensures) (c .before .before .before .before .before .before .before .number-of2 .ensures)) ((pair-ready (c .before .before .before .before .before .before .before .before .before .before .before .before .before .before .before .before .before .before .before .before .before .before .shape-of .ensures) (c .before .before .before .before .before .before .before .before .before .before .before .before .before .before .before .before .before .before .first-part .ensures) (c .before .before .before .before .before .before .before .before .before .before .before .before .before .before .before .before .before .second-part .ensures) (c .before .before .before .before .before .before .before .before .before .before .before .before .before .before .before .before .before .before .before .before .before .before .before .before .before .before .pre .1) (c .before .before .before .before .before .before .before .before .before .before .before .before .before .before .before .before .before .before .before .before .mid .given .1)) .0)), (c .before .before .before .before .before .before .before .before .before .before .before .before .before .before .before .before .before .before .before .before .before .before .before .before .before .before .pre .1) .few) }
+put-pair-add-took-2 t c = record { fits = omega (arith, c .before .before .before .before .before .before .before .before .before .before .before .before .before .put-node .ensures .1 .at (taken-as (c .before .before .before .before .before .before .before .before .before .before .if1 .left) (c .before .before .before .before .before .before .before .before .before .taken .ensures)), c .before .before .before .before .put-node2 .ensures .1 .at (taken-as (c .before .if2 .left) (c .taken2 .ensures)), (c .before .before .before .before .before .before .before .before .before .before .before .before .before .before .before .before .before .before .before .before .before .before .before .before .before .before .pre .1) .few) }
 
 put-pair-took-requires : (t : ℕ) → put-pair-lts.Need-took-requires (put-pair-claims t) (put-pair-at t) put-pair.Post
-put-pair-took-requires t c κs = omega (arith, both-sum (c .before .before .before .before .before .before .before .before .before .before .before .before .before .put-node .ensures) (taken-as (c .before .before .before .before .before .before .before .before .before .before .if1 .left) (c .before .before .before .before .before .before .before .before .before .taken .ensures)) ((c .before .before .before .before .before .before .before .before .before .before .before .before .before .before .before .before .before .before .before .before .before .before .before .before .before .before .pre .1) .base) (c .before .before .before .before .put-node2 .ensures) ((pair-ready (c .before .before .before .before .before .before .before .before .before .before .before .before .before .before .before .before .before .before .before .before .before .before .shape-of .ensures) (c .before .before .before .before .before .before .before .before .before .before .before .before .before .before .before .before .before .before .first-part .ensures) (c .before .before .before .before .before .before .before .before .before .before .before .before .before .before .before .before .before .second-part .ensures) (c .before .before .before .before .before .before .before .before .before .before .before .before .before .before .before .before .before .before .before .before .before .before .before .before .before .before .pre .1) (c .before .before .before .before .before .before .before .before .before .before .before .before .before .before .before .before .before .before .before .before .mid .given .1)) .1 .shown) (taken-as (c .before .if2 .left) (c .taken2 .ensures)) (as-ready (pair-named (c .before .before .before .before .before .before .before .before .before .before .before .before .before .before .before .before .number-of .ensures) (c .before .before .before .before .before .before .before .number-of2 .ensures)) ((pair-ready (c .before .before .before .before .before .before .before .before .before .before .before .before .before .before .before .before .before .before .before .before .before .before .shape-of .ensures) (c .before .before .before .before .before .before .before .before .before .before .before .before .before .before .before .before .before .before .first-part .ensures) (c .before .before .before .before .before .before .before .before .before .before .before .before .before .before .before .before .before .second-part .ensures) (c .before .before .before .before .before .before .before .before .before .before .before .before .before .before .before .before .before .before .before .before .before .before .before .before .before .before .pre .1) (c .before .before .before .before .before .before .before .before .before .before .before .before .before .before .before .before .before .before .before .before .mid .given .1)) .0)), (c .before .before .before .before .before .before .before .before .before .before .before .before .before .before .before .before .before .before .before .before .before .before .before .before .before .before .pre .1) .few)
+put-pair-took-requires t c κs = omega (arith, c .before .before .before .before .before .before .before .before .before .before .before .before .before .put-node .ensures .1 .at (taken-as (c .before .before .before .before .before .before .before .before .before .before .if1 .left) (c .before .before .before .before .before .before .before .before .before .taken .ensures)), c .before .before .before .before .put-node2 .ensures .1 .at (taken-as (c .before .if2 .left) (c .taken2 .ensures)), (c .before .before .before .before .before .before .before .before .before .before .before .before .before .before .before .before .before .before .before .before .before .before .before .before .before .before .pre .1) .few)
 
 put-pair-returns-4 : (t : ℕ) → put-pair-lts.Need-returns-4 (put-pair-claims t) (put-pair-at t) put-pair.Post
-put-pair-returns-4 t c = pair-both (c .before .before .before .before .before .before .before .before .before .before .before .before .before .before .before .before .before .before .before .before .before .before .before .shape-of .ensures) (c .before .before .before .before .before .before .before .before .before .before .before .before .before .before .before .before .before .before .before .first-part .ensures) (c .before .before .before .before .before .before .before .before .before .before .before .before .before .before .before .before .before .before .second-part .ensures) (as-pair (c .before .before .before .before .before .before .before .before .before .before .before .before .before .before .before .before .before .number-of .ensures) (c .before .before .before .before .before .before .before .before .number-of2 .ensures) (λ u h. as-taken (took-done (c .took .ensures) (omega (arith, c .before .before .before .before .before .before .before .before .before .before .taken .ensures, c .before .before .before .before .before .before .before .before .before .before .before .if1 .left))) (both-done (c .before .before .before .before .before .before .before .before .before .before .before .before .before .before .put-node .ensures) (taken-as (c .before .before .before .before .before .before .before .before .before .before .before .if1 .left) (c .before .before .before .before .before .before .before .before .before .before .taken .ensures)) ((c .before .before .before .before .before .before .before .before .before .before .before .before .before .before .before .before .before .before .before .before .before .before .before .before .before .before .before .pre .1) .base) (c .before .before .before .before .before .put-node2 .ensures) h (taken-as (c .before .before .if2 .left) (c .before .taken2 .ensures))))) (c .before .before .before .before .before .before .before .before .before .before .before .before .before .before .before .before .before .before .before .before .before .before .before .before .before .before .before .pre .1) (c .before .before .before .before .before .before .before .before .before .before .before .before .before .before .before .before .before .before .before .before .before .mid .given .1)
+put-pair-returns-4 t c = pair-both (c .before .before .before .before .before .before .before .before .before .before .before .before .before .before .before .before .before .before .before .before .before .before .before .shape-of .ensures) (c .before .before .before .before .before .before .before .before .before .before .before .before .before .before .before .before .before .before .before .first-part .ensures) (c .before .before .before .before .before .before .before .before .before .before .before .before .before .before .before .before .before .before .second-part .ensures) (as-pair (c .before .before .before .before .before .before .before .before .before .before .before .before .before .before .before .before .before .number-of .ensures) (c .before .before .before .before .before .before .before .before .number-of2 .ensures) (λ u h. as-taken (took-done (c .took .ensures) (omega (arith, c .before .before .before .before .before .before .before .before .before .before .taken .ensures, c .before .before .before .before .before .before .before .before .before .before .before .if1 .left))) (both-done (c .before .before .before .before .before .before .before .before .before .before .before .before .before .before .put-node .ensures .0) (taken-as (c .before .before .before .before .before .before .before .before .before .before .before .if1 .left) (c .before .before .before .before .before .before .before .before .before .before .taken .ensures)) ((c .before .before .before .before .before .before .before .before .before .before .before .before .before .before .before .before .before .before .before .before .before .before .before .before .before .before .before .pre .1) .base) (c .before .before .before .before .before .put-node2 .ensures .0) h (taken-as (c .before .before .if2 .left) (c .before .taken2 .ensures))))) (c .before .before .before .before .before .before .before .before .before .before .before .before .before .before .before .before .before .before .before .before .before .before .before .before .before .before .before .pre .1) (c .before .before .before .before .before .before .before .before .before .before .before .before .before .before .before .before .before .before .before .before .before .mid .given .1)
 
 put-pair-same-length-3 : (t : ℕ) → put-pair-lts.Need-same-length-3 (put-pair-claims t) (put-pair-at t) put-pair.Post
 put-pair-same-length-3 t c = put-pair-returns-4 t c .frame .long
@@ -915,22 +915,22 @@ put-rebuilt-same-length : (t : ℕ) → put-rebuilt-lts.Need-same-length (put-re
 put-rebuilt-same-length t c = search needs
 
 put-rebuilt-returns-3 : (t : ℕ) → put-rebuilt-lts.Need-returns-3 (put-rebuilt-claims t) (put-rebuilt-at t) put-rebuilt.Post
-put-rebuilt-returns-3 t c = λ f u h. as-taken (taken-refused (c .if3 .taken)) (rebuilt-refused (placed (now (c .before .before .before .before .before .before .before .before .before .before .before .before .before .before .before .before .before .before .before .before .before .before .args .slots)) (c .before .before .before .before .before .before .before .before .before .before .before .before .before .before .before .before .before .before .before .before .before .before .args .at .cells) (c .before .before .before .before .before .before .before .before .before .before .before .before .before .before .before .before .before .before .before .before .before .before .args .parts .start) (c .before .before .before .before .before .before .before .before .before .before .before .before .before .before .before .before .before .before .before .before .before .before .args .parts .first) (c .before .before .before .before .before .before .before .before .before .before .before .before .before .before .before .before .before .before .before .before .before .before .args .parts .second) (c .before .before .before .before .before .before .before .before .before .before .before .before .before .before .before .before .before .before .place-of .ensures .inside (omega (arith, (c .before .before .before .before .before .before .before .before .before .before .before .before .before .before .before .before .before .before .before .before .before .before .pre .1 .0) .given .written .few))) (c .before .before .before .before .before .before .before .before .before .before .before .before .before .before .before .before .place-of2 .ensures .inside (omega (arith, (c .before .before .before .before .before .before .before .before .before .before .before .before .before .before .before .before .before .before .before .before .before .before .pre .1 .0) .given .written .few)))) ((c .before .before .before .before .before .before .before .before .before .before .before .before .before .before .before .before .before .before .before .before .before .before .pre .1 .0) .known .1) ((c .before .before .before .before .before .before .before .before .before .before .before .before .before .before .before .before .before .before .before .before .before .before .pre .1 .0) .base) (omega (arith, (c .before .before .before .before .before .before .before .before .before .before .before .before .before .before .before .before .before .before .before .before .before .before .pre .1 .0) .room)) h (c .before .before .before .before .before .before .before .before .before .before .before .before .before .before .unfit .ensures) (c .before .before .before .before .before .before .before .before .before .before .before .before .before .if1 .left) (c .before .before .before .before .before .before .before .before .before .before .if2 .left) ((c .before .before .before .before .before .before .before .before .before .before .before .before .before .before .before .before .before .before .before .before .before .before .pre .1 .0) .long) (c .before .before .before .before .before .before .before .rebuild .ensures .0) (c .before .before .before .put-node .ensures) (taken-refused (c .if3 .taken)))
+put-rebuilt-returns-3 t c = λ f u h. as-taken (taken-refused (c .if3 .taken)) (rebuilt-refused (placed (now (c .before .before .before .before .before .before .before .before .before .before .before .before .before .before .before .before .before .before .before .before .before .before .args .slots)) (c .before .before .before .before .before .before .before .before .before .before .before .before .before .before .before .before .before .before .before .before .before .before .args .at .cells) (c .before .before .before .before .before .before .before .before .before .before .before .before .before .before .before .before .before .before .before .before .before .before .args .parts .start) (c .before .before .before .before .before .before .before .before .before .before .before .before .before .before .before .before .before .before .before .before .before .before .args .parts .first) (c .before .before .before .before .before .before .before .before .before .before .before .before .before .before .before .before .before .before .before .before .before .before .args .parts .second) (c .before .before .before .before .before .before .before .before .before .before .before .before .before .before .before .before .before .before .place-of .ensures .inside (omega (arith, (c .before .before .before .before .before .before .before .before .before .before .before .before .before .before .before .before .before .before .before .before .before .before .pre .1 .0) .given .written .few))) (c .before .before .before .before .before .before .before .before .before .before .before .before .before .before .before .before .place-of2 .ensures .inside (omega (arith, (c .before .before .before .before .before .before .before .before .before .before .before .before .before .before .before .before .before .before .before .before .before .before .pre .1 .0) .given .written .few)))) ((c .before .before .before .before .before .before .before .before .before .before .before .before .before .before .before .before .before .before .before .before .before .before .pre .1 .0) .known .1) ((c .before .before .before .before .before .before .before .before .before .before .before .before .before .before .before .before .before .before .before .before .before .before .pre .1 .0) .base) (omega (arith, (c .before .before .before .before .before .before .before .before .before .before .before .before .before .before .before .before .before .before .before .before .before .before .pre .1 .0) .room)) h (c .before .before .before .before .before .before .before .before .before .before .before .before .before .before .unfit .ensures) (c .before .before .before .before .before .before .before .before .before .before .before .before .before .if1 .left) (c .before .before .before .before .before .before .before .before .before .before .if2 .left) ((c .before .before .before .before .before .before .before .before .before .before .before .before .before .before .before .before .before .before .before .before .before .before .pre .1 .0) .long) (c .before .before .before .before .before .before .before .rebuild .ensures .0) (c .before .before .before .put-node .ensures .0) (taken-refused (c .if3 .taken)))
 
 put-rebuilt-taken-requires : (t : ℕ) → put-rebuilt-lts.Need-taken-requires (put-rebuilt-claims t) (put-rebuilt-at t) put-rebuilt.Post
 put-rebuilt-taken-requires t c κs = search needs
 
 put-rebuilt-add-took : (t : ℕ) → put-rebuilt-lts.Need-add-took (put-rebuilt-claims t) (put-rebuilt-at t) put-rebuilt.Post
-put-rebuilt-add-took t c = record { fits = omega (arith, (rebuilt-few (placed (now (c .before .before .before .before .before .before .before .before .before .before .before .before .before .before .before .before .before .before .before .before .before .before .before .args .slots)) (c .before .before .before .before .before .before .before .before .before .before .before .before .before .before .before .before .before .before .before .before .before .before .before .args .at .cells) (c .before .before .before .before .before .before .before .before .before .before .before .before .before .before .before .before .before .before .before .before .before .before .before .args .parts .start) (c .before .before .before .before .before .before .before .before .before .before .before .before .before .before .before .before .before .before .before .before .before .before .before .args .parts .first) (c .before .before .before .before .before .before .before .before .before .before .before .before .before .before .before .before .before .before .before .before .before .before .before .args .parts .second) (c .before .before .before .before .before .before .before .before .before .before .before .before .before .before .before .before .before .before .before .place-of .ensures .inside (omega (arith, (c .before .before .before .before .before .before .before .before .before .before .before .before .before .before .before .before .before .before .before .before .before .before .before .pre .1 .0) .given .written .few))) (c .before .before .before .before .before .before .before .before .before .before .before .before .before .before .before .before .before .place-of2 .ensures .inside (omega (arith, (c .before .before .before .before .before .before .before .before .before .before .before .before .before .before .before .before .before .before .before .before .before .before .before .pre .1 .0) .given .written .few)))) ((c .before .before .before .before .before .before .before .before .before .before .before .before .before .before .before .before .before .before .before .before .before .before .before .pre .1 .0) .known .1) ((c .before .before .before .before .before .before .before .before .before .before .before .before .before .before .before .before .before .before .before .before .before .before .before .pre .1 .0) .base) (omega (arith, (c .before .before .before .before .before .before .before .before .before .before .before .before .before .before .before .before .before .before .before .before .before .before .before .pre .1 .0) .room)) ((c .before .before .before .before .before .before .before .before .before .before .before .before .before .before .before .before .before .before .before .before .before .before .before .pre .1 .1) .spans) (c .before .before .before .before .before .before .before .before .before .before .before .before .before .before .before .unfit .ensures) (c .before .before .before .before .before .before .before .before .before .before .before .before .before .before .if1 .left) (c .before .before .before .before .before .before .before .before .before .before .before .if2 .left) ((c .before .before .before .before .before .before .before .before .before .before .before .before .before .before .before .before .before .before .before .before .before .before .before .pre .1 .0) .long) (c .before .before .before .before .before .before .before .before .rebuild .ensures .0) (c .before .before .before .before .put-node .ensures) (taken-as (c .before .if3 .left) (c .taken .ensures)) (c .before .before .before .before .before .before .before .before .before .before .before .before .before .before .before .before .before .before .before .before .before .before .before .pre .1 .0)), (c .before .before .before .before .before .before .before .before .before .before .before .before .before .before .before .before .before .before .before .before .before .before .before .pre .1 .0) .few) }
+put-rebuilt-add-took t c = record { fits = omega (arith, (c .before .before .before .before .put-node .ensures .1 .at (taken-as (c .before .if3 .left) (c .taken .ensures))), (c .before .before .before .before .before .before .before .before .before .before .before .before .before .before .before .before .before .before .before .before .before .before .before .pre .1 .0) .few) }
 
 put-rebuilt-took-requires : (t : ℕ) → put-rebuilt-lts.Need-took-requires (put-rebuilt-claims t) (put-rebuilt-at t) put-rebuilt.Post
-put-rebuilt-took-requires t c κs = omega (arith, (rebuilt-few (placed (now (c .before .before .before .before .before .before .before .before .before .before .before .before .before .before .before .before .before .before .before .before .before .before .before .args .slots)) (c .before .before .before .before .before .before .before .before .before .before .before .before .before .before .before .before .before .before .before .before .before .before .before .args .at .cells) (c .before .before .before .before .before .before .before .before .before .before .before .before .before .before .before .before .before .before .before .before .before .before .before .args .parts .start) (c .before .before .before .before .before .before .before .before .before .before .before .before .before .before .before .before .before .before .before .before .before .before .before .args .parts .first) (c .before .before .before .before .before .before .before .before .before .before .before .before .before .before .before .before .before .before .before .before .before .before .before .args .parts .second) (c .before .before .before .before .before .before .before .before .before .before .before .before .before .before .before .before .before .before .before .place-of .ensures .inside (omega (arith, (c .before .before .before .before .before .before .before .before .before .before .before .before .before .before .before .before .before .before .before .before .before .before .before .pre .1 .0) .given .written .few))) (c .before .before .before .before .before .before .before .before .before .before .before .before .before .before .before .before .before .place-of2 .ensures .inside (omega (arith, (c .before .before .before .before .before .before .before .before .before .before .before .before .before .before .before .before .before .before .before .before .before .before .before .pre .1 .0) .given .written .few)))) ((c .before .before .before .before .before .before .before .before .before .before .before .before .before .before .before .before .before .before .before .before .before .before .before .pre .1 .0) .known .1) ((c .before .before .before .before .before .before .before .before .before .before .before .before .before .before .before .before .before .before .before .before .before .before .before .pre .1 .0) .base) (omega (arith, (c .before .before .before .before .before .before .before .before .before .before .before .before .before .before .before .before .before .before .before .before .before .before .before .pre .1 .0) .room)) ((c .before .before .before .before .before .before .before .before .before .before .before .before .before .before .before .before .before .before .before .before .before .before .before .pre .1 .1) .spans) (c .before .before .before .before .before .before .before .before .before .before .before .before .before .before .before .unfit .ensures) (c .before .before .before .before .before .before .before .before .before .before .before .before .before .before .if1 .left) (c .before .before .before .before .before .before .before .before .before .before .before .if2 .left) ((c .before .before .before .before .before .before .before .before .before .before .before .before .before .before .before .before .before .before .before .before .before .before .before .pre .1 .0) .long) (c .before .before .before .before .before .before .before .before .rebuild .ensures .0) (c .before .before .before .before .put-node .ensures) (taken-as (c .before .if3 .left) (c .taken .ensures)) (c .before .before .before .before .before .before .before .before .before .before .before .before .before .before .before .before .before .before .before .before .before .before .before .pre .1 .0)), (c .before .before .before .before .before .before .before .before .before .before .before .before .before .before .before .before .before .before .before .before .before .before .before .pre .1 .0) .few)
+put-rebuilt-took-requires t c κs = omega (arith, (c .before .before .before .before .put-node .ensures .1 .at (taken-as (c .before .if3 .left) (c .taken .ensures))), (c .before .before .before .before .before .before .before .before .before .before .before .before .before .before .before .before .before .before .before .before .before .before .before .pre .1 .0) .few)
 
 put-rebuilt-same-length-2 : (t : ℕ) → put-rebuilt-lts.Need-same-length-2 (put-rebuilt-claims t) (put-rebuilt-at t) put-rebuilt.Post
 put-rebuilt-same-length-2 t c = search needs
 
 put-rebuilt-returns-4 : (t : ℕ) → put-rebuilt-lts.Need-returns-4 (put-rebuilt-claims t) (put-rebuilt-at t) put-rebuilt.Post
-put-rebuilt-returns-4 t c = λ f u h. as-taken (took-done (c .took .ensures) (omega (arith, c .before .taken .ensures, c .before .before .if3 .left))) (rebuilt-done (placed (now (c .before .before .before .before .before .before .before .before .before .before .before .before .before .before .before .before .before .before .before .before .before .before .before .before .args .slots)) (c .before .before .before .before .before .before .before .before .before .before .before .before .before .before .before .before .before .before .before .before .before .before .before .before .args .at .cells) (c .before .before .before .before .before .before .before .before .before .before .before .before .before .before .before .before .before .before .before .before .before .before .before .before .args .parts .start) (c .before .before .before .before .before .before .before .before .before .before .before .before .before .before .before .before .before .before .before .before .before .before .before .before .args .parts .first) (c .before .before .before .before .before .before .before .before .before .before .before .before .before .before .before .before .before .before .before .before .before .before .before .before .args .parts .second) (c .before .before .before .before .before .before .before .before .before .before .before .before .before .before .before .before .before .before .before .before .place-of .ensures .inside (omega (arith, (c .before .before .before .before .before .before .before .before .before .before .before .before .before .before .before .before .before .before .before .before .before .before .before .before .pre .1 .0) .given .written .few))) (c .before .before .before .before .before .before .before .before .before .before .before .before .before .before .before .before .before .before .place-of2 .ensures .inside (omega (arith, (c .before .before .before .before .before .before .before .before .before .before .before .before .before .before .before .before .before .before .before .before .before .before .before .before .pre .1 .0) .given .written .few)))) ((c .before .before .before .before .before .before .before .before .before .before .before .before .before .before .before .before .before .before .before .before .before .before .before .before .pre .1 .0) .known .1) ((c .before .before .before .before .before .before .before .before .before .before .before .before .before .before .before .before .before .before .before .before .before .before .before .before .pre .1 .0) .base) (omega (arith, (c .before .before .before .before .before .before .before .before .before .before .before .before .before .before .before .before .before .before .before .before .before .before .before .before .pre .1 .0) .room)) h (c .before .before .before .before .before .before .before .before .before .before .before .before .before .before .before .before .unfit .ensures) (c .before .before .before .before .before .before .before .before .before .before .before .before .before .before .before .if1 .left) (c .before .before .before .before .before .before .before .before .before .before .before .before .if2 .left) ((c .before .before .before .before .before .before .before .before .before .before .before .before .before .before .before .before .before .before .before .before .before .before .before .before .pre .1 .0) .long) (c .before .before .before .before .before .before .before .before .before .rebuild .ensures .0) (c .before .before .before .before .before .put-node .ensures) (taken-as (c .before .before .if3 .left) (c .before .taken .ensures)))
+put-rebuilt-returns-4 t c = λ f u h. as-taken (took-done (c .took .ensures) (omega (arith, c .before .taken .ensures, c .before .before .if3 .left))) (rebuilt-done (placed (now (c .before .before .before .before .before .before .before .before .before .before .before .before .before .before .before .before .before .before .before .before .before .before .before .before .args .slots)) (c .before .before .before .before .before .before .before .before .before .before .before .before .before .before .before .before .before .before .before .before .before .before .before .before .args .at .cells) (c .before .before .before .before .before .before .before .before .before .before .before .before .before .before .before .before .before .before .before .before .before .before .before .before .args .parts .start) (c .before .before .before .before .before .before .before .before .before .before .before .before .before .before .before .before .before .before .before .before .before .before .before .before .args .parts .first) (c .before .before .before .before .before .before .before .before .before .before .before .before .before .before .before .before .before .before .before .before .before .before .before .before .args .parts .second) (c .before .before .before .before .before .before .before .before .before .before .before .before .before .before .before .before .before .before .before .before .place-of .ensures .inside (omega (arith, (c .before .before .before .before .before .before .before .before .before .before .before .before .before .before .before .before .before .before .before .before .before .before .before .before .pre .1 .0) .given .written .few))) (c .before .before .before .before .before .before .before .before .before .before .before .before .before .before .before .before .before .before .place-of2 .ensures .inside (omega (arith, (c .before .before .before .before .before .before .before .before .before .before .before .before .before .before .before .before .before .before .before .before .before .before .before .before .pre .1 .0) .given .written .few)))) ((c .before .before .before .before .before .before .before .before .before .before .before .before .before .before .before .before .before .before .before .before .before .before .before .before .pre .1 .0) .known .1) ((c .before .before .before .before .before .before .before .before .before .before .before .before .before .before .before .before .before .before .before .before .before .before .before .before .pre .1 .0) .base) (omega (arith, (c .before .before .before .before .before .before .before .before .before .before .before .before .before .before .before .before .before .before .before .before .before .before .before .before .pre .1 .0) .room)) h (c .before .before .before .before .before .before .before .before .before .before .before .before .before .before .before .before .unfit .ensures) (c .before .before .before .before .before .before .before .before .before .before .before .before .before .before .before .if1 .left) (c .before .before .before .before .before .before .before .before .before .before .before .before .if2 .left) ((c .before .before .before .before .before .before .before .before .before .before .before .before .before .before .before .before .before .before .before .before .before .before .before .before .pre .1 .0) .long) (c .before .before .before .before .before .before .before .before .before .rebuild .ensures .0) (c .before .before .before .before .before .put-node .ensures .0) (taken-as (c .before .before .if3 .left) (c .before .taken .ensures)))
 
 put-split-number-of-requires : (t : ℕ) → put-split-lts.Need-number-of-requires (put-split-claims t) (put-split-at t) put-split.Post
 put-split-number-of-requires t c κs = search needs
@@ -939,7 +939,7 @@ put-split-get-node-requires : (t : ℕ) → put-split-lts.Need-get-node-requires
 put-split-get-node-requires t c κs = subject-ready (c .before .before .before .before .before .pre .1) (omega (arith, c .before .number-of .ensures, ((c .before .before .before .before .before .pre .1) .known .1 .0 .inside)))
 
 put-split-returns : (t : ℕ) → put-split-lts.Need-returns (put-split-claims t) (put-split-at t) put-split.Post
-put-split-returns t c = as-taken (taken-refused (c .if1 .taken)) (split-refused ((c .before .before .before .before .before .before .before .before .before .pre .1) .base) (as-node (c .before .before .before .before .before .number-of .ensures) (c .before .before .before .get-node .ensures)) (found-refused (c .if1 .taken)))
+put-split-returns t c = as-taken (taken-refused (c .if1 .taken)) (split-refused ((c .before .before .before .before .before .before .before .before .before .pre .1) .base) (as-node (c .before .before .before .before .before .number-of .ensures) (c .before .before .before .get-node .ensures .0)) (found-refused (c .if1 .taken)))
 
 put-split-same-length : (t : ℕ) → put-split-lts.Need-same-length (put-split-claims t) (put-split-at t) put-split.Post
 put-split-same-length t c = put-split-returns t c .frame .long
@@ -951,19 +951,19 @@ put-split-len-of-requires : (t : ℕ) → put-split-lts.Need-len-of-requires (pu
 put-split-len-of-requires t c κs = search needs
 
 put-split-add-end : (t : ℕ) → put-split-lts.Need-add-end (put-split-claims t) (put-split-at t) put-split.Post
-put-split-add-end t c = let z = (sizes (subject-ready (c .before .before .before .before .before .before .before .before .before .before .before .pre .1) ((c .before .before .before .before .before .before .before .before .before .before .before .pre .1) .known .1 .0 .inside)) (as-node (c .before .before .before .before .before .before .before .number-of .ensures) (c .before .before .before .before .before .get-node .ensures)) (found-as (c .before .before .if1 .left) (c .before .start-of .ensures) (c .len-of .ensures) refl)) in record { fits = omega (arith, (c .before .before .before .before .before .before .before .before .before .before .before .pre .1) .room, z .short, z .low) }
+put-split-add-end t c = let z = (c .before .before .before .before .before .get-node .ensures .1 .at (found-as (c .before .before .if1 .left) (c .before .start-of .ensures) (c .len-of .ensures) refl)) in record { fits = omega (arith, (c .before .before .before .before .before .before .before .before .before .before .before .pre .1) .room, z .short, z .low) }
 
 put-split-steps-of-requires : (t : ℕ) → put-split-lts.Need-steps-of-requires (put-split-claims t) (put-split-at t) put-split.Post
 put-split-steps-of-requires t c κs = search needs
 
 put-split-add-s : (t : ℕ) → put-split-lts.Need-add-s (put-split-claims t) (put-split-at t) put-split.Post
-put-split-add-s t c = record { fits = omega (arith, (sizes (subject-ready (c .before .before .before .before .before .before .before .before .before .before .before .before .pre .1) ((c .before .before .before .before .before .before .before .before .before .before .before .before .pre .1) .known .1 .0 .inside)) (as-node (c .before .before .before .before .before .before .before .before .number-of .ensures) (c .before .before .before .before .before .before .get-node .ensures)) (found-as (c .before .before .before .if1 .left) (c .before .before .start-of .ensures) (c .before .len-of .ensures) (c .steps-of .ensures))) .steps, (c .before .before .before .before .before .before .before .before .before .before .before .before .pre .1) .few) }
+put-split-add-s t c = record { fits = omega (arith, (c .before .before .before .before .before .before .get-node .ensures .1 .at (found-as (c .before .before .before .if1 .left) (c .before .before .start-of .ensures) (c .before .len-of .ensures) (c .steps-of .ensures))) .steps, (c .before .before .before .before .before .before .before .before .before .before .before .before .pre .1) .few) }
 
 put-split-sub-to : (t : ℕ) → put-split-lts.Need-sub-to (put-split-claims t) (put-split-at t) put-split.Post
-put-split-sub-to t c = omega (arith, (sizes (subject-ready (c .before .before .before .before .before .before .before .before .before .before .before .before .before .pre .1) ((c .before .before .before .before .before .before .before .before .before .before .before .before .before .pre .1) .known .1 .0 .inside)) (as-node (c .before .before .before .before .before .before .before .before .before .number-of .ensures) (c .before .before .before .before .before .before .before .get-node .ensures)) (found-as (c .before .before .before .before .if1 .left) (c .before .before .before .start-of .ensures) (c .before .before .len-of .ensures) (c .before .steps-of .ensures))) .steps)
+put-split-sub-to t c = omega (arith, (c .before .before .before .before .before .before .before .get-node .ensures .1 .at (found-as (c .before .before .before .before .if1 .left) (c .before .before .before .start-of .ensures) (c .before .before .len-of .ensures) (c .before .steps-of .ensures))) .steps)
 
 put-split-above-requires : (t : ℕ) → put-split-lts.Need-above-requires (put-split-claims t) (put-split-at t) put-split.Post
-put-split-above-requires t c κs = let z = (sizes (subject-ready (c .before .before .before .before .before .before .before .before .before .before .before .before .before .pre .1) ((c .before .before .before .before .before .before .before .before .before .before .before .before .before .pre .1) .known .1 .0 .inside)) (as-node (c .before .before .before .before .before .before .before .before .before .number-of .ensures) (c .before .before .before .before .before .before .before .get-node .ensures)) (found-as (c .before .before .before .before .if1 .left) (c .before .before .before .start-of .ensures) (c .before .before .len-of .ensures) (c .before .steps-of .ensures))) in (z .low, omega (arith, (c .before .before .before .before .before .before .before .before .before .before .before .before .before .pre .1) .room, z .short))
+put-split-above-requires t c κs = let z = (c .before .before .before .before .before .before .before .get-node .ensures .1 .at (found-as (c .before .before .before .before .if1 .left) (c .before .before .before .start-of .ensures) (c .before .before .len-of .ensures) (c .before .steps-of .ensures))) in (z .low, omega (arith, (c .before .before .before .before .before .before .before .before .before .before .before .before .before .pre .1) .room, z .short))
 
 put-split-sub-shape-of : (t : ℕ) → put-split-lts.Need-sub-shape-of (put-split-claims t) (put-split-at t) put-split.Post
 put-split-sub-shape-of t c = search needs
@@ -972,7 +972,7 @@ put-split-part-shape-of-start : (t : ℕ) → put-split-lts.Need-part-shape-of-s
 put-split-part-shape-of-start t c = search needs
 
 put-split-part-shape-of-end : (t : ℕ) → put-split-lts.Need-part-shape-of-end (put-split-claims t) (put-split-at t) put-split.Post
-put-split-part-shape-of-end t c = let z = (sizes (subject-ready (c .before .before .before .before .before .before .before .before .before .before .before .before .before .before .before .pre .1) ((c .before .before .before .before .before .before .before .before .before .before .before .before .before .before .before .pre .1) .known .1 .0 .inside)) (as-node (c .before .before .before .before .before .before .before .before .before .before .before .number-of .ensures) (c .before .before .before .before .before .before .before .before .before .get-node .ensures)) (found-as (c .before .before .before .before .before .before .if1 .left) (c .before .before .before .before .before .start-of .ensures) (c .before .before .before .before .len-of .ensures) (c .before .before .before .steps-of .ensures))) in omega (arith, (c .before .before .before .before .before .before .before .before .before .before .before .before .before .before .before .pre .1) .room, (c .before .before .before .before .before .before .before .before .before .before .before .before .before .before .before .pre .1) .long, z .short, z .low, c .before .before .before .before .before .before .before .before .before .get-node .ensures .kept .long)
+put-split-part-shape-of-end t c = let z = (c .before .before .before .before .before .before .before .before .before .get-node .ensures .1 .at (found-as (c .before .before .before .before .before .before .if1 .left) (c .before .before .before .before .before .start-of .ensures) (c .before .before .before .before .len-of .ensures) (c .before .before .before .steps-of .ensures))) in omega (arith, (c .before .before .before .before .before .before .before .before .before .before .before .before .before .before .before .pre .1) .room, (c .before .before .before .before .before .before .before .before .before .before .before .before .before .before .before .pre .1) .long, z .short, z .low, c .before .before .before .before .before .before .before .before .before .get-node .ensures .0 .kept .long)
 
 put-split-shape-of-requires : (t : ℕ) → put-split-lts.Need-shape-of-requires (put-split-claims t) (put-split-at t) put-split.Post
 put-split-shape-of-requires t c κs = search needs
@@ -981,28 +981,28 @@ put-split-enum-known-mid : (t : ℕ) → put-split-lts.Need-enum-known-mid (put-
 put-split-enum-known-mid t c = search needs
 
 put-split-returns-2 : (t : ℕ) → put-split-lts.Need-returns-2 (put-split-claims t) (put-split-at t) put-split.Post
-put-split-returns-2 t c = as-taken (taken-refused (omega arith)) (split-43 ((c .before .before .before .before .before .before .before .before .before .before .before .before .before .before .before .before .before .before .pre .1) .base) (as-node (c .before .before .before .before .before .before .before .before .before .before .before .before .before .before .number-of .ensures) (c .before .before .before .before .before .before .before .before .before .before .before .before .get-node .ensures)) (found-as (c .before .before .before .before .before .before .before .before .before .if1 .left) (c .before .before .before .before .before .before .before .before .start-of .ensures) (c .before .before .before .before .before .before .before .len-of .ensures) (c .before .before .before .before .before .before .steps-of .ensures)) (c .before .before .before .before .above .ensures) (c .before .shape-of .ensures) (tags.no-pair _ (c .match .keys2)))
+put-split-returns-2 t c = as-taken (taken-refused (omega arith)) (split-43 ((c .before .before .before .before .before .before .before .before .before .before .before .before .before .before .before .before .before .before .pre .1) .base) (as-node (c .before .before .before .before .before .before .before .before .before .before .before .before .before .before .number-of .ensures) (c .before .before .before .before .before .before .before .before .before .before .before .before .get-node .ensures .0)) (found-as (c .before .before .before .before .before .before .before .before .before .if1 .left) (c .before .before .before .before .before .before .before .before .start-of .ensures) (c .before .before .before .before .before .before .before .len-of .ensures) (c .before .before .before .before .before .before .steps-of .ensures)) (c .before .before .before .before .above .ensures) (c .before .shape-of .ensures) (tags.no-pair _ (c .match .keys2)))
 
 put-split-same-length-2 : (t : ℕ) → put-split-lts.Need-same-length-2 (put-split-claims t) (put-split-at t) put-split.Post
 put-split-same-length-2 t c = put-split-returns-2 t c .frame .long
 
 put-split-add-t27 : (t : ℕ) → put-split-lts.Need-add-t27 (put-split-claims t) (put-split-at t) put-split.Post
-put-split-add-t27 t c = record { fits = omega (arith, (c .before .before .before .before .before .before .before .before .before .before .before .before .before .before .before .before .before .before .before .before .pre .1) .room, (sizes (subject-ready (c .before .before .before .before .before .before .before .before .before .before .before .before .before .before .before .before .before .before .before .before .pre .1) ((c .before .before .before .before .before .before .before .before .before .before .before .before .before .before .before .before .before .before .before .before .pre .1) .known .1 .0 .inside)) (as-node (c .before .before .before .before .before .before .before .before .before .before .before .before .before .before .before .before .number-of .ensures) (c .before .before .before .before .before .before .before .before .before .before .before .before .before .before .get-node .ensures)) (found-as (c .before .before .before .before .before .before .before .before .before .before .before .if1 .left) (c .before .before .before .before .before .before .before .before .before .before .start-of .ensures) (c .before .before .before .before .before .before .before .before .before .len-of .ensures) (c .before .before .before .before .before .before .before .before .steps-of .ensures))) .low) }
+put-split-add-t27 t c = record { fits = omega (arith, (c .before .before .before .before .before .before .before .before .before .before .before .before .before .before .before .before .before .before .before .before .pre .1) .room, (c .before .before .before .before .before .before .before .before .before .before .before .before .before .before .get-node .ensures .1 .at (found-as (c .before .before .before .before .before .before .before .before .before .before .before .if1 .left) (c .before .before .before .before .before .before .before .before .before .before .start-of .ensures) (c .before .before .before .before .before .before .before .before .before .len-of .ensures) (c .before .before .before .before .before .before .before .before .steps-of .ensures))) .low) }
 
 put-split-sub-t30 : (t : ℕ) → put-split-lts.Need-sub-t30 (put-split-claims t) (put-split-at t) put-split.Post
-put-split-sub-t30 t c = omega (arith, pair-inside ((c .before .before .before .before .before .before .before .before .before .before .before .before .before .before .before .before .before .before .before .before .pre .1) .base) (as-node (c .before .before .before .before .before .before .before .before .before .before .before .before .before .before .before .before .number-of .ensures) (c .before .before .before .before .before .before .before .before .before .before .before .before .before .before .get-node .ensures)) (found-as (c .before .before .before .before .before .before .before .before .before .before .before .if1 .left) (c .before .before .before .before .before .before .before .before .before .before .start-of .ensures) (c .before .before .before .before .before .before .before .before .before .len-of .ensures) (c .before .before .before .before .before .before .before .before .steps-of .ensures)) (c .before .before .before .before .before .before .above .ensures) (c .before .before .before .shape-of .ensures) (c .before .before .before .before .before .before .before .before .before .before .before .before .before .before .before .before .before .before .before .before .pre .1) (c .before .mid .given .1))
+put-split-sub-t30 t c = omega (arith, pair-inside ((c .before .before .before .before .before .before .before .before .before .before .before .before .before .before .before .before .before .before .before .before .pre .1) .base) (as-node (c .before .before .before .before .before .before .before .before .before .before .before .before .before .before .before .before .number-of .ensures) (c .before .before .before .before .before .before .before .before .before .before .before .before .before .before .get-node .ensures .0)) (found-as (c .before .before .before .before .before .before .before .before .before .before .before .if1 .left) (c .before .before .before .before .before .before .before .before .before .before .start-of .ensures) (c .before .before .before .before .before .before .before .before .before .len-of .ensures) (c .before .before .before .before .before .before .before .before .steps-of .ensures)) (c .before .before .before .before .before .before .above .ensures) (c .before .before .before .shape-of .ensures) (c .before .before .before .before .before .before .before .before .before .before .before .before .before .before .before .before .before .before .before .before .pre .1) (c .before .mid .given .1))
 
 put-split-sub-t31 : (t : ℕ) → put-split-lts.Need-sub-t31 (put-split-claims t) (put-split-at t) put-split.Post
-put-split-sub-t31 t c = omega (arith, pair-inside ((c .before .before .before .before .before .before .before .before .before .before .before .before .before .before .before .before .before .before .before .before .pre .1) .base) (as-node (c .before .before .before .before .before .before .before .before .before .before .before .before .before .before .before .before .number-of .ensures) (c .before .before .before .before .before .before .before .before .before .before .before .before .before .before .get-node .ensures)) (found-as (c .before .before .before .before .before .before .before .before .before .before .before .if1 .left) (c .before .before .before .before .before .before .before .before .before .before .start-of .ensures) (c .before .before .before .before .before .before .before .before .before .len-of .ensures) (c .before .before .before .before .before .before .before .before .steps-of .ensures)) (c .before .before .before .before .before .before .above .ensures) (c .before .before .before .shape-of .ensures) (c .before .before .before .before .before .before .before .before .before .before .before .before .before .before .before .before .before .before .before .before .pre .1) (c .before .mid .given .1))
+put-split-sub-t31 t c = omega (arith, pair-inside ((c .before .before .before .before .before .before .before .before .before .before .before .before .before .before .before .before .before .before .before .before .pre .1) .base) (as-node (c .before .before .before .before .before .before .before .before .before .before .before .before .before .before .before .before .number-of .ensures) (c .before .before .before .before .before .before .before .before .before .before .before .before .before .before .get-node .ensures .0)) (found-as (c .before .before .before .before .before .before .before .before .before .before .before .if1 .left) (c .before .before .before .before .before .before .before .before .before .before .start-of .ensures) (c .before .before .before .before .before .before .before .before .before .len-of .ensures) (c .before .before .before .before .before .before .before .before .steps-of .ensures)) (c .before .before .before .before .before .before .above .ensures) (c .before .before .before .shape-of .ensures) (c .before .before .before .before .before .before .before .before .before .before .before .before .before .before .before .before .before .before .before .before .pre .1) (c .before .mid .given .1))
 
 put-split-number-of-requires-2 : (t : ℕ) → put-split-lts.Need-number-of-requires-2 (put-split-claims t) (put-split-at t) put-split.Post
 put-split-number-of-requires-2 t c κs = search needs
 
 put-split-put-under-requires : (t : ℕ) → put-split-lts.Need-put-under-requires (put-split-claims t) (put-split-at t) put-split.Post
-put-split-put-under-requires t c κs = (omega (arith, c .before .before .before .before .before .before .before .before .before .before .before .before .before .before .before .before .before .before .before .before .before .before .before .pre .0), (after-subject ((c .before .before .before .before .before .before .before .before .before .before .before .before .before .before .before .before .before .before .before .before .before .before .before .pre .1) .base) (as-node (c .before .before .before .before .before .before .before .before .before .before .before .before .before .before .before .before .before .before .before .number-of .ensures) (c .before .before .before .before .before .before .before .before .before .before .before .before .before .before .before .before .before .get-node .ensures)) (found-as (c .before .before .before .before .before .before .before .before .before .before .before .before .before .before .if1 .left) (c .before .before .before .before .before .before .before .before .before .before .before .before .before .start-of .ensures) (c .before .before .before .before .before .before .before .before .before .before .before .before .len-of .ensures) (c .before .before .before .before .before .before .before .before .before .before .before .steps-of .ensures)) (c .before .before .before .before .before .before .before .before .before .above .ensures) (c .before .before .before .before .before .before .before .before .before .before .before .before .before .before .before .before .before .before .before .before .before .before .before .pre .1) ((omega (arith, c .before .before .number-of2 .ensures, (c .before .before .before .before .before .before .before .before .before .before .before .before .before .before .before .before .before .before .before .before .before .before .before .pre .1) .known .1 .1 .inside), (omega (arith, c .before .before .before .before .before .before .before .before .before .before .before .before .before .before .before .before .before .before .before .number-of .ensures, ((c .before .before .before .before .before .before .before .before .before .before .before .before .before .before .before .before .before .before .before .before .before .before .before .pre .1) .known .1 .0 .inside)))), aPair refl) (omega (arith, (sizes (subject-ready (c .before .before .before .before .before .before .before .before .before .before .before .before .before .before .before .before .before .before .before .before .before .before .before .pre .1) ((c .before .before .before .before .before .before .before .before .before .before .before .before .before .before .before .before .before .before .before .before .before .before .before .pre .1) .known .1 .0 .inside)) (as-node (c .before .before .before .before .before .before .before .before .before .before .before .before .before .before .before .before .before .before .before .number-of .ensures) (c .before .before .before .before .before .before .before .before .before .before .before .before .before .before .before .before .before .get-node .ensures)) (found-as (c .before .before .before .before .before .before .before .before .before .before .before .before .before .before .if1 .left) (c .before .before .before .before .before .before .before .before .before .before .before .before .before .start-of .ensures) (c .before .before .before .before .before .before .before .before .before .before .before .before .len-of .ensures) (c .before .before .before .before .before .before .before .before .before .before .before .steps-of .ensures))) .steps)), (inner ((c .before .before .before .before .before .before .before .before .before .before .before .before .before .before .before .before .before .before .before .before .before .before .before .pre .1) .base) (as-node (c .before .before .before .before .before .before .before .before .before .before .before .before .before .before .before .before .before .before .before .number-of .ensures) (c .before .before .before .before .before .before .before .before .before .before .before .before .before .before .before .before .before .get-node .ensures)) (found-as (c .before .before .before .before .before .before .before .before .before .before .before .before .before .before .if1 .left) (c .before .before .before .before .before .before .before .before .before .before .before .before .before .start-of .ensures) (c .before .before .before .before .before .before .before .before .before .before .before .before .len-of .ensures) (c .before .before .before .before .before .before .before .before .before .before .before .steps-of .ensures)) (c .before .before .before .before .before .before .before .before .before .above .ensures) (c .before .before .before .before .before .before .before .before .before .before .before .before .before .before .before .before .before .before .before .before .before .before .before .pre .1), pair-spans ((c .before .before .before .before .before .before .before .before .before .before .before .before .before .before .before .before .before .before .before .before .before .before .before .pre .1) .base) (as-node (c .before .before .before .before .before .before .before .before .before .before .before .before .before .before .before .before .before .before .before .number-of .ensures) (c .before .before .before .before .before .before .before .before .before .before .before .before .before .before .before .before .before .get-node .ensures)) (found-as (c .before .before .before .before .before .before .before .before .before .before .before .before .before .before .if1 .left) (c .before .before .before .before .before .before .before .before .before .before .before .before .before .start-of .ensures) (c .before .before .before .before .before .before .before .before .before .before .before .before .len-of .ensures) (c .before .before .before .before .before .before .before .before .before .before .before .steps-of .ensures)) (c .before .before .before .before .before .before .before .before .before .above .ensures) (c .before .before .before .before .before .before .shape-of .ensures) (c .before .before .before .before .before .before .before .before .before .before .before .before .before .before .before .before .before .before .before .before .before .before .before .pre .1) (c .before .before .before .before .mid .given .1))))
+put-split-put-under-requires t c κs = (omega (arith, c .before .before .before .before .before .before .before .before .before .before .before .before .before .before .before .before .before .before .before .before .before .before .before .pre .0), (after-subject ((c .before .before .before .before .before .before .before .before .before .before .before .before .before .before .before .before .before .before .before .before .before .before .before .pre .1) .base) (as-node (c .before .before .before .before .before .before .before .before .before .before .before .before .before .before .before .before .before .before .before .number-of .ensures) (c .before .before .before .before .before .before .before .before .before .before .before .before .before .before .before .before .before .get-node .ensures .0)) (found-as (c .before .before .before .before .before .before .before .before .before .before .before .before .before .before .if1 .left) (c .before .before .before .before .before .before .before .before .before .before .before .before .before .start-of .ensures) (c .before .before .before .before .before .before .before .before .before .before .before .before .len-of .ensures) (c .before .before .before .before .before .before .before .before .before .before .before .steps-of .ensures)) (c .before .before .before .before .before .before .before .before .before .above .ensures) (c .before .before .before .before .before .before .before .before .before .before .before .before .before .before .before .before .before .before .before .before .before .before .before .pre .1) ((omega (arith, c .before .before .number-of2 .ensures, (c .before .before .before .before .before .before .before .before .before .before .before .before .before .before .before .before .before .before .before .before .before .before .before .pre .1) .known .1 .1 .inside), (omega (arith, c .before .before .before .before .before .before .before .before .before .before .before .before .before .before .before .before .before .before .before .number-of .ensures, ((c .before .before .before .before .before .before .before .before .before .before .before .before .before .before .before .before .before .before .before .before .before .before .before .pre .1) .known .1 .0 .inside)))), aPair refl) (omega (arith, (c .before .before .before .before .before .before .before .before .before .before .before .before .before .before .before .before .before .get-node .ensures .1 .at (found-as (c .before .before .before .before .before .before .before .before .before .before .before .before .before .before .if1 .left) (c .before .before .before .before .before .before .before .before .before .before .before .before .before .start-of .ensures) (c .before .before .before .before .before .before .before .before .before .before .before .before .len-of .ensures) (c .before .before .before .before .before .before .before .before .before .before .before .steps-of .ensures))) .steps)), (inner ((c .before .before .before .before .before .before .before .before .before .before .before .before .before .before .before .before .before .before .before .before .before .before .before .pre .1) .base) (as-node (c .before .before .before .before .before .before .before .before .before .before .before .before .before .before .before .before .before .before .before .number-of .ensures) (c .before .before .before .before .before .before .before .before .before .before .before .before .before .before .before .before .before .get-node .ensures .0)) (found-as (c .before .before .before .before .before .before .before .before .before .before .before .before .before .before .if1 .left) (c .before .before .before .before .before .before .before .before .before .before .before .before .before .start-of .ensures) (c .before .before .before .before .before .before .before .before .before .before .before .before .len-of .ensures) (c .before .before .before .before .before .before .before .before .before .before .before .steps-of .ensures)) (c .before .before .before .before .before .before .before .before .before .above .ensures) (c .before .before .before .before .before .before .before .before .before .before .before .before .before .before .before .before .before .before .before .before .before .before .before .pre .1), pair-spans ((c .before .before .before .before .before .before .before .before .before .before .before .before .before .before .before .before .before .before .before .before .before .before .before .pre .1) .base) (as-node (c .before .before .before .before .before .before .before .before .before .before .before .before .before .before .before .before .before .before .before .number-of .ensures) (c .before .before .before .before .before .before .before .before .before .before .before .before .before .before .before .before .before .get-node .ensures .0)) (found-as (c .before .before .before .before .before .before .before .before .before .before .before .before .before .before .if1 .left) (c .before .before .before .before .before .before .before .before .before .before .before .before .before .start-of .ensures) (c .before .before .before .before .before .before .before .before .before .before .before .before .len-of .ensures) (c .before .before .before .before .before .before .before .before .before .before .before .steps-of .ensures)) (c .before .before .before .before .before .before .before .before .before .above .ensures) (c .before .before .before .before .before .before .shape-of .ensures) (c .before .before .before .before .before .before .before .before .before .before .before .before .before .before .before .before .before .before .before .before .before .before .before .pre .1) (c .before .before .before .before .mid .given .1))))
 
 put-split-returns-3 : (t : ℕ) → put-split-lts.Need-returns-3 (put-split-claims t) (put-split-at t) put-split.Post
-put-split-returns-3 t c = split-under ((c .before .before .before .before .before .before .before .before .before .before .before .before .before .before .before .before .before .before .before .before .before .before .before .before .before .before .pre .1) .base) (as-node (c .before .before .before .before .before .before .before .before .before .before .before .before .before .before .before .before .before .before .before .before .before .before .number-of .ensures) (c .before .before .before .before .before .before .before .before .before .before .before .before .before .before .before .before .before .before .before .before .get-node .ensures)) (found-as (c .before .before .before .before .before .before .before .before .before .before .before .before .before .before .before .before .before .if1 .left) (c .before .before .before .before .before .before .before .before .before .before .before .before .before .before .before .before .start-of .ensures) (c .before .before .before .before .before .before .before .before .before .before .before .before .before .before .before .len-of .ensures) (c .before .before .before .before .before .before .before .before .before .before .before .before .before .before .steps-of .ensures)) (c .before .before .before .before .before .before .before .before .before .before .before .before .above .ensures) (c .before .before .before .before .before .before .before .before .before .shape-of .ensures) (c .before .before .before .before .before .before .before .mid .given .1) (c .before .before .before .before .before .before .before .before .before .before .before .before .before .before .before .before .before .before .before .before .before .before .before .before .before .before .pre .1) (as-inside (c .before .before .before .before .before .number-of2 .ensures) (c .before .before .before .before .before .before .before .before .before .before .before .before .before .before .before .before .before .before .before .before .before .before .number-of .ensures) (c .before .before .put-under .ensures))
+put-split-returns-3 t c = split-under ((c .before .before .before .before .before .before .before .before .before .before .before .before .before .before .before .before .before .before .before .before .before .before .before .before .before .before .pre .1) .base) (as-node (c .before .before .before .before .before .before .before .before .before .before .before .before .before .before .before .before .before .before .before .before .before .before .number-of .ensures) (c .before .before .before .before .before .before .before .before .before .before .before .before .before .before .before .before .before .before .before .before .get-node .ensures .0)) (found-as (c .before .before .before .before .before .before .before .before .before .before .before .before .before .before .before .before .before .if1 .left) (c .before .before .before .before .before .before .before .before .before .before .before .before .before .before .before .before .start-of .ensures) (c .before .before .before .before .before .before .before .before .before .before .before .before .before .before .before .len-of .ensures) (c .before .before .before .before .before .before .before .before .before .before .before .before .before .before .steps-of .ensures)) (c .before .before .before .before .before .before .before .before .before .before .before .before .above .ensures) (c .before .before .before .before .before .before .before .before .before .shape-of .ensures) (c .before .before .before .before .before .before .before .mid .given .1) (c .before .before .before .before .before .before .before .before .before .before .before .before .before .before .before .before .before .before .before .before .before .before .before .before .before .before .pre .1) (as-inside (c .before .before .before .before .before .number-of2 .ensures) (c .before .before .before .before .before .before .before .before .before .before .before .before .before .before .before .before .before .before .before .before .before .before .number-of .ensures) (c .before .before .put-under .ensures))
 
 put-split-same-length-3 : (t : ℕ) → put-split-lts.Need-same-length-3 (put-split-claims t) (put-split-at t) put-split.Post
 put-split-same-length-3 t c = put-split-returns-3 t c .frame .long
@@ -1014,10 +1014,10 @@ put-switch-get-node-requires : (t : ℕ) → put-switch-lts.Need-get-node-requir
 put-switch-get-node-requires t c κs = default-ready (c .before .before .before .before .before .before .before .pre .1 .0) refl (omega (arith, c .before .before .before .number-of .ensures, (c .before .before .before .before .before .before .before .pre .1 .0) .known .1 .0)) refl (omega arith) (le-refl _) (omega (arith, (c .before .before .before .before .before .before .before .pre .1 .0) .room))
 
 put-switch-bring-requires : (t : ℕ) → put-switch-lts.Need-bring-requires (put-switch-claims t) (put-switch-at t) put-switch.Post
-put-switch-bring-requires t c κs = λ h. movable (default-ready (c .before .before .before .before .before .before .before .before .before .before .before .pre .1 .0) refl (omega (arith, c .before .before .before .before .before .before .before .number-of .ensures, (c .before .before .before .before .before .before .before .before .before .before .before .pre .1 .0) .known .1 .0)) refl (omega arith) (le-refl _) (omega (arith, (c .before .before .before .before .before .before .before .before .before .before .before .pre .1 .0) .room))) (c .before .before .before .get-node .ensures) h
+put-switch-bring-requires t c κs = λ h. movable (c .before .before .before .get-node .ensures .1) (omega (arith, c .before .before .before .get-node .ensures .0 .kept .long, (c .before .before .before .before .before .before .before .before .before .before .before .pre .1 .0) .long)) (omega (arith, (c .before .before .before .before .before .before .before .before .before .before .before .pre .1 .0) .room)) (omega (arith, (c .before .before .before .before .before .before .before .before .before .before .before .pre .1 .0) .few)) h
 
 put-switch-returns : (t : ℕ) → put-switch-lts.Need-returns (put-switch-claims t) (put-switch-at t) put-switch.Post
-put-switch-returns t c = as-taken (taken-refused (c .if1 .taken)) (switch-refused₁ ((c .before .before .before .before .before .before .before .before .before .before .before .before .before .before .before .pre .1 .0) .base) refl (as-node (c .before .before .before .before .before .before .before .before .before .before .before .number-of .ensures) ((bring-gives ((c .before .before .before .before .before .before .before .before .before .before .before .before .before .before .before .pre .1 .0) .base) (c .before .before .before .before .before .before .before .get-node .ensures) (c .before .before .before .bring .ensures)) .0)) (found-refused (c .if1 .taken)))
+put-switch-returns t c = as-taken (taken-refused (c .if1 .taken)) (switch-refused₁ ((c .before .before .before .before .before .before .before .before .before .before .before .before .before .before .before .pre .1 .0) .base) refl (as-node (c .before .before .before .before .before .before .before .before .before .before .before .number-of .ensures) ((bring-gives ((c .before .before .before .before .before .before .before .before .before .before .before .before .before .before .before .pre .1 .0) .base) (c .before .before .before .before .before .before .before .get-node .ensures .0) (c .before .before .before .before .before .before .before .get-node .ensures .1) (c .before .before .before .bring .ensures)) .gives)) (found-refused (c .if1 .taken)))
 
 put-switch-same-length : (t : ℕ) → put-switch-lts.Need-same-length (put-switch-claims t) (put-switch-at t) put-switch.Post
 put-switch-same-length t c = put-switch-returns t c .frame .long
@@ -1029,34 +1029,34 @@ put-switch-steps-of-requires : (t : ℕ) → put-switch-lts.Need-steps-of-requir
 put-switch-steps-of-requires t c κs = search needs
 
 put-switch-add-mid : (t : ℕ) → put-switch-lts.Need-add-mid (put-switch-claims t) (put-switch-at t) put-switch.Post
-put-switch-add-mid t c = record { fits = omega (arith, (switch-few₁ ((c .before .before .before .before .before .before .before .before .before .before .before .before .before .before .before .before .before .before .pre .1 .0) .base) refl (as-node (c .before .before .before .before .before .before .before .before .before .before .before .before .before .before .number-of .ensures) ((bring-gives ((c .before .before .before .before .before .before .before .before .before .before .before .before .before .before .before .before .before .before .pre .1 .0) .base) (c .before .before .before .before .before .before .before .before .before .before .get-node .ensures) (c .before .before .before .before .before .before .bring .ensures)) .0)) (found-there (c .before .before .before .if1 .left) ((bring-gives ((c .before .before .before .before .before .before .before .before .before .before .before .before .before .before .before .before .before .before .pre .1 .0) .base) (c .before .before .before .before .before .before .before .before .before .before .get-node .ensures) (c .before .before .before .before .before .before .bring .ensures)) .1) (c .before .before .len-of .ensures) (c .before .steps-of .ensures)) (c .before .before .before .before .before .before .before .before .before .before .before .before .before .before .before .before .before .before .pre .1 .0)), (c .before .before .before .before .before .before .before .before .before .before .before .before .before .before .before .before .before .before .pre .1 .1 .1)) }
+put-switch-add-mid t c = record { fits = omega (arith, (switch-few₁ ((c .before .before .before .before .before .before .before .before .before .before .before .before .before .before .before .before .before .before .pre .1 .0) .base) refl (as-node (c .before .before .before .before .before .before .before .before .before .before .before .before .before .before .number-of .ensures) ((bring-gives ((c .before .before .before .before .before .before .before .before .before .before .before .before .before .before .before .before .before .before .pre .1 .0) .base) (c .before .before .before .before .before .before .before .before .before .before .get-node .ensures .0) (c .before .before .before .before .before .before .before .before .before .before .get-node .ensures .1) (c .before .before .before .before .before .before .bring .ensures)) .gives)) (found-there (c .before .before .before .if1 .left) ((bring-gives ((c .before .before .before .before .before .before .before .before .before .before .before .before .before .before .before .before .before .before .pre .1 .0) .base) (c .before .before .before .before .before .before .before .before .before .before .get-node .ensures .0) (c .before .before .before .before .before .before .before .before .before .before .get-node .ensures .1) (c .before .before .before .before .before .before .bring .ensures)) .exact) (c .before .before .len-of .ensures) (c .before .steps-of .ensures)) (c .before .before .before .before .before .before .before .before .before .before .before .before .before .before .before .before .before .before .pre .1 .0)), (c .before .before .before .before .before .before .before .before .before .before .before .before .before .before .before .before .before .before .pre .1 .1 .1)) }
 
 put-switch-sub-two : (t : ℕ) → put-switch-lts.Need-sub-two (put-switch-claims t) (put-switch-at t) put-switch.Post
-put-switch-sub-two t c = omega (arith, (switch-few₁ ((c .before .before .before .before .before .before .before .before .before .before .before .before .before .before .before .before .before .before .before .pre .1 .0) .base) refl (as-node (c .before .before .before .before .before .before .before .before .before .before .before .before .before .before .before .number-of .ensures) ((bring-gives ((c .before .before .before .before .before .before .before .before .before .before .before .before .before .before .before .before .before .before .before .pre .1 .0) .base) (c .before .before .before .before .before .before .before .before .before .before .before .get-node .ensures) (c .before .before .before .before .before .before .before .bring .ensures)) .0)) (found-there (c .before .before .before .before .if1 .left) ((bring-gives ((c .before .before .before .before .before .before .before .before .before .before .before .before .before .before .before .before .before .before .before .pre .1 .0) .base) (c .before .before .before .before .before .before .before .before .before .before .before .get-node .ensures) (c .before .before .before .before .before .before .before .bring .ensures)) .1) (c .before .before .before .len-of .ensures) (c .before .before .steps-of .ensures)) (c .before .before .before .before .before .before .before .before .before .before .before .before .before .before .before .before .before .before .before .pre .1 .0)))
+put-switch-sub-two t c = omega (arith, (switch-few₁ ((c .before .before .before .before .before .before .before .before .before .before .before .before .before .before .before .before .before .before .before .pre .1 .0) .base) refl (as-node (c .before .before .before .before .before .before .before .before .before .before .before .before .before .before .before .number-of .ensures) ((bring-gives ((c .before .before .before .before .before .before .before .before .before .before .before .before .before .before .before .before .before .before .before .pre .1 .0) .base) (c .before .before .before .before .before .before .before .before .before .before .before .get-node .ensures .0) (c .before .before .before .before .before .before .before .before .before .before .before .get-node .ensures .1) (c .before .before .before .before .before .before .before .bring .ensures)) .gives)) (found-there (c .before .before .before .before .if1 .left) ((bring-gives ((c .before .before .before .before .before .before .before .before .before .before .before .before .before .before .before .before .before .before .before .pre .1 .0) .base) (c .before .before .before .before .before .before .before .before .before .before .before .get-node .ensures .0) (c .before .before .before .before .before .before .before .before .before .before .before .get-node .ensures .1) (c .before .before .before .before .before .before .before .bring .ensures)) .exact) (c .before .before .before .len-of .ensures) (c .before .before .steps-of .ensures)) (c .before .before .before .before .before .before .before .before .before .before .before .before .before .before .before .before .before .before .before .pre .1 .0)))
 
 put-switch-number-of-requires-2 : (t : ℕ) → put-switch-lts.Need-number-of-requires-2 (put-switch-claims t) (put-switch-at t) put-switch.Post
 put-switch-number-of-requires-2 t c κs = search needs
 
 put-switch-get-node-requires-2 : (t : ℕ) → put-switch-lts.Need-get-node-requires-2 (put-switch-claims t) (put-switch-at t) put-switch.Post
-put-switch-get-node-requires-2 t c κs = let thef1 = (switch-few₁ ((c .before .before .before .before .before .before .before .before .before .before .before .before .before .before .before .before .before .before .before .before .before .before .before .pre .1 .0) .base) refl (as-node (c .before .before .before .before .before .before .before .before .before .before .before .before .before .before .before .before .before .before .before .number-of .ensures) ((bring-gives ((c .before .before .before .before .before .before .before .before .before .before .before .before .before .before .before .before .before .before .before .before .before .before .before .pre .1 .0) .base) (c .before .before .before .before .before .before .before .before .before .before .before .before .before .before .before .get-node .ensures) (c .before .before .before .before .before .before .before .before .before .before .before .bring .ensures)) .0)) (found-there (c .before .before .before .before .before .before .before .before .if1 .left) ((bring-gives ((c .before .before .before .before .before .before .before .before .before .before .before .before .before .before .before .before .before .before .before .before .before .before .before .pre .1 .0) .base) (c .before .before .before .before .before .before .before .before .before .before .before .before .before .before .before .get-node .ensures) (c .before .before .before .before .before .before .before .before .before .before .before .bring .ensures)) .1) (c .before .before .before .before .before .before .before .len-of .ensures) (c .before .before .before .before .before .before .steps-of .ensures)) (c .before .before .before .before .before .before .before .before .before .before .before .before .before .before .before .before .before .before .before .before .before .before .before .pre .1 .0)) in default-ready (c .before .before .before .before .before .before .before .before .before .before .before .before .before .before .before .before .before .before .before .before .before .before .before .pre .1 .0) refl (omega (arith, c .before .before .before .number-of2 .ensures, (c .before .before .before .before .before .before .before .before .before .before .before .before .before .before .before .before .before .before .before .before .before .before .before .pre .1 .0) .known .1 .1)) ((bring-gives ((c .before .before .before .before .before .before .before .before .before .before .before .before .before .before .before .before .before .before .before .before .before .before .before .pre .1 .0) .base) (c .before .before .before .before .before .before .before .before .before .before .before .before .before .before .before .get-node .ensures) (c .before .before .before .before .before .before .before .before .before .before .before .bring .ensures)) .0 .kept .long) (omega (arith, thef1)) (omega arith) (omega (arith, thef1, (c .before .before .before .before .before .before .before .before .before .before .before .before .before .before .before .before .before .before .before .before .before .before .before .pre .1 .1 .1)))
+put-switch-get-node-requires-2 t c κs = let thef1 = (switch-few₁ ((c .before .before .before .before .before .before .before .before .before .before .before .before .before .before .before .before .before .before .before .before .before .before .before .pre .1 .0) .base) refl (as-node (c .before .before .before .before .before .before .before .before .before .before .before .before .before .before .before .before .before .before .before .number-of .ensures) ((bring-gives ((c .before .before .before .before .before .before .before .before .before .before .before .before .before .before .before .before .before .before .before .before .before .before .before .pre .1 .0) .base) (c .before .before .before .before .before .before .before .before .before .before .before .before .before .before .before .get-node .ensures .0) (c .before .before .before .before .before .before .before .before .before .before .before .before .before .before .before .get-node .ensures .1) (c .before .before .before .before .before .before .before .before .before .before .before .bring .ensures)) .gives)) (found-there (c .before .before .before .before .before .before .before .before .if1 .left) ((bring-gives ((c .before .before .before .before .before .before .before .before .before .before .before .before .before .before .before .before .before .before .before .before .before .before .before .pre .1 .0) .base) (c .before .before .before .before .before .before .before .before .before .before .before .before .before .before .before .get-node .ensures .0) (c .before .before .before .before .before .before .before .before .before .before .before .before .before .before .before .get-node .ensures .1) (c .before .before .before .before .before .before .before .before .before .before .before .bring .ensures)) .exact) (c .before .before .before .before .before .before .before .len-of .ensures) (c .before .before .before .before .before .before .steps-of .ensures)) (c .before .before .before .before .before .before .before .before .before .before .before .before .before .before .before .before .before .before .before .before .before .before .before .pre .1 .0)) in default-ready (c .before .before .before .before .before .before .before .before .before .before .before .before .before .before .before .before .before .before .before .before .before .before .before .pre .1 .0) refl (omega (arith, c .before .before .before .number-of2 .ensures, (c .before .before .before .before .before .before .before .before .before .before .before .before .before .before .before .before .before .before .before .before .before .before .before .pre .1 .0) .known .1 .1)) ((bring-gives ((c .before .before .before .before .before .before .before .before .before .before .before .before .before .before .before .before .before .before .before .before .before .before .before .pre .1 .0) .base) (c .before .before .before .before .before .before .before .before .before .before .before .before .before .before .before .get-node .ensures .0) (c .before .before .before .before .before .before .before .before .before .before .before .before .before .before .before .get-node .ensures .1) (c .before .before .before .before .before .before .before .before .before .before .before .bring .ensures)) .gives .kept .long) (omega (arith, thef1)) (omega arith) (omega (arith, thef1, (c .before .before .before .before .before .before .before .before .before .before .before .before .before .before .before .before .before .before .before .before .before .before .before .pre .1 .1 .1)))
 
 put-switch-bring-requires-2 : (t : ℕ) → put-switch-lts.Need-bring-requires-2 (put-switch-claims t) (put-switch-at t) put-switch.Post
-put-switch-bring-requires-2 t c κs = let thef1 = (switch-few₁ ((c .before .before .before .before .before .before .before .before .before .before .before .before .before .before .before .before .before .before .before .before .before .before .before .before .before .before .before .pre .1 .0) .base) refl (as-node (c .before .before .before .before .before .before .before .before .before .before .before .before .before .before .before .before .before .before .before .before .before .before .before .number-of .ensures) ((bring-gives ((c .before .before .before .before .before .before .before .before .before .before .before .before .before .before .before .before .before .before .before .before .before .before .before .before .before .before .before .pre .1 .0) .base) (c .before .before .before .before .before .before .before .before .before .before .before .before .before .before .before .before .before .before .before .get-node .ensures) (c .before .before .before .before .before .before .before .before .before .before .before .before .before .before .before .bring .ensures)) .0)) (found-there (c .before .before .before .before .before .before .before .before .before .before .before .before .if1 .left) ((bring-gives ((c .before .before .before .before .before .before .before .before .before .before .before .before .before .before .before .before .before .before .before .before .before .before .before .before .before .before .before .pre .1 .0) .base) (c .before .before .before .before .before .before .before .before .before .before .before .before .before .before .before .before .before .before .before .get-node .ensures) (c .before .before .before .before .before .before .before .before .before .before .before .before .before .before .before .bring .ensures)) .1) (c .before .before .before .before .before .before .before .before .before .before .before .len-of .ensures) (c .before .before .before .before .before .before .before .before .before .before .steps-of .ensures)) (c .before .before .before .before .before .before .before .before .before .before .before .before .before .before .before .before .before .before .before .before .before .before .before .before .before .before .before .pre .1 .0)) in λ h. movable (default-ready (c .before .before .before .before .before .before .before .before .before .before .before .before .before .before .before .before .before .before .before .before .before .before .before .before .before .before .before .pre .1 .0) refl (omega (arith, c .before .before .before .before .before .before .before .number-of2 .ensures, (c .before .before .before .before .before .before .before .before .before .before .before .before .before .before .before .before .before .before .before .before .before .before .before .before .before .before .before .pre .1 .0) .known .1 .1)) ((bring-gives ((c .before .before .before .before .before .before .before .before .before .before .before .before .before .before .before .before .before .before .before .before .before .before .before .before .before .before .before .pre .1 .0) .base) (c .before .before .before .before .before .before .before .before .before .before .before .before .before .before .before .before .before .before .before .get-node .ensures) (c .before .before .before .before .before .before .before .before .before .before .before .before .before .before .before .bring .ensures)) .0 .kept .long) (omega (arith, thef1)) (omega arith) (omega (arith, thef1, (c .before .before .before .before .before .before .before .before .before .before .before .before .before .before .before .before .before .before .before .before .before .before .before .before .before .before .before .pre .1 .1 .1)))) (c .before .before .before .get-node2 .ensures) h
+put-switch-bring-requires-2 t c κs = λ h. movable (c .before .before .before .get-node2 .ensures .1) (omega (arith, c .before .before .before .get-node2 .ensures .0 .kept .long, (bring-gives ((c .before .before .before .before .before .before .before .before .before .before .before .before .before .before .before .before .before .before .before .before .before .before .before .before .before .before .before .pre .1 .0) .base) (c .before .before .before .before .before .before .before .before .before .before .before .before .before .before .before .before .before .before .before .get-node .ensures .0) (c .before .before .before .before .before .before .before .before .before .before .before .before .before .before .before .before .before .before .before .get-node .ensures .1) (c .before .before .before .before .before .before .before .before .before .before .before .before .before .before .before .bring .ensures)) .gives .kept .long, (c .before .before .before .before .before .before .before .before .before .before .before .before .before .before .before .before .before .before .before .before .before .before .before .before .before .before .before .pre .1 .0) .long)) (omega (arith, (c .before .before .before .before .before .before .before .before .before .before .before .before .before .before .before .before .before .before .before .before .before .before .before .before .before .before .before .pre .1 .1 .1), ((bring-gives ((c .before .before .before .before .before .before .before .before .before .before .before .before .before .before .before .before .before .before .before .before .before .before .before .before .before .before .before .pre .1 .0) .base) (c .before .before .before .before .before .before .before .before .before .before .before .before .before .before .before .before .before .before .before .get-node .ensures .0) (c .before .before .before .before .before .before .before .before .before .before .before .before .before .before .before .before .before .before .before .get-node .ensures .1) (c .before .before .before .before .before .before .before .before .before .before .before .before .before .before .before .bring .ensures)) .sized .at (found-there (c .before .before .before .before .before .before .before .before .before .before .before .before .if1 .left) ((bring-gives ((c .before .before .before .before .before .before .before .before .before .before .before .before .before .before .before .before .before .before .before .before .before .before .before .before .before .before .before .pre .1 .0) .base) (c .before .before .before .before .before .before .before .before .before .before .before .before .before .before .before .before .before .before .before .get-node .ensures .0) (c .before .before .before .before .before .before .before .before .before .before .before .before .before .before .before .before .before .before .before .get-node .ensures .1) (c .before .before .before .before .before .before .before .before .before .before .before .before .before .before .before .bring .ensures)) .exact) (c .before .before .before .before .before .before .before .before .before .before .before .len-of .ensures) (c .before .before .before .before .before .before .before .before .before .before .steps-of .ensures))) .short)) (omega (arith, (c .before .before .before .before .before .before .before .before .before .before .before .before .before .before .before .before .before .before .before .before .before .before .before .before .before .before .before .pre .1 .0) .few)) h
 
 put-switch-returns-2 : (t : ℕ) → put-switch-lts.Need-returns-2 (put-switch-claims t) (put-switch-at t) put-switch.Post
-put-switch-returns-2 t c = as-taken (taken-refused (c .if2 .taken)) (switch-refused₂ ((c .before .before .before .before .before .before .before .before .before .before .before .before .before .before .before .before .before .before .before .before .before .before .before .before .before .before .before .before .before .before .before .pre .1 .0) .base) refl (as-node (c .before .before .before .before .before .before .before .before .before .before .before .before .before .before .before .before .before .before .before .before .before .before .before .before .before .before .before .number-of .ensures) ((bring-gives ((c .before .before .before .before .before .before .before .before .before .before .before .before .before .before .before .before .before .before .before .before .before .before .before .before .before .before .before .before .before .before .before .pre .1 .0) .base) (c .before .before .before .before .before .before .before .before .before .before .before .before .before .before .before .before .before .before .before .before .before .before .before .get-node .ensures) (c .before .before .before .before .before .before .before .before .before .before .before .before .before .before .before .before .before .before .before .bring .ensures)) .0)) (found-there (c .before .before .before .before .before .before .before .before .before .before .before .before .before .before .before .before .if1 .left) ((bring-gives ((c .before .before .before .before .before .before .before .before .before .before .before .before .before .before .before .before .before .before .before .before .before .before .before .before .before .before .before .before .before .before .before .pre .1 .0) .base) (c .before .before .before .before .before .before .before .before .before .before .before .before .before .before .before .before .before .before .before .before .before .before .before .get-node .ensures) (c .before .before .before .before .before .before .before .before .before .before .before .before .before .before .before .before .before .before .before .bring .ensures)) .1) (c .before .before .before .before .before .before .before .before .before .before .before .before .before .before .before .len-of .ensures) (c .before .before .before .before .before .before .before .before .before .before .before .before .before .before .steps-of .ensures)) refl (as-node (c .before .before .before .before .before .before .before .before .before .before .before .number-of2 .ensures) ((bring-gives (omega (arith, (c .before .before .before .before .before .before .before .before .before .before .before .before .before .before .before .before .before .before .before .before .before .before .before .before .before .before .before .before .before .before .before .pre .1 .0) .base)) (c .before .before .before .before .before .before .before .get-node2 .ensures) (c .before .before .before .bring2 .ensures)) .0)) (found-refused (c .if2 .taken)))
+put-switch-returns-2 t c = as-taken (taken-refused (c .if2 .taken)) (switch-refused₂ ((c .before .before .before .before .before .before .before .before .before .before .before .before .before .before .before .before .before .before .before .before .before .before .before .before .before .before .before .before .before .before .before .pre .1 .0) .base) refl (as-node (c .before .before .before .before .before .before .before .before .before .before .before .before .before .before .before .before .before .before .before .before .before .before .before .before .before .before .before .number-of .ensures) ((bring-gives ((c .before .before .before .before .before .before .before .before .before .before .before .before .before .before .before .before .before .before .before .before .before .before .before .before .before .before .before .before .before .before .before .pre .1 .0) .base) (c .before .before .before .before .before .before .before .before .before .before .before .before .before .before .before .before .before .before .before .before .before .before .before .get-node .ensures .0) (c .before .before .before .before .before .before .before .before .before .before .before .before .before .before .before .before .before .before .before .before .before .before .before .get-node .ensures .1) (c .before .before .before .before .before .before .before .before .before .before .before .before .before .before .before .before .before .before .before .bring .ensures)) .gives)) (found-there (c .before .before .before .before .before .before .before .before .before .before .before .before .before .before .before .before .if1 .left) ((bring-gives ((c .before .before .before .before .before .before .before .before .before .before .before .before .before .before .before .before .before .before .before .before .before .before .before .before .before .before .before .before .before .before .before .pre .1 .0) .base) (c .before .before .before .before .before .before .before .before .before .before .before .before .before .before .before .before .before .before .before .before .before .before .before .get-node .ensures .0) (c .before .before .before .before .before .before .before .before .before .before .before .before .before .before .before .before .before .before .before .before .before .before .before .get-node .ensures .1) (c .before .before .before .before .before .before .before .before .before .before .before .before .before .before .before .before .before .before .before .bring .ensures)) .exact) (c .before .before .before .before .before .before .before .before .before .before .before .before .before .before .before .len-of .ensures) (c .before .before .before .before .before .before .before .before .before .before .before .before .before .before .steps-of .ensures)) refl (as-node (c .before .before .before .before .before .before .before .before .before .before .before .number-of2 .ensures) ((bring-gives (omega (arith, (c .before .before .before .before .before .before .before .before .before .before .before .before .before .before .before .before .before .before .before .before .before .before .before .before .before .before .before .before .before .before .before .pre .1 .0) .base)) (c .before .before .before .before .before .before .before .get-node2 .ensures .0) (c .before .before .before .before .before .before .before .get-node2 .ensures .1) (c .before .before .before .bring2 .ensures)) .gives)) (found-refused (c .if2 .taken)))
 
 put-switch-same-length-2 : (t : ℕ) → put-switch-lts.Need-same-length-2 (put-switch-claims t) (put-switch-at t) put-switch.Post
 put-switch-same-length-2 t c = put-switch-returns-2 t c .frame .long
 
 put-switch-slice-read-unfit : (t : ℕ) → put-switch-lts.Need-slice-read-unfit (put-switch-claims t) (put-switch-at t) put-switch.Post
-put-switch-slice-read-unfit t c = omega (arith, (switch-few₁ ((c .before .before .before .before .before .before .before .before .before .before .before .before .before .before .before .before .before .before .before .before .before .before .before .before .before .before .before .before .before .before .before .before .pre .1 .0) .base) refl (as-node (c .before .before .before .before .before .before .before .before .before .before .before .before .before .before .before .before .before .before .before .before .before .before .before .before .before .before .before .before .number-of .ensures) ((bring-gives ((c .before .before .before .before .before .before .before .before .before .before .before .before .before .before .before .before .before .before .before .before .before .before .before .before .before .before .before .before .before .before .before .before .pre .1 .0) .base) (c .before .before .before .before .before .before .before .before .before .before .before .before .before .before .before .before .before .before .before .before .before .before .before .before .get-node .ensures) (c .before .before .before .before .before .before .before .before .before .before .before .before .before .before .before .before .before .before .before .before .bring .ensures)) .0)) (found-there (c .before .before .before .before .before .before .before .before .before .before .before .before .before .before .before .before .before .if1 .left) ((bring-gives ((c .before .before .before .before .before .before .before .before .before .before .before .before .before .before .before .before .before .before .before .before .before .before .before .before .before .before .before .before .before .before .before .before .pre .1 .0) .base) (c .before .before .before .before .before .before .before .before .before .before .before .before .before .before .before .before .before .before .before .before .before .before .before .before .get-node .ensures) (c .before .before .before .before .before .before .before .before .before .before .before .before .before .before .before .before .before .before .before .before .bring .ensures)) .1) (c .before .before .before .before .before .before .before .before .before .before .before .before .before .before .before .before .len-of .ensures) (c .before .before .before .before .before .before .before .before .before .before .before .before .before .before .before .steps-of .ensures)) (c .before .before .before .before .before .before .before .before .before .before .before .before .before .before .before .before .before .before .before .before .before .before .before .before .before .before .before .before .before .before .before .before .pre .1 .0)), (switch-few₂ ((c .before .before .before .before .before .before .before .before .before .before .before .before .before .before .before .before .before .before .before .before .before .before .before .before .before .before .before .before .before .before .before .before .pre .1 .0) .base) refl (as-node (c .before .before .before .before .before .before .before .before .before .before .before .before .before .before .before .before .before .before .before .before .before .before .before .before .before .before .before .before .number-of .ensures) ((bring-gives ((c .before .before .before .before .before .before .before .before .before .before .before .before .before .before .before .before .before .before .before .before .before .before .before .before .before .before .before .before .before .before .before .before .pre .1 .0) .base) (c .before .before .before .before .before .before .before .before .before .before .before .before .before .before .before .before .before .before .before .before .before .before .before .before .get-node .ensures) (c .before .before .before .before .before .before .before .before .before .before .before .before .before .before .before .before .before .before .before .before .bring .ensures)) .0)) (found-there (c .before .before .before .before .before .before .before .before .before .before .before .before .before .before .before .before .before .if1 .left) ((bring-gives ((c .before .before .before .before .before .before .before .before .before .before .before .before .before .before .before .before .before .before .before .before .before .before .before .before .before .before .before .before .before .before .before .before .pre .1 .0) .base) (c .before .before .before .before .before .before .before .before .before .before .before .before .before .before .before .before .before .before .before .before .before .before .before .before .get-node .ensures) (c .before .before .before .before .before .before .before .before .before .before .before .before .before .before .before .before .before .before .before .before .bring .ensures)) .1) (c .before .before .before .before .before .before .before .before .before .before .before .before .before .before .before .before .len-of .ensures) (c .before .before .before .before .before .before .before .before .before .before .before .before .before .before .before .steps-of .ensures)) refl (as-node (c .before .before .before .before .before .before .before .before .before .before .before .before .number-of2 .ensures) ((bring-gives (omega (arith, (c .before .before .before .before .before .before .before .before .before .before .before .before .before .before .before .before .before .before .before .before .before .before .before .before .before .before .before .before .before .before .before .before .pre .1 .0) .base)) (c .before .before .before .before .before .before .before .before .get-node2 .ensures) (c .before .before .before .before .bring2 .ensures)) .0)) (found-there (c .before .if2 .left) ((bring-gives (omega (arith, (c .before .before .before .before .before .before .before .before .before .before .before .before .before .before .before .before .before .before .before .before .before .before .before .before .before .before .before .before .before .before .before .before .pre .1 .0) .base)) (c .before .before .before .before .before .before .before .before .get-node2 .ensures) (c .before .before .before .before .bring2 .ensures)) .1) refl refl) (c .before .before .before .before .before .before .before .before .before .before .before .before .before .before .before .before .before .before .before .before .before .before .before .before .before .before .before .before .before .before .before .before .pre .1 .0)), (c .before .before .before .before .before .before .before .before .before .before .before .before .before .before .before .before .before .before .before .before .before .before .before .before .before .before .before .before .before .before .before .before .pre .1 .1 .1))
+put-switch-slice-read-unfit t c = omega (arith, (switch-few₁ ((c .before .before .before .before .before .before .before .before .before .before .before .before .before .before .before .before .before .before .before .before .before .before .before .before .before .before .before .before .before .before .before .before .pre .1 .0) .base) refl (as-node (c .before .before .before .before .before .before .before .before .before .before .before .before .before .before .before .before .before .before .before .before .before .before .before .before .before .before .before .before .number-of .ensures) ((bring-gives ((c .before .before .before .before .before .before .before .before .before .before .before .before .before .before .before .before .before .before .before .before .before .before .before .before .before .before .before .before .before .before .before .before .pre .1 .0) .base) (c .before .before .before .before .before .before .before .before .before .before .before .before .before .before .before .before .before .before .before .before .before .before .before .before .get-node .ensures .0) (c .before .before .before .before .before .before .before .before .before .before .before .before .before .before .before .before .before .before .before .before .before .before .before .before .get-node .ensures .1) (c .before .before .before .before .before .before .before .before .before .before .before .before .before .before .before .before .before .before .before .before .bring .ensures)) .gives)) (found-there (c .before .before .before .before .before .before .before .before .before .before .before .before .before .before .before .before .before .if1 .left) ((bring-gives ((c .before .before .before .before .before .before .before .before .before .before .before .before .before .before .before .before .before .before .before .before .before .before .before .before .before .before .before .before .before .before .before .before .pre .1 .0) .base) (c .before .before .before .before .before .before .before .before .before .before .before .before .before .before .before .before .before .before .before .before .before .before .before .before .get-node .ensures .0) (c .before .before .before .before .before .before .before .before .before .before .before .before .before .before .before .before .before .before .before .before .before .before .before .before .get-node .ensures .1) (c .before .before .before .before .before .before .before .before .before .before .before .before .before .before .before .before .before .before .before .before .bring .ensures)) .exact) (c .before .before .before .before .before .before .before .before .before .before .before .before .before .before .before .before .len-of .ensures) (c .before .before .before .before .before .before .before .before .before .before .before .before .before .before .before .steps-of .ensures)) (c .before .before .before .before .before .before .before .before .before .before .before .before .before .before .before .before .before .before .before .before .before .before .before .before .before .before .before .before .before .before .before .before .pre .1 .0)), (switch-few₂ ((c .before .before .before .before .before .before .before .before .before .before .before .before .before .before .before .before .before .before .before .before .before .before .before .before .before .before .before .before .before .before .before .before .pre .1 .0) .base) refl (as-node (c .before .before .before .before .before .before .before .before .before .before .before .before .before .before .before .before .before .before .before .before .before .before .before .before .before .before .before .before .number-of .ensures) ((bring-gives ((c .before .before .before .before .before .before .before .before .before .before .before .before .before .before .before .before .before .before .before .before .before .before .before .before .before .before .before .before .before .before .before .before .pre .1 .0) .base) (c .before .before .before .before .before .before .before .before .before .before .before .before .before .before .before .before .before .before .before .before .before .before .before .before .get-node .ensures .0) (c .before .before .before .before .before .before .before .before .before .before .before .before .before .before .before .before .before .before .before .before .before .before .before .before .get-node .ensures .1) (c .before .before .before .before .before .before .before .before .before .before .before .before .before .before .before .before .before .before .before .before .bring .ensures)) .gives)) (found-there (c .before .before .before .before .before .before .before .before .before .before .before .before .before .before .before .before .before .if1 .left) ((bring-gives ((c .before .before .before .before .before .before .before .before .before .before .before .before .before .before .before .before .before .before .before .before .before .before .before .before .before .before .before .before .before .before .before .before .pre .1 .0) .base) (c .before .before .before .before .before .before .before .before .before .before .before .before .before .before .before .before .before .before .before .before .before .before .before .before .get-node .ensures .0) (c .before .before .before .before .before .before .before .before .before .before .before .before .before .before .before .before .before .before .before .before .before .before .before .before .get-node .ensures .1) (c .before .before .before .before .before .before .before .before .before .before .before .before .before .before .before .before .before .before .before .before .bring .ensures)) .exact) (c .before .before .before .before .before .before .before .before .before .before .before .before .before .before .before .before .len-of .ensures) (c .before .before .before .before .before .before .before .before .before .before .before .before .before .before .before .steps-of .ensures)) refl (as-node (c .before .before .before .before .before .before .before .before .before .before .before .before .number-of2 .ensures) ((bring-gives (omega (arith, (c .before .before .before .before .before .before .before .before .before .before .before .before .before .before .before .before .before .before .before .before .before .before .before .before .before .before .before .before .before .before .before .before .pre .1 .0) .base)) (c .before .before .before .before .before .before .before .before .get-node2 .ensures .0) (c .before .before .before .before .before .before .before .before .get-node2 .ensures .1) (c .before .before .before .before .bring2 .ensures)) .gives)) (found-there (c .before .if2 .left) ((bring-gives (omega (arith, (c .before .before .before .before .before .before .before .before .before .before .before .before .before .before .before .before .before .before .before .before .before .before .before .before .before .before .before .before .before .before .before .before .pre .1 .0) .base)) (c .before .before .before .before .before .before .before .before .get-node2 .ensures .0) (c .before .before .before .before .before .before .before .before .get-node2 .ensures .1) (c .before .before .before .before .bring2 .ensures)) .exact) refl refl) (c .before .before .before .before .before .before .before .before .before .before .before .before .before .before .before .before .before .before .before .before .before .before .before .before .before .before .before .before .before .before .before .before .pre .1 .0)), (c .before .before .before .before .before .before .before .before .before .before .before .before .before .before .before .before .before .before .before .before .before .before .before .before .before .before .before .before .before .before .before .before .pre .1 .1 .1))
 
 put-switch-unfit-requires : (t : ℕ) → put-switch-lts.Need-unfit-requires (put-switch-claims t) (put-switch-at t) put-switch.Post
 put-switch-unfit-requires t c κs = search needs
 
 put-switch-returns-3 : (t : ℕ) → put-switch-lts.Need-returns-3 (put-switch-claims t) (put-switch-at t) put-switch.Post
-put-switch-returns-3 t c = as-taken (taken-refused (omega arith)) (switch-43 ((c .before .before .before .before .before .before .before .before .before .before .before .before .before .before .before .before .before .before .before .before .before .before .before .before .before .before .before .before .before .before .before .before .before .before .pre .1 .0) .base) refl (as-node (c .before .before .before .before .before .before .before .before .before .before .before .before .before .before .before .before .before .before .before .before .before .before .before .before .before .before .before .before .before .before .number-of .ensures) ((bring-gives ((c .before .before .before .before .before .before .before .before .before .before .before .before .before .before .before .before .before .before .before .before .before .before .before .before .before .before .before .before .before .before .before .before .before .before .pre .1 .0) .base) (c .before .before .before .before .before .before .before .before .before .before .before .before .before .before .before .before .before .before .before .before .before .before .before .before .before .before .get-node .ensures) (c .before .before .before .before .before .before .before .before .before .before .before .before .before .before .before .before .before .before .before .before .before .before .bring .ensures)) .0)) (found-there (c .before .before .before .before .before .before .before .before .before .before .before .before .before .before .before .before .before .before .before .if1 .left) ((bring-gives ((c .before .before .before .before .before .before .before .before .before .before .before .before .before .before .before .before .before .before .before .before .before .before .before .before .before .before .before .before .before .before .before .before .before .before .pre .1 .0) .base) (c .before .before .before .before .before .before .before .before .before .before .before .before .before .before .before .before .before .before .before .before .before .before .before .before .before .before .get-node .ensures) (c .before .before .before .before .before .before .before .before .before .before .before .before .before .before .before .before .before .before .before .before .before .before .bring .ensures)) .1) (c .before .before .before .before .before .before .before .before .before .before .before .before .before .before .before .before .before .before .len-of .ensures) (c .before .before .before .before .before .before .before .before .before .before .before .before .before .before .before .before .before .steps-of .ensures)) refl (as-node (c .before .before .before .before .before .before .before .before .before .before .before .before .before .before .number-of2 .ensures) ((bring-gives (omega (arith, (c .before .before .before .before .before .before .before .before .before .before .before .before .before .before .before .before .before .before .before .before .before .before .before .before .before .before .before .before .before .before .before .before .before .before .pre .1 .0) .base)) (c .before .before .before .before .before .before .before .before .before .before .get-node2 .ensures) (c .before .before .before .before .before .before .bring2 .ensures)) .0)) (found-there (c .before .before .before .if2 .left) ((bring-gives (omega (arith, (c .before .before .before .before .before .before .before .before .before .before .before .before .before .before .before .before .before .before .before .before .before .before .before .before .before .before .before .before .before .before .before .before .before .before .pre .1 .0) .base)) (c .before .before .before .before .before .before .before .before .before .before .get-node2 .ensures) (c .before .before .before .before .before .before .bring2 .ensures)) .1) refl refl) (unfit-no _ (c .before .unfit .ensures) (c .if3 .taken)))
+put-switch-returns-3 t c = as-taken (taken-refused (omega arith)) (switch-43 ((c .before .before .before .before .before .before .before .before .before .before .before .before .before .before .before .before .before .before .before .before .before .before .before .before .before .before .before .before .before .before .before .before .before .before .pre .1 .0) .base) refl (as-node (c .before .before .before .before .before .before .before .before .before .before .before .before .before .before .before .before .before .before .before .before .before .before .before .before .before .before .before .before .before .before .number-of .ensures) ((bring-gives ((c .before .before .before .before .before .before .before .before .before .before .before .before .before .before .before .before .before .before .before .before .before .before .before .before .before .before .before .before .before .before .before .before .before .before .pre .1 .0) .base) (c .before .before .before .before .before .before .before .before .before .before .before .before .before .before .before .before .before .before .before .before .before .before .before .before .before .before .get-node .ensures .0) (c .before .before .before .before .before .before .before .before .before .before .before .before .before .before .before .before .before .before .before .before .before .before .before .before .before .before .get-node .ensures .1) (c .before .before .before .before .before .before .before .before .before .before .before .before .before .before .before .before .before .before .before .before .before .before .bring .ensures)) .gives)) (found-there (c .before .before .before .before .before .before .before .before .before .before .before .before .before .before .before .before .before .before .before .if1 .left) ((bring-gives ((c .before .before .before .before .before .before .before .before .before .before .before .before .before .before .before .before .before .before .before .before .before .before .before .before .before .before .before .before .before .before .before .before .before .before .pre .1 .0) .base) (c .before .before .before .before .before .before .before .before .before .before .before .before .before .before .before .before .before .before .before .before .before .before .before .before .before .before .get-node .ensures .0) (c .before .before .before .before .before .before .before .before .before .before .before .before .before .before .before .before .before .before .before .before .before .before .before .before .before .before .get-node .ensures .1) (c .before .before .before .before .before .before .before .before .before .before .before .before .before .before .before .before .before .before .before .before .before .before .bring .ensures)) .exact) (c .before .before .before .before .before .before .before .before .before .before .before .before .before .before .before .before .before .before .len-of .ensures) (c .before .before .before .before .before .before .before .before .before .before .before .before .before .before .before .before .before .steps-of .ensures)) refl (as-node (c .before .before .before .before .before .before .before .before .before .before .before .before .before .before .number-of2 .ensures) ((bring-gives (omega (arith, (c .before .before .before .before .before .before .before .before .before .before .before .before .before .before .before .before .before .before .before .before .before .before .before .before .before .before .before .before .before .before .before .before .before .before .pre .1 .0) .base)) (c .before .before .before .before .before .before .before .before .before .before .get-node2 .ensures .0) (c .before .before .before .before .before .before .before .before .before .before .get-node2 .ensures .1) (c .before .before .before .before .before .before .bring2 .ensures)) .gives)) (found-there (c .before .before .before .if2 .left) ((bring-gives (omega (arith, (c .before .before .before .before .before .before .before .before .before .before .before .before .before .before .before .before .before .before .before .before .before .before .before .before .before .before .before .before .before .before .before .before .before .before .pre .1 .0) .base)) (c .before .before .before .before .before .before .before .before .before .before .get-node2 .ensures .0) (c .before .before .before .before .before .before .before .before .before .before .get-node2 .ensures .1) (c .before .before .before .before .before .before .bring2 .ensures)) .exact) refl refl) (unfit-no _ (c .before .unfit .ensures) (c .if3 .taken)))
 
 put-switch-same-length-3 : (t : ℕ) → put-switch-lts.Need-same-length-3 (put-switch-claims t) (put-switch-at t) put-switch.Post
 put-switch-same-length-3 t c = put-switch-returns-3 t c .frame .long
@@ -1068,10 +1068,10 @@ put-switch-steps-of-requires-2 : (t : ℕ) → put-switch-lts.Need-steps-of-requ
 put-switch-steps-of-requires-2 t c κs = search needs
 
 put-switch-sub-to : (t : ℕ) → put-switch-lts.Need-sub-to (put-switch-claims t) (put-switch-at t) put-switch.Post
-put-switch-sub-to t c = omega (arith, (switch-few₂ ((c .before .before .before .before .before .before .before .before .before .before .before .before .before .before .before .before .before .before .before .before .before .before .before .before .before .before .before .before .before .before .before .before .before .before .before .before .before .pre .1 .0) .base) refl (as-node (c .before .before .before .before .before .before .before .before .before .before .before .before .before .before .before .before .before .before .before .before .before .before .before .before .before .before .before .before .before .before .before .before .before .number-of .ensures) ((bring-gives ((c .before .before .before .before .before .before .before .before .before .before .before .before .before .before .before .before .before .before .before .before .before .before .before .before .before .before .before .before .before .before .before .before .before .before .before .before .before .pre .1 .0) .base) (c .before .before .before .before .before .before .before .before .before .before .before .before .before .before .before .before .before .before .before .before .before .before .before .before .before .before .before .before .before .get-node .ensures) (c .before .before .before .before .before .before .before .before .before .before .before .before .before .before .before .before .before .before .before .before .before .before .before .before .before .bring .ensures)) .0)) (found-there (c .before .before .before .before .before .before .before .before .before .before .before .before .before .before .before .before .before .before .before .before .before .before .if1 .left) ((bring-gives ((c .before .before .before .before .before .before .before .before .before .before .before .before .before .before .before .before .before .before .before .before .before .before .before .before .before .before .before .before .before .before .before .before .before .before .before .before .before .pre .1 .0) .base) (c .before .before .before .before .before .before .before .before .before .before .before .before .before .before .before .before .before .before .before .before .before .before .before .before .before .before .before .before .before .get-node .ensures) (c .before .before .before .before .before .before .before .before .before .before .before .before .before .before .before .before .before .before .before .before .before .before .before .before .before .bring .ensures)) .1) (c .before .before .before .before .before .before .before .before .before .before .before .before .before .before .before .before .before .before .before .before .before .len-of .ensures) (c .before .before .before .before .before .before .before .before .before .before .before .before .before .before .before .before .before .before .before .before .steps-of .ensures)) refl (as-node (c .before .before .before .before .before .before .before .before .before .before .before .before .before .before .before .before .before .number-of2 .ensures) ((bring-gives (omega (arith, (c .before .before .before .before .before .before .before .before .before .before .before .before .before .before .before .before .before .before .before .before .before .before .before .before .before .before .before .before .before .before .before .before .before .before .before .before .before .pre .1 .0) .base)) (c .before .before .before .before .before .before .before .before .before .before .before .before .before .get-node2 .ensures) (c .before .before .before .before .before .before .before .before .before .bring2 .ensures)) .0)) (found-there (c .before .before .before .before .before .before .if2 .left) ((bring-gives (omega (arith, (c .before .before .before .before .before .before .before .before .before .before .before .before .before .before .before .before .before .before .before .before .before .before .before .before .before .before .before .before .before .before .before .before .before .before .before .before .before .pre .1 .0) .base)) (c .before .before .before .before .before .before .before .before .before .before .before .before .before .get-node2 .ensures) (c .before .before .before .before .before .before .before .before .before .bring2 .ensures)) .1) (c .before .before .len-of2 .ensures) (c .before .steps-of2 .ensures)) (c .before .before .before .before .before .before .before .before .before .before .before .before .before .before .before .before .before .before .before .before .before .before .before .before .before .before .before .before .before .before .before .before .before .before .before .before .before .pre .1 .0)))
+put-switch-sub-to t c = omega (arith, (switch-few₂ ((c .before .before .before .before .before .before .before .before .before .before .before .before .before .before .before .before .before .before .before .before .before .before .before .before .before .before .before .before .before .before .before .before .before .before .before .before .before .pre .1 .0) .base) refl (as-node (c .before .before .before .before .before .before .before .before .before .before .before .before .before .before .before .before .before .before .before .before .before .before .before .before .before .before .before .before .before .before .before .before .before .number-of .ensures) ((bring-gives ((c .before .before .before .before .before .before .before .before .before .before .before .before .before .before .before .before .before .before .before .before .before .before .before .before .before .before .before .before .before .before .before .before .before .before .before .before .before .pre .1 .0) .base) (c .before .before .before .before .before .before .before .before .before .before .before .before .before .before .before .before .before .before .before .before .before .before .before .before .before .before .before .before .before .get-node .ensures .0) (c .before .before .before .before .before .before .before .before .before .before .before .before .before .before .before .before .before .before .before .before .before .before .before .before .before .before .before .before .before .get-node .ensures .1) (c .before .before .before .before .before .before .before .before .before .before .before .before .before .before .before .before .before .before .before .before .before .before .before .before .before .bring .ensures)) .gives)) (found-there (c .before .before .before .before .before .before .before .before .before .before .before .before .before .before .before .before .before .before .before .before .before .before .if1 .left) ((bring-gives ((c .before .before .before .before .before .before .before .before .before .before .before .before .before .before .before .before .before .before .before .before .before .before .before .before .before .before .before .before .before .before .before .before .before .before .before .before .before .pre .1 .0) .base) (c .before .before .before .before .before .before .before .before .before .before .before .before .before .before .before .before .before .before .before .before .before .before .before .before .before .before .before .before .before .get-node .ensures .0) (c .before .before .before .before .before .before .before .before .before .before .before .before .before .before .before .before .before .before .before .before .before .before .before .before .before .before .before .before .before .get-node .ensures .1) (c .before .before .before .before .before .before .before .before .before .before .before .before .before .before .before .before .before .before .before .before .before .before .before .before .before .bring .ensures)) .exact) (c .before .before .before .before .before .before .before .before .before .before .before .before .before .before .before .before .before .before .before .before .before .len-of .ensures) (c .before .before .before .before .before .before .before .before .before .before .before .before .before .before .before .before .before .before .before .before .steps-of .ensures)) refl (as-node (c .before .before .before .before .before .before .before .before .before .before .before .before .before .before .before .before .before .number-of2 .ensures) ((bring-gives (omega (arith, (c .before .before .before .before .before .before .before .before .before .before .before .before .before .before .before .before .before .before .before .before .before .before .before .before .before .before .before .before .before .before .before .before .before .before .before .before .before .pre .1 .0) .base)) (c .before .before .before .before .before .before .before .before .before .before .before .before .before .get-node2 .ensures .0) (c .before .before .before .before .before .before .before .before .before .before .before .before .before .get-node2 .ensures .1) (c .before .before .before .before .before .before .before .before .before .bring2 .ensures)) .gives)) (found-there (c .before .before .before .before .before .before .if2 .left) ((bring-gives (omega (arith, (c .before .before .before .before .before .before .before .before .before .before .before .before .before .before .before .before .before .before .before .before .before .before .before .before .before .before .before .before .before .before .before .before .before .before .before .before .before .pre .1 .0) .base)) (c .before .before .before .before .before .before .before .before .before .before .before .before .before .get-node2 .ensures .0) (c .before .before .before .before .before .before .before .before .before .before .before .before .before .get-node2 .ensures .1) (c .before .before .before .before .before .before .before .before .before .bring2 .ensures)) .exact) (c .before .before .len-of2 .ensures) (c .before .steps-of2 .ensures)) (c .before .before .before .before .before .before .before .before .before .before .before .before .before .before .before .before .before .before .before .before .before .before .before .before .before .before .before .before .before .before .before .before .before .before .before .before .before .pre .1 .0)))
 
 put-switch-add-to : (t : ℕ) → put-switch-lts.Need-add-to (put-switch-claims t) (put-switch-at t) put-switch.Post
-put-switch-add-to t c = record { fits = omega (arith, (switch-few₁ ((c .before .before .before .before .before .before .before .before .before .before .before .before .before .before .before .before .before .before .before .before .before .before .before .before .before .before .before .before .before .before .before .before .before .before .before .before .before .pre .1 .0) .base) refl (as-node (c .before .before .before .before .before .before .before .before .before .before .before .before .before .before .before .before .before .before .before .before .before .before .before .before .before .before .before .before .before .before .before .before .before .number-of .ensures) ((bring-gives ((c .before .before .before .before .before .before .before .before .before .before .before .before .before .before .before .before .before .before .before .before .before .before .before .before .before .before .before .before .before .before .before .before .before .before .before .before .before .pre .1 .0) .base) (c .before .before .before .before .before .before .before .before .before .before .before .before .before .before .before .before .before .before .before .before .before .before .before .before .before .before .before .before .before .get-node .ensures) (c .before .before .before .before .before .before .before .before .before .before .before .before .before .before .before .before .before .before .before .before .before .before .before .before .before .bring .ensures)) .0)) (found-there (c .before .before .before .before .before .before .before .before .before .before .before .before .before .before .before .before .before .before .before .before .before .before .if1 .left) ((bring-gives ((c .before .before .before .before .before .before .before .before .before .before .before .before .before .before .before .before .before .before .before .before .before .before .before .before .before .before .before .before .before .before .before .before .before .before .before .before .before .pre .1 .0) .base) (c .before .before .before .before .before .before .before .before .before .before .before .before .before .before .before .before .before .before .before .before .before .before .before .before .before .before .before .before .before .get-node .ensures) (c .before .before .before .before .before .before .before .before .before .before .before .before .before .before .before .before .before .before .before .before .before .before .before .before .before .bring .ensures)) .1) (c .before .before .before .before .before .before .before .before .before .before .before .before .before .before .before .before .before .before .before .before .before .len-of .ensures) (c .before .before .before .before .before .before .before .before .before .before .before .before .before .before .before .before .before .before .before .before .steps-of .ensures)) (c .before .before .before .before .before .before .before .before .before .before .before .before .before .before .before .before .before .before .before .before .before .before .before .before .before .before .before .before .before .before .before .before .before .before .before .before .before .pre .1 .0)), (switch-few₂ ((c .before .before .before .before .before .before .before .before .before .before .before .before .before .before .before .before .before .before .before .before .before .before .before .before .before .before .before .before .before .before .before .before .before .before .before .before .before .pre .1 .0) .base) refl (as-node (c .before .before .before .before .before .before .before .before .before .before .before .before .before .before .before .before .before .before .before .before .before .before .before .before .before .before .before .before .before .before .before .before .before .number-of .ensures) ((bring-gives ((c .before .before .before .before .before .before .before .before .before .before .before .before .before .before .before .before .before .before .before .before .before .before .before .before .before .before .before .before .before .before .before .before .before .before .before .before .before .pre .1 .0) .base) (c .before .before .before .before .before .before .before .before .before .before .before .before .before .before .before .before .before .before .before .before .before .before .before .before .before .before .before .before .before .get-node .ensures) (c .before .before .before .before .before .before .before .before .before .before .before .before .before .before .before .before .before .before .before .before .before .before .before .before .before .bring .ensures)) .0)) (found-there (c .before .before .before .before .before .before .before .before .before .before .before .before .before .before .before .before .before .before .before .before .before .before .if1 .left) ((bring-gives ((c .before .before .before .before .before .before .before .before .before .before .before .before .before .before .before .before .before .before .before .before .before .before .before .before .before .before .before .before .before .before .before .before .before .before .before .before .before .pre .1 .0) .base) (c .before .before .before .before .before .before .before .before .before .before .before .before .before .before .before .before .before .before .before .before .before .before .before .before .before .before .before .before .before .get-node .ensures) (c .before .before .before .before .before .before .before .before .before .before .before .before .before .before .before .before .before .before .before .before .before .before .before .before .before .bring .ensures)) .1) (c .before .before .before .before .before .before .before .before .before .before .before .before .before .before .before .before .before .before .before .before .before .len-of .ensures) (c .before .before .before .before .before .before .before .before .before .before .before .before .before .before .before .before .before .before .before .before .steps-of .ensures)) refl (as-node (c .before .before .before .before .before .before .before .before .before .before .before .before .before .before .before .before .before .number-of2 .ensures) ((bring-gives (omega (arith, (c .before .before .before .before .before .before .before .before .before .before .before .before .before .before .before .before .before .before .before .before .before .before .before .before .before .before .before .before .before .before .before .before .before .before .before .before .before .pre .1 .0) .base)) (c .before .before .before .before .before .before .before .before .before .before .before .before .before .get-node2 .ensures) (c .before .before .before .before .before .before .before .before .before .bring2 .ensures)) .0)) (found-there (c .before .before .before .before .before .before .if2 .left) ((bring-gives (omega (arith, (c .before .before .before .before .before .before .before .before .before .before .before .before .before .before .before .before .before .before .before .before .before .before .before .before .before .before .before .before .before .before .before .before .before .before .before .before .before .pre .1 .0) .base)) (c .before .before .before .before .before .before .before .before .before .before .before .before .before .get-node2 .ensures) (c .before .before .before .before .before .before .before .before .before .bring2 .ensures)) .1) (c .before .before .len-of2 .ensures) (c .before .steps-of2 .ensures)) (c .before .before .before .before .before .before .before .before .before .before .before .before .before .before .before .before .before .before .before .before .before .before .before .before .before .before .before .before .before .before .before .before .before .before .before .before .before .pre .1 .0)), (c .before .before .before .before .before .before .before .before .before .before .before .before .before .before .before .before .before .before .before .before .before .before .before .before .before .before .before .before .before .before .before .before .before .before .before .before .before .pre .1 .1 .1)) }
+put-switch-add-to t c = record { fits = omega (arith, (switch-few₁ ((c .before .before .before .before .before .before .before .before .before .before .before .before .before .before .before .before .before .before .before .before .before .before .before .before .before .before .before .before .before .before .before .before .before .before .before .before .before .pre .1 .0) .base) refl (as-node (c .before .before .before .before .before .before .before .before .before .before .before .before .before .before .before .before .before .before .before .before .before .before .before .before .before .before .before .before .before .before .before .before .before .number-of .ensures) ((bring-gives ((c .before .before .before .before .before .before .before .before .before .before .before .before .before .before .before .before .before .before .before .before .before .before .before .before .before .before .before .before .before .before .before .before .before .before .before .before .before .pre .1 .0) .base) (c .before .before .before .before .before .before .before .before .before .before .before .before .before .before .before .before .before .before .before .before .before .before .before .before .before .before .before .before .before .get-node .ensures .0) (c .before .before .before .before .before .before .before .before .before .before .before .before .before .before .before .before .before .before .before .before .before .before .before .before .before .before .before .before .before .get-node .ensures .1) (c .before .before .before .before .before .before .before .before .before .before .before .before .before .before .before .before .before .before .before .before .before .before .before .before .before .bring .ensures)) .gives)) (found-there (c .before .before .before .before .before .before .before .before .before .before .before .before .before .before .before .before .before .before .before .before .before .before .if1 .left) ((bring-gives ((c .before .before .before .before .before .before .before .before .before .before .before .before .before .before .before .before .before .before .before .before .before .before .before .before .before .before .before .before .before .before .before .before .before .before .before .before .before .pre .1 .0) .base) (c .before .before .before .before .before .before .before .before .before .before .before .before .before .before .before .before .before .before .before .before .before .before .before .before .before .before .before .before .before .get-node .ensures .0) (c .before .before .before .before .before .before .before .before .before .before .before .before .before .before .before .before .before .before .before .before .before .before .before .before .before .before .before .before .before .get-node .ensures .1) (c .before .before .before .before .before .before .before .before .before .before .before .before .before .before .before .before .before .before .before .before .before .before .before .before .before .bring .ensures)) .exact) (c .before .before .before .before .before .before .before .before .before .before .before .before .before .before .before .before .before .before .before .before .before .len-of .ensures) (c .before .before .before .before .before .before .before .before .before .before .before .before .before .before .before .before .before .before .before .before .steps-of .ensures)) (c .before .before .before .before .before .before .before .before .before .before .before .before .before .before .before .before .before .before .before .before .before .before .before .before .before .before .before .before .before .before .before .before .before .before .before .before .before .pre .1 .0)), (switch-few₂ ((c .before .before .before .before .before .before .before .before .before .before .before .before .before .before .before .before .before .before .before .before .before .before .before .before .before .before .before .before .before .before .before .before .before .before .before .before .before .pre .1 .0) .base) refl (as-node (c .before .before .before .before .before .before .before .before .before .before .before .before .before .before .before .before .before .before .before .before .before .before .before .before .before .before .before .before .before .before .before .before .before .number-of .ensures) ((bring-gives ((c .before .before .before .before .before .before .before .before .before .before .before .before .before .before .before .before .before .before .before .before .before .before .before .before .before .before .before .before .before .before .before .before .before .before .before .before .before .pre .1 .0) .base) (c .before .before .before .before .before .before .before .before .before .before .before .before .before .before .before .before .before .before .before .before .before .before .before .before .before .before .before .before .before .get-node .ensures .0) (c .before .before .before .before .before .before .before .before .before .before .before .before .before .before .before .before .before .before .before .before .before .before .before .before .before .before .before .before .before .get-node .ensures .1) (c .before .before .before .before .before .before .before .before .before .before .before .before .before .before .before .before .before .before .before .before .before .before .before .before .before .bring .ensures)) .gives)) (found-there (c .before .before .before .before .before .before .before .before .before .before .before .before .before .before .before .before .before .before .before .before .before .before .if1 .left) ((bring-gives ((c .before .before .before .before .before .before .before .before .before .before .before .before .before .before .before .before .before .before .before .before .before .before .before .before .before .before .before .before .before .before .before .before .before .before .before .before .before .pre .1 .0) .base) (c .before .before .before .before .before .before .before .before .before .before .before .before .before .before .before .before .before .before .before .before .before .before .before .before .before .before .before .before .before .get-node .ensures .0) (c .before .before .before .before .before .before .before .before .before .before .before .before .before .before .before .before .before .before .before .before .before .before .before .before .before .before .before .before .before .get-node .ensures .1) (c .before .before .before .before .before .before .before .before .before .before .before .before .before .before .before .before .before .before .before .before .before .before .before .before .before .bring .ensures)) .exact) (c .before .before .before .before .before .before .before .before .before .before .before .before .before .before .before .before .before .before .before .before .before .len-of .ensures) (c .before .before .before .before .before .before .before .before .before .before .before .before .before .before .before .before .before .before .before .before .steps-of .ensures)) refl (as-node (c .before .before .before .before .before .before .before .before .before .before .before .before .before .before .before .before .before .number-of2 .ensures) ((bring-gives (omega (arith, (c .before .before .before .before .before .before .before .before .before .before .before .before .before .before .before .before .before .before .before .before .before .before .before .before .before .before .before .before .before .before .before .before .before .before .before .before .before .pre .1 .0) .base)) (c .before .before .before .before .before .before .before .before .before .before .before .before .before .get-node2 .ensures .0) (c .before .before .before .before .before .before .before .before .before .before .before .before .before .get-node2 .ensures .1) (c .before .before .before .before .before .before .before .before .before .bring2 .ensures)) .gives)) (found-there (c .before .before .before .before .before .before .if2 .left) ((bring-gives (omega (arith, (c .before .before .before .before .before .before .before .before .before .before .before .before .before .before .before .before .before .before .before .before .before .before .before .before .before .before .before .before .before .before .before .before .before .before .before .before .before .pre .1 .0) .base)) (c .before .before .before .before .before .before .before .before .before .before .before .before .before .get-node2 .ensures .0) (c .before .before .before .before .before .before .before .before .before .before .before .before .before .get-node2 .ensures .1) (c .before .before .before .before .before .before .before .before .before .bring2 .ensures)) .exact) (c .before .before .len-of2 .ensures) (c .before .steps-of2 .ensures)) (c .before .before .before .before .before .before .before .before .before .before .before .before .before .before .before .before .before .before .before .before .before .before .before .before .before .before .before .before .before .before .before .before .before .before .before .before .before .pre .1 .0)), (c .before .before .before .before .before .before .before .before .before .before .before .before .before .before .before .before .before .before .before .before .before .before .before .before .before .before .before .before .before .before .before .before .before .before .before .before .before .pre .1 .1 .1)) }
 
 put-switch-number-of-requires-3 : (t : ℕ) → put-switch-lts.Need-number-of-requires-3 (put-switch-claims t) (put-switch-at t) put-switch.Post
 put-switch-number-of-requires-3 t c κs = search needs
@@ -1080,16 +1080,16 @@ put-switch-number-of-requires-4 : (t : ℕ) → put-switch-lts.Need-number-of-re
 put-switch-number-of-requires-4 t c κs = search needs
 
 put-switch-add-put-under : (t : ℕ) → put-switch-lts.Need-add-put-under (put-switch-claims t) (put-switch-at t) put-switch.Post
-put-switch-add-put-under t c = record { fits = omega (arith, (switch-few₁ ((c .before .before .before .before .before .before .before .before .before .before .before .before .before .before .before .before .before .before .before .before .before .before .before .before .before .before .before .before .before .before .before .before .before .before .before .before .before .before .before .before .before .pre .1 .0) .base) refl (as-node (c .before .before .before .before .before .before .before .before .before .before .before .before .before .before .before .before .before .before .before .before .before .before .before .before .before .before .before .before .before .before .before .before .before .before .before .before .before .number-of .ensures) ((bring-gives ((c .before .before .before .before .before .before .before .before .before .before .before .before .before .before .before .before .before .before .before .before .before .before .before .before .before .before .before .before .before .before .before .before .before .before .before .before .before .before .before .before .before .pre .1 .0) .base) (c .before .before .before .before .before .before .before .before .before .before .before .before .before .before .before .before .before .before .before .before .before .before .before .before .before .before .before .before .before .before .before .before .before .get-node .ensures) (c .before .before .before .before .before .before .before .before .before .before .before .before .before .before .before .before .before .before .before .before .before .before .before .before .before .before .before .before .before .bring .ensures)) .0)) (found-there (c .before .before .before .before .before .before .before .before .before .before .before .before .before .before .before .before .before .before .before .before .before .before .before .before .before .before .if1 .left) ((bring-gives ((c .before .before .before .before .before .before .before .before .before .before .before .before .before .before .before .before .before .before .before .before .before .before .before .before .before .before .before .before .before .before .before .before .before .before .before .before .before .before .before .before .before .pre .1 .0) .base) (c .before .before .before .before .before .before .before .before .before .before .before .before .before .before .before .before .before .before .before .before .before .before .before .before .before .before .before .before .before .before .before .before .before .get-node .ensures) (c .before .before .before .before .before .before .before .before .before .before .before .before .before .before .before .before .before .before .before .before .before .before .before .before .before .before .before .before .before .bring .ensures)) .1) (c .before .before .before .before .before .before .before .before .before .before .before .before .before .before .before .before .before .before .before .before .before .before .before .before .before .len-of .ensures) (c .before .before .before .before .before .before .before .before .before .before .before .before .before .before .before .before .before .before .before .before .before .before .before .before .steps-of .ensures)) (c .before .before .before .before .before .before .before .before .before .before .before .before .before .before .before .before .before .before .before .before .before .before .before .before .before .before .before .before .before .before .before .before .before .before .before .before .before .before .before .before .before .pre .1 .0)), (switch-few₂ ((c .before .before .before .before .before .before .before .before .before .before .before .before .before .before .before .before .before .before .before .before .before .before .before .before .before .before .before .before .before .before .before .before .before .before .before .before .before .before .before .before .before .pre .1 .0) .base) refl (as-node (c .before .before .before .before .before .before .before .before .before .before .before .before .before .before .before .before .before .before .before .before .before .before .before .before .before .before .before .before .before .before .before .before .before .before .before .before .before .number-of .ensures) ((bring-gives ((c .before .before .before .before .before .before .before .before .before .before .before .before .before .before .before .before .before .before .before .before .before .before .before .before .before .before .before .before .before .before .before .before .before .before .before .before .before .before .before .before .before .pre .1 .0) .base) (c .before .before .before .before .before .before .before .before .before .before .before .before .before .before .before .before .before .before .before .before .before .before .before .before .before .before .before .before .before .before .before .before .before .get-node .ensures) (c .before .before .before .before .before .before .before .before .before .before .before .before .before .before .before .before .before .before .before .before .before .before .before .before .before .before .before .before .before .bring .ensures)) .0)) (found-there (c .before .before .before .before .before .before .before .before .before .before .before .before .before .before .before .before .before .before .before .before .before .before .before .before .before .before .if1 .left) ((bring-gives ((c .before .before .before .before .before .before .before .before .before .before .before .before .before .before .before .before .before .before .before .before .before .before .before .before .before .before .before .before .before .before .before .before .before .before .before .before .before .before .before .before .before .pre .1 .0) .base) (c .before .before .before .before .before .before .before .before .before .before .before .before .before .before .before .before .before .before .before .before .before .before .before .before .before .before .before .before .before .before .before .before .before .get-node .ensures) (c .before .before .before .before .before .before .before .before .before .before .before .before .before .before .before .before .before .before .before .before .before .before .before .before .before .before .before .before .before .bring .ensures)) .1) (c .before .before .before .before .before .before .before .before .before .before .before .before .before .before .before .before .before .before .before .before .before .before .before .before .before .len-of .ensures) (c .before .before .before .before .before .before .before .before .before .before .before .before .before .before .before .before .before .before .before .before .before .before .before .before .steps-of .ensures)) refl (as-node (c .before .before .before .before .before .before .before .before .before .before .before .before .before .before .before .before .before .before .before .before .before .number-of2 .ensures) ((bring-gives (omega (arith, (c .before .before .before .before .before .before .before .before .before .before .before .before .before .before .before .before .before .before .before .before .before .before .before .before .before .before .before .before .before .before .before .before .before .before .before .before .before .before .before .before .before .pre .1 .0) .base)) (c .before .before .before .before .before .before .before .before .before .before .before .before .before .before .before .before .before .get-node2 .ensures) (c .before .before .before .before .before .before .before .before .before .before .before .before .before .bring2 .ensures)) .0)) (found-there (c .before .before .before .before .before .before .before .before .before .before .if2 .left) ((bring-gives (omega (arith, (c .before .before .before .before .before .before .before .before .before .before .before .before .before .before .before .before .before .before .before .before .before .before .before .before .before .before .before .before .before .before .before .before .before .before .before .before .before .before .before .before .before .pre .1 .0) .base)) (c .before .before .before .before .before .before .before .before .before .before .before .before .before .before .before .before .before .get-node2 .ensures) (c .before .before .before .before .before .before .before .before .before .before .before .before .before .bring2 .ensures)) .1) (c .before .before .before .before .before .before .len-of2 .ensures) (c .before .before .before .before .before .steps-of2 .ensures)) (c .before .before .before .before .before .before .before .before .before .before .before .before .before .before .before .before .before .before .before .before .before .before .before .before .before .before .before .before .before .before .before .before .before .before .before .before .before .before .before .before .before .pre .1 .0)), (c .before .before .before .before .before .before .before .before .before .before .before .before .before .before .before .before .before .before .before .before .before .before .before .before .before .before .before .before .before .before .before .before .before .before .before .before .before .before .before .before .before .pre .1 .0) .few) }
+put-switch-add-put-under t c = record { fits = omega (arith, (switch-few₁ ((c .before .before .before .before .before .before .before .before .before .before .before .before .before .before .before .before .before .before .before .before .before .before .before .before .before .before .before .before .before .before .before .before .before .before .before .before .before .before .before .before .before .pre .1 .0) .base) refl (as-node (c .before .before .before .before .before .before .before .before .before .before .before .before .before .before .before .before .before .before .before .before .before .before .before .before .before .before .before .before .before .before .before .before .before .before .before .before .before .number-of .ensures) ((bring-gives ((c .before .before .before .before .before .before .before .before .before .before .before .before .before .before .before .before .before .before .before .before .before .before .before .before .before .before .before .before .before .before .before .before .before .before .before .before .before .before .before .before .before .pre .1 .0) .base) (c .before .before .before .before .before .before .before .before .before .before .before .before .before .before .before .before .before .before .before .before .before .before .before .before .before .before .before .before .before .before .before .before .before .get-node .ensures .0) (c .before .before .before .before .before .before .before .before .before .before .before .before .before .before .before .before .before .before .before .before .before .before .before .before .before .before .before .before .before .before .before .before .before .get-node .ensures .1) (c .before .before .before .before .before .before .before .before .before .before .before .before .before .before .before .before .before .before .before .before .before .before .before .before .before .before .before .before .before .bring .ensures)) .gives)) (found-there (c .before .before .before .before .before .before .before .before .before .before .before .before .before .before .before .before .before .before .before .before .before .before .before .before .before .before .if1 .left) ((bring-gives ((c .before .before .before .before .before .before .before .before .before .before .before .before .before .before .before .before .before .before .before .before .before .before .before .before .before .before .before .before .before .before .before .before .before .before .before .before .before .before .before .before .before .pre .1 .0) .base) (c .before .before .before .before .before .before .before .before .before .before .before .before .before .before .before .before .before .before .before .before .before .before .before .before .before .before .before .before .before .before .before .before .before .get-node .ensures .0) (c .before .before .before .before .before .before .before .before .before .before .before .before .before .before .before .before .before .before .before .before .before .before .before .before .before .before .before .before .before .before .before .before .before .get-node .ensures .1) (c .before .before .before .before .before .before .before .before .before .before .before .before .before .before .before .before .before .before .before .before .before .before .before .before .before .before .before .before .before .bring .ensures)) .exact) (c .before .before .before .before .before .before .before .before .before .before .before .before .before .before .before .before .before .before .before .before .before .before .before .before .before .len-of .ensures) (c .before .before .before .before .before .before .before .before .before .before .before .before .before .before .before .before .before .before .before .before .before .before .before .before .steps-of .ensures)) (c .before .before .before .before .before .before .before .before .before .before .before .before .before .before .before .before .before .before .before .before .before .before .before .before .before .before .before .before .before .before .before .before .before .before .before .before .before .before .before .before .before .pre .1 .0)), (switch-few₂ ((c .before .before .before .before .before .before .before .before .before .before .before .before .before .before .before .before .before .before .before .before .before .before .before .before .before .before .before .before .before .before .before .before .before .before .before .before .before .before .before .before .before .pre .1 .0) .base) refl (as-node (c .before .before .before .before .before .before .before .before .before .before .before .before .before .before .before .before .before .before .before .before .before .before .before .before .before .before .before .before .before .before .before .before .before .before .before .before .before .number-of .ensures) ((bring-gives ((c .before .before .before .before .before .before .before .before .before .before .before .before .before .before .before .before .before .before .before .before .before .before .before .before .before .before .before .before .before .before .before .before .before .before .before .before .before .before .before .before .before .pre .1 .0) .base) (c .before .before .before .before .before .before .before .before .before .before .before .before .before .before .before .before .before .before .before .before .before .before .before .before .before .before .before .before .before .before .before .before .before .get-node .ensures .0) (c .before .before .before .before .before .before .before .before .before .before .before .before .before .before .before .before .before .before .before .before .before .before .before .before .before .before .before .before .before .before .before .before .before .get-node .ensures .1) (c .before .before .before .before .before .before .before .before .before .before .before .before .before .before .before .before .before .before .before .before .before .before .before .before .before .before .before .before .before .bring .ensures)) .gives)) (found-there (c .before .before .before .before .before .before .before .before .before .before .before .before .before .before .before .before .before .before .before .before .before .before .before .before .before .before .if1 .left) ((bring-gives ((c .before .before .before .before .before .before .before .before .before .before .before .before .before .before .before .before .before .before .before .before .before .before .before .before .before .before .before .before .before .before .before .before .before .before .before .before .before .before .before .before .before .pre .1 .0) .base) (c .before .before .before .before .before .before .before .before .before .before .before .before .before .before .before .before .before .before .before .before .before .before .before .before .before .before .before .before .before .before .before .before .before .get-node .ensures .0) (c .before .before .before .before .before .before .before .before .before .before .before .before .before .before .before .before .before .before .before .before .before .before .before .before .before .before .before .before .before .before .before .before .before .get-node .ensures .1) (c .before .before .before .before .before .before .before .before .before .before .before .before .before .before .before .before .before .before .before .before .before .before .before .before .before .before .before .before .before .bring .ensures)) .exact) (c .before .before .before .before .before .before .before .before .before .before .before .before .before .before .before .before .before .before .before .before .before .before .before .before .before .len-of .ensures) (c .before .before .before .before .before .before .before .before .before .before .before .before .before .before .before .before .before .before .before .before .before .before .before .before .steps-of .ensures)) refl (as-node (c .before .before .before .before .before .before .before .before .before .before .before .before .before .before .before .before .before .before .before .before .before .number-of2 .ensures) ((bring-gives (omega (arith, (c .before .before .before .before .before .before .before .before .before .before .before .before .before .before .before .before .before .before .before .before .before .before .before .before .before .before .before .before .before .before .before .before .before .before .before .before .before .before .before .before .before .pre .1 .0) .base)) (c .before .before .before .before .before .before .before .before .before .before .before .before .before .before .before .before .before .get-node2 .ensures .0) (c .before .before .before .before .before .before .before .before .before .before .before .before .before .before .before .before .before .get-node2 .ensures .1) (c .before .before .before .before .before .before .before .before .before .before .before .before .before .bring2 .ensures)) .gives)) (found-there (c .before .before .before .before .before .before .before .before .before .before .if2 .left) ((bring-gives (omega (arith, (c .before .before .before .before .before .before .before .before .before .before .before .before .before .before .before .before .before .before .before .before .before .before .before .before .before .before .before .before .before .before .before .before .before .before .before .before .before .before .before .before .before .pre .1 .0) .base)) (c .before .before .before .before .before .before .before .before .before .before .before .before .before .before .before .before .before .get-node2 .ensures .0) (c .before .before .before .before .before .before .before .before .before .before .before .before .before .before .before .before .before .get-node2 .ensures .1) (c .before .before .before .before .before .before .before .before .before .before .before .before .before .bring2 .ensures)) .exact) (c .before .before .before .before .before .before .len-of2 .ensures) (c .before .before .before .before .before .steps-of2 .ensures)) (c .before .before .before .before .before .before .before .before .before .before .before .before .before .before .before .before .before .before .before .before .before .before .before .before .before .before .before .before .before .before .before .before .before .before .before .before .before .before .before .before .before .pre .1 .0)), (c .before .before .before .before .before .before .before .before .before .before .before .before .before .before .before .before .before .before .before .before .before .before .before .before .before .before .before .before .before .before .before .before .before .before .before .before .before .before .before .before .before .pre .1 .0) .few) }
 
 put-switch-add-put-under-2 : (t : ℕ) → put-switch-lts.Need-add-put-under-2 (put-switch-claims t) (put-switch-at t) put-switch.Post
-put-switch-add-put-under-2 t c = record { fits = omega (arith, (switch-few₁ ((c .before .before .before .before .before .before .before .before .before .before .before .before .before .before .before .before .before .before .before .before .before .before .before .before .before .before .before .before .before .before .before .before .before .before .before .before .before .before .before .before .before .pre .1 .0) .base) refl (as-node (c .before .before .before .before .before .before .before .before .before .before .before .before .before .before .before .before .before .before .before .before .before .before .before .before .before .before .before .before .before .before .before .before .before .before .before .before .before .number-of .ensures) ((bring-gives ((c .before .before .before .before .before .before .before .before .before .before .before .before .before .before .before .before .before .before .before .before .before .before .before .before .before .before .before .before .before .before .before .before .before .before .before .before .before .before .before .before .before .pre .1 .0) .base) (c .before .before .before .before .before .before .before .before .before .before .before .before .before .before .before .before .before .before .before .before .before .before .before .before .before .before .before .before .before .before .before .before .before .get-node .ensures) (c .before .before .before .before .before .before .before .before .before .before .before .before .before .before .before .before .before .before .before .before .before .before .before .before .before .before .before .before .before .bring .ensures)) .0)) (found-there (c .before .before .before .before .before .before .before .before .before .before .before .before .before .before .before .before .before .before .before .before .before .before .before .before .before .before .if1 .left) ((bring-gives ((c .before .before .before .before .before .before .before .before .before .before .before .before .before .before .before .before .before .before .before .before .before .before .before .before .before .before .before .before .before .before .before .before .before .before .before .before .before .before .before .before .before .pre .1 .0) .base) (c .before .before .before .before .before .before .before .before .before .before .before .before .before .before .before .before .before .before .before .before .before .before .before .before .before .before .before .before .before .before .before .before .before .get-node .ensures) (c .before .before .before .before .before .before .before .before .before .before .before .before .before .before .before .before .before .before .before .before .before .before .before .before .before .before .before .before .before .bring .ensures)) .1) (c .before .before .before .before .before .before .before .before .before .before .before .before .before .before .before .before .before .before .before .before .before .before .before .before .before .len-of .ensures) (c .before .before .before .before .before .before .before .before .before .before .before .before .before .before .before .before .before .before .before .before .before .before .before .before .steps-of .ensures)) (c .before .before .before .before .before .before .before .before .before .before .before .before .before .before .before .before .before .before .before .before .before .before .before .before .before .before .before .before .before .before .before .before .before .before .before .before .before .before .before .before .before .pre .1 .0)), (switch-few₂ ((c .before .before .before .before .before .before .before .before .before .before .before .before .before .before .before .before .before .before .before .before .before .before .before .before .before .before .before .before .before .before .before .before .before .before .before .before .before .before .before .before .before .pre .1 .0) .base) refl (as-node (c .before .before .before .before .before .before .before .before .before .before .before .before .before .before .before .before .before .before .before .before .before .before .before .before .before .before .before .before .before .before .before .before .before .before .before .before .before .number-of .ensures) ((bring-gives ((c .before .before .before .before .before .before .before .before .before .before .before .before .before .before .before .before .before .before .before .before .before .before .before .before .before .before .before .before .before .before .before .before .before .before .before .before .before .before .before .before .before .pre .1 .0) .base) (c .before .before .before .before .before .before .before .before .before .before .before .before .before .before .before .before .before .before .before .before .before .before .before .before .before .before .before .before .before .before .before .before .before .get-node .ensures) (c .before .before .before .before .before .before .before .before .before .before .before .before .before .before .before .before .before .before .before .before .before .before .before .before .before .before .before .before .before .bring .ensures)) .0)) (found-there (c .before .before .before .before .before .before .before .before .before .before .before .before .before .before .before .before .before .before .before .before .before .before .before .before .before .before .if1 .left) ((bring-gives ((c .before .before .before .before .before .before .before .before .before .before .before .before .before .before .before .before .before .before .before .before .before .before .before .before .before .before .before .before .before .before .before .before .before .before .before .before .before .before .before .before .before .pre .1 .0) .base) (c .before .before .before .before .before .before .before .before .before .before .before .before .before .before .before .before .before .before .before .before .before .before .before .before .before .before .before .before .before .before .before .before .before .get-node .ensures) (c .before .before .before .before .before .before .before .before .before .before .before .before .before .before .before .before .before .before .before .before .before .before .before .before .before .before .before .before .before .bring .ensures)) .1) (c .before .before .before .before .before .before .before .before .before .before .before .before .before .before .before .before .before .before .before .before .before .before .before .before .before .len-of .ensures) (c .before .before .before .before .before .before .before .before .before .before .before .before .before .before .before .before .before .before .before .before .before .before .before .before .steps-of .ensures)) refl (as-node (c .before .before .before .before .before .before .before .before .before .before .before .before .before .before .before .before .before .before .before .before .before .number-of2 .ensures) ((bring-gives (omega (arith, (c .before .before .before .before .before .before .before .before .before .before .before .before .before .before .before .before .before .before .before .before .before .before .before .before .before .before .before .before .before .before .before .before .before .before .before .before .before .before .before .before .before .pre .1 .0) .base)) (c .before .before .before .before .before .before .before .before .before .before .before .before .before .before .before .before .before .get-node2 .ensures) (c .before .before .before .before .before .before .before .before .before .before .before .before .before .bring2 .ensures)) .0)) (found-there (c .before .before .before .before .before .before .before .before .before .before .if2 .left) ((bring-gives (omega (arith, (c .before .before .before .before .before .before .before .before .before .before .before .before .before .before .before .before .before .before .before .before .before .before .before .before .before .before .before .before .before .before .before .before .before .before .before .before .before .before .before .before .before .pre .1 .0) .base)) (c .before .before .before .before .before .before .before .before .before .before .before .before .before .before .before .before .before .get-node2 .ensures) (c .before .before .before .before .before .before .before .before .before .before .before .before .before .bring2 .ensures)) .1) (c .before .before .before .before .before .before .len-of2 .ensures) (c .before .before .before .before .before .steps-of2 .ensures)) (c .before .before .before .before .before .before .before .before .before .before .before .before .before .before .before .before .before .before .before .before .before .before .before .before .before .before .before .before .before .before .before .before .before .before .before .before .before .before .before .before .before .pre .1 .0)), (c .before .before .before .before .before .before .before .before .before .before .before .before .before .before .before .before .before .before .before .before .before .before .before .before .before .before .before .before .before .before .before .before .before .before .before .before .before .before .before .before .before .pre .1 .0) .few) }
+put-switch-add-put-under-2 t c = record { fits = omega (arith, (switch-few₁ ((c .before .before .before .before .before .before .before .before .before .before .before .before .before .before .before .before .before .before .before .before .before .before .before .before .before .before .before .before .before .before .before .before .before .before .before .before .before .before .before .before .before .pre .1 .0) .base) refl (as-node (c .before .before .before .before .before .before .before .before .before .before .before .before .before .before .before .before .before .before .before .before .before .before .before .before .before .before .before .before .before .before .before .before .before .before .before .before .before .number-of .ensures) ((bring-gives ((c .before .before .before .before .before .before .before .before .before .before .before .before .before .before .before .before .before .before .before .before .before .before .before .before .before .before .before .before .before .before .before .before .before .before .before .before .before .before .before .before .before .pre .1 .0) .base) (c .before .before .before .before .before .before .before .before .before .before .before .before .before .before .before .before .before .before .before .before .before .before .before .before .before .before .before .before .before .before .before .before .before .get-node .ensures .0) (c .before .before .before .before .before .before .before .before .before .before .before .before .before .before .before .before .before .before .before .before .before .before .before .before .before .before .before .before .before .before .before .before .before .get-node .ensures .1) (c .before .before .before .before .before .before .before .before .before .before .before .before .before .before .before .before .before .before .before .before .before .before .before .before .before .before .before .before .before .bring .ensures)) .gives)) (found-there (c .before .before .before .before .before .before .before .before .before .before .before .before .before .before .before .before .before .before .before .before .before .before .before .before .before .before .if1 .left) ((bring-gives ((c .before .before .before .before .before .before .before .before .before .before .before .before .before .before .before .before .before .before .before .before .before .before .before .before .before .before .before .before .before .before .before .before .before .before .before .before .before .before .before .before .before .pre .1 .0) .base) (c .before .before .before .before .before .before .before .before .before .before .before .before .before .before .before .before .before .before .before .before .before .before .before .before .before .before .before .before .before .before .before .before .before .get-node .ensures .0) (c .before .before .before .before .before .before .before .before .before .before .before .before .before .before .before .before .before .before .before .before .before .before .before .before .before .before .before .before .before .before .before .before .before .get-node .ensures .1) (c .before .before .before .before .before .before .before .before .before .before .before .before .before .before .before .before .before .before .before .before .before .before .before .before .before .before .before .before .before .bring .ensures)) .exact) (c .before .before .before .before .before .before .before .before .before .before .before .before .before .before .before .before .before .before .before .before .before .before .before .before .before .len-of .ensures) (c .before .before .before .before .before .before .before .before .before .before .before .before .before .before .before .before .before .before .before .before .before .before .before .before .steps-of .ensures)) (c .before .before .before .before .before .before .before .before .before .before .before .before .before .before .before .before .before .before .before .before .before .before .before .before .before .before .before .before .before .before .before .before .before .before .before .before .before .before .before .before .before .pre .1 .0)), (switch-few₂ ((c .before .before .before .before .before .before .before .before .before .before .before .before .before .before .before .before .before .before .before .before .before .before .before .before .before .before .before .before .before .before .before .before .before .before .before .before .before .before .before .before .before .pre .1 .0) .base) refl (as-node (c .before .before .before .before .before .before .before .before .before .before .before .before .before .before .before .before .before .before .before .before .before .before .before .before .before .before .before .before .before .before .before .before .before .before .before .before .before .number-of .ensures) ((bring-gives ((c .before .before .before .before .before .before .before .before .before .before .before .before .before .before .before .before .before .before .before .before .before .before .before .before .before .before .before .before .before .before .before .before .before .before .before .before .before .before .before .before .before .pre .1 .0) .base) (c .before .before .before .before .before .before .before .before .before .before .before .before .before .before .before .before .before .before .before .before .before .before .before .before .before .before .before .before .before .before .before .before .before .get-node .ensures .0) (c .before .before .before .before .before .before .before .before .before .before .before .before .before .before .before .before .before .before .before .before .before .before .before .before .before .before .before .before .before .before .before .before .before .get-node .ensures .1) (c .before .before .before .before .before .before .before .before .before .before .before .before .before .before .before .before .before .before .before .before .before .before .before .before .before .before .before .before .before .bring .ensures)) .gives)) (found-there (c .before .before .before .before .before .before .before .before .before .before .before .before .before .before .before .before .before .before .before .before .before .before .before .before .before .before .if1 .left) ((bring-gives ((c .before .before .before .before .before .before .before .before .before .before .before .before .before .before .before .before .before .before .before .before .before .before .before .before .before .before .before .before .before .before .before .before .before .before .before .before .before .before .before .before .before .pre .1 .0) .base) (c .before .before .before .before .before .before .before .before .before .before .before .before .before .before .before .before .before .before .before .before .before .before .before .before .before .before .before .before .before .before .before .before .before .get-node .ensures .0) (c .before .before .before .before .before .before .before .before .before .before .before .before .before .before .before .before .before .before .before .before .before .before .before .before .before .before .before .before .before .before .before .before .before .get-node .ensures .1) (c .before .before .before .before .before .before .before .before .before .before .before .before .before .before .before .before .before .before .before .before .before .before .before .before .before .before .before .before .before .bring .ensures)) .exact) (c .before .before .before .before .before .before .before .before .before .before .before .before .before .before .before .before .before .before .before .before .before .before .before .before .before .len-of .ensures) (c .before .before .before .before .before .before .before .before .before .before .before .before .before .before .before .before .before .before .before .before .before .before .before .before .steps-of .ensures)) refl (as-node (c .before .before .before .before .before .before .before .before .before .before .before .before .before .before .before .before .before .before .before .before .before .number-of2 .ensures) ((bring-gives (omega (arith, (c .before .before .before .before .before .before .before .before .before .before .before .before .before .before .before .before .before .before .before .before .before .before .before .before .before .before .before .before .before .before .before .before .before .before .before .before .before .before .before .before .before .pre .1 .0) .base)) (c .before .before .before .before .before .before .before .before .before .before .before .before .before .before .before .before .before .get-node2 .ensures .0) (c .before .before .before .before .before .before .before .before .before .before .before .before .before .before .before .before .before .get-node2 .ensures .1) (c .before .before .before .before .before .before .before .before .before .before .before .before .before .bring2 .ensures)) .gives)) (found-there (c .before .before .before .before .before .before .before .before .before .before .if2 .left) ((bring-gives (omega (arith, (c .before .before .before .before .before .before .before .before .before .before .before .before .before .before .before .before .before .before .before .before .before .before .before .before .before .before .before .before .before .before .before .before .before .before .before .before .before .before .before .before .before .pre .1 .0) .base)) (c .before .before .before .before .before .before .before .before .before .before .before .before .before .before .before .before .before .get-node2 .ensures .0) (c .before .before .before .before .before .before .before .before .before .before .before .before .before .before .before .before .before .get-node2 .ensures .1) (c .before .before .before .before .before .before .before .before .before .before .before .before .before .bring2 .ensures)) .exact) (c .before .before .before .before .before .before .len-of2 .ensures) (c .before .before .before .before .before .steps-of2 .ensures)) (c .before .before .before .before .before .before .before .before .before .before .before .before .before .before .before .before .before .before .before .before .before .before .before .before .before .before .before .before .before .before .before .before .before .before .before .before .before .before .before .before .before .pre .1 .0)), (c .before .before .before .before .before .before .before .before .before .before .before .before .before .before .before .before .before .before .before .before .before .before .before .before .before .before .before .before .before .before .before .before .before .before .before .before .before .before .before .before .before .pre .1 .0) .few) }
 
 put-switch-put-under-requires : (t : ℕ) → put-switch-lts.Need-put-under-requires (put-switch-claims t) (put-switch-at t) put-switch.Post
-put-switch-put-under-requires t c κs = (omega (arith, c .before .before .before .before .before .before .before .before .before .before .before .before .before .before .before .before .before .before .before .before .before .before .before .before .before .before .before .before .before .before .before .before .before .before .before .before .before .before .before .before .before .pre .0), (as-ready (inside-named (c .before .before .before .number-of3 .ensures) (c .before .before .number-of4 .ensures)) (switch-ready ((c .before .before .before .before .before .before .before .before .before .before .before .before .before .before .before .before .before .before .before .before .before .before .before .before .before .before .before .before .before .before .before .before .before .before .before .before .before .before .before .before .before .pre .1 .0) .base) refl (as-node (c .before .before .before .before .before .before .before .before .before .before .before .before .before .before .before .before .before .before .before .before .before .before .before .before .before .before .before .before .before .before .before .before .before .before .before .before .before .number-of .ensures) ((bring-gives ((c .before .before .before .before .before .before .before .before .before .before .before .before .before .before .before .before .before .before .before .before .before .before .before .before .before .before .before .before .before .before .before .before .before .before .before .before .before .before .before .before .before .pre .1 .0) .base) (c .before .before .before .before .before .before .before .before .before .before .before .before .before .before .before .before .before .before .before .before .before .before .before .before .before .before .before .before .before .before .before .before .before .get-node .ensures) (c .before .before .before .before .before .before .before .before .before .before .before .before .before .before .before .before .before .before .before .before .before .before .before .before .before .before .before .before .before .bring .ensures)) .0)) (found-there (c .before .before .before .before .before .before .before .before .before .before .before .before .before .before .before .before .before .before .before .before .before .before .before .before .before .before .if1 .left) ((bring-gives ((c .before .before .before .before .before .before .before .before .before .before .before .before .before .before .before .before .before .before .before .before .before .before .before .before .before .before .before .before .before .before .before .before .before .before .before .before .before .before .before .before .before .pre .1 .0) .base) (c .before .before .before .before .before .before .before .before .before .before .before .before .before .before .before .before .before .before .before .before .before .before .before .before .before .before .before .before .before .before .before .before .before .get-node .ensures) (c .before .before .before .before .before .before .before .before .before .before .before .before .before .before .before .before .before .before .before .before .before .before .before .before .before .before .before .before .before .bring .ensures)) .1) (c .before .before .before .before .before .before .before .before .before .before .before .before .before .before .before .before .before .before .before .before .before .before .before .before .before .len-of .ensures) (c .before .before .before .before .before .before .before .before .before .before .before .before .before .before .before .before .before .before .before .before .before .before .before .before .steps-of .ensures)) refl (as-node (c .before .before .before .before .before .before .before .before .before .before .before .before .before .before .before .before .before .before .before .before .before .number-of2 .ensures) ((bring-gives (omega (arith, (c .before .before .before .before .before .before .before .before .before .before .before .before .before .before .before .before .before .before .before .before .before .before .before .before .before .before .before .before .before .before .before .before .before .before .before .before .before .before .before .before .before .pre .1 .0) .base)) (c .before .before .before .before .before .before .before .before .before .before .before .before .before .before .before .before .before .get-node2 .ensures) (c .before .before .before .before .before .before .before .before .before .before .before .before .before .bring2 .ensures)) .0)) (found-there (c .before .before .before .before .before .before .before .before .before .before .if2 .left) ((bring-gives (omega (arith, (c .before .before .before .before .before .before .before .before .before .before .before .before .before .before .before .before .before .before .before .before .before .before .before .before .before .before .before .before .before .before .before .before .before .before .before .before .before .before .before .before .before .pre .1 .0) .base)) (c .before .before .before .before .before .before .before .before .before .before .before .before .before .before .before .before .before .get-node2 .ensures) (c .before .before .before .before .before .before .before .before .before .before .before .before .before .bring2 .ensures)) .1) (c .before .before .before .before .before .before .len-of2 .ensures) (c .before .before .before .before .before .steps-of2 .ensures)) (c .before .before .before .before .before .before .before .before .before .before .before .before .before .before .before .before .before .before .before .before .before .before .before .before .before .before .before .before .before .before .before .before .before .before .before .before .before .before .before .before .before .pre .1 .0) (omega (arith, (switch-few₁ ((c .before .before .before .before .before .before .before .before .before .before .before .before .before .before .before .before .before .before .before .before .before .before .before .before .before .before .before .before .before .before .before .before .before .before .before .before .before .before .before .before .before .pre .1 .0) .base) refl (as-node (c .before .before .before .before .before .before .before .before .before .before .before .before .before .before .before .before .before .before .before .before .before .before .before .before .before .before .before .before .before .before .before .before .before .before .before .before .before .number-of .ensures) ((bring-gives ((c .before .before .before .before .before .before .before .before .before .before .before .before .before .before .before .before .before .before .before .before .before .before .before .before .before .before .before .before .before .before .before .before .before .before .before .before .before .before .before .before .before .pre .1 .0) .base) (c .before .before .before .before .before .before .before .before .before .before .before .before .before .before .before .before .before .before .before .before .before .before .before .before .before .before .before .before .before .before .before .before .before .get-node .ensures) (c .before .before .before .before .before .before .before .before .before .before .before .before .before .before .before .before .before .before .before .before .before .before .before .before .before .before .before .before .before .bring .ensures)) .0)) (found-there (c .before .before .before .before .before .before .before .before .before .before .before .before .before .before .before .before .before .before .before .before .before .before .before .before .before .before .if1 .left) ((bring-gives ((c .before .before .before .before .before .before .before .before .before .before .before .before .before .before .before .before .before .before .before .before .before .before .before .before .before .before .before .before .before .before .before .before .before .before .before .before .before .before .before .before .before .pre .1 .0) .base) (c .before .before .before .before .before .before .before .before .before .before .before .before .before .before .before .before .before .before .before .before .before .before .before .before .before .before .before .before .before .before .before .before .before .get-node .ensures) (c .before .before .before .before .before .before .before .before .before .before .before .before .before .before .before .before .before .before .before .before .before .before .before .before .before .before .before .before .before .bring .ensures)) .1) (c .before .before .before .before .before .before .before .before .before .before .before .before .before .before .before .before .before .before .before .before .before .before .before .before .before .len-of .ensures) (c .before .before .before .before .before .before .before .before .before .before .before .before .before .before .before .before .before .before .before .before .before .before .before .before .steps-of .ensures)) (c .before .before .before .before .before .before .before .before .before .before .before .before .before .before .before .before .before .before .before .before .before .before .before .before .before .before .before .before .before .before .before .before .before .before .before .before .before .before .before .before .before .pre .1 .0)), (switch-few₂ ((c .before .before .before .before .before .before .before .before .before .before .before .before .before .before .before .before .before .before .before .before .before .before .before .before .before .before .before .before .before .before .before .before .before .before .before .before .before .before .before .before .before .pre .1 .0) .base) refl (as-node (c .before .before .before .before .before .before .before .before .before .before .before .before .before .before .before .before .before .before .before .before .before .before .before .before .before .before .before .before .before .before .before .before .before .before .before .before .before .number-of .ensures) ((bring-gives ((c .before .before .before .before .before .before .before .before .before .before .before .before .before .before .before .before .before .before .before .before .before .before .before .before .before .before .before .before .before .before .before .before .before .before .before .before .before .before .before .before .before .pre .1 .0) .base) (c .before .before .before .before .before .before .before .before .before .before .before .before .before .before .before .before .before .before .before .before .before .before .before .before .before .before .before .before .before .before .before .before .before .get-node .ensures) (c .before .before .before .before .before .before .before .before .before .before .before .before .before .before .before .before .before .before .before .before .before .before .before .before .before .before .before .before .before .bring .ensures)) .0)) (found-there (c .before .before .before .before .before .before .before .before .before .before .before .before .before .before .before .before .before .before .before .before .before .before .before .before .before .before .if1 .left) ((bring-gives ((c .before .before .before .before .before .before .before .before .before .before .before .before .before .before .before .before .before .before .before .before .before .before .before .before .before .before .before .before .before .before .before .before .before .before .before .before .before .before .before .before .before .pre .1 .0) .base) (c .before .before .before .before .before .before .before .before .before .before .before .before .before .before .before .before .before .before .before .before .before .before .before .before .before .before .before .before .before .before .before .before .before .get-node .ensures) (c .before .before .before .before .before .before .before .before .before .before .before .before .before .before .before .before .before .before .before .before .before .before .before .before .before .before .before .before .before .bring .ensures)) .1) (c .before .before .before .before .before .before .before .before .before .before .before .before .before .before .before .before .before .before .before .before .before .before .before .before .before .len-of .ensures) (c .before .before .before .before .before .before .before .before .before .before .before .before .before .before .before .before .before .before .before .before .before .before .before .before .steps-of .ensures)) refl (as-node (c .before .before .before .before .before .before .before .before .before .before .before .before .before .before .before .before .before .before .before .before .before .number-of2 .ensures) ((bring-gives (omega (arith, (c .before .before .before .before .before .before .before .before .before .before .before .before .before .before .before .before .before .before .before .before .before .before .before .before .before .before .before .before .before .before .before .before .before .before .before .before .before .before .before .before .before .pre .1 .0) .base)) (c .before .before .before .before .before .before .before .before .before .before .before .before .before .before .before .before .before .get-node2 .ensures) (c .before .before .before .before .before .before .before .before .before .before .before .before .before .bring2 .ensures)) .0)) (found-there (c .before .before .before .before .before .before .before .before .before .before .if2 .left) ((bring-gives (omega (arith, (c .before .before .before .before .before .before .before .before .before .before .before .before .before .before .before .before .before .before .before .before .before .before .before .before .before .before .before .before .before .before .before .before .before .before .before .before .before .before .before .before .before .pre .1 .0) .base)) (c .before .before .before .before .before .before .before .before .before .before .before .before .before .before .before .before .before .get-node2 .ensures) (c .before .before .before .before .before .before .before .before .before .before .before .before .before .bring2 .ensures)) .1) (c .before .before .before .before .before .before .len-of2 .ensures) (c .before .before .before .before .before .steps-of2 .ensures)) (c .before .before .before .before .before .before .before .before .before .before .before .before .before .before .before .before .before .before .before .before .before .before .before .before .before .before .before .before .before .before .before .before .before .before .before .before .before .before .before .before .before .pre .1 .0)))) (c .before .before .before .before .before .before .before .before .before .before .before .before .before .before .before .before .before .before .before .before .before .before .before .before .before .before .before .before .before .before .before .before .before .before .before .before .before .before .before .before .before .pre .1 .1 .1)), ((c .before .before .before .before .before .before .before .before .before .before .before .before .before .before .before .before .before .before .before .before .before .before .before .before .before .before .before .before .before .before .before .before .before .before .before .before .before .before .before .before .before .pre .1 .1 .0), switch-spans ((c .before .before .before .before .before .before .before .before .before .before .before .before .before .before .before .before .before .before .before .before .before .before .before .before .before .before .before .before .before .before .before .before .before .before .before .before .before .before .before .before .before .pre .1 .0) .base) refl (as-node (c .before .before .before .before .before .before .before .before .before .before .before .before .before .before .before .before .before .before .before .before .before .before .before .before .before .before .before .before .before .before .before .before .before .before .before .before .before .number-of .ensures) ((bring-gives ((c .before .before .before .before .before .before .before .before .before .before .before .before .before .before .before .before .before .before .before .before .before .before .before .before .before .before .before .before .before .before .before .before .before .before .before .before .before .before .before .before .before .pre .1 .0) .base) (c .before .before .before .before .before .before .before .before .before .before .before .before .before .before .before .before .before .before .before .before .before .before .before .before .before .before .before .before .before .before .before .before .before .get-node .ensures) (c .before .before .before .before .before .before .before .before .before .before .before .before .before .before .before .before .before .before .before .before .before .before .before .before .before .before .before .before .before .bring .ensures)) .0)) (found-there (c .before .before .before .before .before .before .before .before .before .before .before .before .before .before .before .before .before .before .before .before .before .before .before .before .before .before .if1 .left) ((bring-gives ((c .before .before .before .before .before .before .before .before .before .before .before .before .before .before .before .before .before .before .before .before .before .before .before .before .before .before .before .before .before .before .before .before .before .before .before .before .before .before .before .before .before .pre .1 .0) .base) (c .before .before .before .before .before .before .before .before .before .before .before .before .before .before .before .before .before .before .before .before .before .before .before .before .before .before .before .before .before .before .before .before .before .get-node .ensures) (c .before .before .before .before .before .before .before .before .before .before .before .before .before .before .before .before .before .before .before .before .before .before .before .before .before .before .before .before .before .bring .ensures)) .1) (c .before .before .before .before .before .before .before .before .before .before .before .before .before .before .before .before .before .before .before .before .before .before .before .before .before .len-of .ensures) (c .before .before .before .before .before .before .before .before .before .before .before .before .before .before .before .before .before .before .before .before .before .before .before .before .steps-of .ensures)) refl (as-node (c .before .before .before .before .before .before .before .before .before .before .before .before .before .before .before .before .before .before .before .before .before .number-of2 .ensures) ((bring-gives (omega (arith, (c .before .before .before .before .before .before .before .before .before .before .before .before .before .before .before .before .before .before .before .before .before .before .before .before .before .before .before .before .before .before .before .before .before .before .before .before .before .before .before .before .before .pre .1 .0) .base)) (c .before .before .before .before .before .before .before .before .before .before .before .before .before .before .before .before .before .get-node2 .ensures) (c .before .before .before .before .before .before .before .before .before .before .before .before .before .bring2 .ensures)) .0)) (found-there (c .before .before .before .before .before .before .before .before .before .before .if2 .left) ((bring-gives (omega (arith, (c .before .before .before .before .before .before .before .before .before .before .before .before .before .before .before .before .before .before .before .before .before .before .before .before .before .before .before .before .before .before .before .before .before .before .before .before .before .before .before .before .before .pre .1 .0) .base)) (c .before .before .before .before .before .before .before .before .before .before .before .before .before .before .before .before .before .get-node2 .ensures) (c .before .before .before .before .before .before .before .before .before .before .before .before .before .bring2 .ensures)) .1) (c .before .before .before .before .before .before .len-of2 .ensures) (c .before .before .before .before .before .steps-of2 .ensures)) (c .before .before .before .before .before .before .before .before .before .before .before .before .before .before .before .before .before .before .before .before .before .before .before .before .before .before .before .before .before .before .before .before .before .before .before .before .before .before .before .before .before .pre .1 .0))))
+put-switch-put-under-requires t c κs = (omega (arith, c .before .before .before .before .before .before .before .before .before .before .before .before .before .before .before .before .before .before .before .before .before .before .before .before .before .before .before .before .before .before .before .before .before .before .before .before .before .before .before .before .before .pre .0), (as-ready (inside-named (c .before .before .before .number-of3 .ensures) (c .before .before .number-of4 .ensures)) (switch-ready ((c .before .before .before .before .before .before .before .before .before .before .before .before .before .before .before .before .before .before .before .before .before .before .before .before .before .before .before .before .before .before .before .before .before .before .before .before .before .before .before .before .before .pre .1 .0) .base) refl (as-node (c .before .before .before .before .before .before .before .before .before .before .before .before .before .before .before .before .before .before .before .before .before .before .before .before .before .before .before .before .before .before .before .before .before .before .before .before .before .number-of .ensures) ((bring-gives ((c .before .before .before .before .before .before .before .before .before .before .before .before .before .before .before .before .before .before .before .before .before .before .before .before .before .before .before .before .before .before .before .before .before .before .before .before .before .before .before .before .before .pre .1 .0) .base) (c .before .before .before .before .before .before .before .before .before .before .before .before .before .before .before .before .before .before .before .before .before .before .before .before .before .before .before .before .before .before .before .before .before .get-node .ensures .0) (c .before .before .before .before .before .before .before .before .before .before .before .before .before .before .before .before .before .before .before .before .before .before .before .before .before .before .before .before .before .before .before .before .before .get-node .ensures .1) (c .before .before .before .before .before .before .before .before .before .before .before .before .before .before .before .before .before .before .before .before .before .before .before .before .before .before .before .before .before .bring .ensures)) .gives)) (found-there (c .before .before .before .before .before .before .before .before .before .before .before .before .before .before .before .before .before .before .before .before .before .before .before .before .before .before .if1 .left) ((bring-gives ((c .before .before .before .before .before .before .before .before .before .before .before .before .before .before .before .before .before .before .before .before .before .before .before .before .before .before .before .before .before .before .before .before .before .before .before .before .before .before .before .before .before .pre .1 .0) .base) (c .before .before .before .before .before .before .before .before .before .before .before .before .before .before .before .before .before .before .before .before .before .before .before .before .before .before .before .before .before .before .before .before .before .get-node .ensures .0) (c .before .before .before .before .before .before .before .before .before .before .before .before .before .before .before .before .before .before .before .before .before .before .before .before .before .before .before .before .before .before .before .before .before .get-node .ensures .1) (c .before .before .before .before .before .before .before .before .before .before .before .before .before .before .before .before .before .before .before .before .before .before .before .before .before .before .before .before .before .bring .ensures)) .exact) (c .before .before .before .before .before .before .before .before .before .before .before .before .before .before .before .before .before .before .before .before .before .before .before .before .before .len-of .ensures) (c .before .before .before .before .before .before .before .before .before .before .before .before .before .before .before .before .before .before .before .before .before .before .before .before .steps-of .ensures)) refl (as-node (c .before .before .before .before .before .before .before .before .before .before .before .before .before .before .before .before .before .before .before .before .before .number-of2 .ensures) ((bring-gives (omega (arith, (c .before .before .before .before .before .before .before .before .before .before .before .before .before .before .before .before .before .before .before .before .before .before .before .before .before .before .before .before .before .before .before .before .before .before .before .before .before .before .before .before .before .pre .1 .0) .base)) (c .before .before .before .before .before .before .before .before .before .before .before .before .before .before .before .before .before .get-node2 .ensures .0) (c .before .before .before .before .before .before .before .before .before .before .before .before .before .before .before .before .before .get-node2 .ensures .1) (c .before .before .before .before .before .before .before .before .before .before .before .before .before .bring2 .ensures)) .gives)) (found-there (c .before .before .before .before .before .before .before .before .before .before .if2 .left) ((bring-gives (omega (arith, (c .before .before .before .before .before .before .before .before .before .before .before .before .before .before .before .before .before .before .before .before .before .before .before .before .before .before .before .before .before .before .before .before .before .before .before .before .before .before .before .before .before .pre .1 .0) .base)) (c .before .before .before .before .before .before .before .before .before .before .before .before .before .before .before .before .before .get-node2 .ensures .0) (c .before .before .before .before .before .before .before .before .before .before .before .before .before .before .before .before .before .get-node2 .ensures .1) (c .before .before .before .before .before .before .before .before .before .before .before .before .before .bring2 .ensures)) .exact) (c .before .before .before .before .before .before .len-of2 .ensures) (c .before .before .before .before .before .steps-of2 .ensures)) (c .before .before .before .before .before .before .before .before .before .before .before .before .before .before .before .before .before .before .before .before .before .before .before .before .before .before .before .before .before .before .before .before .before .before .before .before .before .before .before .before .before .pre .1 .0) (omega (arith, (switch-few₁ ((c .before .before .before .before .before .before .before .before .before .before .before .before .before .before .before .before .before .before .before .before .before .before .before .before .before .before .before .before .before .before .before .before .before .before .before .before .before .before .before .before .before .pre .1 .0) .base) refl (as-node (c .before .before .before .before .before .before .before .before .before .before .before .before .before .before .before .before .before .before .before .before .before .before .before .before .before .before .before .before .before .before .before .before .before .before .before .before .before .number-of .ensures) ((bring-gives ((c .before .before .before .before .before .before .before .before .before .before .before .before .before .before .before .before .before .before .before .before .before .before .before .before .before .before .before .before .before .before .before .before .before .before .before .before .before .before .before .before .before .pre .1 .0) .base) (c .before .before .before .before .before .before .before .before .before .before .before .before .before .before .before .before .before .before .before .before .before .before .before .before .before .before .before .before .before .before .before .before .before .get-node .ensures .0) (c .before .before .before .before .before .before .before .before .before .before .before .before .before .before .before .before .before .before .before .before .before .before .before .before .before .before .before .before .before .before .before .before .before .get-node .ensures .1) (c .before .before .before .before .before .before .before .before .before .before .before .before .before .before .before .before .before .before .before .before .before .before .before .before .before .before .before .before .before .bring .ensures)) .gives)) (found-there (c .before .before .before .before .before .before .before .before .before .before .before .before .before .before .before .before .before .before .before .before .before .before .before .before .before .before .if1 .left) ((bring-gives ((c .before .before .before .before .before .before .before .before .before .before .before .before .before .before .before .before .before .before .before .before .before .before .before .before .before .before .before .before .before .before .before .before .before .before .before .before .before .before .before .before .before .pre .1 .0) .base) (c .before .before .before .before .before .before .before .before .before .before .before .before .before .before .before .before .before .before .before .before .before .before .before .before .before .before .before .before .before .before .before .before .before .get-node .ensures .0) (c .before .before .before .before .before .before .before .before .before .before .before .before .before .before .before .before .before .before .before .before .before .before .before .before .before .before .before .before .before .before .before .before .before .get-node .ensures .1) (c .before .before .before .before .before .before .before .before .before .before .before .before .before .before .before .before .before .before .before .before .before .before .before .before .before .before .before .before .before .bring .ensures)) .exact) (c .before .before .before .before .before .before .before .before .before .before .before .before .before .before .before .before .before .before .before .before .before .before .before .before .before .len-of .ensures) (c .before .before .before .before .before .before .before .before .before .before .before .before .before .before .before .before .before .before .before .before .before .before .before .before .steps-of .ensures)) (c .before .before .before .before .before .before .before .before .before .before .before .before .before .before .before .before .before .before .before .before .before .before .before .before .before .before .before .before .before .before .before .before .before .before .before .before .before .before .before .before .before .pre .1 .0)), (switch-few₂ ((c .before .before .before .before .before .before .before .before .before .before .before .before .before .before .before .before .before .before .before .before .before .before .before .before .before .before .before .before .before .before .before .before .before .before .before .before .before .before .before .before .before .pre .1 .0) .base) refl (as-node (c .before .before .before .before .before .before .before .before .before .before .before .before .before .before .before .before .before .before .before .before .before .before .before .before .before .before .before .before .before .before .before .before .before .before .before .before .before .number-of .ensures) ((bring-gives ((c .before .before .before .before .before .before .before .before .before .before .before .before .before .before .before .before .before .before .before .before .before .before .before .before .before .before .before .before .before .before .before .before .before .before .before .before .before .before .before .before .before .pre .1 .0) .base) (c .before .before .before .before .before .before .before .before .before .before .before .before .before .before .before .before .before .before .before .before .before .before .before .before .before .before .before .before .before .before .before .before .before .get-node .ensures .0) (c .before .before .before .before .before .before .before .before .before .before .before .before .before .before .before .before .before .before .before .before .before .before .before .before .before .before .before .before .before .before .before .before .before .get-node .ensures .1) (c .before .before .before .before .before .before .before .before .before .before .before .before .before .before .before .before .before .before .before .before .before .before .before .before .before .before .before .before .before .bring .ensures)) .gives)) (found-there (c .before .before .before .before .before .before .before .before .before .before .before .before .before .before .before .before .before .before .before .before .before .before .before .before .before .before .if1 .left) ((bring-gives ((c .before .before .before .before .before .before .before .before .before .before .before .before .before .before .before .before .before .before .before .before .before .before .before .before .before .before .before .before .before .before .before .before .before .before .before .before .before .before .before .before .before .pre .1 .0) .base) (c .before .before .before .before .before .before .before .before .before .before .before .before .before .before .before .before .before .before .before .before .before .before .before .before .before .before .before .before .before .before .before .before .before .get-node .ensures .0) (c .before .before .before .before .before .before .before .before .before .before .before .before .before .before .before .before .before .before .before .before .before .before .before .before .before .before .before .before .before .before .before .before .before .get-node .ensures .1) (c .before .before .before .before .before .before .before .before .before .before .before .before .before .before .before .before .before .before .before .before .before .before .before .before .before .before .before .before .before .bring .ensures)) .exact) (c .before .before .before .before .before .before .before .before .before .before .before .before .before .before .before .before .before .before .before .before .before .before .before .before .before .len-of .ensures) (c .before .before .before .before .before .before .before .before .before .before .before .before .before .before .before .before .before .before .before .before .before .before .before .before .steps-of .ensures)) refl (as-node (c .before .before .before .before .before .before .before .before .before .before .before .before .before .before .before .before .before .before .before .before .before .number-of2 .ensures) ((bring-gives (omega (arith, (c .before .before .before .before .before .before .before .before .before .before .before .before .before .before .before .before .before .before .before .before .before .before .before .before .before .before .before .before .before .before .before .before .before .before .before .before .before .before .before .before .before .pre .1 .0) .base)) (c .before .before .before .before .before .before .before .before .before .before .before .before .before .before .before .before .before .get-node2 .ensures .0) (c .before .before .before .before .before .before .before .before .before .before .before .before .before .before .before .before .before .get-node2 .ensures .1) (c .before .before .before .before .before .before .before .before .before .before .before .before .before .bring2 .ensures)) .gives)) (found-there (c .before .before .before .before .before .before .before .before .before .before .if2 .left) ((bring-gives (omega (arith, (c .before .before .before .before .before .before .before .before .before .before .before .before .before .before .before .before .before .before .before .before .before .before .before .before .before .before .before .before .before .before .before .before .before .before .before .before .before .before .before .before .before .pre .1 .0) .base)) (c .before .before .before .before .before .before .before .before .before .before .before .before .before .before .before .before .before .get-node2 .ensures .0) (c .before .before .before .before .before .before .before .before .before .before .before .before .before .before .before .before .before .get-node2 .ensures .1) (c .before .before .before .before .before .before .before .before .before .before .before .before .before .bring2 .ensures)) .exact) (c .before .before .before .before .before .before .len-of2 .ensures) (c .before .before .before .before .before .steps-of2 .ensures)) (c .before .before .before .before .before .before .before .before .before .before .before .before .before .before .before .before .before .before .before .before .before .before .before .before .before .before .before .before .before .before .before .before .before .before .before .before .before .before .before .before .before .pre .1 .0)))) (c .before .before .before .before .before .before .before .before .before .before .before .before .before .before .before .before .before .before .before .before .before .before .before .before .before .before .before .before .before .before .before .before .before .before .before .before .before .before .before .before .before .pre .1 .1 .1)), ((c .before .before .before .before .before .before .before .before .before .before .before .before .before .before .before .before .before .before .before .before .before .before .before .before .before .before .before .before .before .before .before .before .before .before .before .before .before .before .before .before .before .pre .1 .1 .0), switch-spans ((c .before .before .before .before .before .before .before .before .before .before .before .before .before .before .before .before .before .before .before .before .before .before .before .before .before .before .before .before .before .before .before .before .before .before .before .before .before .before .before .before .before .pre .1 .0) .base) refl (as-node (c .before .before .before .before .before .before .before .before .before .before .before .before .before .before .before .before .before .before .before .before .before .before .before .before .before .before .before .before .before .before .before .before .before .before .before .before .before .number-of .ensures) ((bring-gives ((c .before .before .before .before .before .before .before .before .before .before .before .before .before .before .before .before .before .before .before .before .before .before .before .before .before .before .before .before .before .before .before .before .before .before .before .before .before .before .before .before .before .pre .1 .0) .base) (c .before .before .before .before .before .before .before .before .before .before .before .before .before .before .before .before .before .before .before .before .before .before .before .before .before .before .before .before .before .before .before .before .before .get-node .ensures .0) (c .before .before .before .before .before .before .before .before .before .before .before .before .before .before .before .before .before .before .before .before .before .before .before .before .before .before .before .before .before .before .before .before .before .get-node .ensures .1) (c .before .before .before .before .before .before .before .before .before .before .before .before .before .before .before .before .before .before .before .before .before .before .before .before .before .before .before .before .before .bring .ensures)) .gives)) (found-there (c .before .before .before .before .before .before .before .before .before .before .before .before .before .before .before .before .before .before .before .before .before .before .before .before .before .before .if1 .left) ((bring-gives ((c .before .before .before .before .before .before .before .before .before .before .before .before .before .before .before .before .before .before .before .before .before .before .before .before .before .before .before .before .before .before .before .before .before .before .before .before .before .before .before .before .before .pre .1 .0) .base) (c .before .before .before .before .before .before .before .before .before .before .before .before .before .before .before .before .before .before .before .before .before .before .before .before .before .before .before .before .before .before .before .before .before .get-node .ensures .0) (c .before .before .before .before .before .before .before .before .before .before .before .before .before .before .before .before .before .before .before .before .before .before .before .before .before .before .before .before .before .before .before .before .before .get-node .ensures .1) (c .before .before .before .before .before .before .before .before .before .before .before .before .before .before .before .before .before .before .before .before .before .before .before .before .before .before .before .before .before .bring .ensures)) .exact) (c .before .before .before .before .before .before .before .before .before .before .before .before .before .before .before .before .before .before .before .before .before .before .before .before .before .len-of .ensures) (c .before .before .before .before .before .before .before .before .before .before .before .before .before .before .before .before .before .before .before .before .before .before .before .before .steps-of .ensures)) refl (as-node (c .before .before .before .before .before .before .before .before .before .before .before .before .before .before .before .before .before .before .before .before .before .number-of2 .ensures) ((bring-gives (omega (arith, (c .before .before .before .before .before .before .before .before .before .before .before .before .before .before .before .before .before .before .before .before .before .before .before .before .before .before .before .before .before .before .before .before .before .before .before .before .before .before .before .before .before .pre .1 .0) .base)) (c .before .before .before .before .before .before .before .before .before .before .before .before .before .before .before .before .before .get-node2 .ensures .0) (c .before .before .before .before .before .before .before .before .before .before .before .before .before .before .before .before .before .get-node2 .ensures .1) (c .before .before .before .before .before .before .before .before .before .before .before .before .before .bring2 .ensures)) .gives)) (found-there (c .before .before .before .before .before .before .before .before .before .before .if2 .left) ((bring-gives (omega (arith, (c .before .before .before .before .before .before .before .before .before .before .before .before .before .before .before .before .before .before .before .before .before .before .before .before .before .before .before .before .before .before .before .before .before .before .before .before .before .before .before .before .before .pre .1 .0) .base)) (c .before .before .before .before .before .before .before .before .before .before .before .before .before .before .before .before .before .get-node2 .ensures .0) (c .before .before .before .before .before .before .before .before .before .before .before .before .before .before .before .before .before .get-node2 .ensures .1) (c .before .before .before .before .before .before .before .before .before .before .before .before .before .bring2 .ensures)) .exact) (c .before .before .before .before .before .before .len-of2 .ensures) (c .before .before .before .before .before .steps-of2 .ensures)) (c .before .before .before .before .before .before .before .before .before .before .before .before .before .before .before .before .before .before .before .before .before .before .before .before .before .before .before .before .before .before .before .before .before .before .before .before .before .before .before .before .before .pre .1 .0))))
 
 put-switch-returns-4 : (t : ℕ) → put-switch-lts.Need-returns-4 (put-switch-claims t) (put-switch-at t) put-switch.Post
-put-switch-returns-4 t c = switch-under ((c .before .before .before .before .before .before .before .before .before .before .before .before .before .before .before .before .before .before .before .before .before .before .before .before .before .before .before .before .before .before .before .before .before .before .before .before .before .before .before .before .before .before .before .before .pre .1 .0) .base) refl (as-node (c .before .before .before .before .before .before .before .before .before .before .before .before .before .before .before .before .before .before .before .before .before .before .before .before .before .before .before .before .before .before .before .before .before .before .before .before .before .before .before .before .number-of .ensures) ((bring-gives ((c .before .before .before .before .before .before .before .before .before .before .before .before .before .before .before .before .before .before .before .before .before .before .before .before .before .before .before .before .before .before .before .before .before .before .before .before .before .before .before .before .before .before .before .before .pre .1 .0) .base) (c .before .before .before .before .before .before .before .before .before .before .before .before .before .before .before .before .before .before .before .before .before .before .before .before .before .before .before .before .before .before .before .before .before .before .before .before .get-node .ensures) (c .before .before .before .before .before .before .before .before .before .before .before .before .before .before .before .before .before .before .before .before .before .before .before .before .before .before .before .before .before .before .before .before .bring .ensures)) .0)) (found-there (c .before .before .before .before .before .before .before .before .before .before .before .before .before .before .before .before .before .before .before .before .before .before .before .before .before .before .before .before .before .if1 .left) ((bring-gives ((c .before .before .before .before .before .before .before .before .before .before .before .before .before .before .before .before .before .before .before .before .before .before .before .before .before .before .before .before .before .before .before .before .before .before .before .before .before .before .before .before .before .before .before .before .pre .1 .0) .base) (c .before .before .before .before .before .before .before .before .before .before .before .before .before .before .before .before .before .before .before .before .before .before .before .before .before .before .before .before .before .before .before .before .before .before .before .before .get-node .ensures) (c .before .before .before .before .before .before .before .before .before .before .before .before .before .before .before .before .before .before .before .before .before .before .before .before .before .before .before .before .before .before .before .before .bring .ensures)) .1) (c .before .before .before .before .before .before .before .before .before .before .before .before .before .before .before .before .before .before .before .before .before .before .before .before .before .before .before .before .len-of .ensures) (c .before .before .before .before .before .before .before .before .before .before .before .before .before .before .before .before .before .before .before .before .before .before .before .before .before .before .before .steps-of .ensures)) refl (as-node (c .before .before .before .before .before .before .before .before .before .before .before .before .before .before .before .before .before .before .before .before .before .before .before .before .number-of2 .ensures) ((bring-gives (omega (arith, (c .before .before .before .before .before .before .before .before .before .before .before .before .before .before .before .before .before .before .before .before .before .before .before .before .before .before .before .before .before .before .before .before .before .before .before .before .before .before .before .before .before .before .before .before .pre .1 .0) .base)) (c .before .before .before .before .before .before .before .before .before .before .before .before .before .before .before .before .before .before .before .before .get-node2 .ensures) (c .before .before .before .before .before .before .before .before .before .before .before .before .before .before .before .before .bring2 .ensures)) .0)) (found-there (c .before .before .before .before .before .before .before .before .before .before .before .before .before .if2 .left) ((bring-gives (omega (arith, (c .before .before .before .before .before .before .before .before .before .before .before .before .before .before .before .before .before .before .before .before .before .before .before .before .before .before .before .before .before .before .before .before .before .before .before .before .before .before .before .before .before .before .before .before .pre .1 .0) .base)) (c .before .before .before .before .before .before .before .before .before .before .before .before .before .before .before .before .before .before .before .before .get-node2 .ensures) (c .before .before .before .before .before .before .before .before .before .before .before .before .before .before .before .before .bring2 .ensures)) .1) (c .before .before .before .before .before .before .before .before .before .len-of2 .ensures) (c .before .before .before .before .before .before .before .before .steps-of2 .ensures)) (fit-low _ (c .before .before .before .before .before .before .before .before .before .before .before .unfit .ensures) (c .before .before .before .before .before .before .before .before .before .before .if3 .left)) (fit-high _ (c .before .before .before .before .before .before .before .before .before .before .before .unfit .ensures) (c .before .before .before .before .before .before .before .before .before .before .if3 .left)) (c .before .before .before .before .before .before .before .before .before .before .before .before .before .before .before .before .before .before .before .before .before .before .before .before .before .before .before .before .before .before .before .before .before .before .before .before .before .before .before .before .before .before .before .before .pre .1 .0) (as-inside (c .before .before .before .before .before .before .number-of3 .ensures) (c .before .before .before .before .before .number-of4 .ensures) (c .before .before .put-under .ensures))
+put-switch-returns-4 t c = switch-under ((c .before .before .before .before .before .before .before .before .before .before .before .before .before .before .before .before .before .before .before .before .before .before .before .before .before .before .before .before .before .before .before .before .before .before .before .before .before .before .before .before .before .before .before .before .pre .1 .0) .base) refl (as-node (c .before .before .before .before .before .before .before .before .before .before .before .before .before .before .before .before .before .before .before .before .before .before .before .before .before .before .before .before .before .before .before .before .before .before .before .before .before .before .before .before .number-of .ensures) ((bring-gives ((c .before .before .before .before .before .before .before .before .before .before .before .before .before .before .before .before .before .before .before .before .before .before .before .before .before .before .before .before .before .before .before .before .before .before .before .before .before .before .before .before .before .before .before .before .pre .1 .0) .base) (c .before .before .before .before .before .before .before .before .before .before .before .before .before .before .before .before .before .before .before .before .before .before .before .before .before .before .before .before .before .before .before .before .before .before .before .before .get-node .ensures .0) (c .before .before .before .before .before .before .before .before .before .before .before .before .before .before .before .before .before .before .before .before .before .before .before .before .before .before .before .before .before .before .before .before .before .before .before .before .get-node .ensures .1) (c .before .before .before .before .before .before .before .before .before .before .before .before .before .before .before .before .before .before .before .before .before .before .before .before .before .before .before .before .before .before .before .before .bring .ensures)) .gives)) (found-there (c .before .before .before .before .before .before .before .before .before .before .before .before .before .before .before .before .before .before .before .before .before .before .before .before .before .before .before .before .before .if1 .left) ((bring-gives ((c .before .before .before .before .before .before .before .before .before .before .before .before .before .before .before .before .before .before .before .before .before .before .before .before .before .before .before .before .before .before .before .before .before .before .before .before .before .before .before .before .before .before .before .before .pre .1 .0) .base) (c .before .before .before .before .before .before .before .before .before .before .before .before .before .before .before .before .before .before .before .before .before .before .before .before .before .before .before .before .before .before .before .before .before .before .before .before .get-node .ensures .0) (c .before .before .before .before .before .before .before .before .before .before .before .before .before .before .before .before .before .before .before .before .before .before .before .before .before .before .before .before .before .before .before .before .before .before .before .before .get-node .ensures .1) (c .before .before .before .before .before .before .before .before .before .before .before .before .before .before .before .before .before .before .before .before .before .before .before .before .before .before .before .before .before .before .before .before .bring .ensures)) .exact) (c .before .before .before .before .before .before .before .before .before .before .before .before .before .before .before .before .before .before .before .before .before .before .before .before .before .before .before .before .len-of .ensures) (c .before .before .before .before .before .before .before .before .before .before .before .before .before .before .before .before .before .before .before .before .before .before .before .before .before .before .before .steps-of .ensures)) refl (as-node (c .before .before .before .before .before .before .before .before .before .before .before .before .before .before .before .before .before .before .before .before .before .before .before .before .number-of2 .ensures) ((bring-gives (omega (arith, (c .before .before .before .before .before .before .before .before .before .before .before .before .before .before .before .before .before .before .before .before .before .before .before .before .before .before .before .before .before .before .before .before .before .before .before .before .before .before .before .before .before .before .before .before .pre .1 .0) .base)) (c .before .before .before .before .before .before .before .before .before .before .before .before .before .before .before .before .before .before .before .before .get-node2 .ensures .0) (c .before .before .before .before .before .before .before .before .before .before .before .before .before .before .before .before .before .before .before .before .get-node2 .ensures .1) (c .before .before .before .before .before .before .before .before .before .before .before .before .before .before .before .before .bring2 .ensures)) .gives)) (found-there (c .before .before .before .before .before .before .before .before .before .before .before .before .before .if2 .left) ((bring-gives (omega (arith, (c .before .before .before .before .before .before .before .before .before .before .before .before .before .before .before .before .before .before .before .before .before .before .before .before .before .before .before .before .before .before .before .before .before .before .before .before .before .before .before .before .before .before .before .before .pre .1 .0) .base)) (c .before .before .before .before .before .before .before .before .before .before .before .before .before .before .before .before .before .before .before .before .get-node2 .ensures .0) (c .before .before .before .before .before .before .before .before .before .before .before .before .before .before .before .before .before .before .before .before .get-node2 .ensures .1) (c .before .before .before .before .before .before .before .before .before .before .before .before .before .before .before .before .bring2 .ensures)) .exact) (c .before .before .before .before .before .before .before .before .before .len-of2 .ensures) (c .before .before .before .before .before .before .before .before .steps-of2 .ensures)) (fit-low _ (c .before .before .before .before .before .before .before .before .before .before .before .unfit .ensures) (c .before .before .before .before .before .before .before .before .before .before .if3 .left)) (fit-high _ (c .before .before .before .before .before .before .before .before .before .before .before .unfit .ensures) (c .before .before .before .before .before .before .before .before .before .before .if3 .left)) (c .before .before .before .before .before .before .before .before .before .before .before .before .before .before .before .before .before .before .before .before .before .before .before .before .before .before .before .before .before .before .before .before .before .before .before .before .before .before .before .before .before .before .before .before .pre .1 .0) (as-inside (c .before .before .before .before .before .before .number-of3 .ensures) (c .before .before .before .before .before .number-of4 .ensures) (c .before .before .put-under .ensures))
 
 put-switch-same-length-4 : (t : ℕ) → put-switch-lts.Need-same-length-4 (put-switch-claims t) (put-switch-at t) put-switch.Post
 put-switch-same-length-4 t c = put-switch-returns-4 t c .frame .long
@@ -1101,7 +1101,7 @@ put-truth-case-get-node-requires : (t : ℕ) → put-truth-case-lts.Need-get-nod
 put-truth-case-get-node-requires t c κs = subject-ready (c .before .before .before .before .before .pre .1) (omega (arith, c .before .number-of .ensures, ((c .before .before .before .before .before .pre .1) .known .1 .subject .inside)))
 
 put-truth-case-returns : (t : ℕ) → put-truth-case-lts.Need-returns (put-truth-case-claims t) (put-truth-case-at t) put-truth-case.Post
-put-truth-case-returns t c = as-taken (taken-refused (c .if1 .taken)) (truth-refused ((c .before .before .before .before .before .before .before .before .before .pre .1) .base) (as-node (c .before .before .before .before .before .number-of .ensures) (c .before .before .before .get-node .ensures)) (found-refused (c .if1 .taken)))
+put-truth-case-returns t c = as-taken (taken-refused (c .if1 .taken)) (truth-refused ((c .before .before .before .before .before .before .before .before .before .pre .1) .base) (as-node (c .before .before .before .before .before .number-of .ensures) (c .before .before .before .get-node .ensures .0)) (found-refused (c .if1 .taken)))
 
 put-truth-case-same-length : (t : ℕ) → put-truth-case-lts.Need-same-length (put-truth-case-claims t) (put-truth-case-at t) put-truth-case.Post
 put-truth-case-same-length t c = put-truth-case-returns t c .frame .long
@@ -1113,19 +1113,19 @@ put-truth-case-len-of-requires : (t : ℕ) → put-truth-case-lts.Need-len-of-re
 put-truth-case-len-of-requires t c κs = search needs
 
 put-truth-case-add-end : (t : ℕ) → put-truth-case-lts.Need-add-end (put-truth-case-claims t) (put-truth-case-at t) put-truth-case.Post
-put-truth-case-add-end t c = let z = (sizes (subject-ready (c .before .before .before .before .before .before .before .before .before .before .before .pre .1) ((c .before .before .before .before .before .before .before .before .before .before .before .pre .1) .known .1 .subject .inside)) (as-node (c .before .before .before .before .before .before .before .number-of .ensures) (c .before .before .before .before .before .get-node .ensures)) (found-as (c .before .before .if1 .left) (c .before .start-of .ensures) (c .len-of .ensures) refl)) in record { fits = omega (arith, (c .before .before .before .before .before .before .before .before .before .before .before .pre .1) .room, z .short, z .low) }
+put-truth-case-add-end t c = let z = (c .before .before .before .before .before .get-node .ensures .1 .at (found-as (c .before .before .if1 .left) (c .before .start-of .ensures) (c .len-of .ensures) refl)) in record { fits = omega (arith, (c .before .before .before .before .before .before .before .before .before .before .before .pre .1) .room, z .short, z .low) }
 
 put-truth-case-steps-of-requires : (t : ℕ) → put-truth-case-lts.Need-steps-of-requires (put-truth-case-claims t) (put-truth-case-at t) put-truth-case.Post
 put-truth-case-steps-of-requires t c κs = search needs
 
 put-truth-case-add-s : (t : ℕ) → put-truth-case-lts.Need-add-s (put-truth-case-claims t) (put-truth-case-at t) put-truth-case.Post
-put-truth-case-add-s t c = record { fits = omega (arith, (sizes (subject-ready (c .before .before .before .before .before .before .before .before .before .before .before .before .pre .1) ((c .before .before .before .before .before .before .before .before .before .before .before .before .pre .1) .known .1 .subject .inside)) (as-node (c .before .before .before .before .before .before .before .before .number-of .ensures) (c .before .before .before .before .before .before .get-node .ensures)) (found-as (c .before .before .before .if1 .left) (c .before .before .start-of .ensures) (c .before .len-of .ensures) (c .steps-of .ensures))) .steps, (c .before .before .before .before .before .before .before .before .before .before .before .before .pre .1) .few) }
+put-truth-case-add-s t c = record { fits = omega (arith, (c .before .before .before .before .before .before .get-node .ensures .1 .at (found-as (c .before .before .before .if1 .left) (c .before .before .start-of .ensures) (c .before .len-of .ensures) (c .steps-of .ensures))) .steps, (c .before .before .before .before .before .before .before .before .before .before .before .before .pre .1) .few) }
 
 put-truth-case-sub-to : (t : ℕ) → put-truth-case-lts.Need-sub-to (put-truth-case-claims t) (put-truth-case-at t) put-truth-case.Post
-put-truth-case-sub-to t c = omega (arith, (sizes (subject-ready (c .before .before .before .before .before .before .before .before .before .before .before .before .before .pre .1) ((c .before .before .before .before .before .before .before .before .before .before .before .before .before .pre .1) .known .1 .subject .inside)) (as-node (c .before .before .before .before .before .before .before .before .before .number-of .ensures) (c .before .before .before .before .before .before .before .get-node .ensures)) (found-as (c .before .before .before .before .if1 .left) (c .before .before .before .start-of .ensures) (c .before .before .len-of .ensures) (c .before .steps-of .ensures))) .steps)
+put-truth-case-sub-to t c = omega (arith, (c .before .before .before .before .before .before .before .get-node .ensures .1 .at (found-as (c .before .before .before .before .if1 .left) (c .before .before .before .start-of .ensures) (c .before .before .len-of .ensures) (c .before .steps-of .ensures))) .steps)
 
 put-truth-case-above-requires : (t : ℕ) → put-truth-case-lts.Need-above-requires (put-truth-case-claims t) (put-truth-case-at t) put-truth-case.Post
-put-truth-case-above-requires t c κs = let z = (sizes (subject-ready (c .before .before .before .before .before .before .before .before .before .before .before .before .before .pre .1) ((c .before .before .before .before .before .before .before .before .before .before .before .before .before .pre .1) .known .1 .subject .inside)) (as-node (c .before .before .before .before .before .before .before .before .before .number-of .ensures) (c .before .before .before .before .before .before .before .get-node .ensures)) (found-as (c .before .before .before .before .if1 .left) (c .before .before .before .start-of .ensures) (c .before .before .len-of .ensures) (c .before .steps-of .ensures))) in (z .low, omega (arith, (c .before .before .before .before .before .before .before .before .before .before .before .before .before .pre .1) .room, z .short))
+put-truth-case-above-requires t c κs = let z = (c .before .before .before .before .before .before .before .get-node .ensures .1 .at (found-as (c .before .before .before .before .if1 .left) (c .before .before .before .start-of .ensures) (c .before .before .len-of .ensures) (c .before .steps-of .ensures))) in (z .low, omega (arith, (c .before .before .before .before .before .before .before .before .before .before .before .before .before .pre .1) .room, z .short))
 
 put-truth-case-byte-of-requires : (t : ℕ) → put-truth-case-lts.Need-byte-of-requires (put-truth-case-claims t) (put-truth-case-at t) put-truth-case.Post
 put-truth-case-byte-of-requires t c κs = search needs
@@ -1140,13 +1140,13 @@ put-truth-case-part-truth-branch-start : (t : ℕ) → put-truth-case-lts.Need-p
 put-truth-case-part-truth-branch-start t c = search needs
 
 put-truth-case-part-truth-branch-end : (t : ℕ) → put-truth-case-lts.Need-part-truth-branch-end (put-truth-case-claims t) (put-truth-case-at t) put-truth-case.Post
-put-truth-case-part-truth-branch-end t c = let z = (sizes (subject-ready (c .before .before .before .before .before .before .before .before .before .before .before .before .before .before .before .before .before .pre .1) ((c .before .before .before .before .before .before .before .before .before .before .before .before .before .before .before .before .before .pre .1) .known .1 .subject .inside)) (as-node (c .before .before .before .before .before .before .before .before .before .before .before .before .before .number-of .ensures) (c .before .before .before .before .before .before .before .before .before .before .before .get-node .ensures)) (found-as (c .before .before .before .before .before .before .before .before .if1 .left) (c .before .before .before .before .before .before .before .start-of .ensures) (c .before .before .before .before .before .before .len-of .ensures) (c .before .before .before .before .before .steps-of .ensures))) in omega (arith, (c .before .before .before .before .before .before .before .before .before .before .before .before .before .before .before .before .before .pre .1) .room, (c .before .before .before .before .before .before .before .before .before .before .before .before .before .before .before .before .before .pre .1) .long, z .short, z .low, c .before .before .before .before .before .before .before .before .before .before .before .get-node .ensures .kept .long)
+put-truth-case-part-truth-branch-end t c = let z = (c .before .before .before .before .before .before .before .before .before .before .before .get-node .ensures .1 .at (found-as (c .before .before .before .before .before .before .before .before .if1 .left) (c .before .before .before .before .before .before .before .start-of .ensures) (c .before .before .before .before .before .before .len-of .ensures) (c .before .before .before .before .before .steps-of .ensures))) in omega (arith, (c .before .before .before .before .before .before .before .before .before .before .before .before .before .before .before .before .before .pre .1) .room, (c .before .before .before .before .before .before .before .before .before .before .before .before .before .before .before .before .before .pre .1) .long, z .short, z .low, c .before .before .before .before .before .before .before .before .before .before .before .get-node .ensures .0 .kept .long)
 
 put-truth-case-truth-branch-requires : (t : ℕ) → put-truth-case-lts.Need-truth-branch-requires (put-truth-case-claims t) (put-truth-case-at t) put-truth-case.Post
 put-truth-case-truth-branch-requires t c κs = search needs
 
 put-truth-case-returns-2 : (t : ℕ) → put-truth-case-lts.Need-returns-2 (put-truth-case-claims t) (put-truth-case-at t) put-truth-case.Post
-put-truth-case-returns-2 t c = as-taken (taken-refused (truth-code (truth-says _ _ _ (rw (c .before .before .before .before .before .byte-of .ensures, c .before .before .before .before .byte-of2 .ensures) at (c .before .truth-branch .ensures))))) (truth-not ((c .before .before .before .before .before .before .before .before .before .before .before .before .before .before .before .before .before .before .before .before .pre .1) .base) (as-node (c .before .before .before .before .before .before .before .before .before .before .before .before .before .before .before .before .number-of .ensures) (c .before .before .before .before .before .before .before .before .before .before .before .before .before .before .get-node .ensures)) (found-as (c .before .before .before .before .before .before .before .before .before .before .before .if1 .left) (c .before .before .before .before .before .before .before .before .before .before .start-of .ensures) (c .before .before .before .before .before .before .before .before .before .len-of .ensures) (c .before .before .before .before .before .before .before .before .steps-of .ensures)) (c .before .before .before .before .before .before .above .ensures) refl (truth-says _ _ _ (rw (c .before .before .before .before .before .byte-of .ensures, c .before .before .before .before .byte-of2 .ensures) at (c .before .truth-branch .ensures))) (c .if2 .taken))
+put-truth-case-returns-2 t c = as-taken (taken-refused (truth-code (truth-says _ _ _ (rw (c .before .before .before .before .before .byte-of .ensures, c .before .before .before .before .byte-of2 .ensures) at (c .before .truth-branch .ensures))))) (truth-not ((c .before .before .before .before .before .before .before .before .before .before .before .before .before .before .before .before .before .before .before .before .pre .1) .base) (as-node (c .before .before .before .before .before .before .before .before .before .before .before .before .before .before .before .before .number-of .ensures) (c .before .before .before .before .before .before .before .before .before .before .before .before .before .before .get-node .ensures .0)) (found-as (c .before .before .before .before .before .before .before .before .before .before .before .if1 .left) (c .before .before .before .before .before .before .before .before .before .before .start-of .ensures) (c .before .before .before .before .before .before .before .before .before .len-of .ensures) (c .before .before .before .before .before .before .before .before .steps-of .ensures)) (c .before .before .before .before .before .before .above .ensures) refl (truth-says _ _ _ (rw (c .before .before .before .before .before .byte-of .ensures, c .before .before .before .before .byte-of2 .ensures) at (c .before .truth-branch .ensures))) (c .if2 .taken))
 
 put-truth-case-same-length-2 : (t : ℕ) → put-truth-case-lts.Need-same-length-2 (put-truth-case-claims t) (put-truth-case-at t) put-truth-case.Post
 put-truth-case-same-length-2 t c = put-truth-case-returns-2 t c .frame .long
@@ -1190,10 +1190,10 @@ put-truth-case-slice-aggregate-put-both :
 put-truth-case-slice-aggregate-put-both t c = search needs
 
 put-truth-case-put-both-requires : (t : ℕ) → put-truth-case-lts.Need-put-both-requires (put-truth-case-claims t) (put-truth-case-at t) put-truth-case.Post
-put-truth-case-put-both-requires t c κs = (omega (arith, c .before .before .before .before .before .before .before .before .before .before .before .before .before .before .before .before .before .before .before .before .before .before .before .before .pre .0), (after-subject ((c .before .before .before .before .before .before .before .before .before .before .before .before .before .before .before .before .before .before .before .before .before .before .before .before .pre .1) .base) (as-node (c .before .before .before .before .before .before .before .before .before .before .before .before .before .before .before .before .before .before .before .before .number-of .ensures) (c .before .before .before .before .before .before .before .before .before .before .before .before .before .before .before .before .before .before .get-node .ensures)) (found-as (c .before .before .before .before .before .before .before .before .before .before .before .before .before .before .before .if1 .left) (c .before .before .before .before .before .before .before .before .before .before .before .before .before .before .start-of .ensures) (c .before .before .before .before .before .before .before .before .before .before .before .before .before .len-of .ensures) (c .before .before .before .before .before .before .before .before .before .before .before .before .steps-of .ensures)) (c .before .before .before .before .before .before .before .before .before .before .above .ensures) (c .before .before .before .before .before .before .before .before .before .before .before .before .before .before .before .before .before .before .before .before .before .before .before .before .pre .1) ((node-inside (now (c .before .before .before .before .before .before .before .before .before .before .before .before .before .before .before .before .before .before .before .before .before .before .before .before .args .sheet)) (c .before .before .before .before .before .before .before .before .before .before .before .before .before .before .before .before .before .before .before .before .before .before .before .before .args .n) (c .before .before .before .before .before .truth-branch .result) (c .before .before .before .number-of2 .ensures) (omega (arith, c .before .before .before .before .if2 .left)) ((c .before .before .before .before .before .before .before .before .before .before .before .before .before .before .before .before .before .before .before .before .before .before .before .before .pre .1) .known .1 .no .inside) ((c .before .before .before .before .before .before .before .before .before .before .before .before .before .before .before .before .before .before .before .before .before .before .before .before .pre .1) .known .1 .yes .inside)), (omega (arith, c .before .before .before .before .before .before .before .before .before .before .before .before .before .before .before .before .before .before .before .before .number-of .ensures, ((c .before .before .before .before .before .before .before .before .before .before .before .before .before .before .before .before .before .before .before .before .before .before .before .before .pre .1) .known .1 .subject .inside)))) (omega (arith, (sizes (subject-ready (c .before .before .before .before .before .before .before .before .before .before .before .before .before .before .before .before .before .before .before .before .before .before .before .before .pre .1) ((c .before .before .before .before .before .before .before .before .before .before .before .before .before .before .before .before .before .before .before .before .before .before .before .before .pre .1) .known .1 .subject .inside)) (as-node (c .before .before .before .before .before .before .before .before .before .before .before .before .before .before .before .before .before .before .before .before .number-of .ensures) (c .before .before .before .before .before .before .before .before .before .before .before .before .before .before .before .before .before .before .get-node .ensures)) (found-as (c .before .before .before .before .before .before .before .before .before .before .before .before .before .before .before .if1 .left) (c .before .before .before .before .before .before .before .before .before .before .before .before .before .before .start-of .ensures) (c .before .before .before .before .before .before .before .before .before .before .before .before .before .len-of .ensures) (c .before .before .before .before .before .before .before .before .before .before .before .before .steps-of .ensures))) .steps)), view-truth (omega (arith, c .before .before .before .before .if2 .left))))
+put-truth-case-put-both-requires t c κs = (omega (arith, c .before .before .before .before .before .before .before .before .before .before .before .before .before .before .before .before .before .before .before .before .before .before .before .before .pre .0), (after-subject ((c .before .before .before .before .before .before .before .before .before .before .before .before .before .before .before .before .before .before .before .before .before .before .before .before .pre .1) .base) (as-node (c .before .before .before .before .before .before .before .before .before .before .before .before .before .before .before .before .before .before .before .before .number-of .ensures) (c .before .before .before .before .before .before .before .before .before .before .before .before .before .before .before .before .before .before .get-node .ensures .0)) (found-as (c .before .before .before .before .before .before .before .before .before .before .before .before .before .before .before .if1 .left) (c .before .before .before .before .before .before .before .before .before .before .before .before .before .before .start-of .ensures) (c .before .before .before .before .before .before .before .before .before .before .before .before .before .len-of .ensures) (c .before .before .before .before .before .before .before .before .before .before .before .before .steps-of .ensures)) (c .before .before .before .before .before .before .before .before .before .before .above .ensures) (c .before .before .before .before .before .before .before .before .before .before .before .before .before .before .before .before .before .before .before .before .before .before .before .before .pre .1) ((node-inside (now (c .before .before .before .before .before .before .before .before .before .before .before .before .before .before .before .before .before .before .before .before .before .before .before .before .args .sheet)) (c .before .before .before .before .before .before .before .before .before .before .before .before .before .before .before .before .before .before .before .before .before .before .before .before .args .n) (c .before .before .before .before .before .truth-branch .result) (c .before .before .before .number-of2 .ensures) (omega (arith, c .before .before .before .before .if2 .left)) ((c .before .before .before .before .before .before .before .before .before .before .before .before .before .before .before .before .before .before .before .before .before .before .before .before .pre .1) .known .1 .no .inside) ((c .before .before .before .before .before .before .before .before .before .before .before .before .before .before .before .before .before .before .before .before .before .before .before .before .pre .1) .known .1 .yes .inside)), (omega (arith, c .before .before .before .before .before .before .before .before .before .before .before .before .before .before .before .before .before .before .before .before .number-of .ensures, ((c .before .before .before .before .before .before .before .before .before .before .before .before .before .before .before .before .before .before .before .before .before .before .before .before .pre .1) .known .1 .subject .inside)))) (omega (arith, (c .before .before .before .before .before .before .before .before .before .before .before .before .before .before .before .before .before .before .get-node .ensures .1 .at (found-as (c .before .before .before .before .before .before .before .before .before .before .before .before .before .before .before .if1 .left) (c .before .before .before .before .before .before .before .before .before .before .before .before .before .before .start-of .ensures) (c .before .before .before .before .before .before .before .before .before .before .before .before .before .len-of .ensures) (c .before .before .before .before .before .before .before .before .before .before .before .before .steps-of .ensures))) .steps)), view-truth (omega (arith, c .before .before .before .before .if2 .left))))
 
 put-truth-case-returns-3 : (t : ℕ) → put-truth-case-lts.Need-returns-3 (put-truth-case-claims t) (put-truth-case-at t) put-truth-case.Post
-put-truth-case-returns-3 t c = truth-both ((c .before .before .before .before .before .before .before .before .before .before .before .before .before .before .before .before .before .before .before .before .before .before .before .before .before .before .before .pre .1) .base) (as-node (c .before .before .before .before .before .before .before .before .before .before .before .before .before .before .before .before .before .before .before .before .before .before .before .number-of .ensures) (c .before .before .before .before .before .before .before .before .before .before .before .before .before .before .before .before .before .before .before .before .before .get-node .ensures)) (found-as (c .before .before .before .before .before .before .before .before .before .before .before .before .before .before .before .before .before .before .if1 .left) (c .before .before .before .before .before .before .before .before .before .before .before .before .before .before .before .before .before .start-of .ensures) (c .before .before .before .before .before .before .before .before .before .before .before .before .before .before .before .before .len-of .ensures) (c .before .before .before .before .before .before .before .before .before .before .before .before .before .before .before .steps-of .ensures)) (c .before .before .before .before .before .before .before .before .before .before .before .before .before .above .ensures) refl (truth-says _ _ _ (rw (c .before .before .before .before .before .before .before .before .before .before .before .before .byte-of .ensures, c .before .before .before .before .before .before .before .before .before .before .before .byte-of2 .ensures) at (c .before .before .before .before .before .before .before .before .truth-branch .ensures))) (omega (arith, c .before .before .before .before .before .before .before .if2 .left)) (node-first (now (c .before .before .before .before .before .before .before .before .before .before .before .before .before .before .before .before .before .before .before .before .before .before .before .before .before .before .before .args .sheet)) (c .before .before .before .before .before .before .before .before .before .before .before .before .before .before .before .before .before .before .before .before .before .before .before .before .before .before .before .args .n) (c .before .before .before .before .before .before .before .before .truth-branch .result) (c .before .before .before .before .before .before .number-of2 .ensures)) (node-second (now (c .before .before .before .before .before .before .before .before .before .before .before .before .before .before .before .before .before .before .before .before .before .before .before .before .before .before .before .args .sheet)) (c .before .before .before .before .before .before .before .before .before .before .before .before .before .before .before .before .before .before .before .before .before .before .before .before .before .before .before .args .n) (c .before .before .before .before .before .before .before .before .truth-branch .result) (c .before .before .before .before .before .before .number-of2 .ensures)) (as-pair refl (c .before .before .before .before .before .before .before .before .before .before .before .before .before .before .before .before .before .before .before .before .before .before .before .number-of .ensures) (c .before .before .put-both .ensures))
+put-truth-case-returns-3 t c = truth-both ((c .before .before .before .before .before .before .before .before .before .before .before .before .before .before .before .before .before .before .before .before .before .before .before .before .before .before .before .pre .1) .base) (as-node (c .before .before .before .before .before .before .before .before .before .before .before .before .before .before .before .before .before .before .before .before .before .before .before .number-of .ensures) (c .before .before .before .before .before .before .before .before .before .before .before .before .before .before .before .before .before .before .before .before .before .get-node .ensures .0)) (found-as (c .before .before .before .before .before .before .before .before .before .before .before .before .before .before .before .before .before .before .if1 .left) (c .before .before .before .before .before .before .before .before .before .before .before .before .before .before .before .before .before .start-of .ensures) (c .before .before .before .before .before .before .before .before .before .before .before .before .before .before .before .before .len-of .ensures) (c .before .before .before .before .before .before .before .before .before .before .before .before .before .before .before .steps-of .ensures)) (c .before .before .before .before .before .before .before .before .before .before .before .before .before .above .ensures) refl (truth-says _ _ _ (rw (c .before .before .before .before .before .before .before .before .before .before .before .before .byte-of .ensures, c .before .before .before .before .before .before .before .before .before .before .before .byte-of2 .ensures) at (c .before .before .before .before .before .before .before .before .truth-branch .ensures))) (omega (arith, c .before .before .before .before .before .before .before .if2 .left)) (node-first (now (c .before .before .before .before .before .before .before .before .before .before .before .before .before .before .before .before .before .before .before .before .before .before .before .before .before .before .before .args .sheet)) (c .before .before .before .before .before .before .before .before .before .before .before .before .before .before .before .before .before .before .before .before .before .before .before .before .before .before .before .args .n) (c .before .before .before .before .before .before .before .before .truth-branch .result) (c .before .before .before .before .before .before .number-of2 .ensures)) (node-second (now (c .before .before .before .before .before .before .before .before .before .before .before .before .before .before .before .before .before .before .before .before .before .before .before .before .before .before .before .args .sheet)) (c .before .before .before .before .before .before .before .before .before .before .before .before .before .before .before .before .before .before .before .before .before .before .before .before .before .before .before .args .n) (c .before .before .before .before .before .before .before .before .truth-branch .result) (c .before .before .before .before .before .before .number-of2 .ensures)) (as-pair refl (c .before .before .before .before .before .before .before .before .before .before .before .before .before .before .before .before .before .before .before .before .before .before .before .number-of .ensures) (c .before .before .put-both .ensures))
 
 put-truth-case-same-length-3 : (t : ℕ) → put-truth-case-lts.Need-same-length-3 (put-truth-case-claims t) (put-truth-case-at t) put-truth-case.Post
 put-truth-case-same-length-3 t c = put-truth-case-returns-3 t c .frame .long
@@ -1205,25 +1205,25 @@ put-under-same-length : (t : ℕ) → put-under-lts.Need-same-length (put-under-
 put-under-same-length t c = search needs
 
 put-under-returns : (t : ℕ) → put-under-lts.Need-returns (put-under-claims t) (put-under-at t) put-under.Post
-put-under-returns t c = λ f u h. as-taken (taken-refused (c .if1 .taken)) (under-refused (opened (now (c .before .before .before .before .before .before .before .before .before .args .slots)) (c .before .before .before .before .before .before .before .before .before .args .parts .start) (c .before .before .before .before .before .before .before .before .before .args .parts .first) (c .before .before .before .before .before .before .before .before .before .args .parts .second) (c .before .before .before .before .before .before .before .before .before .pre .1 .1 .0) refl (λ _ _. refl)) (c .before .before .before .put-inside .ensures) h (taken-refused (c .if1 .taken)))
+put-under-returns t c = λ f u h. as-taken (taken-refused (c .if1 .taken)) (under-refused (opened (now (c .before .before .before .before .before .before .before .before .before .args .slots)) (c .before .before .before .before .before .before .before .before .before .args .parts .start) (c .before .before .before .before .before .before .before .before .before .args .parts .first) (c .before .before .before .before .before .before .before .before .before .args .parts .second) (c .before .before .before .before .before .before .before .before .before .pre .1 .1 .0) refl (λ _ _. refl)) (c .before .before .before .put-inside .ensures .0) h (taken-refused (c .if1 .taken)))
 
 put-under-taken-requires : (t : ℕ) → put-under-lts.Need-taken-requires (put-under-claims t) (put-under-at t) put-under.Post
 put-under-taken-requires t c κs = search needs
 
 put-under-sub-put-rebuilt : (t : ℕ) → put-under-lts.Need-sub-put-rebuilt (put-under-claims t) (put-under-at t) put-under.Post
-put-under-sub-put-rebuilt t c = omega (arith, (under-few (opened (now (c .before .before .before .before .before .before .before .before .before .before .before .args .slots)) (c .before .before .before .before .before .before .before .before .before .before .before .args .parts .start) (c .before .before .before .before .before .before .before .before .before .before .before .args .parts .first) (c .before .before .before .before .before .before .before .before .before .before .before .args .parts .second) (c .before .before .before .before .before .before .before .before .before .before .before .pre .1 .1 .0) refl (λ _ _. refl)) (c .before .before .before .before .before .put-inside .ensures) (taken-as (c .before .before .if1 .left) (c .before .taken .ensures)) (c .before .before .before .before .before .before .before .before .before .before .before .pre .1 .0) (c .before .before .before .before .before .before .before .before .before .before .before .pre .1 .1 .1)))
+put-under-sub-put-rebuilt t c = omega (arith, (c .before .before .before .before .before .put-inside .ensures .1 .at (taken-as (c .before .before .if1 .left) (c .before .taken .ensures))))
 
 put-under-add-put-rebuilt : (t : ℕ) → put-under-lts.Need-add-put-rebuilt (put-under-claims t) (put-under-at t) put-under.Post
-put-under-add-put-rebuilt t c = record { fits = omega (arith, (under-few (opened (now (c .before .before .before .before .before .before .before .before .before .before .before .before .before .args .slots)) (c .before .before .before .before .before .before .before .before .before .before .before .before .before .args .parts .start) (c .before .before .before .before .before .before .before .before .before .before .before .before .before .args .parts .first) (c .before .before .before .before .before .before .before .before .before .before .before .before .before .args .parts .second) (c .before .before .before .before .before .before .before .before .before .before .before .before .before .pre .1 .1 .0) refl (λ _ _. refl)) (c .before .before .before .before .before .before .before .put-inside .ensures) (taken-as (c .before .before .before .before .if1 .left) (c .before .before .before .taken .ensures)) (c .before .before .before .before .before .before .before .before .before .before .before .before .before .pre .1 .0) (c .before .before .before .before .before .before .before .before .before .before .before .before .before .pre .1 .1 .1)), (c .before .before .before .before .before .before .before .before .before .before .before .before .before .pre .1 .0) .few) }
+put-under-add-put-rebuilt t c = record { fits = omega (arith, (c .before .before .before .before .before .before .before .put-inside .ensures .1 .at (taken-as (c .before .before .before .before .if1 .left) (c .before .before .before .taken .ensures))), (c .before .before .before .before .before .before .before .before .before .before .before .before .before .pre .1 .0) .few) }
 
 put-under-put-rebuilt-requires : (t : ℕ) → put-under-lts.Need-put-rebuilt-requires (put-under-claims t) (put-under-at t) put-under.Post
-put-under-put-rebuilt-requires t c κs = (omega (arith, c .before .before .before .before .before .before .before .before .before .before .before .before .before .pre .0), (under-ready₂ (opened (now (c .before .before .before .before .before .before .before .before .before .before .before .before .before .args .slots)) (c .before .before .before .before .before .before .before .before .before .before .before .before .before .args .parts .start) (c .before .before .before .before .before .before .before .before .before .before .before .before .before .args .parts .first) (c .before .before .before .before .before .before .before .before .before .before .before .before .before .args .parts .second) (c .before .before .before .before .before .before .before .before .before .before .before .before .before .pre .1 .1 .0) refl (λ _ _. refl)) (c .before .before .before .before .before .before .before .put-inside .ensures) (taken-as (c .before .before .before .before .if1 .left) (c .before .before .before .taken .ensures)) (c .before .before .before .before .before .before .before .before .before .before .before .before .before .pre .1 .0) (omega (arith, (under-few (opened (now (c .before .before .before .before .before .before .before .before .before .before .before .before .before .args .slots)) (c .before .before .before .before .before .before .before .before .before .before .before .before .before .args .parts .start) (c .before .before .before .before .before .before .before .before .before .before .before .before .before .args .parts .first) (c .before .before .before .before .before .before .before .before .before .before .before .before .before .args .parts .second) (c .before .before .before .before .before .before .before .before .before .before .before .before .before .pre .1 .1 .0) refl (λ _ _. refl)) (c .before .before .before .before .before .before .before .put-inside .ensures) (taken-as (c .before .before .before .before .if1 .left) (c .before .before .before .taken .ensures)) (c .before .before .before .before .before .before .before .before .before .before .before .before .before .pre .1 .0) (c .before .before .before .before .before .before .before .before .before .before .before .before .before .pre .1 .1 .1)))) (c .before .before .before .before .before .before .before .before .before .before .before .before .before .pre .1 .1 .1), under-spans (opened (now (c .before .before .before .before .before .before .before .before .before .before .before .before .before .args .slots)) (c .before .before .before .before .before .before .before .before .before .before .before .before .before .args .parts .start) (c .before .before .before .before .before .before .before .before .before .before .before .before .before .args .parts .first) (c .before .before .before .before .before .before .before .before .before .before .before .before .before .args .parts .second) (c .before .before .before .before .before .before .before .before .before .before .before .before .before .pre .1 .1 .0) refl (λ _ _. refl)) (c .before .before .before .before .before .before .before .put-inside .ensures) (taken-as (c .before .before .before .before .if1 .left) (c .before .before .before .taken .ensures)) (c .before .before .before .before .before .before .before .before .before .before .before .before .before .pre .1 .1 .1)))
+put-under-put-rebuilt-requires t c κs = (omega (arith, c .before .before .before .before .before .before .before .before .before .before .before .before .before .pre .0), (under-ready₂ (opened (now (c .before .before .before .before .before .before .before .before .before .before .before .before .before .args .slots)) (c .before .before .before .before .before .before .before .before .before .before .before .before .before .args .parts .start) (c .before .before .before .before .before .before .before .before .before .before .before .before .before .args .parts .first) (c .before .before .before .before .before .before .before .before .before .before .before .before .before .args .parts .second) (c .before .before .before .before .before .before .before .before .before .before .before .before .before .pre .1 .1 .0) refl (λ _ _. refl)) (c .before .before .before .before .before .before .before .put-inside .ensures .0) (taken-as (c .before .before .before .before .if1 .left) (c .before .before .before .taken .ensures)) (c .before .before .before .before .before .before .before .before .before .before .before .before .before .pre .1 .0) (omega (arith, (c .before .before .before .before .before .before .before .put-inside .ensures .1 .at (taken-as (c .before .before .before .before .if1 .left) (c .before .before .before .taken .ensures))))) (c .before .before .before .before .before .before .before .before .before .before .before .before .before .pre .1 .1 .1), under-spans (opened (now (c .before .before .before .before .before .before .before .before .before .before .before .before .before .args .slots)) (c .before .before .before .before .before .before .before .before .before .before .before .before .before .args .parts .start) (c .before .before .before .before .before .before .before .before .before .before .before .before .before .args .parts .first) (c .before .before .before .before .before .before .before .before .before .before .before .before .before .args .parts .second) (c .before .before .before .before .before .before .before .before .before .before .before .before .before .pre .1 .1 .0) refl (λ _ _. refl)) (c .before .before .before .before .before .before .before .put-inside .ensures .0) (taken-as (c .before .before .before .before .if1 .left) (c .before .before .before .taken .ensures)) (c .before .before .before .before .before .before .before .before .before .before .before .before .before .pre .1 .1 .1)))
 
 put-under-same-length-2 : (t : ℕ) → put-under-lts.Need-same-length-2 (put-under-claims t) (put-under-at t) put-under.Post
 put-under-same-length-2 t c = search needs
 
 put-under-returns-2 : (t : ℕ) → put-under-lts.Need-returns-2 (put-under-claims t) (put-under-at t) put-under.Post
-put-under-returns-2 t c = λ f u h. under-done (opened (now (c .before .before .before .before .before .before .before .before .before .before .before .before .before .before .before .before .args .slots)) (c .before .before .before .before .before .before .before .before .before .before .before .before .before .before .before .before .args .parts .start) (c .before .before .before .before .before .before .before .before .before .before .before .before .before .before .before .before .args .parts .first) (c .before .before .before .before .before .before .before .before .before .before .before .before .before .before .before .before .args .parts .second) (c .before .before .before .before .before .before .before .before .before .before .before .before .before .before .before .before .pre .1 .1 .0) refl (λ _ _. refl)) (c .before .before .before .before .before .before .before .before .before .before .put-inside .ensures) (taken-as (c .before .before .before .before .before .before .before .if1 .left) (c .before .before .before .before .before .before .taken .ensures)) ((c .before .before .before .before .before .before .before .before .before .before .before .before .before .before .before .before .pre .1 .0) .base) (c .before .before .put-rebuilt .ensures) h
+put-under-returns-2 t c = λ f u h. under-done (opened (now (c .before .before .before .before .before .before .before .before .before .before .before .before .before .before .before .before .args .slots)) (c .before .before .before .before .before .before .before .before .before .before .before .before .before .before .before .before .args .parts .start) (c .before .before .before .before .before .before .before .before .before .before .before .before .before .before .before .before .args .parts .first) (c .before .before .before .before .before .before .before .before .before .before .before .before .before .before .before .before .args .parts .second) (c .before .before .before .before .before .before .before .before .before .before .before .before .before .before .before .before .pre .1 .1 .0) refl (λ _ _. refl)) (c .before .before .before .before .before .before .before .before .before .before .put-inside .ensures .0) (taken-as (c .before .before .before .before .before .before .before .if1 .left) (c .before .before .before .before .before .before .taken .ensures)) ((c .before .before .before .before .before .before .before .before .before .before .before .before .before .before .before .before .pre .1 .0) .base) (c .before .before .put-rebuilt .ensures) h
 
 pub +put-add+put-both+put-call+put-front+put-inside+put-list-case+put-node+put-pair+put-rebuilt+put-split+put-switch+put-truth-case+put-under-spec :
     {M : Type 1} → statement M
