@@ -1,6 +1,6 @@
 -- A job, as the program reads it: 47 (get) or 50 (put), allowance in three bytes, sheet length in two, sheet, plan length in two, plan,
 -- then for put the view to the end, for get nothing.
-use mathlib.Core.Bool.{Bool, true, false, _&&_}
+use mathlib.Core.Bool.{Bool, true, false}
 use mathlib.Core.List.{List}
 use mathlib.Core.Path.{_≡_, refl, sym, _∙_}
 use Prim.Native.Nat.{ℕ, _+_, _*_, _≤_, _<_, zero-le}

@@ -1,11 +1,11 @@
 -- What a call does to its caller's buffers.
-use mathlib.Core.Path.{_≡_, refl, sym, ap, _∙_}
+use mathlib.Core.Path.{_≡_, refl, ap, _∙_}
 use mathlib.Core.List.{List, _++_}
-use Prim.Native.Nat.{ℕ, _+_, _≤_, _<_}
+use Prim.Native.Nat.{ℕ, _+_, _<_}
 use native.Mathlib.Numerals.{add-one}
 use native.Mathlib.Omega.{arith}
-use lib.ListN.{length, drop, set, getD, replicate, length-append, length-drop, length-replicate, length-set}
-use lib.Seq.{paste, paste-zero, paste-suc, length-paste, getD-drop}
+use lib.ListN.{length, drop, set, getD, replicate, length-drop, length-set}
+use lib.Seq.{paste, paste-zero, paste-suc, getD-drop}
 use borrow.Author.Fill.{fill-none, fill-more}
 
 -- the first n bytes zero, and the others as they were

@@ -1,18 +1,18 @@
 -- What shows that a call was answered: refused at the door, refused behind it, or done.
-use mathlib.Core.Path.{_≡_, refl, sym, ap, _∙_}
-use mathlib.Core.Bool.{Bool, true, false}
-use mathlib.Core.List.{List, [], _∷_, _++_}
+use mathlib.Core.Path.{_≡_, refl, ap, _∙_}
+use mathlib.Core.Bool.{true, false}
+use mathlib.Core.List.{List, _++_}
 use Prim.Native.Nat.{ℕ, _+_, _≤_, _<_}
 use native.Mathlib.Nat.{zero-add}
 use native.Mathlib.Omega.{arith}
 use borrow.Author.Tests.{lt-leb}
 use lib.Dec.{leb}
-use lib.ListN.{length, take, drop, length-append, length-drop}
-use lib.Seq.{paste, take-at}
+use lib.ListN.{length, take, drop, length-append}
+use lib.Seq.{paste}
 use Rattle.rules.specs.Outcome.{Out, done, refused}
 use Rattle.rules.specs.Answer.{Answer, refusal, success, answer, door}
 use Rattle.rules.specs.AnswerLaws.{Lent, door-open, door-output, door-scratch, door-none, door-over}
-use Rattle.rules.specs.Refusals.{Lists, lRefused, lDone, listed-above}
+use Rattle.rules.specs.Refusals.{Lists, lRefused, listed-above}
 use Rattle.lens.specs.declared.Reply.{Reply}
 use Rattle.lens.specs.declared.Reply.the-variants.{Done, Refused}
 use Rattle.lens.specs.Buffers.{zeros, zeroed}

@@ -1,15 +1,15 @@
 -- Demand 3 of document 01, of the answers that calls give.
-use mathlib.Core.Path.{_≡_, refl, sym, ap, _∙_}
-use mathlib.Core.List.{List, [], _∷_, _++_}
-use Prim.Native.Nat.{ℕ, _+_, _*_, _≤_, _<_}
+use mathlib.Core.Path.{_≡_}
+use mathlib.Core.List.{List}
+use Prim.Native.Nat.{ℕ, _*_, _≤_}
 use native.Mathlib.Omega.{arith}
 use lib.ListN.{length, take, drop}
 use lib.Seq.{take-at}
 use Rattle.rules.specs.Answer.{Answer, refusal, success, getAnswer, putAnswer}
 use Rattle.rules.specs.Trips.{consistency, acceptability}
 use Rattle.lens.specs.declared.Reply.{Reply}
-use Rattle.lens.specs.declared.Reply.the-variants.{Done, Refused}
-use Rattle.lens.specs.Calls.{reply, written, cleared, Answered}
+use Rattle.lens.specs.declared.Reply.the-variants.{Done}
+use Rattle.lens.specs.Calls.{reply, written, Answered}
 
 -- a list that was taken back stands: the get of the new plan, the bytes at the front of the output, under the same sheet and allowance
 -- succeeds, gives exactly that list, in no more steps

@@ -6,14 +6,13 @@ use Prim.Native.Nat.{ℕ, zero, suc, _+_, _*_, _≤_}
 use native.Mathlib.Omega.{arith}
 use native.Mathlib.Nat.{add-sub-cancel}
 use lib.ListN.{length, getElem?}
-use Rattle.value.specs.Value.{Value, vfalse, vtrue, list, number, pair, nil, cons, size, truth, Fits}
-use Rattle.value.specs.Views.{asList, asFront, asPair, asNumber, ifSmall, asTruth}
-use Rattle.value.specs.Tests.{Passes}
+use Rattle.value.specs.Value.{Value, vfalse, vtrue, list, number, pair, nil, cons, size, Fits}
+use Rattle.value.specs.Views.{asList, asFront, asPair, asNumber, asTruth}
 use Rattle.sheet.specs.declared.Node.{Node}
 use Rattle.sheet.specs.declared.Node.the-variants.{Var, False, True, Empty, Number, Front, Pair, ListCase, TruthCase, Split, Call, Add}
 use Rattle.sheet.specs.Sheet.{Sheet}
 use Rattle.rules.specs.Outcome.{Out, done, _>>=_}
-use Rattle.rules.specs.Rules.{Env, Cells, Getter, Putter, two, pick, bounded, tested, onList, getNode, get, orOld, constant, write, both, under, mkList, mkPair, putNode, put}
+use Rattle.rules.specs.Rules.{Env, Cells, Getter, Putter, two, bounded, tested, onList, getNode, get, orOld, constant, write, both, under, mkList, mkPair, putNode, put}
 use Rattle.rules.specs.OutcomeLaws.{After, fine, stopped, after-map, after-at, gives-of, after-out, after-plus, after-bind, gives-bind, after-given, given-some, given-when, given-number, after-list, choose-first}
 use Rattle.rules.specs.Related.{All2, ends, more, all2-map, all2-append, all2-at, all2-of, all2-flip, all2-length, all2-take, all2-set, at-left, at-seam, at-last}
 

@@ -1,6 +1,6 @@
 -- The answers of whole calls on bytes: the door, the sheet, the plan, the view, the walk, each refusal in its row's order
 -- (document 01, "Where each refusal is met").
-use mathlib.Core.Option.{Option, none, some}
+use mathlib.Core.Option.{none}
 use mathlib.Core.List.{List, [], _∷_}
 use Prim.Native.Nat.{ℕ, zero, suc}
 use native.Mathlib.Decide.{decLe}

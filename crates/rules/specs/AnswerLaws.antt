@@ -11,9 +11,9 @@ use Rattle.value.specs.Result.{Result, ok}
 use Rattle.value.specs.Value.{Value, vfalse, encode, flat}
 use Rattle.value.specs.Reading.{readPlan, readView}
 use Rattle.sheet.specs.Sheet.{Sheet, readSheet}
-use Rattle.rules.specs.Outcome.{Out, done, refused, when, mapOut, given, reading}
+use Rattle.rules.specs.Outcome.{Out, done, refused, mapOut, given, reading}
 use Rattle.rules.specs.Rules.{Env, Cells, get, put}
-use Rattle.rules.specs.Answer.{Answer, refusal, success, answer, door, getWalk, getBytes, getAnswer, count, newPlan, putWalk, putBytes, putAnswer}
+use Rattle.rules.specs.Answer.{refusal, success, answer, door, getWalk, getBytes, getAnswer, count, newPlan, putWalk, putBytes, putAnswer}
 use Rattle.rules.specs.OutcomeLaws.{given-yes, given-not}
 use Rattle.rules.specs.AllowanceLaws.{within-done, done-within}
 

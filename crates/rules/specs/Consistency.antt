@@ -8,7 +8,7 @@ use native.Mathlib.Omega.{arith}
 use lib.ListN.{length, set, getElem?}
 use native.Mathlib.Nat.{sub-add-cancel}
 use Rattle.value.specs.Value.{Value, vfalse, vtrue, list, number, pair, nil, cons, size, truth, Fits}
-use Rattle.value.specs.Views.{asList, asFront, asPair, asNumber, ifSmall, asTruth}
+use Rattle.value.specs.Views.{asList, asPair, asNumber, asTruth}
 use Rattle.value.specs.Tests.{Passes}
 use Rattle.sheet.specs.declared.Node.{Node}
 use Rattle.sheet.specs.declared.Node.the-variants.{Var, False, True, Empty, Number, Front, Pair, ListCase, TruthCase, Split, Call, Add}

@@ -1,10 +1,9 @@
 -- The starred examples of document 01, as one table, and one claim over it.
 use mathlib.Core.Path.{_≡_, refl}
 use mathlib.Core.Option.{Option, none, some}
-use mathlib.Core.List.{List, [], _∷_, _++_, map}
+use mathlib.Core.List.{List, [], _∷_, map}
 use Prim.Native.Nat.{ℕ}
 use native.Mathlib.Decide.{decLe, ℕ-discrete}
-use lib.ListN.{getElem?}
 use Rattle.value.specs.Result.{andThen, mapResult, orRefuse, unless}
 use Rattle.value.specs.Value.{encode, encodes, size, sizes, flat, sameValue}
 use Rattle.value.specs.Views.{asList, asFront, asPair, asNumber, ifSmall, asTruth}

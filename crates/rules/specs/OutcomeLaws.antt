@@ -4,10 +4,9 @@ use mathlib.Core.Option.{Option, none, some}
 use Prim.Native.Nat.{ℕ, _+_, _≤_}
 use native.Mathlib.Omega.{arith}
 use native.Mathlib.Decide.{decLe}
-use Rattle.value.specs.Result.{Result, ok, refusal}
 use Rattle.value.specs.Value.{Value, Values, number, nil, cons}
 use Rattle.value.specs.Views.{asNumber, ifSmall}
-use Rattle.rules.specs.Outcome.{Out, done, refused, plus, when, _>>=_, given, reading, choose}
+use Rattle.rules.specs.Outcome.{Out, done, refused, plus, when, _>>=_, given, choose}
 use Rattle.rules.specs.Rules.{onList}
 
 -- Q of what was done; R where it was refused

@@ -2,7 +2,7 @@
 use mathlib.Core.Path.{_≡_, refl}
 use mathlib.Core.Bool.{Bool, true, false, not}
 use mathlib.Core.Option.{Option, none, some, Option·none-ne-some, Option·some-injective, map-eq-some-iff}
-use mathlib.Core.List.{List, [], _∷_, _++_}
+use mathlib.Core.List.{List, [], _++_}
 use Prim.Native.Nat.{ℕ, zero, suc, _-_, _≤_}
 use native.Mathlib.Omega.{arith}
 use lib.ListN.{getD, take, set, getElem?, length}
@@ -13,9 +13,9 @@ use Rattle.value.specs.Views.{asList}
 use Rattle.sheet.specs.declared.Node.{Node}
 use Rattle.sheet.specs.declared.Node.the-variants.{Var, False, True, Empty, Number, Front, Pair, ListCase, TruthCase, Split, Call, Add}
 use Rattle.sheet.specs.Sheet.{Sheet}
-use Rattle.rules.specs.Outcome.{Out, done, _>>=_}
-use Rattle.rules.specs.Rules.{Env, Cells, Getter, Putter, two, pick, bounded, tested, onList, getNode, get, orOld, constant, write, both, under, mkList, mkPair, putNode, put}
-use Rattle.rules.specs.OutcomeLaws.{After, fine, stopped, after-map, after-plus, after-bind, after-given, after-choose, after-list}
+use Rattle.rules.specs.Outcome.{Out}
+use Rattle.rules.specs.Rules.{Env, Cells, Getter, Putter, two, bounded, tested, getNode, get, orOld, constant, write, both, under, mkList, mkPair, putNode, put}
+use Rattle.rules.specs.OutcomeLaws.{After, fine, stopped, after-plus, after-bind, after-given, after-choose, after-list}
 
 pub data ReadableCell : Option Value → Type 0 where
   blank : ReadableCell none

@@ -1,25 +1,24 @@
 -- Every refusal of a whole call is one number of document 01's table, and the first three come from the door alone.
-use mathlib.Core.Path.{_≡_, refl, sym}
+use mathlib.Core.Path.{_≡_, refl}
 use mathlib.Core.Bool.{Bool, true, false, _||_, _&&_, false≢true}
 use mathlib.Core.Option.{Option, none, some}
-use mathlib.Core.List.{List, [], _∷_, _++_}
+use mathlib.Core.List.{List, [], _∷_}
 use Prim.Native.Nat.{ℕ, zero, suc, _+_, _<_, _≤_}
 use native.Mathlib.Omega.{arith}
 use native.Mathlib.Decide.{decLe}
 use lib.Dec.{eqb, leb}
 use borrow.Author.Tests.{eqb-true, leb-true}
-use lib.ListN.{length, getD, replicate}
 use Rattle.value.specs.All.{All, none, each}
 use Rattle.value.specs.Result.{Result, ok, refusal, andThen, mapResult, orRefuse, unless}
-use Rattle.value.specs.Value.{Value, Values, vfalse, nil, cons, encode, flat}
-use Rattle.value.specs.Reading.{Found, whole, malformed, tooLong, nothing, aValue, value, readValue, onValue, readValues, readPlan, readView}
+use Rattle.value.specs.Value.{Value, Values, nil, cons}
+use Rattle.value.specs.Reading.{Found, whole, malformed, tooLong, nothing, aValue, value, readValue, onValue, readValues}
 use Rattle.sheet.specs.declared.Node.{Node}
 use Rattle.sheet.specs.declared.Node.the-variants.{Var, False, True, Empty, Number, Front, Pair, ListCase, TruthCase, Split, Call, Add}
-use Rattle.sheet.specs.Sheet.{Sheet, readNodes, oneSection, ifSection, readRecords, Records, withNodes, readBody, inRange, readHeader, readSheet, formOf}
+use Rattle.sheet.specs.Sheet.{Sheet, readNodes, oneSection, ifSection, readRecords, Records, withNodes, readBody, readHeader, readSheet, formOf}
 use Rattle.rules.specs.Outcome.{Out, done, refused, plus, steps, when, mapOut, _>>=_, given, reading, choose}
 use Rattle.rules.specs.Allowance.{within, cap}
 use Rattle.rules.specs.Rules.{Env, Cells, Getter, Putter, bounded, tested, onList, getNode, get, constant, write, both, under, putNode, put}
-use Rattle.rules.specs.Answer.{Answer, success, answer, door, getWalk, getBytes, getAnswer, count, newPlan, putWalk, putBytes, putAnswer}
+use Rattle.rules.specs.Answer.{Answer, answer, door, getWalk, getBytes, getAnswer, putWalk, putBytes, putAnswer}
 
 -- the table behind the door, row by row; 50 to 54 and 30 to 32 are put's
 unfoldable pub table : List ℕ

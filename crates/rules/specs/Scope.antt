@@ -1,18 +1,17 @@
 -- At most 110 variables are ever in scope: a walk that refused to enter a node with more of them is the same walk.
 use mathlib.Core.Path.{_≡_, refl, ap, _∙_, fun-ext}
-use mathlib.Core.Bool.{not}
-use mathlib.Core.Option.{Option, none, some}
-use mathlib.Core.List.{List, [], _∷_, _++_}
+use mathlib.Core.Option.{Option}
+use mathlib.Core.List.{List, [], _++_}
 use Prim.Native.Nat.{ℕ, zero, suc, _+_, _*_, _≤_}
 use native.Mathlib.Omega.{arith}
 use native.Mathlib.Decide.{decLe}
 use lib.ListN.{length, getD, length-append}
-use Rattle.value.specs.Value.{Value, Values, list, nil, cons, truth}
+use Rattle.value.specs.Value.{Value, Values, list, nil, cons}
 use Rattle.sheet.specs.declared.Node.{Node}
 use Rattle.sheet.specs.declared.Node.the-variants.{Var, False, True, Empty, Number, Front, Pair, ListCase, TruthCase, Split, Call, Add}
 use Rattle.sheet.specs.Sheet.{Sheet}
-use Rattle.rules.specs.Outcome.{Out, done, refused, plus, when, _>>=_, given, choose}
-use Rattle.rules.specs.Rules.{Env, Cells, Getter, Putter, two, pick, tested, onList, getNode, get, both, under, mkList, mkPair, putNode, put}
+use Rattle.rules.specs.Outcome.{Out, refused, plus, when, _>>=_, given, choose}
+use Rattle.rules.specs.Rules.{Env, Cells, Getter, Putter, two, tested, onList, getNode, get, both, under, mkList, mkPair, putNode, put}
 use Rattle.rules.specs.OutcomeLaws.{given-yes}
 
 -- as `get` and `put`, and no node is entered with over 110 variables in scope (0 is no refusal of document 01's)

@@ -1,19 +1,18 @@
 -- Each return of the two functions that make both calls.
-use mathlib.Core.Path.{_≡_, refl, sym, ap, _∙_}
-use mathlib.Core.Bool.{Bool, true, false}
-use mathlib.Core.List.{List, [], _∷_, _++_}
-use Prim.Native.Nat.{ℕ, _+_, _*_, _≤_, _<_}
+use mathlib.Core.Path.{_≡_, sym, ap, _∙_}
+use mathlib.Core.Bool.{true, false}
+use mathlib.Core.List.{List}
+use Prim.Native.Nat.{ℕ, _*_, _≤_, _<_}
 use native.Mathlib.Omega.{arith}
-use lib.ListN.{length, take, drop}
+use lib.ListN.{length, take}
 use lib.Seq.{length-take-le}
 use Rattle.value.specs.Parts.{sameBytes}
 use Rattle.value.specs.PartsLaws.{same-refl}
-use Rattle.rules.specs.Answer.{Answer, getAnswer, putAnswer}
-use Rattle.rules.specs.AnswerLaws.{Lent}
+use Rattle.rules.specs.Answer.{getAnswer, putAnswer}
 use Rattle.lens.specs.declared.Reply.{Reply}
 use Rattle.lens.specs.declared.Reply.the-variants.{Done, Refused}
 use Rattle.trips.specs.declared.Trip.{Trip}
-use Rattle.trips.specs.declared.Trip.the-variants.{Kept, Stopped, Broken}
+use Rattle.trips.specs.declared.Trip.the-variants.{Kept, Stopped}
 use Rattle.lens.specs.Calls.{Answered}
 use Rattle.trips.specs.RoundTrips.{Tripped, backAndOut, outAndBack, first-refused, second-refused, second-done, Sure, put-then-get-sure, put-lent, get-then-put-sure, get-lent}
 

@@ -15,9 +15,9 @@ use Rattle.value.specs.Tests.{class, table, holds}
 use Rattle.value.specs.Reading.{kindOf, readValue}
 use Rattle.value.specs.Laws.{Readable, readable-front, readable-pair, read-back}
 use Rattle.value.specs.Reader.{outcome}
-use Rattle.value.specs.Parts.{behind, numberIn, shapeAs, shapeOf, middleOf, partWhere, firstPart, secondPart, kindAt, kindBehind, restKind, passesBytes, both, sameBytes}
+use Rattle.value.specs.Parts.{behind, numberIn, shapeAs, shapeOf, partWhere, firstPart, secondPart, kindAt, kindBehind, restKind, passesBytes, both, sameBytes}
 use Rattle.value.specs.declared.Shape.{Shape}
-use Rattle.value.specs.declared.Shape.the-variants.{False, True, Empty, Front, Number, Pair, Malformed}
+use Rattle.value.specs.declared.Shape.the-variants.{False, True, Empty, Front, Number, Pair}
 
 -- a value's shape
 unfoldable pub shape : Value → Shape

@@ -1,21 +1,19 @@
 -- Cells written to, added and dropped again, and the cells of the variables in scope.
 use mathlib.Core.Path.{_≡_, refl, sym, ap, _∙_}
 use mathlib.Core.Option.{Option, none, some}
-use mathlib.Core.List.{List, [], _∷_, _++_, append-assoc}
+use mathlib.Core.List.{List, _++_, append-assoc}
 use Prim.Native.Nat.{ℕ, zero, suc, _+_, _-_, _*_, _≤_, _<_}
 use native.Mathlib.Nat.{le-refl}
 use native.Mathlib.Numerals.{add-one}
 use native.Mathlib.Decide.{decLt}
 use native.Mathlib.Omega.{arith}
-use lib.ListN.{length, take, drop, getD, set, length-set, length-append, List·getD-append, length-drop}
-use lib.Seq.{getD-set-same, getD-set-other, getD-append-add, getD-take, length-take-le, take-length, drop-drop, take-at, drop-at, paste, length-paste, drop-paste, length-paste-head}
+use lib.ListN.{length, take, drop, getD, set, length-set, length-append, List·getD-append}
+use lib.Seq.{getD-set-same, getD-set-other, getD-append-add, getD-take, length-take-le, take-length, drop-drop, take-at, drop-at, paste, length-paste, drop-paste}
 use Rattle.value.specs.Value.{Value, encode, size}
-use Rattle.value.specs.Encoding.{size-encode}
 use Rattle.value.specs.Laws.{Readable}
 use Rattle.rules.specs.Rules.{Cells, two}
-use Rattle.step.specs.declared.Cells.{Cells as Owners}
-use Rattle.walk.specs.Parts.{part, Kept, part-kept, kept-below, part-length}
-use Rattle.walk.specs.Cells.{Frame, Slot, blank, full, Written, Named, Shown}
+use Rattle.walk.specs.Parts.{part, Kept, part-kept, kept-below}
+use Rattle.walk.specs.Cells.{Frame, Slot, blank, full, Written, Named}
 
 module _ {A : Type 0} where
   -- two members more

@@ -1,23 +1,14 @@
 -- What was written, as the arena has it: a slot of 256 bytes for each cell, and the cells of the scope's variables.
-use mathlib.Core.Path.{_≡_, refl, sym, ap, _∙_}
+use mathlib.Core.Path.{_≡_}
 use mathlib.Core.Option.{Option, none, some}
-use mathlib.Core.Bool.{Bool, true, false, _&&_, _||_}
-use lib.Dec.{eqb, ltb}
-use mathlib.Core.List.{List, [], _∷_, _++_}
-use Prim.Native.Nat.{ℕ, zero, suc, _+_, _-_, _*_, _≤_, _<_}
-use native.Mathlib.Nat.{le-trans, le-refl}
-use native.Mathlib.Omega.{arith}
+use mathlib.Core.List.{List}
+use Prim.Native.Nat.{ℕ, _+_, _-_, _*_, _≤_, _<_}
 use lib.ListN.{length, take, drop, getD, set, replicate}
 use lib.Seq.{paste}
 use Rattle.value.specs.Value.{Value, encode, size}
 use Rattle.value.specs.Laws.{Readable}
 use Rattle.rules.specs.Rules.{Cells}
-use Rattle.walk.specs.Parts.{part, Kept, part-kept, take-drop}
-use Rattle.walk.specs.Arena.{Below, inPlan, onStack, Held, Env, below-later}
-use Rattle.step.specs.declared.Scope.{Scope}
-use Rattle.step.specs.declared.Span.{Span}
-use Rattle.step.specs.declared.Cells.{Cells as Owners}
-use Rattle.walk.specs.Taken.{Put, Done, Refused}
+use Rattle.walk.specs.Parts.{part}
 
 -- the bytes of the plan and of the stack below `top` are left alone
 pub record Frame (top : ℕ) (b a : List ℕ) : Type 0 where

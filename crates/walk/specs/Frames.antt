@@ -1,14 +1,13 @@
 -- What a change that leaves the plan and the stack below `top` alone keeps: the values that stand there, and the scope's.
 use mathlib.Core.Path.{_≡_, refl, sym, ap, _∙_}
-use mathlib.Core.Option.{Option, none, some}
+use mathlib.Core.Option.{Option}
 use mathlib.Core.List.{List}
-use Prim.Native.Nat.{ℕ, _+_, _-_, _*_, _≤_, _<_}
-use native.Mathlib.Nat.{le-refl, le-trans}
+use Prim.Native.Nat.{ℕ, _+_, _-_, _≤_}
+use native.Mathlib.Nat.{le-refl}
 use native.Mathlib.Omega.{arith}
-use lib.ListN.{length, take, drop, getD}
+use lib.ListN.{take, drop}
 use lib.Seq.{take-take, drop-drop}
-use Rattle.value.specs.Value.{Value, size}
-use Rattle.value.specs.Laws.{Readable}
+use Rattle.value.specs.Value.{Value}
 use Rattle.rules.specs.Rules.{Env as Values, Cells}
 use Rattle.step.specs.declared.Scope.{Scope}
 use Rattle.walk.specs.Parts.{part, Kept, part-kept, kept-below, take-drop}

@@ -1,7 +1,7 @@
 -- The new plan, gathered: each variable's value from where it now stands, one after another from byte 32,256 on. And the first cells.
 use mathlib.Core.Path.{_≡_, refl, sym, ap, ap₂, _∙_}
 use mathlib.Core.List.{List, [], _∷_, _++_, append-assoc, append-nil}
-use Prim.Native.Nat.{ℕ, zero, suc, _+_, _-_, _*_, _≤_, _<_}
+use Prim.Native.Nat.{ℕ, _+_, _*_, _≤_, _<_}
 use native.Mathlib.Nat.{le-refl}
 use native.Mathlib.Numerals.{add-one}
 use native.Mathlib.Decide.{decLt}
@@ -12,7 +12,7 @@ use Rattle.value.specs.Value.{Value, vfalse, encode, flat}
 use Rattle.step.specs.declared.Scope.{Scope}
 use Rattle.step.specs.declared.Span.{Span}
 use Rattle.step.specs.declared.Cells.{Cells as Owners}
-use Rattle.walk.specs.Parts.{part, Kept, Copied, part-kept, part-join, part-length, kept-refl, kept-then}
+use Rattle.walk.specs.Parts.{part, Kept, Copied, part-kept, part-join, kept-refl, kept-then}
 use Rattle.step.specs.Step.{placeOf}
 
 -- the bytes of v, below the stack

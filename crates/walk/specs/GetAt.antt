@@ -1,11 +1,9 @@
 -- A value brought to the top of the stack: what the walk then shows.
-use mathlib.Core.Path.{_≡_, refl, sym, ap, _∙_}
+use mathlib.Core.Path.{_≡_, refl, ap, _∙_}
 use mathlib.Core.List.{List}
 use Prim.Native.Nat.{ℕ, _+_, _*_, _≤_, _<_}
 use native.Mathlib.Nat.{le-refl}
 use native.Mathlib.Omega.{arith}
-use Rattle.rules.specs.Outcome.{Out}
-use Rattle.value.specs.Value.{Value}
 use Rattle.step.specs.declared.Scope.{Scope}
 use Rattle.step.specs.Step.{packed}
 use Rattle.walk.specs.Found.{Found, Done, Refused, found, lenOf, startOf, stepsOf, len-small, found-refused, found-done, found-as, packed-done}

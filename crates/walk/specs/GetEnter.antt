@@ -9,7 +9,7 @@ use Rattle.value.specs.Result.{ok}
 use Rattle.sheet.specs.declared.Node.{Node}
 use Rattle.sheet.specs.declared.Node.the-variants.{Var, False, True, Empty, Number, Front, Pair, ListCase, TruthCase, Split, Call, Add}
 use Rattle.sheet.specs.Sheet.{Sheet, readSheet}
-use Rattle.sheet.specs.Table.{width, offsets, tableOf}
+use Rattle.sheet.specs.Table.{width, offsets}
 use Rattle.sheet.specs.Reading.{Made}
 use Rattle.sheet.specs.Laws.{Ranged, sheet-ranges, node-made, made-as, made-kind, table-start}
 use Rattle.sheet.specs.Sheet.{formOf, forms}

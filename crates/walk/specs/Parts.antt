@@ -6,7 +6,7 @@ use native.Mathlib.Nat.{zero-add, suc-add, le-refl}
 use native.Mathlib.Numerals.{add-one}
 use native.Mathlib.Omega.{arith}
 use native.Mathlib.Decide.{decLt}
-use lib.ListN.{length, take, drop, getD, set, length-set, length-drop, List·getD-append}
+use lib.ListN.{length, take, drop, getD, set, length-set, length-drop}
 use lib.Seq.{take-nil, take-take, take-add, drop-drop, getD-append-add, getD-drop, getD-take, paste, paste-zero, paste-suc, length-paste, length-paste-head, length-take-le, take-at, drop-at, drop-cons, getD-set-same, getD-set-other, take-set-le, ext-getD}
 
 -- the n bytes from index i

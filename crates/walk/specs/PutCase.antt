@@ -1,16 +1,14 @@
 -- Cases and splits: the subject is got, and then the view is put into a branch. What each return shows, and what the calls ask.
 use mathlib.Core.Path.{_≡_, refl, sym, ap, subst, _∙_}
-use mathlib.Core.Bool.{Bool, true, false, not}
-use mathlib.Core.Option.{Option, none, some}
-use mathlib.Core.List.{List, [], _∷_, _++_}
+use mathlib.Core.Bool.{Bool, true, false}
+use mathlib.Core.Option.{some}
+use mathlib.Core.List.{List, [], _∷_}
 use Prim.Native.Nat.{ℕ, zero, suc, _+_, _-_, _*_, _≤_, _<_}
-use native.Mathlib.Nat.{le-refl}
 use native.Mathlib.Omega.{arith}
-use lib.ListN.{length, getD}
-use Rattle.value.specs.Value.{Value, Values as Rest, vfalse, vtrue, list, number, pair, nil, cons, encode, encodes, size, sizes, truth, eFalse, eTrue, eList, eNil}
-use Rattle.value.specs.Views.{asList, asTruth, asPair}
-use Rattle.value.specs.Tests.{holds, passes}
-use Rattle.value.specs.Laws.{Readable}
+use lib.ListN.{length}
+use Rattle.value.specs.Value.{Value, Values as Rest, vfalse, vtrue, list, nil, encode, encodes, size, sizes, truth, eFalse, eTrue, eList, eNil}
+use Rattle.value.specs.Views.{asList, asTruth}
+use Rattle.value.specs.Tests.{holds}
 use Rattle.value.specs.Parts.{shapeOf, passesBytes}
 use Rattle.value.specs.PartsLaws.{shape, passes-whole}
 use Rattle.value.specs.declared.Shape.{Shape}
@@ -18,26 +16,26 @@ use Rattle.value.specs.declared.Shape.the-variants as is
 use Rattle.sheet.specs.declared.Node.{Node}
 use Rattle.sheet.specs.declared.Node.the-variants.{ListCase, TruthCase, Split}
 use Rattle.sheet.specs.Sheet.{Sheet}
-use Rattle.rules.specs.Outcome.{Out, done, refused, choose, _>>=_}
+use Rattle.rules.specs.Outcome.{done}
 use Rattle.rules.specs.Allowance.{within}
-use Rattle.rules.specs.Rules.{Env as Values, Cells, get, putNode, onList, mkList, mkPair, both, under}
+use Rattle.rules.specs.Rules.{Env as Values, Cells, get, putNode}
 use Rattle.step.specs.declared.Scope.{Scope}
 use Rattle.walk.specs.Found.{Found}
 use Rattle.walk.specs.Found as walked
-use Rattle.walk.specs.Taken.{Put, Done, Refused}
+use Rattle.walk.specs.Taken.{Done, Refused}
 use Rattle.step.specs.declared.Cells.{Cells as Owners}
-use Rattle.walk.specs.Parts.{part, Kept}
-use Rattle.walk.specs.Arena.{Held, Env}
+use Rattle.walk.specs.Parts.{part}
+use Rattle.walk.specs.Arena.{Held}
 use Rattle.walk.specs.Seen.{held-shape, held-short, held-some, TwoHeld, held-front, held-pair}
-use Rattle.walk.specs.Answers.{Answers, then-done, then-refused, give, give-none}
+use Rattle.walk.specs.Answers.{then-refused}
 use Rattle.walk.specs.Cells.{Shown, Frame}
-use Rattle.walk.specs.Frames.{frame-then, kept-frame}
-use Rattle.walk.specs.Shapes.{FrontOf, PairOf, front-of, pair-of, no-pair, empty-of, false-of, true-of, no-list, no-truth, shape-is}
+use Rattle.walk.specs.Frames.{kept-frame}
+use Rattle.walk.specs.Shapes.{FrontOf, PairOf, front-of, pair-of, empty-of, shape-is}
 use Rattle.walk.specs.Gets as gets
 use Rattle.walk.specs.GetCase.{Above, held-above}
-use Rattle.walk.specs.PutRules.{choose-first, choose-second, choose-none, got-few, got-levels, given-later}
+use Rattle.walk.specs.PutRules.{got-few, got-levels, given-later}
 use Rattle.walk.specs.PutTwo.{ready-for}
-use Rattle.walk.specs.Puts.{Task, enter, body, pair as Two, inside, switch, maker, run, Known, Spans, SomeSpans, SomeView, Given, Ready, Gives, Inner}
+use Rattle.walk.specs.Puts.{Task, enter, body, switch, run, Known, Spans, SomeSpans, SomeView, Given, Ready, Gives, Inner}
 
 -- THE VIEW AND THE TESTS
 

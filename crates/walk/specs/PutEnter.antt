@@ -1,10 +1,10 @@
 -- Entering a node for put: depth, allowance, the node that is read; and what its own put asks.
 use mathlib.Core.Path.{_≡_, refl, sym, ap, _∙_}
 use mathlib.Core.List.{List}
-use Prim.Native.Nat.{ℕ, zero, suc, _+_, _-_, _*_, _≤_, _<_}
+use Prim.Native.Nat.{ℕ, zero, suc, _-_, _<_}
 use native.Mathlib.Omega.{arith}
-use lib.ListN.{length, getD}
-use Rattle.value.specs.Result.{Result, ok}
+use lib.ListN.{getD}
+use Rattle.value.specs.Result.{ok}
 use Rattle.value.specs.Value.{Value}
 use Rattle.sheet.specs.declared.Node.{Node}
 use Rattle.sheet.specs.declared.Node.the-variants.{False}
@@ -12,12 +12,12 @@ use Rattle.sheet.specs.Sheet.{Sheet, readSheet}
 use Rattle.sheet.specs.Laws.{sheet-ranges}
 use Rattle.rules.specs.Rules.{put}
 use Rattle.step.specs.declared.Scope.{Scope}
-use Rattle.walk.specs.Taken.{Put, Done, Refused}
+use Rattle.walk.specs.Taken.{Put, Refused}
 use Rattle.step.specs.declared.Cells.{Cells as Owners}
 use Rattle.walk.specs.Answers.{refuse, step, no-step}
 use Rattle.walk.specs.Gets.{Lent}
 use Rattle.walk.specs.Frames.{frame-refl}
-use Rattle.walk.specs.Puts.{Task, enter, body, run, Given, Ready, Gives}
+use Rattle.walk.specs.Puts.{enter, body, run, Ready, Gives}
 use Rattle.step.specs.Step.{entryRefusal}
 use Rattle.step.specs.StepLaws.{no-level, no-step as out-of-steps, both-left}
 

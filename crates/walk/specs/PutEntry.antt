@@ -1,8 +1,8 @@
 -- Put on bytes: what the walk from the root asks, and that the plan gathered behind it is the rules' answer.
 use mathlib.Core.Path.{_≡_, refl, sym, ap, _∙_}
-use mathlib.Core.Option.{Option, none, some}
-use mathlib.Core.List.{List, [], _∷_, _++_, append-nil}
-use Prim.Native.Nat.{ℕ, zero, suc, _+_, _-_, _*_, _≤_, _<_}
+use mathlib.Core.Option.{Option, none}
+use mathlib.Core.List.{List, [], _∷_, append-nil}
+use Prim.Native.Nat.{ℕ, zero, suc, _+_, _*_, _≤_, _<_}
 use native.Mathlib.Nat.{le-refl}
 use native.Mathlib.Omega.{arith}
 use lib.ListN.{length, take, getD, replicate, length-replicate, getD-replicate}
@@ -34,10 +34,10 @@ use Rattle.step.specs.Step.{placeOf}
 use Rattle.walk.specs.Cells.{Slot, blank, full, Written, Named, Shown}
 use Rattle.step.specs.StepLaws.{was-written}
 use Rattle.walk.specs.Frames.{env-framed}
-use Rattle.walk.specs.PutRules.{PutDone, did, not-did}
+use Rattle.walk.specs.PutRules.{did, not-did}
 use Rattle.walk.specs.Puts.{enter, run, Given, Ready, Gives}
 use Rattle.walk.specs.Gather.{Rests, Placed, SomePlaced, Gathered, Counted}
-use Rattle.walk.specs.Entry.{says-done, says-refused, Planned, PlanWalked, plan-read, plan-small, plan-env}
+use Rattle.walk.specs.Entry.{says-done, says-refused, Planned, PlanWalked, plan-small, plan-env}
 
 -- the view is read
 pub record Viewed (view : List ℕ) : Type 0 where

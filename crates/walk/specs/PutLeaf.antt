@@ -3,11 +3,11 @@ use mathlib.Core.Path.{_≡_, refl, sym, ap, _∙_}
 use mathlib.Core.Bool.{Bool, true, false}
 use mathlib.Core.Option.{Option, none, some}
 use mathlib.Core.List.{List, [], _∷_}
-use Prim.Native.Nat.{ℕ, zero, suc, _+_, _-_, _*_, _/_, _%_, _≤_, _<_}
+use Prim.Native.Nat.{ℕ, suc, _+_, _-_, _*_, _/_, _%_, _≤_, _<_}
 use native.Mathlib.Omega.{arith}
 use lib.ListN.{length, getD, set, length-set, getElem?}
 use lib.Seq.{paste}
-use Rattle.value.specs.Value.{Value, vfalse, vtrue, list, number, nil, encode, encodes, size, sameValue}
+use Rattle.value.specs.Value.{Value, vfalse, vtrue, list, number, nil, encode, encodes, size}
 use Rattle.value.specs.Encoding.{size-encode, size-pos}
 use Rattle.value.specs.Laws.{Readable}
 use Rattle.value.specs.Parts.{sameBytes}
@@ -23,7 +23,7 @@ use Rattle.walk.specs.Parts.{part}
 use Rattle.walk.specs.Seen.{elem-at, elem-none}
 use Rattle.walk.specs.Answers.{Answers, answer-by, finish, give, give-none, give-yes, give-no}
 use Rattle.step.specs.Step.{judged}
-use Rattle.walk.specs.Cells.{Slot, blank, full, Written, Named, Shown}
+use Rattle.walk.specs.Cells.{Slot, blank, full, Written, Shown}
 use Rattle.walk.specs.Frames.{frame-refl}
 use Rattle.walk.specs.CellLaws.{filled, filled-frame, written-set}
 use Rattle.walk.specs.Puts.{body, run, Given, Ready, Served, Denied, Gives}

@@ -1,18 +1,15 @@
 -- The list case of put, once its subject is got: what each return shows.
-use mathlib.Core.Path.{_≡_, refl, sym, ap, _∙_}
+use mathlib.Core.Path.{_≡_, refl, sym, _∙_}
 use mathlib.Core.Bool.{Bool, true, false}
-use mathlib.Core.Option.{Option, none, some}
 use mathlib.Core.List.{List, [], _∷_}
-use Prim.Native.Nat.{ℕ, zero, suc, _+_, _-_, _*_, _≤_, _<_}
+use Prim.Native.Nat.{ℕ, _+_, _-_, _≤_, _<_}
 use native.Mathlib.Omega.{arith}
-use lib.ListN.{length}
-use Rattle.value.specs.Value.{Value, vfalse, list, nil, cons}
-use Rattle.value.specs.Views.{asList}
+use Rattle.value.specs.Value.{Value, list, nil, cons}
 use Rattle.value.specs.Parts.{shapeOf, passesBytes}
 use Rattle.value.specs.declared.Shape.{Shape}
 use Rattle.value.specs.declared.Shape.the-variants as is
 use Rattle.sheet.specs.declared.Node.the-variants.{ListCase}
-use Rattle.rules.specs.Rules.{get, putNode, onList, mkList}
+use Rattle.rules.specs.Rules.{putNode, onList}
 use Rattle.step.specs.declared.Scope.{Scope}
 use Rattle.walk.specs.Found.{Found}
 use Rattle.walk.specs.Found as walked
@@ -22,14 +19,14 @@ use Rattle.walk.specs.Parts.{part}
 use Rattle.walk.specs.Answers.{then-done, give, give-none}
 use Rattle.walk.specs.Cells.{Shown}
 use Rattle.walk.specs.Frames.{frame-then}
-use Rattle.walk.specs.Shapes.{FrontOf, front-of, empty-of, no-list as none-seen}
+use Rattle.walk.specs.Shapes.{front-of, empty-of, no-list as none-seen}
 use Rattle.step.specs.declared.ListBranch.the-variants as ways
 use Rattle.step.specs.StepLaws.{ListSays, empty-kept, empty-left, empty-none, front-kept, front-left, front-none, no-list}
 use Rattle.walk.specs.Gets as gets
 use Rattle.walk.specs.GetCase.{Above}
 use Rattle.walk.specs.PutRules.{choose-first, choose-second, choose-none}
-use Rattle.walk.specs.PutCase.{shown-yes, shown-no, shown-nil, list-seen, spans-front, frame₀, later, had, Had}
-use Rattle.walk.specs.Puts.{Task, body, pair as Two, inside, switch, maker, run, Spans, Given, Ready, Gives}
+use Rattle.walk.specs.PutCase.{shown-yes, shown-no, shown-nil, list-seen, spans-front, frame₀, later, had}
+use Rattle.walk.specs.Puts.{Task, body, pair as Two, inside, switch, maker, run, Spans, Ready, Gives}
 
 module _ {b a₁ s : List ℕ} {sc : Scope} {top left : ℕ} {r₀ : Found} {l x : ℕ} (base : 32256 ≤ top) (g₀ : gets.Gives b a₁ s sc top top left 0 r₀ l (gets.enter x))
     {start len k : ℕ} (e₀ : r₀ ≡ walked.Done start len k) {top′ : ℕ} (up : Above top start len top′) {q : Shape} (eq : q ≡ shapeOf (part a₁ start (start + len - start))) where

@@ -1,13 +1,11 @@
 -- Put into one node further on: a call of a section, and a sum.
 use mathlib.Core.Path.{_≡_, refl, sym, ap, _∙_}
-use mathlib.Core.Option.{Option, none, some}
 use mathlib.Core.List.{List, [], _∷_}
-use Prim.Native.Nat.{ℕ, zero, suc, _+_, _-_, _*_, _/_, _%_, _≤_, _<_}
+use Prim.Native.Nat.{ℕ, suc, _+_, _-_, _*_, _/_, _%_, _≤_, _<_}
 use native.Mathlib.Nat.{le-refl}
 use native.Mathlib.Omega.{arith}
 use lib.ListN.{length, getD}
 use Rattle.value.specs.Value.{Value, vfalse, number, encode, size, eNumber}
-use Rattle.value.specs.Laws.{Readable}
 use Rattle.value.specs.Parts.{shapeOf}
 use Rattle.value.specs.declared.Shape.{Shape}
 use Rattle.value.specs.declared.Shape.the-variants as is
@@ -28,10 +26,10 @@ use Rattle.walk.specs.Cells.{Shown}
 use Rattle.walk.specs.Frames.{frame-refl}
 use Rattle.walk.specs.CellLaws.{named-pick, written-at}
 use Rattle.walk.specs.Shapes.{NumberOf, number-of, no-number}
-use Rattle.walk.specs.PutRules.{last-done, last-refused, did, not-did, did-few}
+use Rattle.walk.specs.PutRules.{last-done, last-refused, did, not-did}
 use Rattle.walk.specs.PutEnter.{same-sheet}
 use Rattle.walk.specs.PutTwo.{ready-for, given-shown, shown-shape}
-use Rattle.walk.specs.Puts.{Task, enter, body, run, Known, Given, Ready, Gives}
+use Rattle.walk.specs.Puts.{enter, body, run, Given, Ready, Gives}
 
 -- A CALL
 

@@ -1,17 +1,15 @@
 -- The subject rebuilt of what the two variables of its branch stand for: where their values stand, the bytes, and what each return shows.
 use mathlib.Core.Path.{_≡_, refl, sym, ap, ap₂, _∙_}
-use mathlib.Core.Bool.{Bool, true, false, _&&_, _||_}
-use mathlib.Core.Option.{Option, none, some, Option·map}
-use mathlib.Core.List.{List, [], _∷_, _++_, append-assoc}
-use Prim.Native.Nat.{ℕ, zero, suc, _+_, _-_, _*_, _≤_, _<_}
+use mathlib.Core.Bool.{Bool, true, false}
+use mathlib.Core.Option.{Option, none, some}
+use mathlib.Core.List.{List, _∷_, _++_}
+use Prim.Native.Nat.{ℕ, suc, _+_, _*_, _≤_, _<_}
 use native.Mathlib.Nat.{le-refl}
 use native.Mathlib.Numerals.{add-one}
 use native.Mathlib.Omega.{arith}
-use lib.Dec.{eqb, ltb}
 use lib.ListN.{length, take, drop, getD, set, length-append, length-drop, replicate, getElem?}
 use lib.Seq.{getD-take, getD-drop, paste, take-paste, length-paste}
-use borrow.Author.Tests.{lt-ltb, le-ltb}
-use Rattle.value.specs.Value.{Value, Values as Rest, vfalse, vtrue, list, number, pair, nil, cons, encode, encodes, size, sizes, Encodable, ePair}
+use Rattle.value.specs.Value.{Value, vfalse, vtrue, list, number, pair, nil, cons, encode, encodes, size, sizes, Encodable, ePair}
 use Rattle.value.specs.Encoding.{size-encode, size-pos}
 use Rattle.value.specs.Views.{asList}
 use Rattle.value.specs.Laws.{Readable, encodable-front}
@@ -30,7 +28,7 @@ use Rattle.walk.specs.Cells.{Slot, blank, full, Written, Shown, rebuiltI
 use Rattle.walk.specs.Frames.{frame-refl}
 use Rattle.walk.specs.CellLaws.{written-less}
 use Rattle.step.specs.StepLaws.{was-written}
-use Rattle.walk.specs.PutRules.{last-done, last-refused, did, not-did, did-few, given-after}
+use Rattle.walk.specs.PutRules.{last-done, last-refused, did, not-did, given-after}
 use Rattle.walk.specs.PutTwo.{ready-for}
 use Rattle.walk.specs.Puts.{Task, enter, rebuilt, rebuild, maker, Made, aList, aPair, run, Any, Spans, SomeSpans, Given, Ready, Gives}
 

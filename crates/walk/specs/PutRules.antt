@@ -1,11 +1,9 @@
 -- Rules that put follows besides those of answers: a last call, a choice of two; and what a call of put or get gave.
-use mathlib.Core.Path.{_≡_, refl, sym, ap, _∙_}
-use mathlib.Core.Option.{Option, none, some}
+use mathlib.Core.Path.{_≡_, ap}
 use mathlib.Core.List.{List}
-use Prim.Native.Nat.{ℕ, zero, suc, _+_, _-_, _*_, _≤_, _<_}
+use Prim.Native.Nat.{ℕ, zero, suc, _+_, _≤_}
 use native.Mathlib.Nat.{le-refl}
 use native.Mathlib.Omega.{arith}
-use lib.ListN.{length}
 use Rattle.value.specs.Result.{ok}
 use Rattle.value.specs.Value.{Value}
 use Rattle.sheet.specs.Sheet.{Sheet, readSheet}
@@ -22,8 +20,8 @@ use Rattle.walk.specs.Parts.{Kept}
 use Rattle.walk.specs.Arena.{Env, env-later}
 use Rattle.walk.specs.Answers.{Told, serves, denies, Answers, refuse}
 use Rattle.walk.specs.Gets as gets
-use Rattle.walk.specs.Cells.{Frame, Written, Named}
-use Rattle.walk.specs.Frames.{frame-refl, env-framed, written-kept}
+use Rattle.walk.specs.Cells.{Frame, Written}
+use Rattle.walk.specs.Frames.{env-framed, written-kept}
 use Rattle.walk.specs.Puts.{Ready, Task, enter, run, Given, Served, Denied, Gives}
 
 module _ {A : Type 0} {S : A → ℕ → Type 0} {D : ℕ → Type 0} {spent left : ℕ} where

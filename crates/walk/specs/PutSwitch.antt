@@ -1,17 +1,14 @@
 -- A switch to the non-empty branch: the two defaults are got in an empty scope. What each return shows, and what the calls ask.
-use mathlib.Core.Path.{_≡_, refl, sym, ap, _∙_}
-use mathlib.Core.Option.{Option, none, some}
-use mathlib.Core.List.{List, [], _∷_}
-use Prim.Native.Nat.{ℕ, zero, suc, _+_, _-_, _*_, _≤_, _<_}
+use mathlib.Core.Path.{_≡_, refl, _∙_}
+use mathlib.Core.List.{List, []}
+use Prim.Native.Nat.{ℕ, _+_, _-_, _*_, _≤_, _<_}
 use native.Mathlib.Nat.{le-refl}
 use native.Mathlib.Omega.{arith}
 use lib.ListN.{length, getD}
 use Rattle.value.specs.Value.{Value, vfalse}
-use Rattle.value.specs.Views.{asList}
 use Rattle.sheet.specs.Sheet.{Sheet}
-use Rattle.rules.specs.Outcome.{Out, done}
 use Rattle.rules.specs.Allowance.{within}
-use Rattle.rules.specs.Rules.{Env as Values, Cells, get, mkList}
+use Rattle.rules.specs.Rules.{Env as Values, Cells, get}
 use Rattle.step.specs.declared.Scope.{Scope}
 use Rattle.walk.specs.Found.{Found}
 use Rattle.walk.specs.Found as walked
@@ -19,14 +16,14 @@ use Rattle.walk.specs.Taken.{Put, Done, Refused}
 use Rattle.step.specs.declared.Cells.{Cells as Owners}
 use Rattle.walk.specs.Scope.{noVariable}
 use Rattle.walk.specs.Parts.{Kept, kept-then}
-use Rattle.walk.specs.Arena.{Held, Env, held-later}
-use Rattle.walk.specs.Seen.{held-short, held-some, View, a-list, no-list}
+use Rattle.walk.specs.Arena.{Env, held-later}
+use Rattle.walk.specs.Seen.{held-short, held-some, a-list, no-list}
 use Rattle.walk.specs.Answers.{then-done, then-refused, give, give-none}
 use Rattle.walk.specs.Frames.{frame-then, kept-frame}
 use Rattle.walk.specs.Gets as gets
 use Rattle.walk.specs.PutRules.{got-few, given-later}
 use Rattle.walk.specs.PutTwo.{ready-for}
-use Rattle.walk.specs.Puts.{Task, inside, switch, maker, Made, aList, run, Known, Spans, SomeSpans, Given, Ready, Gives}
+use Rattle.walk.specs.Puts.{Task, inside, switch, maker, aList, run, Spans, SomeSpans, Given, Ready, Gives}
 
 -- no variable stands for nothing
 env-none : (a : List ℕ) {sc : Scope} (top : ℕ) → sc ≡ noVariable → Env a sc top []

@@ -1,18 +1,17 @@
 -- The truth case and the split of put, once the subject is got: what each return shows.
 use mathlib.Core.Path.{_≡_, refl, sym, ap, _∙_}
-use mathlib.Core.Bool.{Bool, true, false, not}
-use mathlib.Core.Option.{Option, none, some}
+use mathlib.Core.Bool.{Bool, true, false}
 use mathlib.Core.List.{List, [], _∷_}
-use Prim.Native.Nat.{ℕ, zero, suc, _+_, _-_, _*_, _≤_, _<_}
+use Prim.Native.Nat.{ℕ, _+_, _-_, _*_, _≤_, _<_}
 use native.Mathlib.Omega.{arith}
-use lib.ListN.{length, getD}
+use lib.ListN.{getD}
 use native.Mathlib.Decide.{decLt}
-use Rattle.value.specs.Value.{Value, vfalse, vtrue, pair}
+use Rattle.value.specs.Value.{Value}
 use Rattle.value.specs.Parts.{shapeOf, passesBytes}
 use Rattle.value.specs.declared.Shape.{Shape}
 use Rattle.value.specs.declared.Shape.the-variants as is
 use Rattle.sheet.specs.declared.Node.the-variants.{TruthCase, Split}
-use Rattle.rules.specs.Rules.{get, putNode, mkPair}
+use Rattle.rules.specs.Rules.{putNode}
 use Rattle.step.specs.declared.Scope.{Scope}
 use Rattle.walk.specs.Found.{Found}
 use Rattle.walk.specs.Found as walked
@@ -22,12 +21,12 @@ use Rattle.walk.specs.Parts.{part}
 use Rattle.walk.specs.Answers.{then-done, give, give-none}
 use Rattle.walk.specs.Cells.{Shown}
 use Rattle.walk.specs.Frames.{frame-then}
-use Rattle.walk.specs.Shapes.{PairOf, pair-of, no-pair, false-of, true-of, no-truth}
+use Rattle.walk.specs.Shapes.{pair-of, no-pair, false-of, true-of, no-truth}
 use Rattle.walk.specs.Gets as gets
 use Rattle.walk.specs.GetCase.{Above}
 use Rattle.walk.specs.PutRules.{choose-first, choose-second, choose-none}
-use Rattle.walk.specs.PutCase.{shown-yes, shown-no, shown-false, shown-true, false-seen, true-seen, spans-pair, frame₀, later, had, Had}
-use Rattle.walk.specs.Puts.{Task, body, pair as Two, inside, maker, run, Spans, Given, Ready, Gives, as-pair}
+use Rattle.walk.specs.PutCase.{shown-yes, shown-no, shown-false, shown-true, false-seen, true-seen, spans-pair, frame₀, later, had}
+use Rattle.walk.specs.Puts.{Task, body, pair as Two, inside, maker, run, Spans, Ready, Gives, as-pair}
 use Rattle.step.specs.StepLaws.{first-kept, first-left, second-kept, second-left, neither, TruthSays, of-false, of-true, of-none}
 
 -- the refusals are numbers below 256

@@ -1,13 +1,11 @@
 -- Put into two nodes one after the other, and so into a front and a pair: what each return shows, and what the calls ask.
 use mathlib.Core.Path.{_≡_, refl, sym, ap, ap₂, _∙_}
-use mathlib.Core.Option.{Option, none, some}
-use mathlib.Core.List.{List, [], _∷_}
-use Prim.Native.Nat.{ℕ, zero, suc, _+_, _-_, _*_, _≤_, _<_}
+use mathlib.Core.List.{List}
+use Prim.Native.Nat.{ℕ, suc, _+_, _-_, _*_, _≤_}
 use native.Mathlib.Nat.{le-refl}
 use native.Mathlib.Omega.{arith}
 use lib.ListN.{length}
-use Rattle.value.specs.Value.{Value, Values as Rest, vfalse, list, pair, cons, encode, size}
-use Rattle.value.specs.Views.{asFront, asPair}
+use Rattle.value.specs.Value.{Value, vfalse, list, pair, cons, encode}
 use Rattle.value.specs.Laws.{Readable, readable-front, readable-pair}
 use Rattle.value.specs.Parts.{shapeOf, firstPart, secondPart}
 use Rattle.value.specs.PartsLaws.{shape, shape-whole, first-of-list, rest-of-list, first-of-pair, second-of-pair}
@@ -19,11 +17,11 @@ use Rattle.rules.specs.Rules.{Env as Values, Cells, putNode, both}
 use Rattle.step.specs.declared.Scope.{Scope}
 use Rattle.walk.specs.Taken.{Put, Done, Refused}
 use Rattle.step.specs.declared.Cells.{Cells as Owners}
-use Rattle.walk.specs.Answers.{Answers, then-done, then-refused, give, give-none}
-use Rattle.walk.specs.Cells.{Shown, Frame}
+use Rattle.walk.specs.Answers.{then-done, then-refused, give, give-none}
+use Rattle.walk.specs.Cells.{Shown}
 use Rattle.walk.specs.Frames.{frame-refl, frame-then}
 use Rattle.walk.specs.Shapes.{FrontOf, PairOf, front-of, no-front, pair-of, no-pair}
-use Rattle.walk.specs.PutRules.{last-done, last-refused, PutDone, did, not-did, did-few, given-after}
+use Rattle.walk.specs.PutRules.{last-done, last-refused, did, not-did, given-after}
 use Rattle.walk.specs.Puts.{Task, enter, body, pair as Two, run, Known, Given, Ready, Gives, SomeView}
 
 -- the same things ready for another task

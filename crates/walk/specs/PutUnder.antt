@@ -1,39 +1,29 @@
 -- Put into a branch that adds two variables, and the rebuilt subject into its node: what each return shows, and what the calls ask.
-use mathlib.Core.Path.{_≡_, refl, sym, ap, ap₂, _∙_}
-use mathlib.Core.Bool.{Bool, true, false, _&&_, _||_}
-use mathlib.Core.Option.{Option, none, some, Option·map}
-use mathlib.Core.List.{List, [], _∷_, _++_, append-assoc}
-use Prim.Native.Nat.{ℕ, zero, suc, _+_, _-_, _*_, _≤_, _<_}
+use mathlib.Core.Path.{_≡_, refl, sym, ap, _∙_}
+use mathlib.Core.Option.{Option, none, some}
+use mathlib.Core.List.{List, _++_, append-assoc}
+use Prim.Native.Nat.{ℕ, suc, _+_, _-_, _≤_}
 use native.Mathlib.Nat.{le-refl}
-use native.Mathlib.Numerals.{add-one}
 use native.Mathlib.Omega.{arith}
-use lib.Dec.{eqb, ltb}
-use lib.ListN.{length, take, drop, getD, set, length-set, length-append, length-drop, replicate, getElem?}
-use lib.Seq.{getD-take, getD-drop, paste, take-paste, length-paste}
-use Rattle.value.specs.Value.{Value, Values as Rest, vfalse, vtrue, list, number, pair, nil, cons, encode, encodes, size, sizes, Encodable, ePair}
-use Rattle.value.specs.Encoding.{size-encode, size-pos}
-use Rattle.value.specs.Views.{asList}
-use Rattle.value.specs.Laws.{Readable, encodable-front}
+use lib.ListN.{length, set, length-set, length-append}
+use Rattle.value.specs.Value.{Value, vfalse, number}
 use Rattle.sheet.specs.Sheet.{Sheet}
-use Rattle.rules.specs.Outcome.{Out, _>>=_}
-use Rattle.rules.specs.Rules.{Env as Values, Cells, Putter, two, orOld, under, mkList, mkPair}
+use Rattle.rules.specs.Outcome.{_>>=_}
+use Rattle.rules.specs.Rules.{Env as Values, Cells, Putter, two, under}
 use Rattle.step.specs.declared.Scope.{Scope}
-use Rattle.step.specs.declared.Span.{Span}
 use Rattle.walk.specs.Taken.{Put, Done, Refused}
 use Rattle.step.specs.declared.Cells.{Cells as Owners}
 use Rattle.walk.specs.Scope.{pushed}
-use Rattle.walk.specs.Parts.{part}
-use Rattle.walk.specs.Arena.{Held, Env, env-push, below-ends}
+use Rattle.walk.specs.Arena.{env-push, below-ends}
 use Rattle.walk.specs.Seen.{held-short}
-use Rattle.walk.specs.Answers.{Answers, answer-by, then-done, then-refused, give, give-none, give-yes, give-no}
-use Rattle.step.specs.Step.{When, moreCells, placeOf, unfitRest}
-use Rattle.walk.specs.Cells.{Slot, blank, full, Written, Shown, Frame, rebuiltBytes}
-use Rattle.walk.specs.Frames.{frame-refl, frame-then, spans-framed}
-use Rattle.walk.specs.CellLaws.{written-more, written-less, written-at, named-more}
-use Rattle.step.specs.StepLaws.{was-written}
-use Rattle.walk.specs.PutRules.{last-done, last-refused, did, not-did, did-few, given-after}
+use Rattle.walk.specs.Answers.{answer-by, then-done, then-refused}
+use Rattle.step.specs.Step.{moreCells}
+use Rattle.walk.specs.Cells.{blank}
+use Rattle.walk.specs.Frames.{frame-then, spans-framed}
+use Rattle.walk.specs.CellLaws.{written-more, written-at, named-more}
+use Rattle.walk.specs.PutRules.{did, not-did, given-after}
 use Rattle.walk.specs.PutTwo.{ready-for}
-use Rattle.walk.specs.Puts.{Task, enter, inside, rebuilt, rebuild, maker, Made, aList, aPair, run, Known, Any, Spans, SomeSpans, Given, Ready, Gives, Inner}
+use Rattle.walk.specs.Puts.{enter, inside, rebuilt, rebuild, maker, run, Any, Spans, SomeSpans, Given, Ready, Gives, Inner}
 
 -- THE BRANCH
 

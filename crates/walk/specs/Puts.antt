@@ -1,9 +1,9 @@
 -- What a function of put may assume, and what it shows.
-use mathlib.Core.Path.{_≡_, refl, sym, ap, _∙_}
-use mathlib.Core.Option.{Option, none, some}
-use mathlib.Core.Bool.{Bool, true, false}
+use mathlib.Core.Path.{_≡_}
+use mathlib.Core.Option.{Option, some}
+use mathlib.Core.Bool.{true, false}
 use mathlib.Core.List.{List, []}
-use Prim.Native.Nat.{ℕ, zero, suc, _+_, _-_, _*_, _≤_, _<_}
+use Prim.Native.Nat.{ℕ, suc, _+_, _*_, _≤_, _<_}
 use native.Mathlib.Decide.{decLe}
 use lib.Dec.{eqb}
 use lib.ListN.{length, getD, take, getElem?}
@@ -13,7 +13,7 @@ use Rattle.value.specs.Views.{asList}
 use Rattle.sheet.specs.declared.Node.{Node}
 use Rattle.sheet.specs.Sheet.{Sheet, readSheet}
 use Rattle.sheet.specs.Laws.{Ranged}
-use Rattle.rules.specs.Outcome.{Out, done, refused, when, _>>=_, given}
+use Rattle.rules.specs.Outcome.{Out, when, _>>=_, given}
 use Rattle.rules.specs.Rules.{Env as Values, Cells, get, putNode, put, orOld, both, under, mkList, mkPair}
 use Rattle.step.specs.declared.Scope.{Scope}
 use Rattle.walk.specs.Taken.{Put, Done, Refused}

@@ -1,12 +1,10 @@
 -- What a value's shape tells of the value: which view of it is there, and where its second part starts.
-use mathlib.Core.Path.{_≡_, refl, sym, ap, _∙_}
-use mathlib.Core.Bool.{Bool, true, false}
-use mathlib.Core.Option.{Option, none, some}
-use mathlib.Core.List.{List, [], _∷_}
-use Prim.Native.Nat.{ℕ, _+_, _-_, _≤_, _<_}
+use mathlib.Core.Path.{_≡_, refl, ap}
+use mathlib.Core.Option.{none, some}
+use Prim.Native.Nat.{ℕ, _+_, _≤_}
 use native.Mathlib.Decide.{decLe}
 use native.Mathlib.Omega.{arith}
-use Rattle.value.specs.Value.{Value, Values, vfalse, vtrue, list, number, pair, nil, cons, size, truth, Encodable, eNumber}
+use Rattle.value.specs.Value.{Value, Values, vfalse, vtrue, list, number, pair, nil, cons, size, Encodable, eNumber}
 use Rattle.value.specs.Views.{asList, asFront, asPair, asTruth, asNumber, ifSmall}
 use Rattle.value.specs.Laws.{Readable}
 use Rattle.value.specs.PartsLaws.{shape}

@@ -1,7 +1,6 @@
 -- `print_plan` is safe and ends. Assumes nothing.
 use Prim.Native.Nat.{_≤_, _-_}
 use native.Mathlib.Omega.{arith}
-use borrow.Author.Needs.{needs}
 use Rattle.examples.proofs.print_plan.Statement.{statement}
 use Rattle.examples.proofs.print_plan.Tie as tie
 

@@ -4,7 +4,6 @@ use mathlib.Core.Path.{_≡_}
 use native.Mathlib.Omega.{arith}
 use lib.ListN.{length, length-set}
 use Rattle.report.specs.Counting.{counts}
-use borrow.Author.Needs.{needs}
 use Rattle.examples.proofs.lines.unhex.Statement.{statement}
 use Rattle.examples.proofs.lines.unhex.Tie as tie
 

@@ -1,16 +1,16 @@
 -- Every function of get meets its contract. The measure: the levels left, twice, and the place in the cycle.
 -- Assumes nothing.
 use borrow.Author.Needs.{needs}
-use mathlib.Core.Path.{refl, ap, _∙_}
+use mathlib.Core.Path.{refl}
 use native.Mathlib.Omega.{arith}
 use denote.Ref.{now}
 use lib.ListN.{length-set}
 use Rattle.walk.specs.Parts.{marked}
-use Rattle.walk.specs.Found.{Refused, found-refused, found-done, found-as, packed-done}
+use Rattle.walk.specs.Found.{found-refused, found-done, found-as, packed-done}
 use Rattle.walk.specs.Gets.{as-node, as-found, as-branch, two-pushed, two-picked}
 use Rattle.walk.specs.GetReady.{sized}
 use Rattle.step.specs.StepLaws.{entered}
-use Rattle.walk.specs.GetEnter.{enter-refused, entry-small, enter-ready, enter-body, lent-few, lent-start, lent-made, kind-var, kind-false, kind-true, kind-empty, kind-number, kind-front, kind-pair, kind-list-case, kind-truth-case, kind-split, kind-call, kind-add}
+use Rattle.walk.specs.GetEnter.{enter-refused, entry-small, enter-ready, enter-body, lent-few, lent-made, kind-var, kind-false, kind-true, kind-empty, kind-number, kind-front, kind-pair, kind-list-case, kind-truth-case, kind-split, kind-call, kind-add}
 use Rattle.walk.specs.GetLeaf.{marked-as, var-gives, false-done, true-done, empty-done, number-done}
 use Rattle.walk.specs.GetTwo.{unfit-no, fit-low, fit-high, two-ready₁, two-ready₂, pair-refused₁, pair-refused₂, pair-44, pair-done, front-refused₁, front-refused₂, front-43, front-44, front-done}
 use Rattle.walk.specs.GetAt.{movable, bring-gives, found-there}
@@ -67,12 +67,8 @@ use Rattle.walk.proofs.getter.get_number.Reads as get-number-reads
 use Rattle.walk.proofs.getter.get_var.Reads as get-var-reads
 use Rattle.walk.proofs.getter.judge_branch.Reads as judge-branch-reads
 use Rattle.walk.proofs.scope.add_two.Reads as add-two-reads
-use Rattle.walk.proofs.getter.+get_add+get_call+get_front+get_list_case+get_node+get_pair+get_split+get_truth_case.{
-  statement,
-}
-use Rattle.walk.proofs.getter.+get_add+get_call+get_front+get_list_case+get_node+get_pair+get_split+get_truth_case.Tie.{
-  close,
-}
+use Rattle.walk.proofs.getter.+get_add+get_call+get_front+get_list_case+get_node+get_pair+get_split+get_truth_case.{statement}
+use Rattle.walk.proofs.getter.+get_add+get_call+get_front+get_list_case+get_node+get_pair+get_split+get_truth_case.Tie.{close}
 
 abbrev μ-get-add : Measures 5 get-add-kinds.ps ℕ
 μ-get-add κs a = 2 * (a .1 .1 .1 .1 .1 .1 .0 .levels) + 1

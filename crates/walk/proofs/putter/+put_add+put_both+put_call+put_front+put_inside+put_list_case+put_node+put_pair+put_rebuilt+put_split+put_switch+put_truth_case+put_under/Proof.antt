@@ -12,7 +12,7 @@ use Rattle.walk.specs.GetAt.{movable, bring-gives, found-there}
 use Rattle.walk.specs.GetTwo.{unfit-no, fit-low, fit-high}
 use Rattle.walk.specs.GetCall.{section-as}
 use Rattle.walk.specs.GetAdd.{sum-as}
-use Rattle.walk.specs.GetEnter.{entry-small, lent-start, lent-made, kind-var, kind-false, kind-true, kind-empty, kind-number, kind-front, kind-pair, kind-list-case, kind-truth-case, kind-split, kind-call, kind-add}
+use Rattle.walk.specs.GetEnter.{entry-small, lent-made, kind-var, kind-false, kind-true, kind-empty, kind-number, kind-front, kind-pair, kind-list-case, kind-truth-case, kind-split, kind-call, kind-add}
 use Rattle.walk.specs.Puts.{enter, aList, aPair, as-taken, as-task, as-pair, as-inside, as-ready, ready-in, gives-in, pair-named, inside-named, more-owned, picked-owned}
 use Rattle.walk.specs.PutRules.{few}
 use Rattle.walk.specs.PutEnter.{put-refused, put-body, body-ready, node-few}
@@ -99,12 +99,8 @@ use Rattle.walk.proofs.getter.get_node.Reads as get-node-reads
 use Rattle.walk.proofs.putter.put_number.Reads as put-number-reads
 use Rattle.walk.proofs.putter.put_var.Reads as put-var-reads
 use Rattle.walk.proofs.scope.add_two.Reads as add-two-reads
-use Rattle.walk.proofs.putter.+put_add+put_both+put_call+put_front+put_inside+put_list_case+put_node+put_pair+put_rebuilt+put_split+put_switch+put_truth_case+put_under.{
-  statement,
-}
-use Rattle.walk.proofs.putter.+put_add+put_both+put_call+put_front+put_inside+put_list_case+put_node+put_pair+put_rebuilt+put_split+put_switch+put_truth_case+put_under.Tie.{
-  close,
-}
+use Rattle.walk.proofs.putter.+put_add+put_both+put_call+put_front+put_inside+put_list_case+put_node+put_pair+put_rebuilt+put_split+put_switch+put_truth_case+put_under.{statement}
+use Rattle.walk.proofs.putter.+put_add+put_both+put_call+put_front+put_inside+put_list_case+put_node+put_pair+put_rebuilt+put_split+put_switch+put_truth_case+put_under.Tie.{close}
 
 abbrev μ-put-add : Measures 8 put-add-kinds.ps ℕ
 μ-put-add κs a = 6 * (a .1 .1 .1 .1 .1 .1 .1 .1 .1 .0 .levels) + 4
