@@ -1,10 +1,11 @@
 -- Laws of those definitions, for the code here and for callers.
-use mathlib.Core.Path.{_≡_, refl, sym, ap}
+use mathlib.Core.Path.{_≡_, refl, sym}
 use mathlib.Core.Bool.{Bool, true, false, _&&_, false≢true}
 use Prim.Native.Nat.{ℕ, zero, suc, _+_, _*_, _≤_, _<_}
 use native.Mathlib.Omega.{arith}
 use lib.Dec.{ltb}
 use borrow.Author.Tests.{ne-eqb, eq-eqb, lt-ltb, le-ltb}
+use Rattle.value.specs.PartsLaws.{which, unlike}
 use Rattle.value.specs.declared.Shape.{Shape}
 use Rattle.value.specs.declared.Shape.the-variants.{False, True, Empty, Front, Number, Pair, Malformed}
 use Rattle.step.specs.declared.ListBranch.{ListBranch}
@@ -137,19 +138,6 @@ pub data TruthSays (s : Shape) (p q : Bool) : ℕ → Type 0 where
   of-false : {c : ℕ} → s ≡ False → Says p q false c → TruthSays s p q c
   of-true : {c : ℕ} → s ≡ True → Says p q true c → TruthSays s p q c
   of-none : (s ≡ False → ⊥) → (s ≡ True → ⊥) → TruthSays s p q 43
-
--- which of the shapes it is
-unfoldable which : Shape → ℕ
-which False = 0
-which True = 1
-which Empty = 2
-which (Front mid) = 3
-which (Number n) = 4
-which (Pair mid) = 5
-which Malformed = 6
-
-unlike : {s t : Shape} → (which s ≡ which t → ⊥) → s ≡ t → ⊥
-unlike n e = n (ap which e)
 
 truths : (s : Shape) (p q : Bool) → TruthSays s p q (truthBranch s p q)
 unfolding truthBranch which

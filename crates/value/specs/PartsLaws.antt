@@ -17,7 +17,7 @@ use Rattle.value.specs.Laws.{Readable, readable-front, readable-pair, re
 use Rattle.value.specs.Reader.{outcome}
 use Rattle.value.specs.Parts.{behind, numberIn, shapeAs, shapeOf, partWhere, firstPart, secondPart, kindAt, kindBehind, restKind, passesBytes, both, sameBytes}
 use Rattle.value.specs.declared.Shape.{Shape}
-use Rattle.value.specs.declared.Shape.the-variants.{False, True, Empty, Front, Number, Pair}
+use Rattle.value.specs.declared.Shape.the-variants.{False, True, Empty, Front, Number, Pair, Malformed}
 
 -- a value's shape
 unfoldable pub shape : Value → Shape
@@ -27,6 +27,19 @@ shape (list nil) = Empty
 shape (list (cons f r)) = Front (1 + size f)
 shape (number n) = Number n
 shape (pair a b) = Pair (1 + size a)
+
+-- which of the shapes it is: two with different numbers are different
+unfoldable pub which : Shape → ℕ
+which False = 0
+which True = 1
+which Empty = 2
+which (Front mid) = 3
+which (Number n) = 4
+which (Pair mid) = 5
+which Malformed = 6
+
+pub unlike : {s t : Shape} → (which s ≡ which t → ⊥) → s ≡ t → ⊥
+unlike n e = n (ap which e)
 
 behind-value : (two : ℕ → Shape) {v : Value} → Readable v → (x : List ℕ) {z : List ℕ} → encode v ++ x ≡ z → behind two (outcome (readValue z)) ≡ two (1 + size v)
 unfolding behind outcome

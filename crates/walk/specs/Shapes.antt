@@ -7,7 +7,7 @@ use native.Mathlib.Omega.{arith}
 use Rattle.value.specs.Value.{Value, Values, vfalse, vtrue, list, number, pair, nil, cons, size, Encodable, eNumber}
 use Rattle.value.specs.Views.{asList, asFront, asPair, asTruth, asNumber, ifSmall}
 use Rattle.value.specs.Laws.{Readable}
-use Rattle.value.specs.PartsLaws.{shape}
+use Rattle.value.specs.PartsLaws.{shape, which, unlike}
 use Rattle.value.specs.declared.Shape.{Shape}
 use Rattle.value.specs.declared.Shape.the-variants as is
 use Rattle.walk.specs.Seen.{Shaped, isFalse, isTrue, isEmpty, isFront, isNumber, isPair}
@@ -32,27 +32,14 @@ pub record NumberOf (v : Value) (m : ℕ) : Type 0 where
   pub small : m ≤ 65535
   pub seen : asNumber v ≡ some (m, whole, small)
 
-unlike : {p q : Shape} (f : Shape → ℕ) → p ≡ q → (f p ≡ f q → ⊥) → ⊥
-unlike f e n = n (ap f e)
-
--- which of the shapes it is
-unfoldable which : Shape → ℕ
-which is.False = 0
-which is.True = 1
-which is.Empty = 2
-which (is.Front m) = 3
-which (is.Number n) = 4
-which (is.Pair m) = 5
-which is.Malformed = 6
-
 pub front-of : (v : Value) {mid : ℕ} → is.Front mid ≡ shape v → FrontOf v mid
 unfolding shape which asFront
-front-of vfalse e = absurd (unlike which e (λ z. omega arith))
-front-of vtrue e = absurd (unlike which e (λ z. omega arith))
-front-of (list nil) e = absurd (unlike which e (λ z. omega arith))
+front-of vfalse e = absurd (unlike (λ z. omega arith) e)
+front-of vtrue e = absurd (unlike (λ z. omega arith) e)
+front-of (list nil) e = absurd (unlike (λ z. omega arith) e)
 front-of (list (cons f r)) e = record { first = f; rest = r; whole = refl; seen = refl; at = cc }
-front-of (number n) e = absurd (unlike which e (λ z. omega arith))
-front-of (pair a b) e = absurd (unlike which e (λ z. omega arith))
+front-of (number n) e = absurd (unlike (λ z. omega arith) e)
+front-of (pair a b) e = absurd (unlike (λ z. omega arith) e)
 
 pub no-front : (v : Value) → ((mid : ℕ) → is.Front mid ≡ shape v → ⊥) → asFront v ≡ none
 unfolding shape asFront
@@ -65,11 +52,11 @@ no-front (pair a b) n = refl
 
 pub pair-of : (v : Value) {mid : ℕ} → is.Pair mid ≡ shape v → PairOf v mid
 unfolding shape which asPair
-pair-of vfalse e = absurd (unlike which e (λ z. omega arith))
-pair-of vtrue e = absurd (unlike which e (λ z. omega arith))
-pair-of (list nil) e = absurd (unlike which e (λ z. omega arith))
-pair-of (list (cons f r)) e = absurd (unlike which e (λ z. omega arith))
-pair-of (number n) e = absurd (unlike which e (λ z. omega arith))
+pair-of vfalse e = absurd (unlike (λ z. omega arith) e)
+pair-of vtrue e = absurd (unlike (λ z. omega arith) e)
+pair-of (list nil) e = absurd (unlike (λ z. omega arith) e)
+pair-of (list (cons f r)) e = absurd (unlike (λ z. omega arith) e)
+pair-of (number n) e = absurd (unlike (λ z. omega arith) e)
 pair-of (pair a b) e = record { first = a; second = b; whole = refl; seen = refl; at = cc }
 
 pub no-pair : (v : Value) → ((mid : ℕ) → is.Pair mid ≡ shape v → ⊥) → asPair v ≡ none
@@ -94,12 +81,12 @@ a-number n m e h = rw (← e) (let p = if-small n (decLe n 65535) h in record { 
 
 pub number-of : (v : Value) {m : ℕ} → is.Number m ≡ shape v → Readable v → NumberOf v m
 unfolding shape which
-number-of vfalse e h = absurd (unlike which e (λ z. omega arith))
-number-of vtrue e h = absurd (unlike which e (λ z. omega arith))
-number-of (list nil) e h = absurd (unlike which e (λ z. omega arith))
-number-of (list (cons f r)) e h = absurd (unlike which e (λ z. omega arith))
+number-of vfalse e h = absurd (unlike (λ z. omega arith) e)
+number-of vtrue e h = absurd (unlike (λ z. omega arith) e)
+number-of (list nil) e h = absurd (unlike (λ z. omega arith) e)
+number-of (list (cons f r)) e h = absurd (unlike (λ z. omega arith) e)
 number-of (number n) {m} e h = a-number n m (cc) (small (h .encodable))
-number-of (pair a b) e h = absurd (unlike which e (λ z. omega arith))
+number-of (pair a b) e h = absurd (unlike (λ z. omega arith) e)
 
 pub no-number : (v : Value) → ((m : ℕ) → is.Number m ≡ shape v → ⊥) → asNumber v ≡ none
 unfolding shape asNumber
@@ -122,30 +109,30 @@ shape-is (isPair e) = ap is.Pair e
 
 pub empty-of : (v : Value) → is.Empty ≡ shape v → v ≡ list nil
 unfolding shape which
-empty-of vfalse e = absurd (unlike which e (λ z. omega arith))
-empty-of vtrue e = absurd (unlike which e (λ z. omega arith))
+empty-of vfalse e = absurd (unlike (λ z. omega arith) e)
+empty-of vtrue e = absurd (unlike (λ z. omega arith) e)
 empty-of (list nil) e = refl
-empty-of (list (cons f r)) e = absurd (unlike which e (λ z. omega arith))
-empty-of (number n) e = absurd (unlike which e (λ z. omega arith))
-empty-of (pair a b) e = absurd (unlike which e (λ z. omega arith))
+empty-of (list (cons f r)) e = absurd (unlike (λ z. omega arith) e)
+empty-of (number n) e = absurd (unlike (λ z. omega arith) e)
+empty-of (pair a b) e = absurd (unlike (λ z. omega arith) e)
 
 pub false-of : (v : Value) → is.False ≡ shape v → v ≡ vfalse
 unfolding shape which
 false-of vfalse e = refl
-false-of vtrue e = absurd (unlike which e (λ z. omega arith))
-false-of (list nil) e = absurd (unlike which e (λ z. omega arith))
-false-of (list (cons f r)) e = absurd (unlike which e (λ z. omega arith))
-false-of (number n) e = absurd (unlike which e (λ z. omega arith))
-false-of (pair a b) e = absurd (unlike which e (λ z. omega arith))
+false-of vtrue e = absurd (unlike (λ z. omega arith) e)
+false-of (list nil) e = absurd (unlike (λ z. omega arith) e)
+false-of (list (cons f r)) e = absurd (unlike (λ z. omega arith) e)
+false-of (number n) e = absurd (unlike (λ z. omega arith) e)
+false-of (pair a b) e = absurd (unlike (λ z. omega arith) e)
 
 pub true-of : (v : Value) → is.True ≡ shape v → v ≡ vtrue
 unfolding shape which
-true-of vfalse e = absurd (unlike which e (λ z. omega arith))
+true-of vfalse e = absurd (unlike (λ z. omega arith) e)
 true-of vtrue e = refl
-true-of (list nil) e = absurd (unlike which e (λ z. omega arith))
-true-of (list (cons f r)) e = absurd (unlike which e (λ z. omega arith))
-true-of (number n) e = absurd (unlike which e (λ z. omega arith))
-true-of (pair a b) e = absurd (unlike which e (λ z. omega arith))
+true-of (list nil) e = absurd (unlike (λ z. omega arith) e)
+true-of (list (cons f r)) e = absurd (unlike (λ z. omega arith) e)
+true-of (number n) e = absurd (unlike (λ z. omega arith) e)
+true-of (pair a b) e = absurd (unlike (λ z. omega arith) e)
 
 pub no-list : (v : Value) → (is.Empty ≡ shape v → ⊥) → ((mid : ℕ) → is.Front mid ≡ shape v → ⊥) → asList v ≡ none
 unfolding shape asList
