@@ -14,7 +14,8 @@ use Rattle.value.specs.Value.{Value, Values, nil, cons}
 use Rattle.value.specs.Reading.{Found, whole, malformed, tooLong, nothing, aValue, value, readValue, onValue, readValues}
 use Rattle.sheet.specs.declared.Node.{Node}
 use Rattle.sheet.specs.declared.Node.the-variants.{Var, False, True, Empty, Number, Front, Pair, ListCase, TruthCase, Split, Call, Add}
-use Rattle.sheet.specs.Sheet.{Sheet, readNodes, oneSection, ifSection, readRecords, Records, withNodes, readBody, readHeader, readSheet, formOf}
+use Rattle.sheet.specs.Sheet.{Sheet, readNodes, oneSection, ifSection, readRecords, Records, withNodes, readBody, readHeader, readSheet}
+use Rattle.sheet.specs.Kinds.{formOf}
 use Rattle.rules.specs.Outcome.{Out, done, refused, plus, steps, when, mapOut, _>>=_, given, reading, choose}
 use Rattle.rules.specs.Allowance.{within, cap}
 use Rattle.rules.specs.Rules.{Env, Cells, Getter, Putter, bounded, tested, onList, getNode, get, constant, write, both, under, putNode, put}

@@ -96,7 +96,7 @@ numbers-fit : (bs : List ℕ) (sh : Sheet) → readSheet bs ≡ ok sh → Number
 numbers-fit bs sh e i n q = go (decLt i (length (sh .nodes)))
   where
     go : Dec (i < length (sh .nodes)) → n ≤ 65535
-    go (yes h) = rw q at (sheet-ranges bs e .node i h)
+    go (yes h) = rw q at (sheet-ranges bs e .node i h) .0
     go (no h) =
         let d : getD (sh .nodes) i False ≡ False = List·getD-eq-default (sh .nodes) False (omega arith) in
         let z : _≡_ {A = ℕ} 0 1 = cc in

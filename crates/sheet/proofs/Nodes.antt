@@ -8,9 +8,10 @@ use lib.ListN.{length, getD, drop, set, replicate, length-append, length-drop, d
 use lib.Seq.{drop-drop, set-at}
 use borrow.Author.Tests.{le-leb, lt-leb}
 use Rattle.value.specs.Result.{Result, ok, refusal, andThen, mapResult, orRefuse, unless}
-use Rattle.sheet.specs.Sheet.{Form, formOf, readNodes, withNodes}
-use Rattle.sheet.specs.Table.{width, offsets, firstNode, padded, tableOf, kindWidth, formWidth, NodesTable}
-use Rattle.sheet.specs.Forms.{wide-form}
+use Rattle.sheet.specs.Sheet.{readNodes, withNodes}
+use Rattle.sheet.specs.Kinds.{Form, formOf, bodyWidth, make, width}
+use Rattle.sheet.specs.Table.{offsets, firstNode, padded, tableOf, kindWidth, formWidth, NodesTable}
+use Rattle.sheet.specs.Forms.{form-told, wide-form}
 use Rattle.sheet.specs.Places.{rest-begins}
 use Rattle.sheet.specs.Laws.{length-offsets}
 use Rattle.sheet.specs.declared.Node.{Node}
@@ -22,7 +23,7 @@ use Rattle.sheet.specs.declared.Table.{Table}
 pub record Known (b : ℕ) : Type 0 where
   pub form : Form
   pub is : formOf b ≡ some form
-  pub wide : kindWidth b ≡ suc (form .width)
+  pub wide : kindWidth b ≡ suc (bodyWidth form)
 
 known-form : (o : Option Form) → (formWidth o ≡ 0 → ⊥) → (f : Form) × (o ≡ some f)
 unfolding formWidth
@@ -42,7 +43,7 @@ unknown-form (some f) h = absurd (omega arith)
 
 module _ (s : List ℕ) (at : ℕ) (h : at < length s) where
   abbrev pub node-of : Form → Node
-  node-of f = f .make (λ i. getD (drop (at + 1) s) i 0)
+  node-of f = make f (λ i. getD (drop (at + 1) s) i 0)
 
   pub unknown-first : (left : ℕ) → kindWidth (getD s at 0) ≡ 0 → readNodes left (drop at s) ≡ refusal 10
   unfolding readNodes orRefuse kindWidth
@@ -57,17 +58,17 @@ module _ (s : List ℕ) (at : ℕ) (h : at < length s) where
     pub cut-first : (left : ℕ) → length s - at < kindWidth (getD s at 0) → readNodes (suc left) (drop at s) ≡ refusal 11
     unfolding readNodes orRefuse unless
     cut-first left c =
-        let l : length (drop (at + 1) s) < f .form .width = simp length-drop (omega (arith, f .wide)) in
+        let l : length (drop (at + 1) s) < bodyWidth (f .form) = simp length-drop (omega (arith, f .wide)) in
         rw (rest-begins s at h, f .is, lt-leb _ _ l)
 
     pub first-read : (left : ℕ) → kindWidth (getD s at 0) ≤ length s - at
         → readNodes (suc left) (drop at s) ≡ mapResult (λ ns. node-of (f .form) ∷ ns) (readNodes left (drop (at + kindWidth (getD s at 0)) s))
     unfolding readNodes orRefuse unless
     first-read left c =
-        let l : f .form .width ≤ length (drop (at + 1) s) = simp length-drop (omega (arith, f .wide)) in
-        let q : at + 1 + f .form .width ≡ at + kindWidth (getD s at 0) = omega (arith, f .wide) in
-        let d : drop (f .form .width) (drop (at + 1) s) ≡ drop (at + kindWidth (getD s at 0)) s =
-        drop-drop (f .form .width) (at + 1) s ∙ ap (λ (i : ℕ). drop i s) q in
+        let l : bodyWidth (f .form) ≤ length (drop (at + 1) s) = simp length-drop (omega (arith, f .wide)) in
+        let q : at + 1 + bodyWidth (f .form) ≡ at + kindWidth (getD s at 0) = omega (arith, f .wide) in
+        let d : drop (bodyWidth (f .form)) (drop (at + 1) s) ≡ drop (at + kindWidth (getD s at 0)) s =
+        drop-drop (bodyWidth (f .form)) (at + 1) s ∙ ap (λ (i : ℕ). drop i s) q in
         rw (rest-begins s at h, f .is, le-leb _ _ l, d)
 
 pub read-end : (left : ℕ) → readNodes left [] ≡ ok []
@@ -178,9 +179,9 @@ module _ {s : List ℕ} {from n at : ℕ} {starts : List ℕ} (run : Run s from 
 
         pub run-more : w ≤ length s - at → Run s from (n + 1) (at + w) (set starts n at)
         run-more m =
-            let v = wide-form (getD s at 0) (its-kind .is) in
+            let v = form-told (getD s at 0) (its-kind .is) in
             rw e
-            (run-step (node-of s at h (its-kind .form)) (kindWidth (getD s at 0)) (v .made _ ∙ sym (its-kind .wide))
+            (run-step (node-of s at h (its-kind .form)) (kindWidth (getD s at 0)) (wide-form (getD s at 0) (its-kind .is) _ ∙ sym (its-kind .wide))
             (omega (arith, its-kind .wide, v .small)) few-yet (first-read s at h its-kind (200 - (n + 1)) (omega arith)))
 
 -- THE TABLE that comes of it

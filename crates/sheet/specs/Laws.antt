@@ -13,12 +13,13 @@ use mathlib.Core.Logic.{inl, inr}
 use mathlib.Core.Option.{none, some}
 use native.Mathlib.Decide.{decLt}
 use Rattle.sheet.specs.Forms.{no-form}
-use Rattle.sheet.specs.Sheet.{Sheet, Form, formOf, nodeInRange, nodesInRange, rootsInRange, inRange, readSheet}
-use Rattle.sheet.specs.Table.{width, offsets, firstNode, nodeAt, sectionAt, tableOf}
+use Rattle.sheet.specs.Sheet.{Sheet, nodesInRange, rootsInRange, inRange, readSheet}
+use Rattle.sheet.specs.Kinds.{Role, aNode, aSection, aVariable, aTest, aNumber, Field, row, Form, past, formOf, make, width, fits, allFit, nodeInRange}
+use Rattle.sheet.specs.Table.{offsets, firstNode, nodeAt, sectionAt, tableOf}
 use Rattle.sheet.specs.Reading.{Fine, fine, refused, fine-ok, Made, placed-at, made-at, rooted-at, HeaderRead, SheetRead, sheet-fine}
 use Rattle.sheet.specs.declared.Node.{Node}
 use Rattle.sheet.specs.declared.Table.{Table}
-use Rattle.sheet.specs.declared.Node.the-variants.{Var, False, True, Empty, Number, Front, Pair, ListCase, TruthCase, Split, Call, Add}
+use Rattle.sheet.specs.declared.Node.the-variants.{False}
 
 -- WHERE RECORDS STAND
 
@@ -39,11 +40,11 @@ node-read s e = header-node (sheet-read s e .header)
 pub node-made : (s : List ℕ) {sh : Sheet} → readSheet s ≡ ok sh → (i : ℕ) → i < length (sh .nodes) → Made s (getD (offsets (3 + 2 * length (sh .sections)) (sh .nodes)) i 0) (getD (sh .nodes) i False)
 node-made s e i h = made-at (sheet-read s e .header .placed) i h
 
-pub made-as : {s : List ℕ} {p k : ℕ} {n : Node} {f : Form} → Made s p n → getD s (p + 0) 0 ≡ k → formOf k ≡ some f → n ≡ f .make (λ i. getD s (p + suc i) 0)
+pub made-as : {s : List ℕ} {p k : ℕ} {n : Node} {f : Form} → Made s p n → getD s (p + 0) 0 ≡ k → formOf k ≡ some f → n ≡ make f (λ i. getD s (p + suc i) 0)
 made-as {f = f} m e q = let z : m .form ≡ f = let x = m .known in cc in rw z at (m .node)
 
-pub made-kind : {s : List ℕ} {p : ℕ} {n : Node} → Made s p n → (16 ≤ getD s (p + 0) 0) × (getD s (p + 0) 0 < 28)
-made-kind {s} {p} m = (go (decLt (getD s (p + 0) 0) 16), go′ (decLt (getD s (p + 0) 0) 28))
+pub made-kind : {s : List ℕ} {p : ℕ} {n : Node} → Made s p n → (16 ≤ getD s (p + 0) 0) × (getD s (p + 0) 0 < past)
+made-kind {s} {p} m = (go (decLt (getD s (p + 0) 0) 16), go′ (decLt (getD s (p + 0) 0) past))
   where
     none-some : formOf (getD s (p + 0) 0) ≡ none → ⊥
     none-some e = let x = m .known in let z : _≡_ {A = ℕ} 0 1 = cc in omega arith
@@ -52,7 +53,7 @@ made-kind {s} {p} m = (go (decLt (getD s (p + 0) 0) 16), go′ (decLt (getD s (p
     go (yes h) = absurd (none-some (no-form (getD s (p + 0) 0) (inl h)))
     go (no h) = omega arith
 
-    go′ : Dec (getD s (p + 0) 0 < 28) → getD s (p + 0) 0 < 28
+    go′ : Dec (getD s (p + 0) 0 < past) → getD s (p + 0) 0 < past
     go′ (yes h) = h
     go′ (no h) = absurd (none-some (no-form (getD s (p + 0) 0) (inr (omega arith))))
 
@@ -70,87 +71,41 @@ pub record Child (nodes own c : ℕ) : Type 0 where
   pub above : own < c
   pub inside : c < nodes
 
-pub record InListCase (nodes own s e te n tn df dr : ℕ) : Type 0 where
-  pub subject : Child nodes own s
-  pub empty : Child nodes own e
-  pub empty-test : te ≤ 6
-  pub front : Child nodes own n
-  pub front-test : tn ≤ 6
-  pub first : Child nodes own df
-  pub rest : Child nodes own dr
+-- what a number in range is known to be, by its role
+module _ (nodes sections own : ℕ) where
+  abbrev pub Fits : Role → ℕ → Type 0
+  Fits aNode v = Child nodes own v
+  Fits aSection v = v < sections
+  Fits aVariable v = Unit
+  Fits aTest v = v ≤ 6
+  Fits aNumber v = v ≤ 65535
 
-pub record InTruthCase (nodes own s f tf t tt : ℕ) : Type 0 where
-  pub subject : Child nodes own s
-  pub no : Child nodes own f
-  pub no-test : tf ≤ 6
-  pub yes : Child nodes own t
-  pub yes-test : tt ≤ 6
+  abbrev pub AllFit : List Field → Type 0
+  AllFit [] = Unit
+  AllFit (f ∷ fs) = Fits (f .role) (f .value) × AllFit fs
 
--- what a node's numbers are known to be, by its kind
-abbrev pub Ranged : ℕ → ℕ → ℕ → Node → Type 0
-Ranged nodes sections own (Var x) = Unit
-Ranged nodes sections own False = Unit
-Ranged nodes sections own True = Unit
-Ranged nodes sections own Empty = Unit
-Ranged nodes sections own (Number n) = n ≤ 65535
-Ranged nodes sections own (Front a b) = Child nodes own a × Child nodes own b
-Ranged nodes sections own (Pair a b) = Child nodes own a × Child nodes own b
-Ranged nodes sections own (ListCase s e te n tn df dr) = InListCase nodes own s e te n tn df dr
-Ranged nodes sections own (TruthCase s f tf t tt) = InTruthCase nodes own s f tf t tt
-Ranged nodes sections own (Split s i) = Child nodes own s × Child nodes own i
-Ranged nodes sections own (Call sec x y) = sec < sections
-Ranged nodes sections own (Add n a) = Child nodes own n
+  -- and so each number of a node, in body order
+  abbrev pub Ranged : Node → Type 0
+  Ranged n = AllFit (row n .body)
 
-child : (nodes own c : ℕ) → ltb own c && ltb c nodes ≡ true → Child nodes own c
-child nodes own c e =
-    let p = and-true (ltb own c) (ltb c nodes) e in
-    record { above = ltb-true own c (p .0); inside = ltb-true c nodes (p .1) }
+  in-role : (r : Role) (v : ℕ) → fits nodes sections own r v ≡ true → Fits r v
+  in-role aNode v e =
+      let p = and-true (ltb own v) (ltb v nodes) e in
+      record { above = ltb-true own v (p .0); inside = ltb-true v nodes (p .1) }
+  in-role aSection v e = ltb-true v sections e
+  in-role aVariable v e = tt
+  in-role aTest v e = leb-true v 6 e
+  in-role aNumber v e = leb-true v 65535 e
 
-children : (nodes own a b : ℕ) → (ltb own a && ltb a nodes) && (ltb own b && ltb b nodes) ≡ true → Child nodes own a × Child nodes own b
-children nodes own a b e =
-    let p = and-true (ltb own a && ltb a nodes) (ltb own b && ltb b nodes) e in
-    (child nodes own a (p .0), child nodes own b (p .1))
+  all-in : (fs : List Field) → allFit nodes sections own fs ≡ true → AllFit fs
+  all-in [] e = tt
+  all-in (f ∷ fs) e =
+      let p = and-true (fits nodes sections own (f .role) (f .value)) (allFit nodes sections own fs) e in
+      (in-role (f .role) (f .value) (p .0), all-in fs (p .1))
 
-pub ranged : (nodes sections own : ℕ) (n : Node) → nodeInRange nodes sections own n ≡ true → Ranged nodes sections own n
-unfolding nodeInRange
-ranged nodes sections own (Var x) e = tt
-ranged nodes sections own False e = tt
-ranged nodes sections own True e = tt
-ranged nodes sections own Empty e = tt
-ranged nodes sections own (Number n) e = leb-true n 65535 e
-ranged nodes sections own (Front a b) e = children nodes own a b e
-ranged nodes sections own (Pair a b) e = children nodes own a b e
-ranged nodes sections own (ListCase s e te n tn df dr) t =
-    let p₁ = and-true _ (ltb own dr && ltb dr nodes) t in
-    let p₂ = and-true _ (ltb own df && ltb df nodes) (p₁ .0) in
-    let p₃ = and-true _ (leb tn 6) (p₂ .0) in
-    let p₄ = and-true _ (ltb own n && ltb n nodes) (p₃ .0) in
-    let p₅ = and-true _ (leb te 6) (p₄ .0) in
-    let p₆ = children nodes own s e (p₅ .0) in
-    record {
-      subject = p₆ .0;
-      empty = p₆ .1;
-      empty-test = leb-true te 6 (p₅ .1);
-      front = child nodes own n (p₄ .1);
-      front-test = leb-true tn 6 (p₃ .1);
-      first = child nodes own df (p₂ .1);
-      rest = child nodes own dr (p₁ .1);
-    }
-ranged nodes sections own (TruthCase s f tf t tt) e =
-    let p₁ = and-true _ (leb tt 6) e in
-    let p₂ = and-true _ (ltb own t && ltb t nodes) (p₁ .0) in
-    let p₃ = and-true _ (leb tf 6) (p₂ .0) in
-    let p₄ = children nodes own s f (p₃ .0) in
-    record {
-      subject = p₄ .0;
-      no = p₄ .1;
-      no-test = leb-true tf 6 (p₃ .1);
-      yes = child nodes own t (p₂ .1);
-      yes-test = leb-true tt 6 (p₁ .1);
-    }
-ranged nodes sections own (Split s i) e = children nodes own s i e
-ranged nodes sections own (Call sec x y) e = ltb-true sec sections e
-ranged nodes sections own (Add n a) e = child nodes own n e
+  pub ranged : (n : Node) → nodeInRange nodes sections own n ≡ true → Ranged n
+  unfolding nodeInRange
+  ranged n e = all-in (row n .body) e
 
 roots-in : (nodes : ℕ) (rs : List ℕ) → rootsInRange nodes rs ≡ true → (i : ℕ) → i < length rs → getD rs i 0 < nodes
 unfolding rootsInRange

@@ -9,7 +9,7 @@ use native.Mathlib.Omega.{arith}
 use lib.ListN.{length, getD, take, drop, length-drop, drop-of-length-le}
 use lib.Seq.{take-all, drop-cons, getD-drop}
 use borrow.Author.Tests.{lt-leb}
-use Rattle.sheet.specs.Sheet.{Form, formOf}
+use Rattle.sheet.specs.Kinds.{Form, formOf, bodyWidth}
 use Rattle.sheet.specs.Table.{nodeOf, nodeAt, ofForm, ifWhole, kindWidth, formWidth}
 use Rattle.sheet.specs.declared.Node.the-variants.{False}
 
@@ -32,7 +32,7 @@ node-past s p h = rw (drop-of-length-le s h)
 cut-form : (o : Option Form) (bs : List ℕ) → suc (length bs) < formWidth o → ofForm o bs ≡ False
 unfolding ofForm ifWhole formWidth
 cut-form none bs h = refl
-cut-form (some f) bs h = rw (lt-leb (f .width) (length bs) (le-of-suc-le-suc h))
+cut-form (some f) bs h = rw (lt-leb (bodyWidth f) (length bs) (le-of-suc-le-suc h))
 
 pub node-cut : (s : List ℕ) (p : ℕ) → p < length s → length s - p < kindWidth (getD s p 0) → nodeAt s p ≡ False
 unfolding nodeAt nodeOf kindWidth

@@ -9,8 +9,9 @@ use lib.Dec.{leb, eqb}
 use lib.ListN.{length, getD, drop}
 use lib.Seq.{drop-drop, getD-drop}
 use Rattle.value.specs.Result.{Result, ok, refusal, andThen, mapResult, orRefuse, unless}
-use Rattle.sheet.specs.Sheet.{Sheet, Form, formOf, Records, readNodes, oneSection, ifSection, readRecords, withNodes, readBody, inRange, readHeader, readSheet}
-use Rattle.sheet.specs.Table.{width, offsets, firstNode, nodeOf, nodeAt, ofForm, ifWhole}
+use Rattle.sheet.specs.Sheet.{Sheet, Records, readNodes, oneSection, ifSection, readRecords, withNodes, readBody, inRange, readHeader, readSheet}
+use Rattle.sheet.specs.Kinds.{Form, formOf, bodyWidth, make, width}
+use Rattle.sheet.specs.Table.{offsets, firstNode, nodeOf, nodeAt, ofForm, ifWhole}
 use Rattle.sheet.specs.Forms.{wide-form}
 use Rattle.sheet.specs.declared.Node.{Node}
 use Rattle.sheet.specs.declared.Node.the-variants.{False}
@@ -53,7 +54,7 @@ fine-or c (some a) f h g = g a refl
 pub record Made (s : List ℕ) (p : ℕ) (n : Node) : Type 0 where
   pub form : Form
   pub known : formOf (getD s (p + 0) 0) ≡ some form
-  pub node : n ≡ form .make (λ i. getD s (p + suc i) 0)
+  pub node : n ≡ make form (λ i. getD s (p + suc i) 0)
 
 -- from byte p on, one behind the other
 pub data Placed (s : List ℕ) : ℕ → List Node → Type 0 where
@@ -64,15 +65,15 @@ pub record NodesRead (s : List ℕ) (p left : ℕ) (ns : List Node) : Type 0 whe
   pub placed : Placed s p ns
   pub few : length ns ≤ left
 
-node-here : (s : List ℕ) (p : ℕ) {b : ℕ} {bs : List ℕ} {f : Form} → drop p s ≡ b ∷ bs → formOf b ≡ some f → leb (f .width) (length bs) ≡ true → nodeAt s p ≡ f .make (λ i. getD bs i 0)
+node-here : (s : List ℕ) (p : ℕ) {b : ℕ} {bs : List ℕ} {f : Form} → drop p s ≡ b ∷ bs → formOf b ≡ some f → leb (bodyWidth f) (length bs) ≡ true → nodeAt s p ≡ make f (λ i. getD bs i 0)
 unfolding nodeAt nodeOf ofForm ifWhole
 node-here s p e q t = rw (e, q, t)
 
-made-here : (s : List ℕ) (p : ℕ) {b : ℕ} {bs : List ℕ} {f : Form} → drop p s ≡ b ∷ bs → formOf b ≡ some f → Made s p (f .make (λ i. getD bs i 0))
+made-here : (s : List ℕ) (p : ℕ) {b : ℕ} {bs : List ℕ} {f : Form} → drop p s ≡ b ∷ bs → formOf b ≡ some f → Made s p (make f (λ i. getD bs i 0))
 made-here s p {b} {bs} {f} e q = record {
   form = f;
   known = ap formOf (byte 0 ∙ ap (λ (l : List ℕ). getD l 0 0) e) ∙ q;
-  node = ap (f .make) (fun-ext λ i. sym (byte (suc i) ∙ ap (λ (l : List ℕ). getD l (suc i) 0) e));
+  node = ap (make f) (fun-ext λ i. sym (byte (suc i) ∙ ap (λ (l : List ℕ). getD l (suc i) 0) e));
 }
   where
     byte : (i : ℕ) → getD s (p + i) 0 ≡ getD (drop p s) i 0
@@ -89,13 +90,13 @@ nodes-fine (suc left) s p [] e = fine (record { placed = end; few = omega arith 
 nodes-fine (suc left) s p (b ∷ bs) e =
     fine-or 10 (formOf b) _ (omega arith)
     (λ f q.
-    fine-unless 11 (leb (f .width) (length bs)) (omega arith)
+    fine-unless 11 (leb (bodyWidth f) (length bs)) (omega arith)
     (λ t.
     fine-map _
     (λ ns r.
-    let n : width (f .make (λ i. getD bs i 0)) ≡ suc (f .width) = wide-form b q .made _ in
+    let n : width (make f (λ i. getD bs i 0)) ≡ suc (bodyWidth f) = wide-form b q _ in
     record { placed = node (node-here s p e q t) (made-here s p e q) (rw n (r .placed)); few = omega (arith, r .few) })
-    (nodes-fine left s (p + suc (f .width)) (drop (f .width) bs) (next-here s p (f .width) e))))
+    (nodes-fine left s (p + suc (bodyWidth f)) (drop (bodyWidth f) bs) (next-here s p (bodyWidth f) e))))
 
 -- each node stands where the offsets say
 pub placed-at : {s : List ℕ} {p : ℕ} {ns : List Node} → Placed s p ns → (i : ℕ) → i < length ns → nodeAt s (getD (offsets p ns) i 0) ≡ getD ns i False

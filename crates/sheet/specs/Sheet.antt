@@ -1,14 +1,13 @@
 -- Sheets, and how one is read from its bytes (document 01, "Sheet records" and "Where each refusal is met").
 -- A sheet is HOBiT's residual program: a table of residual expressions, its nodes.
 use mathlib.Core.Bool.{Bool, true, false, _&&_}
-use mathlib.Core.Option.{Option, none, some}
-use mathlib.Core.List.{List, [], _∷_, _++_}
+use mathlib.Core.List.{List, [], _∷_}
 use Prim.Native.Nat.{ℕ, zero, suc, _+_, _*_}
 use lib.Dec.{leb, ltb, eqb}
-use lib.ListN.{length, getD, drop, replicate}
+use lib.ListN.{length, getD, drop}
 use Rattle.value.specs.Result.{Result, ok, refusal, andThen, mapResult, orRefuse, unless}
 use Rattle.sheet.specs.declared.Node.{Node}
-use Rattle.sheet.specs.declared.Node.the-variants.{Var, False, True, Empty, Number, Front, Pair, ListCase, TruthCase, Split, Call, Add}
+use Rattle.sheet.specs.Kinds.{formOf, bodyWidth, make, nodeInRange}
 
 -- k variables in a plan, the root node, the root node of each section, the nodes
 pub record Sheet : Type 0 where
@@ -16,37 +15,6 @@ pub record Sheet : Type 0 where
   pub root : ℕ
   pub sections : List ℕ
   pub nodes : List Node
-
--- THE KINDS OF NODES
-
--- how many bytes follow the kind, and the node that they make
-pub record Form : Type 0 where
-  pub width : ℕ
-  pub make : (ℕ → ℕ) → Node
-
-abbrev pub form : ℕ → ((ℕ → ℕ) → Node) → Option Form
-form w f = some (record { width = w; make = f })
-
--- kinds 10 to 1B, in order
-unfoldable pub forms : List (Option Form)
-forms =
-    form 1 (λ b. Var (b 0))
-    ∷ form 0 (λ b. False)
-    ∷ form 0 (λ b. True)
-    ∷ form 0 (λ b. Empty)
-    ∷ form 2 (λ b. Number (256 * b 0 + b 1))
-    ∷ form 2 (λ b. Front (b 0) (b 1))
-    ∷ form 2 (λ b. Pair (b 0) (b 1))
-    ∷ form 7 (λ b. ListCase (b 0) (b 1) (b 2) (b 3) (b 4) (b 5) (b 6))
-    ∷ form 5 (λ b. TruthCase (b 0) (b 1) (b 2) (b 3) (b 4))
-    ∷ form 2 (λ b. Split (b 0) (b 1))
-    ∷ form 3 (λ b. Call (b 0) (b 1) (b 2))
-    ∷ form 3 (λ b. Add (b 0) (256 * b 1 + b 2))
-    ∷ []
-
-unfoldable pub formOf : ℕ → Option Form
-unfolding forms
-formOf b = getD (replicate 16 none ++ forms) b none
 
 -- RECORDS: 10 kind unknown or out of its place, then 12 one too many, then 11 record cut
 
@@ -56,7 +24,7 @@ readNodes zero [] = ok []
 readNodes zero (b ∷ bs) = orRefuse 10 (formOf b) λ _. refusal 12
 readNodes (suc left) [] = ok []
 readNodes (suc left) (b ∷ bs) =
-    orRefuse 10 (formOf b) λ f. unless 11 (leb (f .width) (length bs)) (mapResult (λ ns. f .make (λ i. getD bs i 0) ∷ ns) (readNodes left (drop (f .width) bs)))
+    orRefuse 10 (formOf b) λ f. unless 11 (leb (bodyWidth f) (length bs)) (mapResult (λ ns. make f (λ i. getD bs i 0) ∷ ns) (readNodes left (drop (bodyWidth f) bs)))
 
 -- the sections' roots, of which `left` more may come, and then the nodes
 abbrev pub Records : Type 0
@@ -89,31 +57,10 @@ readBody (k ∷ root ∷ bs) = andThen (readRecords 8 bs) (withNodes k root)
 -- NUMBERS: 13 k, node, section or test out of range
 
 module _ (nodes sections : ℕ) where
-  -- a node that node `own` names has a higher number
-  abbrev pub below : ℕ → ℕ → Bool
-  below own n = ltb own n && ltb n nodes
-
-  abbrev pub isTest : ℕ → Bool
-  isTest t = leb t 6
-
-  unfoldable pub nodeInRange : ℕ → Node → Bool
-  nodeInRange own (Var x) = true
-  nodeInRange own False = true
-  nodeInRange own True = true
-  nodeInRange own Empty = true
-  nodeInRange own (Number n) = leb n 65535  -- (two bytes hold no other)
-  nodeInRange own (Front a b) = below own a && below own b
-  nodeInRange own (Pair a b) = below own a && below own b
-  nodeInRange own (ListCase s e te n tn df dr) = below own s && below own e && isTest te && below own n && isTest tn && below own df && below own dr
-  nodeInRange own (TruthCase s f tf t tt) = below own s && below own f && isTest tf && below own t && isTest tt
-  nodeInRange own (Split s i) = below own s && below own i
-  nodeInRange own (Call sec x y) = ltb sec sections
-  nodeInRange own (Add n a) = below own n
-
   -- the nodes from number `own` on
   unfoldable pub nodesInRange : ℕ → List Node → Bool
   nodesInRange own [] = true
-  nodesInRange own (n ∷ ns) = nodeInRange own n && nodesInRange (suc own) ns
+  nodesInRange own (n ∷ ns) = nodeInRange nodes sections own n && nodesInRange (suc own) ns
 
 unfoldable pub rootsInRange : ℕ → List ℕ → Bool
 rootsInRange nodes [] = true

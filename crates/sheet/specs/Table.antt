@@ -7,25 +7,11 @@ use Prim.Native.Nat.{ℕ, suc, _+_, _*_, _-_, _<_}
 use lib.Dec.{leb}
 use lib.ListN.{length, getD, drop, replicate}
 use Rattle.value.specs.Result.{Result, ok, refusal, andThen, mapResult}
-use Rattle.sheet.specs.Sheet.{Sheet, Form, formOf, readNodes, withNodes, rootsInRange, nodesInRange, inRange, readHeader}
+use Rattle.sheet.specs.Sheet.{Sheet, readNodes, withNodes, rootsInRange, nodesInRange, inRange, readHeader}
+use Rattle.sheet.specs.Kinds.{Form, formOf, bodyWidth, make, width}
 use Rattle.sheet.specs.declared.Node.{Node}
-use Rattle.sheet.specs.declared.Node.the-variants.{Var, False, True, Empty, Number, Front, Pair, ListCase, TruthCase, Split, Call, Add}
+use Rattle.sheet.specs.declared.Node.the-variants.{False}
 use Rattle.sheet.specs.declared.Table.{Table}
-
--- the bytes of a node's record: its kind and its body
-unfoldable pub width : Node → ℕ
-width (Var x) = 2
-width False = 1
-width True = 1
-width Empty = 1
-width (Number n) = 3
-width (Front a b) = 3
-width (Pair a b) = 3
-width (ListCase s e te n tn df dr) = 8
-width (TruthCase s f tf t tt) = 6
-width (Split s i) = 3
-width (Call sec x y) = 4
-width (Add n a) = 4
 
 -- where each node's record starts, the first at `at`
 unfoldable pub offsets : ℕ → List Node → List ℕ
@@ -60,19 +46,12 @@ ifWhole false n = False
 
 unfoldable pub ofForm : Option Form → List ℕ → Node
 ofForm none bs = False
-ofForm (some f) bs = ifWhole (leb (f .width) (length bs)) (f .make (λ i. getD bs i 0))
+ofForm (some f) bs = ifWhole (leb (bodyWidth f) (length bs)) (make f (λ i. getD bs i 0))
 
 -- the node whose record the bytes begin with
 unfoldable pub nodeOf : List ℕ → Node
 nodeOf [] = False
 nodeOf (b ∷ bs) = ofForm (formOf b) bs
-
--- the longest two nodes, whose records the bytes begin with
-abbrev pub listCase : List ℕ → Node
-listCase r = ListCase (getD r 1 0) (getD r 2 0) (getD r 3 0) (getD r 4 0) (getD r 5 0) (getD r 6 0) (getD r 7 0)
-
-abbrev pub truthCase : List ℕ → Node
-truthCase r = TruthCase (getD r 1 0) (getD r 2 0) (getD r 3 0) (getD r 4 0) (getD r 5 0)
 
 -- the node whose record starts at byte p
 unfoldable pub nodeAt : List ℕ → ℕ → Node
@@ -81,7 +60,7 @@ nodeAt s p = nodeOf (drop p s)
 -- the bytes of a record of kind b; 0 where no node has the kind
 unfoldable pub formWidth : Option Form → ℕ
 formWidth none = 0
-formWidth (some f) = suc (f .width)
+formWidth (some f) = suc (bodyWidth f)
 
 unfoldable pub kindWidth : ℕ → ℕ
 kindWidth b = formWidth (formOf b)

@@ -5,9 +5,10 @@ ghost use Prim.Native.Nat.{_+_, _*_, _<_, _≤_};
 ghost use mathlib.Core.Bool.{_&&_};
 ghost use lib.Dec.{ltb, leb};
 ghost use lib.ListN.{length, getD, drop};
-ghost use Rattle.sheet.specs.Sheet.{nodeInRange, readBody, readHeader, readSheet};
+ghost use Rattle.sheet.specs.Sheet.{readBody, readHeader, readSheet};
+ghost use Rattle.sheet.specs.Kinds.{nodeInRange};
 ghost use Rattle.value.specs.Result.{refusal};
-ghost use Rattle.sheet.specs.Table.{nodeOf, listCase, truthCase, nodeAt, kindWidth, sectionAt, tableOf, NodesTable, RootsJudged, NodesJudged, SheetJudged};
+ghost use Rattle.sheet.specs.Table.{nodeOf, nodeAt, kindWidth, sectionAt, tableOf, NodesTable, RootsJudged, NodesJudged, SheetJudged};
 
 /// A node of a sheet: one variant a kind, 10 to 1B in order. Numbers of nodes, sections and variables are `usize`.
 pub enum Node {
@@ -84,55 +85,46 @@ fn wide(b: u8) -> usize
     b as usize
 }
 
-// The bytes of a node record of this kind, the kind byte with them; 0 where no node has the kind.
+// The bytes of a node record, the kind byte with them: kinds 10 to 1B in order.
+const WIDTHS: [u8; 12] = [2, 1, 1, 1, 3, 3, 3, 8, 6, 3, 4, 4];
+
+// The bytes of a node record of this kind; 0 where no node has the kind.
 fn record_width(kind: u8) -> usize
     ensures { λ r. ⌜ r ≡ kindWidth kind ⌝ }
 {
-    match kind {
-        0x10 => 2,
-        0x11 => 1,
-        0x12 => 1,
-        0x13 => 1,
-        0x14 => 3,
-        0x15 => 3,
-        0x16 => 3,
-        0x17 => 8,
-        0x18 => 6,
-        0x19 => 3,
-        0x1A => 4,
-        0x1B => 4,
-        _ => 0,
+    if kind < 0x10 {
+        return 0;
     }
+    let k = wide(kind) - 0x10;
+    if 12 <= k {
+        return 0;
+    }
+    wide(WIDTHS[k])
 }
 
-// The list case whose record these bytes begin with.
-fn list_case(r: &[u8]) -> Node
-    requires { ⌜ 8 ≤ length (now r) ⌝ }
-    ensures { λ n. ⌜ n ≡ listCase (now (r .entry)) ⌝ }
+// Byte i of a record; 0 where the bytes end before it.
+fn byte_at(r: &[u8], i: usize) -> u8
+    ensures { λ b. ⌜ b ≡ getD (now (r .entry)) i 0 ⌝ }
 {
-    Node::ListCase {
-        subject: wide(r[1]),
-        empty: wide(r[2]),
-        empty_test: r[3],
-        front: wide(r[4]),
-        front_test: r[5],
-        first: wide(r[6]),
-        rest: wide(r[7]),
+    if r.len() <= i {
+        return 0;
     }
+    r[i]
 }
 
-// The truth case whose record these bytes begin with.
-fn truth_case(r: &[u8]) -> Node
-    requires { ⌜ 6 ≤ length (now r) ⌝ }
-    ensures { λ n. ⌜ n ≡ truthCase (now (r .entry)) ⌝ }
+// The same as a number of a node, section or variable.
+fn at(r: &[u8], i: usize) -> usize
+    ensures { λ b. ⌜ b ≡ getD (now (r .entry)) i 0 ⌝ }
 {
-    Node::TruthCase {
-        subject: wide(r[1]),
-        no: wide(r[2]),
-        no_test: r[3],
-        yes: wide(r[4]),
-        yes_test: r[5],
-    }
+    wide(byte_at(r, i))
+}
+
+// Bytes i and i + 1 of a record as a number, high byte first.
+fn pair_at(r: &[u8], i: usize) -> u16
+    requires { ⌜ i ≤ 8 ⌝ }
+    ensures { λ b. ⌜ b ≡ 256 * getD (now (r .entry)) i 0 + getD (now (r .entry)) (i + 1) 0 ⌝ }
+{
+    value::number(byte_at(r, i), byte_at(r, i + 1))
 }
 
 // The node whose whole record these bytes begin with; `False` where no node has the kind.
@@ -140,35 +132,49 @@ fn decode(r: &[u8]) -> Node
     requires { ⌜ (1 ≤ length (now r)) × (kindWidth (getD (now r) 0 0) ≤ length (now r)) ⌝ }
     ensures { λ n. ⌜ n ≡ nodeOf (now (r .entry)) ⌝ }
 {
-    let kind = r[0];
+    let kind = byte_at(r, 0);
     match kind {
-        0x10 => Node::Var(wide(r[1])),
+        0x10 => Node::Var(at(r, 1)),
         0x11 => Node::False,
         0x12 => Node::True,
         0x13 => Node::Empty,
-        0x14 => Node::Number(value::number(r[1], r[2])),
+        0x14 => Node::Number(pair_at(r, 1)),
         0x15 => Node::Front {
-            first: wide(r[1]),
-            rest: wide(r[2]),
+            first: at(r, 1),
+            rest: at(r, 2),
         },
         0x16 => Node::Pair {
-            left: wide(r[1]),
-            right: wide(r[2]),
+            left: at(r, 1),
+            right: at(r, 2),
         },
-        0x17 => list_case(r),
-        0x18 => truth_case(r),
+        0x17 => Node::ListCase {
+            subject: at(r, 1),
+            empty: at(r, 2),
+            empty_test: byte_at(r, 3),
+            front: at(r, 4),
+            front_test: byte_at(r, 5),
+            first: at(r, 6),
+            rest: at(r, 7),
+        },
+        0x18 => Node::TruthCase {
+            subject: at(r, 1),
+            no: at(r, 2),
+            no_test: byte_at(r, 3),
+            yes: at(r, 4),
+            yes_test: byte_at(r, 5),
+        },
         0x19 => Node::Split {
-            subject: wide(r[1]),
-            inner: wide(r[2]),
+            subject: at(r, 1),
+            inner: at(r, 2),
         },
         0x1A => Node::Call {
-            section: wide(r[1]),
-            first: wide(r[2]),
-            second: wide(r[3]),
+            section: at(r, 1),
+            first: at(r, 2),
+            second: at(r, 3),
         },
         0x1B => Node::Add {
-            node: wide(r[1]),
-            amount: value::number(r[2], r[3]),
+            node: at(r, 1),
+            amount: pair_at(r, 2),
         },
         _ => Node::False,
     }
@@ -261,7 +267,7 @@ pub fn in_range(n: Node, own: usize, nodes: usize, sections: usize) -> bool
             & is_branch(own, yes, yes_test, nodes),
         Node::Split { subject, inner } => both_below(own, subject, inner, nodes),
         Node::Call { section, .. } => section < sections,
-        Node::Add { node, .. } => is_below(own, node, nodes),
+        Node::Add { node, amount } => is_below(own, node, nodes) & (amount <= 65535),
     }
 }
 

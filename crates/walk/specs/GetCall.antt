@@ -44,7 +44,7 @@ section-as s e f = e ∙ ap (sectionAt s) f
 module _ {b s starts : List ℕ} {sc : Scope} {top left l sec x y : ℕ} (w : Ready s starts b sc top (suc l) (suc left) (body (Call sec x y)))
     (hx : x < sc .count) (hy : y < sc .count) {root : ℕ} (at : root ≡ sectionAt s sec) {few : Scope} (is : few ≡ picked sc x y) where
   root-read : root ≡ getD (w .lent .sh .sections) sec 0
-  root-read = at ∙ section-read s (w .lent .read) sec (w .known .1)
+  root-read = at ∙ section-read s (w .lent .read) sec (w .known .1 .0)
 
   env-few : {μ : Values} → Env b sc top μ → Env b few top (two (getD μ x vfalse) (getD μ y vfalse))
   env-few e = rw is (env-pick e (omega (arith, e .count)) (omega (arith, e .count)))
@@ -53,7 +53,7 @@ module _ {b s starts : List ℕ} {sc : Scope} {top left l sec x y : ℕ} (w : Re
   call-ready =
       let c : few .count ≡ 2 = ap (λ (m : Scope). m .count) is in
       ready-in w (kept-refl top b) top l left (le-refl top) (omega (arith, w .few)) (omega (arith, w .room)) (omega (arith, w .slots, c))
-      (rw root-read (sheet-ranges s (w .lent .read) .section sec (w .known .1))) _ (env-few (w .scoped))
+      (rw root-read (sheet-ranges s (w .lent .read) .section sec (w .known .1 .0))) _ (env-few (w .scoped))
 
   module _ {a : List ℕ} {r : Found} (g : Gives b a s few top top left 0 r l (enter root)) where
     rooted : {sh : Sheet} → readSheet s ≡ ok sh → root ≡ getD (sh .sections) sec 0

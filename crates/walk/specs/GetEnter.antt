@@ -7,12 +7,13 @@ use native.Mathlib.Omega.{arith}
 use lib.ListN.{length, getD}
 use Rattle.value.specs.Result.{ok}
 use Rattle.sheet.specs.declared.Node.{Node}
-use Rattle.sheet.specs.declared.Node.the-variants.{Var, False, True, Empty, Number, Front, Pair, ListCase, TruthCase, Split, Call, Add}
+use Rattle.sheet.specs.declared.Node.the-variants.{False, True, Empty}
 use Rattle.sheet.specs.Sheet.{Sheet, readSheet}
-use Rattle.sheet.specs.Table.{width, offsets}
+use Rattle.sheet.specs.Table.{offsets}
 use Rattle.sheet.specs.Reading.{Made}
 use Rattle.sheet.specs.Laws.{Ranged, sheet-ranges, node-made, made-as, made-kind, table-start}
-use Rattle.sheet.specs.Sheet.{formOf, forms}
+use Rattle.sheet.specs.Kinds.{formOf, forms, make, width}
+use Rattle.sheet.specs.Rows.{width-8}
 use Rattle.sheet.specs.Forms.{NoneFrom, beyond}
 use mathlib.Core.Logic.{_⊎_, inl, inr}
 use Rattle.rules.specs.Rules.{get}
@@ -53,76 +54,61 @@ entry-small {r} levels left e = go levels left refl refl
     go (suc l) (suc k) p q = omega (arith, e ∙ sym (both-left levels left (λ y. omega (arith, p, y)) (λ y. omega (arith, q, y))))
 
 -- no record is longer than 8 bytes, so that every start is small
-width-small : (n : Node) → width n ≤ 8
-unfolding width
-width-small (Var x) = omega arith
-width-small False = omega arith
-width-small True = omega arith
-width-small Empty = omega arith
-width-small (Number n) = omega arith
-width-small (Front a b) = omega arith
-width-small (Pair a b) = omega arith
-width-small (ListCase s e te n tn df dr) = omega arith
-width-small (TruthCase s f tf t tt′) = omega arith
-width-small (Split s i) = omega arith
-width-small (Call sec x y) = omega arith
-width-small (Add n k) = omega arith
-
 offset-small : (p : ℕ) (ns : List Node) (i : ℕ) → i < length ns → getD (offsets p ns) i 0 ≤ p + 8 * i
 unfolding offsets
 offset-small p [] i h = absurd (omega arith)
 offset-small p (n ∷ ns) zero h = omega arith
-offset-small p (n ∷ ns) (suc i) h = omega (arith, offset-small (p + width n) ns i (omega arith), width-small n)
+offset-small p (n ∷ ns) (suc i) h = omega (arith, offset-small (p + width n) ns i (omega arith), width-8 n)
 
 -- the node by its kind byte
 module _ {s : List ℕ} {p : ℕ} {nd : Node} (m : Made s p nd) {k : ℕ} (is : k ≡ getD s (p + 0) 0) where
   pub kind-var : k ≡ 0x10 → nd ≡ varAt s p
-  unfolding formOf forms
+  unfolding formOf forms make
   kind-var e = made-as m (sym is ∙ e) refl
 
   pub kind-false : k ≡ 0x11 → nd ≡ False
-  unfolding formOf forms
+  unfolding formOf forms make
   kind-false e = made-as m (sym is ∙ e) refl
 
   pub kind-true : k ≡ 0x12 → nd ≡ True
-  unfolding formOf forms
+  unfolding formOf forms make
   kind-true e = made-as m (sym is ∙ e) refl
 
   pub kind-empty : k ≡ 0x13 → nd ≡ Empty
-  unfolding formOf forms
+  unfolding formOf forms make
   kind-empty e = made-as m (sym is ∙ e) refl
 
   pub kind-number : k ≡ 0x14 → nd ≡ numberAt s p
-  unfolding formOf forms
+  unfolding formOf forms make
   kind-number e = made-as m (sym is ∙ e) refl
 
   pub kind-front : k ≡ 0x15 → nd ≡ frontAt s p
-  unfolding formOf forms
+  unfolding formOf forms make
   kind-front e = made-as m (sym is ∙ e) refl
 
   pub kind-pair : k ≡ 0x16 → nd ≡ pairAt s p
-  unfolding formOf forms
+  unfolding formOf forms make
   kind-pair e = made-as m (sym is ∙ e) refl
 
   pub kind-list-case : k ≡ 0x17 → nd ≡ listCaseAt s p
-  unfolding formOf forms
+  unfolding formOf forms make
   kind-list-case e = made-as m (sym is ∙ e) refl
 
   pub kind-truth-case : k ≡ 0x18 → nd ≡ truthCaseAt s p
-  unfolding formOf forms
+  unfolding formOf forms make
   kind-truth-case e = made-as m (sym is ∙ e) refl
 
   pub kind-split : k ≡ 0x19 → nd ≡ splitAt s p
-  unfolding formOf forms
+  unfolding formOf forms make
   kind-split e = made-as m (sym is ∙ e) refl
 
   pub kind-call : k ≡ 0x1A → nd ≡ callAt s p
-  unfolding formOf forms
+  unfolding formOf forms make
   kind-call e = made-as m (sym is ∙ e) refl
 
   -- the last kind, where it is none of the others
   pub kind-add : NoneFrom 16 11 k → nd ≡ addAt s p
-  unfolding formOf forms
+  unfolding formOf forms make
   kind-add n = made-as {k = 0x1B} m (go (beyond 11 n)) refl
     where
       go : (k < 16) ⊎ (11 + 16 ≤ k) → getD s (p + 0) 0 ≡ 0x1B

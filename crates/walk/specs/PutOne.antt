@@ -75,7 +75,7 @@ module _ {b lens s : List ℕ} {P : Value → Type 0} {sc : Scope} {cells : Owne
         let z : top + 513 * suc l ≤ 65536 = w .room in
         let c : sc .count + 2 * suc l ≤ 112 = w .slots in
         let d : cells .count + 2 * suc l ≤ 112 = w .more-cells in
-        let k : root ≡ getD (w .lent .sh .sections) sec 0 = e ∙ section-read s (w .lent .read) sec (w .known .1) in
+        let k : root ≡ getD (w .lent .sh .sections) sec 0 = e ∙ section-read s (w .lent .read) sec (w .known .1 .0) in
         record {
           long = w .long;
           few = omega (arith, w .few);
@@ -84,7 +84,7 @@ module _ {b lens s : List ℕ} {P : Value → Type 0} {sc : Scope} {cells : Owne
           slots = rw is (omega arith);
           more-cells = rw ic (omega arith);
           lent = w .lent;
-          known = rw k (sheet-ranges s (w .lent .read) .section sec (w .known .1));
+          known = rw k (sheet-ranges s (w .lent .read) .section sec (w .known .1 .0));
           env = _;
           names = _;
           value = _;
@@ -95,7 +95,7 @@ module _ {b lens s : List ℕ} {P : Value → Type 0} {sc : Scope} {cells : Owne
     module _ {starts a lens′ : List ℕ} {r : Put} {root : ℕ} (g : Gives b a lens lens′ s P sc′ cells′ (cells′ .count) top left 0 r l (enter root))
         (w₀ : Ready s starts b lens P sc cells (cells .count) top (suc l) (suc left) (body (Call sec x y))) (e : root ≡ sectionAt s sec) where
       root-read : {sh : Sheet} {μ : Values} {σ : List ℕ} {v : Value} {W : Cells} → Given b lens s P sc cells (cells .count) top sh μ σ v W → root ≡ getD (sh .sections) sec 0
-      root-read w = e ∙ section-read s (w₀ .lent .read) sec (w₀ .known .1) ∙ ap (λ (q : Sheet). getD (q .sections) sec 0) (same-sheet (w₀ .lent) (w .read))
+      root-read w = e ∙ section-read s (w₀ .lent .read) sec (w₀ .known .1 .0) ∙ ap (λ (q : Sheet). getD (q .sections) sec 0) (same-sheet (w₀ .lent) (w .read))
 
       into : {S : Cells → ℕ → Type 0} {D : ℕ → Type 0} {sh : Sheet} {μ : Values} {σ : List ℕ} {v : Value} {W : Cells} → Given b lens s P sc cells (cells .count) top sh μ σ v W
           → Answers S D 1 left (run l sh (cells′ .count) (enter root) (two (getD μ x vfalse) (getD μ y vfalse)) (two (getD σ x 0) (getD σ y 0)) v W)
@@ -155,7 +155,7 @@ module _ {b lens s view : List ℕ} {sc : Scope} {cells : Owners} {top left l x 
           → Ready s starts b lens (Shown (4 ∷ hi ∷ lo ∷ [])) sc cells (cells .count) top l left (enter x)
       add-ready w =
           let z : top + 513 * suc l ≤ 65536 = w .room in
-          ready-for w (w .known .1 .inside) (given-shown (w .given) (less e j le eh el (w .given .shown))) refl (omega arith) (omega arith) (le-refl _) (omega arith)
+          ready-for w (w .known .1 .0 .inside) (given-shown (w .given) (less e j le eh el (w .given .shown))) refl (omega arith) (omega arith) (le-refl _) (omega arith)
 
       module _ {a lens′ : List ℕ} {r : Put} (g : Gives b a lens lens′ s (Shown (4 ∷ hi ∷ lo ∷ [])) sc cells (cells .count) top left 0 r l (enter x)) where
         pub add-refused : {c : ℕ} → r ≡ Refused c → Gives b a lens lens′ s (Shown view) sc cells (cells .count) top left 1 (Refused c) l (body (Add x k))

@@ -153,14 +153,14 @@ module _ {starts b lens s view p₁ p₂ : List ℕ} {sc : Scope} {cells : Owner
   front-ready w k =
       let o = front-parts e e₁ e₂ k (w .given .shown) in
       let z : top + 513 * suc levels ≤ 65536 = w .room in
-      (ready-for w (w .known .1 .0 .inside, w .known .1 .1 .inside) (given-shown (w .given) (o .one)) refl (omega arith) (omega arith) (le-refl _) (omega arith), record { value = _; shown = o .two })
+      (ready-for w (w .known .1 .0 .inside, w .known .1 .1 .0 .inside) (given-shown (w .given) (o .one)) refl (omega arith) (omega arith) (le-refl _) (omega arith), record { value = _; shown = o .two })
 
   pub pair-ready : (w : Ready s starts b lens (Shown view) sc cells (cells .count) top (suc levels) (suc left) (body (Pair x y))) → q ≡ is.Pair mid
       → Ready s starts b lens (Shown p₁) sc cells (cells .count) top levels (1 + left) (Two x y vfalse) × SomeView p₂
   pair-ready w k =
       let o = pair-parts e e₁ e₂ k (w .given .shown) in
       let z : top + 513 * suc levels ≤ 65536 = w .room in
-      (ready-for w (w .known .1 .0 .inside, w .known .1 .1 .inside) (given-shown (w .given) (o .one)) refl (omega arith) (omega arith) (le-refl _) (omega arith), record { value = _; shown = o .two })
+      (ready-for w (w .known .1 .0 .inside, w .known .1 .1 .0 .inside) (given-shown (w .given) (o .one)) refl (omega arith) (omega arith) (le-refl _) (omega arith), record { value = _; shown = o .two })
 
   module _ {a lens′ : List ℕ} {r : Put} (g : (u : Value) → Shown p₂ u → Gives b a lens lens′ s (Shown p₁) sc cells (cells .count) top left 1 r levels (Two x y u)) where
     pub front-both : Ready s starts b lens (Shown view) sc cells (cells .count) top (suc levels) (suc left) (body (Front x y)) → q ≡ is.Front mid

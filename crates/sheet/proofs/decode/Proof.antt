@@ -1,173 +1,139 @@
--- `sheet::decode` meets its contract: in each arm the kind byte picks a row of the table of forms, whose width says which bytes are there.
-use mathlib.Core.Path.{refl, sym, _∙_}
-use native.Mathlib.Omega.{arith}
+-- `sheet::decode` meets its contract: in each arm the kind byte picks a row of the table of forms.
+use mathlib.Core.Path.{refl, sym}
 use borrow.Author.Needs.{needs}
-use Rattle.sheet.specs.Sheet.{formOf, forms}
-use Rattle.sheet.specs.Table.{kindWidth, formWidth}
-use Rattle.sheet.specs.Forms.{no-form, beyond, whole, node-whole, node-unknown}
+use Rattle.sheet.specs.Kinds.{formOf, forms, make}
+use Rattle.sheet.specs.Forms.{no-form, beyond, decoded, node-unknown}
 use Rattle.sheet.proofs.decode.Statement.{statement}
 use Rattle.sheet.proofs.decode.Tie as tie
 
-shared-slice-read-kind : tie.Need-shared-slice-read-kind
-shared-slice-read-kind c = search needs
+byte-at-requires : tie.Need-byte-at-requires
+byte-at-requires c κs = search needs
 
-shared-slice-read-wide : tie.Need-shared-slice-read-wide
-unfolding kindWidth formWidth formOf forms
-shared-slice-read-wide c = omega (arith, whole (c .before .match .keys1) (c .before .before .before .before .pre .1))
+at-requires : tie.Need-at-requires
+at-requires c κs = search needs
 
-wide-requires : tie.Need-wide-requires
-wide-requires c κs = search needs
+pair-at-requires : tie.Need-pair-at-requires
+pair-at-requires c κs = search needs
 
-shared-slice-read-number : tie.Need-shared-slice-read-number
-unfolding kindWidth formWidth formOf forms
-shared-slice-read-number c = omega (arith, whole (c .before .match .keys5) (c .before .before .before .before .pre .1))
+at-requires-2 : tie.Need-at-requires-2
+at-requires-2 c κs = search needs
 
-shared-slice-read-number-2 : tie.Need-shared-slice-read-number-2
-unfolding kindWidth formWidth formOf forms
-shared-slice-read-number-2 c = omega (arith, whole (c .before .before .match .keys5) (c .before .before .before .before .before .pre .1))
+at-requires-3 : tie.Need-at-requires-3
+at-requires-3 c κs = search needs
 
-number-requires : tie.Need-number-requires
-number-requires c κs = search needs
+at-requires-4 : tie.Need-at-requires-4
+at-requires-4 c κs = search needs
 
-shared-slice-read-wide-2 : tie.Need-shared-slice-read-wide-2
-unfolding kindWidth formWidth formOf forms
-shared-slice-read-wide-2 c = omega (arith, whole (c .before .match .keys6) (c .before .before .before .before .pre .1))
+at-requires-5 : tie.Need-at-requires-5
+at-requires-5 c κs = search needs
 
-wide-requires-2 : tie.Need-wide-requires-2
-wide-requires-2 c κs = search needs
+at-requires-6 : tie.Need-at-requires-6
+at-requires-6 c κs = search needs
 
-shared-slice-read-wide-3 : tie.Need-shared-slice-read-wide-3
-unfolding kindWidth formWidth formOf forms
-shared-slice-read-wide-3 c = omega (arith, whole (c .before .before .before .match .keys6) (c .before .before .before .before .before .before .pre .1))
+at-requires-7 : tie.Need-at-requires-7
+at-requires-7 c κs = search needs
 
-wide-requires-3 : tie.Need-wide-requires-3
-wide-requires-3 c κs = search needs
+byte-at-requires-2 : tie.Need-byte-at-requires-2
+byte-at-requires-2 c κs = search needs
 
-shared-slice-read-wide-4 : tie.Need-shared-slice-read-wide-4
-unfolding kindWidth formWidth formOf forms
-shared-slice-read-wide-4 c = omega (arith, whole (c .before .match .keys7) (c .before .before .before .before .pre .1))
+at-requires-8 : tie.Need-at-requires-8
+at-requires-8 c κs = search needs
 
-wide-requires-4 : tie.Need-wide-requires-4
-wide-requires-4 c κs = search needs
+byte-at-requires-3 : tie.Need-byte-at-requires-3
+byte-at-requires-3 c κs = search needs
 
-shared-slice-read-wide-5 : tie.Need-shared-slice-read-wide-5
-unfolding kindWidth formWidth formOf forms
-shared-slice-read-wide-5 c = omega (arith, whole (c .before .before .before .match .keys7) (c .before .before .before .before .before .before .pre .1))
+at-requires-9 : tie.Need-at-requires-9
+at-requires-9 c κs = search needs
 
-wide-requires-5 : tie.Need-wide-requires-5
-wide-requires-5 c κs = search needs
+at-requires-10 : tie.Need-at-requires-10
+at-requires-10 c κs = search needs
 
-list-case-requires : tie.Need-list-case-requires
-unfolding kindWidth formWidth formOf forms
-list-case-requires c κs = whole (c .match .keys8) (c .before .before .before .pre .1)
+at-requires-11 : tie.Need-at-requires-11
+at-requires-11 c κs = search needs
 
-truth-case-requires : tie.Need-truth-case-requires
-unfolding kindWidth formWidth formOf forms
-truth-case-requires c κs = whole (c .match .keys9) (c .before .before .before .pre .1)
+at-requires-12 : tie.Need-at-requires-12
+at-requires-12 c κs = search needs
 
-shared-slice-read-wide-6 : tie.Need-shared-slice-read-wide-6
-unfolding kindWidth formWidth formOf forms
-shared-slice-read-wide-6 c = omega (arith, whole (c .before .match .keys10) (c .before .before .before .before .pre .1))
+byte-at-requires-4 : tie.Need-byte-at-requires-4
+byte-at-requires-4 c κs = search needs
 
-wide-requires-6 : tie.Need-wide-requires-6
-wide-requires-6 c κs = search needs
+at-requires-13 : tie.Need-at-requires-13
+at-requires-13 c κs = search needs
 
-shared-slice-read-wide-7 : tie.Need-shared-slice-read-wide-7
-unfolding kindWidth formWidth formOf forms
-shared-slice-read-wide-7 c = omega (arith, whole (c .before .before .before .match .keys10) (c .before .before .before .before .before .before .pre .1))
+byte-at-requires-5 : tie.Need-byte-at-requires-5
+byte-at-requires-5 c κs = search needs
 
-wide-requires-7 : tie.Need-wide-requires-7
-wide-requires-7 c κs = search needs
+at-requires-14 : tie.Need-at-requires-14
+at-requires-14 c κs = search needs
 
-shared-slice-read-wide-8 : tie.Need-shared-slice-read-wide-8
-unfolding kindWidth formWidth formOf forms
-shared-slice-read-wide-8 c = omega (arith, whole (c .before .match .keys11) (c .before .before .before .before .pre .1))
+at-requires-15 : tie.Need-at-requires-15
+at-requires-15 c κs = search needs
 
-wide-requires-8 : tie.Need-wide-requires-8
-wide-requires-8 c κs = search needs
+at-requires-16 : tie.Need-at-requires-16
+at-requires-16 c κs = search needs
 
-shared-slice-read-wide-9 : tie.Need-shared-slice-read-wide-9
-unfolding kindWidth formWidth formOf forms
-shared-slice-read-wide-9 c = omega (arith, whole (c .before .before .before .match .keys11) (c .before .before .before .before .before .before .pre .1))
+at-requires-17 : tie.Need-at-requires-17
+at-requires-17 c κs = search needs
 
-wide-requires-9 : tie.Need-wide-requires-9
-wide-requires-9 c κs = search needs
+at-requires-18 : tie.Need-at-requires-18
+at-requires-18 c κs = search needs
 
-shared-slice-read-wide-10 : tie.Need-shared-slice-read-wide-10
-unfolding kindWidth formWidth formOf forms
-shared-slice-read-wide-10 c = omega (arith, whole (c .before .before .before .before .before .match .keys11) (c .before .before .before .before .before .before .before .before .pre .1))
+at-requires-19 : tie.Need-at-requires-19
+at-requires-19 c κs = search needs
 
-wide-requires-10 : tie.Need-wide-requires-10
-wide-requires-10 c κs = search needs
-
-shared-slice-read-wide-11 : tie.Need-shared-slice-read-wide-11
-unfolding kindWidth formWidth formOf forms
-shared-slice-read-wide-11 c = omega (arith, whole (c .before .match .keys12) (c .before .before .before .before .pre .1))
-
-wide-requires-11 : tie.Need-wide-requires-11
-wide-requires-11 c κs = search needs
-
-shared-slice-read-number-3 : tie.Need-shared-slice-read-number-3
-unfolding kindWidth formWidth formOf forms
-shared-slice-read-number-3 c = omega (arith, whole (c .before .before .before .match .keys12) (c .before .before .before .before .before .before .pre .1))
-
-shared-slice-read-number-4 : tie.Need-shared-slice-read-number-4
-unfolding kindWidth formWidth formOf forms
-shared-slice-read-number-4 c = omega (arith, whole (c .before .before .before .before .match .keys12) (c .before .before .before .before .before .before .before .pre .1))
-
-number-requires-2 : tie.Need-number-requires-2
-number-requires-2 c κs = search needs
+pair-at-requires-2 : tie.Need-pair-at-requires-2
+pair-at-requires-2 c κs = search needs
 
 returns : tie.Need-returns
-unfolding kindWidth formWidth formOf forms
-returns c = rw (c .wide .ensures) (sym (node-whole (c .before .before .before .before .before .args .r .now) (c .before .before .match .keys1) refl (whole (c .before .before .match .keys1) (c .before .before .before .before .before .pre .1))))
+unfolding formOf forms make
+returns c = rw (c .at .ensures) (sym (decoded (c .before .before .before .before .args .r .now) (c .before .before .byte-at .ensures) (c .before .match .keys1) refl (c .before .before .before .before .pre .1)))
 
 returns-2 : tie.Need-returns-2
-unfolding kindWidth formWidth formOf forms
-returns-2 c = sym (node-whole (c .before .before .before .args .r .now) (c .match .keys2) refl (whole (c .match .keys2) (c .before .before .before .pre .1)))
+unfolding formOf forms make
+returns-2 c = sym (decoded (c .before .before .before .args .r .now) (c .before .byte-at .ensures) (c .match .keys2) refl (c .before .before .before .pre .1))
 
 returns-3 : tie.Need-returns-3
-unfolding kindWidth formWidth formOf forms
-returns-3 c = sym (node-whole (c .before .before .before .args .r .now) (c .match .keys3) refl (whole (c .match .keys3) (c .before .before .before .pre .1)))
+unfolding formOf forms make
+returns-3 c = sym (decoded (c .before .before .before .args .r .now) (c .before .byte-at .ensures) (c .match .keys3) refl (c .before .before .before .pre .1))
 
 returns-4 : tie.Need-returns-4
-unfolding kindWidth formWidth formOf forms
-returns-4 c = sym (node-whole (c .before .before .before .args .r .now) (c .match .keys4) refl (whole (c .match .keys4) (c .before .before .before .pre .1)))
+unfolding formOf forms make
+returns-4 c = sym (decoded (c .before .before .before .args .r .now) (c .before .byte-at .ensures) (c .match .keys4) refl (c .before .before .before .pre .1))
 
 returns-5 : tie.Need-returns-5
-unfolding kindWidth formWidth formOf forms
-returns-5 c = rw (c .number .ensures) (sym (node-whole (c .before .before .before .before .before .before .args .r .now) (c .before .before .before .match .keys5) refl (whole (c .before .before .before .match .keys5) (c .before .before .before .before .before .before .pre .1))))
+unfolding formOf forms make
+returns-5 c = rw (c .pair-at .ensures) (sym (decoded (c .before .before .before .before .args .r .now) (c .before .before .byte-at .ensures) (c .before .match .keys5) refl (c .before .before .before .before .pre .1)))
 
 returns-6 : tie.Need-returns-6
-unfolding kindWidth formWidth formOf forms
-returns-6 c = rw (c .before .before .wide2 .ensures, c .wide3 .ensures) (sym (node-whole (c .before .before .before .before .before .before .before .args .r .now) (c .before .before .before .before .match .keys6) refl (whole (c .before .before .before .before .match .keys6) (c .before .before .before .before .before .before .before .pre .1))))
+unfolding formOf forms make
+returns-6 c = rw (c .before .at2 .ensures, c .at3 .ensures) (sym (decoded (c .before .before .before .before .before .args .r .now) (c .before .before .before .byte-at .ensures) (c .before .before .match .keys6) refl (c .before .before .before .before .before .pre .1)))
 
 returns-7 : tie.Need-returns-7
-unfolding kindWidth formWidth formOf forms
-returns-7 c = rw (c .before .before .wide4 .ensures, c .wide5 .ensures) (sym (node-whole (c .before .before .before .before .before .before .before .args .r .now) (c .before .before .before .before .match .keys7) refl (whole (c .before .before .before .before .match .keys7) (c .before .before .before .before .before .before .before .pre .1))))
+unfolding formOf forms make
+returns-7 c = rw (c .before .at4 .ensures, c .at5 .ensures) (sym (decoded (c .before .before .before .before .before .args .r .now) (c .before .before .before .byte-at .ensures) (c .before .before .match .keys7) refl (c .before .before .before .before .before .pre .1)))
 
 returns-8 : tie.Need-returns-8
-unfolding kindWidth formWidth formOf forms
-returns-8 c = c .list-case .ensures ∙ sym (node-whole (c .before .before .before .before .args .r .now) (c .before .match .keys8) refl (whole (c .before .match .keys8) (c .before .before .before .before .pre .1)))
+unfolding formOf forms make
+returns-8 c = rw (c .before .before .before .before .before .before .at6 .ensures, c .before .before .before .before .before .at7 .ensures, c .before .before .before .before .byte-at2 .ensures, c .before .before .before .at8 .ensures, c .before .before .byte-at3 .ensures, c .before .at9 .ensures, c .at10 .ensures) (sym (decoded (c .before .before .before .before .before .before .before .before .before .before .args .r .now) (c .before .before .before .before .before .before .before .before .byte-at .ensures) (c .before .before .before .before .before .before .before .match .keys8) refl (c .before .before .before .before .before .before .before .before .before .before .pre .1)))
 
 returns-9 : tie.Need-returns-9
-unfolding kindWidth formWidth formOf forms
-returns-9 c = c .truth-case .ensures ∙ sym (node-whole (c .before .before .before .before .args .r .now) (c .before .match .keys9) refl (whole (c .before .match .keys9) (c .before .before .before .before .pre .1)))
+unfolding formOf forms make
+returns-9 c = rw (c .before .before .before .before .at11 .ensures, c .before .before .before .at12 .ensures, c .before .before .byte-at4 .ensures, c .before .at13 .ensures, c .byte-at5 .ensures) (sym (decoded (c .before .before .before .before .before .before .before .before .args .r .now) (c .before .before .before .before .before .before .byte-at .ensures) (c .before .before .before .before .before .match .keys9) refl (c .before .before .before .before .before .before .before .before .pre .1)))
 
 returns-10 : tie.Need-returns-10
-unfolding kindWidth formWidth formOf forms
-returns-10 c = rw (c .before .before .wide6 .ensures, c .wide7 .ensures) (sym (node-whole (c .before .before .before .before .before .before .before .args .r .now) (c .before .before .before .before .match .keys10) refl (whole (c .before .before .before .before .match .keys10) (c .before .before .before .before .before .before .before .pre .1))))
+unfolding formOf forms make
+returns-10 c = rw (c .before .at14 .ensures, c .at15 .ensures) (sym (decoded (c .before .before .before .before .before .args .r .now) (c .before .before .before .byte-at .ensures) (c .before .before .match .keys10) refl (c .before .before .before .before .before .pre .1)))
 
 returns-11 : tie.Need-returns-11
-unfolding kindWidth formWidth formOf forms
-returns-11 c = rw (c .before .before .before .before .wide8 .ensures, c .before .before .wide9 .ensures, c .wide10 .ensures) (sym (node-whole (c .before .before .before .before .before .before .before .before .before .args .r .now) (c .before .before .before .before .before .before .match .keys11) refl (whole (c .before .before .before .before .before .before .match .keys11) (c .before .before .before .before .before .before .before .before .before .pre .1))))
+unfolding formOf forms make
+returns-11 c = rw (c .before .before .at16 .ensures, c .before .at17 .ensures, c .at18 .ensures) (sym (decoded (c .before .before .before .before .before .before .args .r .now) (c .before .before .before .before .byte-at .ensures) (c .before .before .before .match .keys11) refl (c .before .before .before .before .before .before .pre .1)))
 
 returns-12 : tie.Need-returns-12
-unfolding kindWidth formWidth formOf forms
-returns-12 c = rw (c .before .before .before .wide11 .ensures, c .number2 .ensures) (sym (node-whole (c .before .before .before .before .before .before .before .before .args .r .now) (c .before .before .before .before .before .match .keys12) refl (whole (c .before .before .before .before .before .match .keys12) (c .before .before .before .before .before .before .before .before .pre .1))))
+unfolding formOf forms make
+returns-12 c = rw (c .before .at19 .ensures, c .pair-at2 .ensures) (sym (decoded (c .before .before .before .before .before .args .r .now) (c .before .before .before .byte-at .ensures) (c .before .before .match .keys12) refl (c .before .before .before .before .before .pre .1)))
 
 returns-13 : tie.Need-returns-13
-returns-13 c = sym (node-unknown (c .before .before .before .args .r .now) (no-form _ (beyond 12 (c .match .rest))))
+returns-13 c = sym (node-unknown (c .before .before .before .args .r .now) (rw (c .before .byte-at .ensures) at (no-form _ (beyond 12 (c .match .rest)))))
 
 pub decode-spec : {M : Type 1} → statement M
-decode-spec = tie.close (tie.spec shared-slice-read-kind shared-slice-read-wide wide-requires shared-slice-read-number shared-slice-read-number-2 number-requires shared-slice-read-wide-2 wide-requires-2 shared-slice-read-wide-3 wide-requires-3 shared-slice-read-wide-4 wide-requires-4 shared-slice-read-wide-5 wide-requires-5 list-case-requires truth-case-requires shared-slice-read-wide-6 wide-requires-6 shared-slice-read-wide-7 wide-requires-7 shared-slice-read-wide-8 wide-requires-8 shared-slice-read-wide-9 wide-requires-9 shared-slice-read-wide-10 wide-requires-10 shared-slice-read-wide-11 wide-requires-11 shared-slice-read-number-3 shared-slice-read-number-4 number-requires-2 returns returns-2 returns-3 returns-4 returns-5 returns-6 returns-7 returns-8 returns-9 returns-10 returns-11 returns-12 returns-13)
+decode-spec = tie.close (tie.spec byte-at-requires at-requires pair-at-requires at-requires-2 at-requires-3 at-requires-4 at-requires-5 at-requires-6 at-requires-7 byte-at-requires-2 at-requires-8 byte-at-requires-3 at-requires-9 at-requires-10 at-requires-11 at-requires-12 byte-at-requires-4 at-requires-13 byte-at-requires-5 at-requires-14 at-requires-15 at-requires-16 at-requires-17 at-requires-18 at-requires-19 pair-at-requires-2 returns returns-2 returns-3 returns-4 returns-5 returns-6 returns-7 returns-8 returns-9 returns-10 returns-11 returns-12 returns-13)

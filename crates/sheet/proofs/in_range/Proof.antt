@@ -1,6 +1,6 @@
 -- `sheet::in_range` meets its contract: in each arm the node is the variant that it binds. Assumes nothing.
-use mathlib.Core.Bool.{and-assoc}
-use Rattle.sheet.specs.Sheet.{nodeInRange}
+use mathlib.Core.Bool.{and-true, and-assoc}
+use Rattle.sheet.specs.Kinds.{nodeInRange}
 use borrow.Author.Needs.{needs}
 use Rattle.sheet.proofs.in_range.Statement.{statement}
 use Rattle.sheet.proofs.in_range.Tie as tie
@@ -92,35 +92,35 @@ returns-4 c = rw (c .enum-told4 .given .1)
 
 returns-5 : tie.Need-returns-5
 unfolding nodeInRange
-returns-5 c = rw (c .before .n .given .1)
+returns-5 c = simp (c .before .n .given .1, and-true)
 
 returns-6 : tie.Need-returns-6
 unfolding nodeInRange
-returns-6 c = rw (c .before .before .n2 .given .1, c .both-below .ensures)
+returns-6 c = simp (c .before .before .n2 .given .1, c .both-below .ensures, and-true, and-assoc)
 
 returns-7 : tie.Need-returns-7
 unfolding nodeInRange
-returns-7 c = rw (c .before .before .n3 .given .1, c .both-below2 .ensures)
+returns-7 c = simp (c .before .before .n3 .given .1, c .both-below2 .ensures, and-true, and-assoc)
 
 returns-8 : tie.Need-returns-8
 unfolding nodeInRange
-returns-8 c = simp (c .before .before .before .before .before .n4 .given .1, c .before .before .before .is-below .ensures, c .before .before .is-branch .ensures, c .before .is-branch2 .ensures, c .both-below3 .ensures, and-assoc)
+returns-8 c = simp (c .before .before .before .before .before .n4 .given .1, c .before .before .before .is-below .ensures, c .before .before .is-branch .ensures, c .before .is-branch2 .ensures, c .both-below3 .ensures, and-true, and-assoc)
 
 returns-9 : tie.Need-returns-9
 unfolding nodeInRange
-returns-9 c = simp (c .before .before .before .before .n5 .given .1, c .before .before .is-below2 .ensures, c .before .is-branch3 .ensures, c .is-branch4 .ensures, and-assoc)
+returns-9 c = simp (c .before .before .before .before .n5 .given .1, c .before .before .is-below2 .ensures, c .before .is-branch3 .ensures, c .is-branch4 .ensures, and-true, and-assoc)
 
 returns-10 : tie.Need-returns-10
 unfolding nodeInRange
-returns-10 c = rw (c .before .before .n6 .given .1, c .both-below4 .ensures)
+returns-10 c = simp (c .before .before .n6 .given .1, c .both-below4 .ensures, and-true, and-assoc)
 
 returns-11 : tie.Need-returns-11
 unfolding nodeInRange
-returns-11 c = rw (c .before .n7 .given .1)
+returns-11 c = simp (c .before .n7 .given .1, and-true)
 
 returns-12 : tie.Need-returns-12
 unfolding nodeInRange
-returns-12 c = rw (c .before .before .n8 .given .1, c .is-below3 .ensures)
+returns-12 c = simp (c .before .before .n8 .given .1, c .is-below3 .ensures, and-true, and-assoc)
 
 pub in-range-spec : {M : Type 1} → statement M
 in-range-spec =

@@ -191,7 +191,7 @@ get-add-number-of-requires : (t : ℕ) → get-add-lts.Need-number-of-requires (
 get-add-number-of-requires t c κs = search needs
 
 get-add-get-node-requires : (t : ℕ) → get-add-lts.Need-get-node-requires (get-add-claims t) (get-add-at t) get-add.Post
-get-add-get-node-requires t c κs = (omega (arith, c .before .before .before .before .pre .0), subject-ready (c .before .before .before .before .pre .1) (omega (arith, c .before .number-of .ensures, ((c .before .before .before .before .pre .1) .known .1 .inside))))
+get-add-get-node-requires t c κs = (omega (arith, c .before .before .before .before .pre .0), subject-ready (c .before .before .before .before .pre .1) (omega (arith, c .before .number-of .ensures, ((c .before .before .before .before .pre .1) .known .1 .0 .inside))))
 
 get-add-bring-requires : (t : ℕ) → get-add-lts.Need-bring-requires (get-add-claims t) (get-add-at t) get-add.Post
 get-add-bring-requires t c κs = λ h. movable (c .before .before .before .get-node .ensures .1) (omega (arith, c .before .before .before .get-node .ensures .0 .kept .long, (c .before .before .before .before .before .before .before .before .pre .1) .long)) (omega (arith, (c .before .before .before .before .before .before .before .before .pre .1) .room)) (omega (arith, (c .before .before .before .before .before .before .before .before .pre .1) .few)) h
@@ -239,16 +239,16 @@ get-add-number-requires : (t : ℕ) → get-add-lts.Need-number-requires (get-ad
 get-add-number-requires t c κs = search needs
 
 get-add-sub-if2 : (t : ℕ) → get-add-lts.Need-sub-if2 (get-add-claims t) (get-add-at t) get-add.Post
-get-add-sub-if2 t c = omega (arith, (add-long (as-node (c .before .before .before .before .before .before .before .before .before .before .before .before .before .before .before .before .before .before .before .number-of .ensures) ((bring-gives (omega (arith, (c .before .before .before .before .before .before .before .before .before .before .before .before .before .before .before .before .before .before .before .before .before .before .pre .1) .base)) (c .before .before .before .before .before .before .before .before .before .before .before .before .before .before .before .before .before .get-node .ensures .0) (c .before .before .before .before .before .before .before .before .before .before .before .before .before .before .before .before .before .get-node .ensures .1) (c .before .before .before .before .before .before .before .before .before .before .before .before .before .bring .ensures)) .gives)) (found-there (c .before .before .before .before .before .before .before .before .before .before .if1 .left) ((bring-gives (omega (arith, (c .before .before .before .before .before .before .before .before .before .before .before .before .before .before .before .before .before .before .before .before .before .before .pre .1) .base)) (c .before .before .before .before .before .before .before .before .before .before .before .before .before .before .before .before .before .get-node .ensures .0) (c .before .before .before .before .before .before .before .before .before .before .before .before .before .before .before .before .before .get-node .ensures .1) (c .before .before .before .before .before .before .before .before .before .before .before .before .before .bring .ensures)) .exact) (c .before .before .before .before .before .before .before .before .before .len-of .ensures) refl) (c .before .before .before .before .before .before .shape-of .ensures) (c .before .before .before .before .m .given .1) (subject-ready (c .before .before .before .before .before .before .before .before .before .before .before .before .before .before .before .before .before .before .before .before .before .before .pre .1) ((c .before .before .before .before .before .before .before .before .before .before .before .before .before .before .before .before .before .before .before .before .before .before .pre .1) .known .1 .inside))) .1)
+get-add-sub-if2 t c = omega (arith, (add-long (as-node (c .before .before .before .before .before .before .before .before .before .before .before .before .before .before .before .before .before .before .before .number-of .ensures) ((bring-gives (omega (arith, (c .before .before .before .before .before .before .before .before .before .before .before .before .before .before .before .before .before .before .before .before .before .before .pre .1) .base)) (c .before .before .before .before .before .before .before .before .before .before .before .before .before .before .before .before .before .get-node .ensures .0) (c .before .before .before .before .before .before .before .before .before .before .before .before .before .before .before .before .before .get-node .ensures .1) (c .before .before .before .before .before .before .before .before .before .before .before .before .before .bring .ensures)) .gives)) (found-there (c .before .before .before .before .before .before .before .before .before .before .if1 .left) ((bring-gives (omega (arith, (c .before .before .before .before .before .before .before .before .before .before .before .before .before .before .before .before .before .before .before .before .before .before .pre .1) .base)) (c .before .before .before .before .before .before .before .before .before .before .before .before .before .before .before .before .before .get-node .ensures .0) (c .before .before .before .before .before .before .before .before .before .before .before .before .before .before .before .before .before .get-node .ensures .1) (c .before .before .before .before .before .before .before .before .before .before .before .before .before .bring .ensures)) .exact) (c .before .before .before .before .before .before .before .before .before .len-of .ensures) refl) (c .before .before .before .before .before .before .shape-of .ensures) (c .before .before .before .before .m .given .1) (subject-ready (c .before .before .before .before .before .before .before .before .before .before .before .before .before .before .before .before .before .before .before .before .before .before .pre .1) ((c .before .before .before .before .before .before .before .before .before .before .before .before .before .before .before .before .before .before .before .before .before .before .pre .1) .known .1 .0 .inside))) .1)
 
 get-add-returns-3 : (t : ℕ) → get-add-lts.Need-returns-3 (get-add-claims t) (get-add-at t) get-add.Post
-get-add-returns-3 t c = as-found (found-refused (omega arith)) (add-45 (as-node (c .before .before .before .before .before .before .before .before .before .before .before .before .before .before .before .before .before .before .before .before .number-of .ensures) ((bring-gives (omega (arith, (c .before .before .before .before .before .before .before .before .before .before .before .before .before .before .before .before .before .before .before .before .before .before .before .pre .1) .base)) (c .before .before .before .before .before .before .before .before .before .before .before .before .before .before .before .before .before .before .get-node .ensures .0) (c .before .before .before .before .before .before .before .before .before .before .before .before .before .before .before .before .before .before .get-node .ensures .1) (c .before .before .before .before .before .before .before .before .before .before .before .before .before .before .bring .ensures)) .gives)) (found-there (c .before .before .before .before .before .before .before .before .before .before .before .if1 .left) ((bring-gives (omega (arith, (c .before .before .before .before .before .before .before .before .before .before .before .before .before .before .before .before .before .before .before .before .before .before .before .pre .1) .base)) (c .before .before .before .before .before .before .before .before .before .before .before .before .before .before .before .before .before .before .get-node .ensures .0) (c .before .before .before .before .before .before .before .before .before .before .before .before .before .before .before .before .before .before .get-node .ensures .1) (c .before .before .before .before .before .before .before .before .before .before .before .before .before .before .bring .ensures)) .exact) (c .before .before .before .before .before .before .before .before .before .before .len-of .ensures) refl) (c .before .before .before .before .before .before .before .shape-of .ensures) (c .before .before .before .before .before .m .given .1) (omega (arith, c .if2 .taken, (add-long (as-node (c .before .before .before .before .before .before .before .before .before .before .before .before .before .before .before .before .before .before .before .before .number-of .ensures) ((bring-gives (omega (arith, (c .before .before .before .before .before .before .before .before .before .before .before .before .before .before .before .before .before .before .before .before .before .before .before .pre .1) .base)) (c .before .before .before .before .before .before .before .before .before .before .before .before .before .before .before .before .before .before .get-node .ensures .0) (c .before .before .before .before .before .before .before .before .before .before .before .before .before .before .before .before .before .before .get-node .ensures .1) (c .before .before .before .before .before .before .before .before .before .before .before .before .before .before .bring .ensures)) .gives)) (found-there (c .before .before .before .before .before .before .before .before .before .before .before .if1 .left) ((bring-gives (omega (arith, (c .before .before .before .before .before .before .before .before .before .before .before .before .before .before .before .before .before .before .before .before .before .before .before .pre .1) .base)) (c .before .before .before .before .before .before .before .before .before .before .before .before .before .before .before .before .before .before .get-node .ensures .0) (c .before .before .before .before .before .before .before .before .before .before .before .before .before .before .before .before .before .before .get-node .ensures .1) (c .before .before .before .before .before .before .before .before .before .before .before .before .before .before .bring .ensures)) .exact) (c .before .before .before .before .before .before .before .before .before .before .len-of .ensures) refl) (c .before .before .before .before .before .before .before .shape-of .ensures) (c .before .before .before .before .before .m .given .1) (subject-ready (c .before .before .before .before .before .before .before .before .before .before .before .before .before .before .before .before .before .before .before .before .before .before .before .pre .1) ((c .before .before .before .before .before .before .before .before .before .before .before .before .before .before .before .before .before .before .before .before .before .before .before .pre .1) .known .1 .inside))) .1, (sum-as (c .before .number .ensures) (c .before .before .before .byte-of .ensures) (c .before .before .byte-of2 .ensures)))))
+get-add-returns-3 t c = as-found (found-refused (omega arith)) (add-45 (as-node (c .before .before .before .before .before .before .before .before .before .before .before .before .before .before .before .before .before .before .before .before .number-of .ensures) ((bring-gives (omega (arith, (c .before .before .before .before .before .before .before .before .before .before .before .before .before .before .before .before .before .before .before .before .before .before .before .pre .1) .base)) (c .before .before .before .before .before .before .before .before .before .before .before .before .before .before .before .before .before .before .get-node .ensures .0) (c .before .before .before .before .before .before .before .before .before .before .before .before .before .before .before .before .before .before .get-node .ensures .1) (c .before .before .before .before .before .before .before .before .before .before .before .before .before .before .bring .ensures)) .gives)) (found-there (c .before .before .before .before .before .before .before .before .before .before .before .if1 .left) ((bring-gives (omega (arith, (c .before .before .before .before .before .before .before .before .before .before .before .before .before .before .before .before .before .before .before .before .before .before .before .pre .1) .base)) (c .before .before .before .before .before .before .before .before .before .before .before .before .before .before .before .before .before .before .get-node .ensures .0) (c .before .before .before .before .before .before .before .before .before .before .before .before .before .before .before .before .before .before .get-node .ensures .1) (c .before .before .before .before .before .before .before .before .before .before .before .before .before .before .bring .ensures)) .exact) (c .before .before .before .before .before .before .before .before .before .before .len-of .ensures) refl) (c .before .before .before .before .before .before .before .shape-of .ensures) (c .before .before .before .before .before .m .given .1) (omega (arith, c .if2 .taken, (add-long (as-node (c .before .before .before .before .before .before .before .before .before .before .before .before .before .before .before .before .before .before .before .before .number-of .ensures) ((bring-gives (omega (arith, (c .before .before .before .before .before .before .before .before .before .before .before .before .before .before .before .before .before .before .before .before .before .before .before .pre .1) .base)) (c .before .before .before .before .before .before .before .before .before .before .before .before .before .before .before .before .before .before .get-node .ensures .0) (c .before .before .before .before .before .before .before .before .before .before .before .before .before .before .before .before .before .before .get-node .ensures .1) (c .before .before .before .before .before .before .before .before .before .before .before .before .before .before .bring .ensures)) .gives)) (found-there (c .before .before .before .before .before .before .before .before .before .before .before .if1 .left) ((bring-gives (omega (arith, (c .before .before .before .before .before .before .before .before .before .before .before .before .before .before .before .before .before .before .before .before .before .before .before .pre .1) .base)) (c .before .before .before .before .before .before .before .before .before .before .before .before .before .before .before .before .before .before .get-node .ensures .0) (c .before .before .before .before .before .before .before .before .before .before .before .before .before .before .before .before .before .before .get-node .ensures .1) (c .before .before .before .before .before .before .before .before .before .before .before .before .before .before .bring .ensures)) .exact) (c .before .before .before .before .before .before .before .before .before .before .len-of .ensures) refl) (c .before .before .before .before .before .before .before .shape-of .ensures) (c .before .before .before .before .before .m .given .1) (subject-ready (c .before .before .before .before .before .before .before .before .before .before .before .before .before .before .before .before .before .before .before .before .before .before .before .pre .1) ((c .before .before .before .before .before .before .before .before .before .before .before .before .before .before .before .before .before .before .before .before .before .before .before .pre .1) .known .1 .0 .inside))) .1, (sum-as (c .before .number .ensures) (c .before .before .before .byte-of .ensures) (c .before .before .byte-of2 .ensures)))))
 
 get-add-same-length-3 : (t : ℕ) → get-add-lts.Need-same-length-3 (get-add-claims t) (get-add-at t) get-add.Post
 get-add-same-length-3 t c = get-add-returns-3 t c .kept .long
 
 get-add-add-sum : (t : ℕ) → get-add-lts.Need-add-sum (get-add-claims t) (get-add-at t) get-add.Post
-get-add-add-sum t c = record { fits = omega (arith, c .if2 .left, (add-long (as-node (c .before .before .before .before .before .before .before .before .before .before .before .before .before .before .before .before .before .before .before .before .number-of .ensures) ((bring-gives (omega (arith, (c .before .before .before .before .before .before .before .before .before .before .before .before .before .before .before .before .before .before .before .before .before .before .before .pre .1) .base)) (c .before .before .before .before .before .before .before .before .before .before .before .before .before .before .before .before .before .before .get-node .ensures .0) (c .before .before .before .before .before .before .before .before .before .before .before .before .before .before .before .before .before .before .get-node .ensures .1) (c .before .before .before .before .before .before .before .before .before .before .before .before .before .before .bring .ensures)) .gives)) (found-there (c .before .before .before .before .before .before .before .before .before .before .before .if1 .left) ((bring-gives (omega (arith, (c .before .before .before .before .before .before .before .before .before .before .before .before .before .before .before .before .before .before .before .before .before .before .before .pre .1) .base)) (c .before .before .before .before .before .before .before .before .before .before .before .before .before .before .before .before .before .before .get-node .ensures .0) (c .before .before .before .before .before .before .before .before .before .before .before .before .before .before .before .before .before .before .get-node .ensures .1) (c .before .before .before .before .before .before .before .before .before .before .before .before .before .before .bring .ensures)) .exact) (c .before .before .before .before .before .before .before .before .before .before .len-of .ensures) refl) (c .before .before .before .before .before .before .before .shape-of .ensures) (c .before .before .before .before .before .m .given .1) (subject-ready (c .before .before .before .before .before .before .before .before .before .before .before .before .before .before .before .before .before .before .before .before .before .before .before .pre .1) ((c .before .before .before .before .before .before .before .before .before .before .before .before .before .before .before .before .before .before .before .before .before .before .before .pre .1) .known .1 .inside))) .1) }
+get-add-add-sum t c = record { fits = omega (arith, c .if2 .left, (add-long (as-node (c .before .before .before .before .before .before .before .before .before .before .before .before .before .before .before .before .before .before .before .before .number-of .ensures) ((bring-gives (omega (arith, (c .before .before .before .before .before .before .before .before .before .before .before .before .before .before .before .before .before .before .before .before .before .before .before .pre .1) .base)) (c .before .before .before .before .before .before .before .before .before .before .before .before .before .before .before .before .before .before .get-node .ensures .0) (c .before .before .before .before .before .before .before .before .before .before .before .before .before .before .before .before .before .before .get-node .ensures .1) (c .before .before .before .before .before .before .before .before .before .before .before .before .before .before .bring .ensures)) .gives)) (found-there (c .before .before .before .before .before .before .before .before .before .before .before .if1 .left) ((bring-gives (omega (arith, (c .before .before .before .before .before .before .before .before .before .before .before .before .before .before .before .before .before .before .before .before .before .before .before .pre .1) .base)) (c .before .before .before .before .before .before .before .before .before .before .before .before .before .before .before .before .before .before .get-node .ensures .0) (c .before .before .before .before .before .before .before .before .before .before .before .before .before .before .before .before .before .before .get-node .ensures .1) (c .before .before .before .before .before .before .before .before .before .before .before .before .before .before .bring .ensures)) .exact) (c .before .before .before .before .before .before .before .before .before .before .len-of .ensures) refl) (c .before .before .before .before .before .before .before .shape-of .ensures) (c .before .before .before .before .before .m .given .1) (subject-ready (c .before .before .before .before .before .before .before .before .before .before .before .before .before .before .before .before .before .before .before .before .before .before .before .pre .1) ((c .before .before .before .before .before .before .before .before .before .before .before .before .before .before .before .before .before .before .before .before .before .before .before .pre .1) .known .1 .0 .inside))) .1) }
 
 get-add-high-requires : (t : ℕ) → get-add-lts.Need-high-requires (get-add-claims t) (get-add-at t) get-add.Post
 get-add-high-requires t c κs = search needs
@@ -278,7 +278,7 @@ get-add-found-requires : (t : ℕ) → get-add-lts.Need-found-requires (get-add-
 get-add-found-requires t c κs = (omega (arith, (c .before .before .before .before .before .before .before .before .before .before .before .before .before .before .before .before .before .before .before .before .before .before .before .before .before .before .pre .1) .room), omega arith, omega (arith, (c .before .before .before .before .before .before .before .before .before .before .before .before .before .before .before .before .before .before .before .before .before .before .before .before .before .before .pre .1) .few, ((bring-gives (omega (arith, (c .before .before .before .before .before .before .before .before .before .before .before .before .before .before .before .before .before .before .before .before .before .before .before .before .before .before .pre .1) .base)) (c .before .before .before .before .before .before .before .before .before .before .before .before .before .before .before .before .before .before .before .before .before .get-node .ensures .0) (c .before .before .before .before .before .before .before .before .before .before .before .before .before .before .before .before .before .before .before .before .before .get-node .ensures .1) (c .before .before .before .before .before .before .before .before .before .before .before .before .before .before .before .before .before .bring .ensures)) .sized .at (found-there (c .before .before .before .before .before .before .before .before .before .before .before .before .before .before .if1 .left) ((bring-gives (omega (arith, (c .before .before .before .before .before .before .before .before .before .before .before .before .before .before .before .before .before .before .before .before .before .before .before .before .before .before .pre .1) .base)) (c .before .before .before .before .before .before .before .before .before .before .before .before .before .before .before .before .before .before .before .before .before .get-node .ensures .0) (c .before .before .before .before .before .before .before .before .before .before .before .before .before .before .before .before .before .before .before .before .before .get-node .ensures .1) (c .before .before .before .before .before .before .before .before .before .before .before .before .before .before .before .before .before .bring .ensures)) .exact) refl refl)) .steps, c .steps-of .ensures))
 
 get-add-returns-4 : (t : ℕ) → get-add-lts.Need-returns-4 (get-add-claims t) (get-add-at t) get-add.Post
-get-add-returns-4 t c = as-found (packed-done (c .found .ensures) (omega (arith, (c .before .before .before .before .before .before .before .before .before .before .before .before .before .before .before .before .before .before .before .before .before .before .before .before .before .before .before .pre .1) .room)) (omega arith) (omega arith)) (add-done (as-node (c .before .before .before .before .before .before .before .before .before .before .before .before .before .before .before .before .before .before .before .before .before .before .before .before .number-of .ensures) ((bring-gives (omega (arith, (c .before .before .before .before .before .before .before .before .before .before .before .before .before .before .before .before .before .before .before .before .before .before .before .before .before .before .before .pre .1) .base)) (c .before .before .before .before .before .before .before .before .before .before .before .before .before .before .before .before .before .before .before .before .before .before .get-node .ensures .0) (c .before .before .before .before .before .before .before .before .before .before .before .before .before .before .before .before .before .before .before .before .before .before .get-node .ensures .1) (c .before .before .before .before .before .before .before .before .before .before .before .before .before .before .before .before .before .before .bring .ensures)) .gives)) (found-there (c .before .before .before .before .before .before .before .before .before .before .before .before .before .before .before .if1 .left) ((bring-gives (omega (arith, (c .before .before .before .before .before .before .before .before .before .before .before .before .before .before .before .before .before .before .before .before .before .before .before .before .before .before .before .pre .1) .base)) (c .before .before .before .before .before .before .before .before .before .before .before .before .before .before .before .before .before .before .before .before .before .before .get-node .ensures .0) (c .before .before .before .before .before .before .before .before .before .before .before .before .before .before .before .before .before .before .before .before .before .before .get-node .ensures .1) (c .before .before .before .before .before .before .before .before .before .before .before .before .before .before .before .before .before .before .bring .ensures)) .exact) (c .before .before .before .before .before .before .before .before .before .before .before .before .before .before .len-of .ensures) (c .before .steps-of .ensures)) (c .before .before .before .before .before .before .before .before .before .before .before .shape-of .ensures) (c .before .before .before .before .before .before .before .before .before .m .given .1) ((c .before .before .before .before .before .before .before .before .before .before .before .before .before .before .before .before .before .before .before .before .before .before .before .before .before .before .before .pre .1) .base) (omega (arith, (c .before .before .before .before .before .before .before .before .before .before .before .before .before .before .before .before .before .before .before .before .before .before .before .before .before .before .before .pre .1) .room, (c .before .before .before .before .before .before .before .before .before .before .before .before .before .before .before .before .before .before .before .before .before .before .before .before .before .before .before .pre .1) .long, (bring-gives (omega (arith, (c .before .before .before .before .before .before .before .before .before .before .before .before .before .before .before .before .before .before .before .before .before .before .before .before .before .before .before .pre .1) .base)) (c .before .before .before .before .before .before .before .before .before .before .before .before .before .before .before .before .before .before .before .before .before .before .get-node .ensures .0) (c .before .before .before .before .before .before .before .before .before .before .before .before .before .before .before .before .before .before .before .before .before .before .get-node .ensures .1) (c .before .before .before .before .before .before .before .before .before .before .before .before .before .before .before .before .before .before .bring .ensures)) .gives .kept .long)) (omega (arith, c .before .before .before .before .if2 .left, (add-long (as-node (c .before .before .before .before .before .before .before .before .before .before .before .before .before .before .before .before .before .before .before .before .before .before .before .before .number-of .ensures) ((bring-gives (omega (arith, (c .before .before .before .before .before .before .before .before .before .before .before .before .before .before .before .before .before .before .before .before .before .before .before .before .before .before .before .pre .1) .base)) (c .before .before .before .before .before .before .before .before .before .before .before .before .before .before .before .before .before .before .before .before .before .before .get-node .ensures .0) (c .before .before .before .before .before .before .before .before .before .before .before .before .before .before .before .before .before .before .before .before .before .before .get-node .ensures .1) (c .before .before .before .before .before .before .before .before .before .before .before .before .before .before .before .before .before .before .bring .ensures)) .gives)) (found-there (c .before .before .before .before .before .before .before .before .before .before .before .before .before .before .before .if1 .left) ((bring-gives (omega (arith, (c .before .before .before .before .before .before .before .before .before .before .before .before .before .before .before .before .before .before .before .before .before .before .before .before .before .before .before .pre .1) .base)) (c .before .before .before .before .before .before .before .before .before .before .before .before .before .before .before .before .before .before .before .before .before .before .get-node .ensures .0) (c .before .before .before .before .before .before .before .before .before .before .before .before .before .before .before .before .before .before .before .before .before .before .get-node .ensures .1) (c .before .before .before .before .before .before .before .before .before .before .before .before .before .before .before .before .before .before .bring .ensures)) .exact) (c .before .before .before .before .before .before .before .before .before .before .before .before .before .before .len-of .ensures) refl) (c .before .before .before .before .before .before .before .before .before .before .before .shape-of .ensures) (c .before .before .before .before .before .before .before .before .before .m .given .1) (subject-ready (c .before .before .before .before .before .before .before .before .before .before .before .before .before .before .before .before .before .before .before .before .before .before .before .before .before .before .before .pre .1) ((c .before .before .before .before .before .before .before .before .before .before .before .before .before .before .before .before .before .before .before .before .before .before .before .before .before .before .before .pre .1) .known .1 .inside))) .1, (sum-as (c .before .before .before .before .before .number .ensures) (c .before .before .before .before .before .before .before .byte-of .ensures) (c .before .before .before .before .before .before .byte-of2 .ensures)))) (rw (c .before .before .before .high .ensures, c .before .before .low .ensures, (sum-as (c .before .before .before .before .before .number .ensures) (c .before .before .before .before .before .before .before .byte-of .ensures) (c .before .before .before .before .before .before .byte-of2 .ensures)))))
+get-add-returns-4 t c = as-found (packed-done (c .found .ensures) (omega (arith, (c .before .before .before .before .before .before .before .before .before .before .before .before .before .before .before .before .before .before .before .before .before .before .before .before .before .before .before .pre .1) .room)) (omega arith) (omega arith)) (add-done (as-node (c .before .before .before .before .before .before .before .before .before .before .before .before .before .before .before .before .before .before .before .before .before .before .before .before .number-of .ensures) ((bring-gives (omega (arith, (c .before .before .before .before .before .before .before .before .before .before .before .before .before .before .before .before .before .before .before .before .before .before .before .before .before .before .before .pre .1) .base)) (c .before .before .before .before .before .before .before .before .before .before .before .before .before .before .before .before .before .before .before .before .before .before .get-node .ensures .0) (c .before .before .before .before .before .before .before .before .before .before .before .before .before .before .before .before .before .before .before .before .before .before .get-node .ensures .1) (c .before .before .before .before .before .before .before .before .before .before .before .before .before .before .before .before .before .before .bring .ensures)) .gives)) (found-there (c .before .before .before .before .before .before .before .before .before .before .before .before .before .before .before .if1 .left) ((bring-gives (omega (arith, (c .before .before .before .before .before .before .before .before .before .before .before .before .before .before .before .before .before .before .before .before .before .before .before .before .before .before .before .pre .1) .base)) (c .before .before .before .before .before .before .before .before .before .before .before .before .before .before .before .before .before .before .before .before .before .before .get-node .ensures .0) (c .before .before .before .before .before .before .before .before .before .before .before .before .before .before .before .before .before .before .before .before .before .before .get-node .ensures .1) (c .before .before .before .before .before .before .before .before .before .before .before .before .before .before .before .before .before .before .bring .ensures)) .exact) (c .before .before .before .before .before .before .before .before .before .before .before .before .before .before .len-of .ensures) (c .before .steps-of .ensures)) (c .before .before .before .before .before .before .before .before .before .before .before .shape-of .ensures) (c .before .before .before .before .before .before .before .before .before .m .given .1) ((c .before .before .before .before .before .before .before .before .before .before .before .before .before .before .before .before .before .before .before .before .before .before .before .before .before .before .before .pre .1) .base) (omega (arith, (c .before .before .before .before .before .before .before .before .before .before .before .before .before .before .before .before .before .before .before .before .before .before .before .before .before .before .before .pre .1) .room, (c .before .before .before .before .before .before .before .before .before .before .before .before .before .before .before .before .before .before .before .before .before .before .before .before .before .before .before .pre .1) .long, (bring-gives (omega (arith, (c .before .before .before .before .before .before .before .before .before .before .before .before .before .before .before .before .before .before .before .before .before .before .before .before .before .before .before .pre .1) .base)) (c .before .before .before .before .before .before .before .before .before .before .before .before .before .before .before .before .before .before .before .before .before .before .get-node .ensures .0) (c .before .before .before .before .before .before .before .before .before .before .before .before .before .before .before .before .before .before .before .before .before .before .get-node .ensures .1) (c .before .before .before .before .before .before .before .before .before .before .before .before .before .before .before .before .before .before .bring .ensures)) .gives .kept .long)) (omega (arith, c .before .before .before .before .if2 .left, (add-long (as-node (c .before .before .before .before .before .before .before .before .before .before .before .before .before .before .before .before .before .before .before .before .before .before .before .before .number-of .ensures) ((bring-gives (omega (arith, (c .before .before .before .before .before .before .before .before .before .before .before .before .before .before .before .before .before .before .before .before .before .before .before .before .before .before .before .pre .1) .base)) (c .before .before .before .before .before .before .before .before .before .before .before .before .before .before .before .before .before .before .before .before .before .before .get-node .ensures .0) (c .before .before .before .before .before .before .before .before .before .before .before .before .before .before .before .before .before .before .before .before .before .before .get-node .ensures .1) (c .before .before .before .before .before .before .before .before .before .before .before .before .before .before .before .before .before .before .bring .ensures)) .gives)) (found-there (c .before .before .before .before .before .before .before .before .before .before .before .before .before .before .before .if1 .left) ((bring-gives (omega (arith, (c .before .before .before .before .before .before .before .before .before .before .before .before .before .before .before .before .before .before .before .before .before .before .before .before .before .before .before .pre .1) .base)) (c .before .before .before .before .before .before .before .before .before .before .before .before .before .before .before .before .before .before .before .before .before .before .get-node .ensures .0) (c .before .before .before .before .before .before .before .before .before .before .before .before .before .before .before .before .before .before .before .before .before .before .get-node .ensures .1) (c .before .before .before .before .before .before .before .before .before .before .before .before .before .before .before .before .before .before .bring .ensures)) .exact) (c .before .before .before .before .before .before .before .before .before .before .before .before .before .before .len-of .ensures) refl) (c .before .before .before .before .before .before .before .before .before .before .before .shape-of .ensures) (c .before .before .before .before .before .before .before .before .before .m .given .1) (subject-ready (c .before .before .before .before .before .before .before .before .before .before .before .before .before .before .before .before .before .before .before .before .before .before .before .before .before .before .before .pre .1) ((c .before .before .before .before .before .before .before .before .before .before .before .before .before .before .before .before .before .before .before .before .before .before .before .before .before .before .before .pre .1) .known .1 .0 .inside))) .1, (sum-as (c .before .before .before .before .before .number .ensures) (c .before .before .before .before .before .before .before .byte-of .ensures) (c .before .before .before .before .before .before .byte-of2 .ensures)))) (rw (c .before .before .before .high .ensures, c .before .before .low .ensures, (sum-as (c .before .before .before .before .before .number .ensures) (c .before .before .before .before .before .before .before .byte-of .ensures) (c .before .before .before .before .before .before .byte-of2 .ensures)))))
 
 get-add-same-length-4 : (t : ℕ) → get-add-lts.Need-same-length-4 (get-add-claims t) (get-add-at t) get-add.Post
 get-add-same-length-4 t c = get-add-returns-4 t c .kept .long
@@ -377,7 +377,7 @@ get-front-number-of-requires-2 : (t : ℕ) → get-front-lts.Need-number-of-requ
 get-front-number-of-requires-2 t c κs = search needs
 
 get-front-get-node-requires-2 : (t : ℕ) → get-front-lts.Need-get-node-requires-2 (get-front-claims t) (get-front-at t) get-front.Post
-get-front-get-node-requires-2 t c κs = (omega (arith, c .before .before .before .before .before .before .before .before .before .before .before .before .before .before .before .before .before .pre .0), two-ready₂ (c .before .before .before .before .before .before .before .before .before .before .before .before .before .before .before .before .before .pre .1) (marked 3 (c .before .before .before .before .before .before .before .before .before .before .before .before .before .before .before .before .before .args .at .top) (c .before .before .before .before .before .before .before .before .before .before .before .before .before .before .before .before .before .args .arena .now) (omega (arith, (c .before .before .before .before .before .before .before .before .before .before .before .before .before .before .before .before .before .pre .1) .long, (c .before .before .before .before .before .before .before .before .before .before .before .before .before .before .before .before .before .pre .1) .room))) ((c .before .before .before .before .before .before .before .before .before .before .before .before .before .before .before .before .before .pre .1) .known .1 .0 .inside) (as-node (c .before .before .before .before .before .before .before .before .before .before .before .before .before .before .number-of .ensures) ((bring-gives (omega (arith, (c .before .before .before .before .before .before .before .before .before .before .before .before .before .before .before .before .before .pre .1) .base)) (c .before .before .before .before .before .before .before .before .before .before .before .before .get-node .ensures .0) (c .before .before .before .before .before .before .before .before .before .before .before .before .get-node .ensures .1) (c .before .before .before .before .before .before .before .before .bring .ensures)) .gives)) (found-there (c .before .before .before .before .before .if1 .left) ((bring-gives (omega (arith, (c .before .before .before .before .before .before .before .before .before .before .before .before .before .before .before .before .before .pre .1) .base)) (c .before .before .before .before .before .before .before .before .before .before .before .before .get-node .ensures .0) (c .before .before .before .before .before .before .before .before .before .before .before .before .get-node .ensures .1) (c .before .before .before .before .before .before .before .before .bring .ensures)) .exact) (c .before .before .before .before .len-of .ensures) (c .before .before .before .steps-of .ensures)) (omega (arith, c .before .number-of2 .ensures, (c .before .before .before .before .before .before .before .before .before .before .before .before .before .before .before .before .before .pre .1) .known .1 .1 .inside)))
+get-front-get-node-requires-2 t c κs = (omega (arith, c .before .before .before .before .before .before .before .before .before .before .before .before .before .before .before .before .before .pre .0), two-ready₂ (c .before .before .before .before .before .before .before .before .before .before .before .before .before .before .before .before .before .pre .1) (marked 3 (c .before .before .before .before .before .before .before .before .before .before .before .before .before .before .before .before .before .args .at .top) (c .before .before .before .before .before .before .before .before .before .before .before .before .before .before .before .before .before .args .arena .now) (omega (arith, (c .before .before .before .before .before .before .before .before .before .before .before .before .before .before .before .before .before .pre .1) .long, (c .before .before .before .before .before .before .before .before .before .before .before .before .before .before .before .before .before .pre .1) .room))) ((c .before .before .before .before .before .before .before .before .before .before .before .before .before .before .before .before .before .pre .1) .known .1 .0 .inside) (as-node (c .before .before .before .before .before .before .before .before .before .before .before .before .before .before .number-of .ensures) ((bring-gives (omega (arith, (c .before .before .before .before .before .before .before .before .before .before .before .before .before .before .before .before .before .pre .1) .base)) (c .before .before .before .before .before .before .before .before .before .before .before .before .get-node .ensures .0) (c .before .before .before .before .before .before .before .before .before .before .before .before .get-node .ensures .1) (c .before .before .before .before .before .before .before .before .bring .ensures)) .gives)) (found-there (c .before .before .before .before .before .if1 .left) ((bring-gives (omega (arith, (c .before .before .before .before .before .before .before .before .before .before .before .before .before .before .before .before .before .pre .1) .base)) (c .before .before .before .before .before .before .before .before .before .before .before .before .get-node .ensures .0) (c .before .before .before .before .before .before .before .before .before .before .before .before .get-node .ensures .1) (c .before .before .before .before .before .before .before .before .bring .ensures)) .exact) (c .before .before .before .before .len-of .ensures) (c .before .before .before .steps-of .ensures)) (omega (arith, c .before .number-of2 .ensures, (c .before .before .before .before .before .before .before .before .before .before .before .before .before .before .before .before .before .pre .1) .known .1 .1 .0 .inside)))
 
 get-front-bring-requires-2 : (t : ℕ) → get-front-lts.Need-bring-requires-2 (get-front-claims t) (get-front-at t) get-front.Post
 get-front-bring-requires-2 t c κs = λ h. movable (c .before .before .before .get-node2 .ensures .1) (omega (arith, c .before .before .before .get-node2 .ensures .0 .kept .long, (bring-gives (omega (arith, (c .before .before .before .before .before .before .before .before .before .before .before .before .before .before .before .before .before .before .before .before .before .pre .1) .base)) (c .before .before .before .before .before .before .before .before .before .before .before .before .before .before .before .before .get-node .ensures .0) (c .before .before .before .before .before .before .before .before .before .before .before .before .before .before .before .before .get-node .ensures .1) (c .before .before .before .before .before .before .before .before .before .before .before .before .bring .ensures)) .gives .kept .long, (c .before .before .before .before .before .before .before .before .before .before .before .before .before .before .before .before .before .before .before .before .before .pre .1) .long, length-set (now (c .before .before .before .before .before .before .before .before .before .before .before .before .before .before .before .before .before .before .before .before .before .args .arena)) (c .before .before .before .before .before .before .before .before .before .before .before .before .before .before .before .before .before .before .before .before .before .args .at .top) 3)) (omega (arith, (c .before .before .before .before .before .before .before .before .before .before .before .before .before .before .before .before .before .before .before .before .before .pre .1) .room, ((bring-gives (omega (arith, (c .before .before .before .before .before .before .before .before .before .before .before .before .before .before .before .before .before .before .before .before .before .pre .1) .base)) (c .before .before .before .before .before .before .before .before .before .before .before .before .before .before .before .before .get-node .ensures .0) (c .before .before .before .before .before .before .before .before .before .before .before .before .before .before .before .before .get-node .ensures .1) (c .before .before .before .before .before .before .before .before .before .before .before .before .bring .ensures)) .sized .at (found-there (c .before .before .before .before .before .before .before .before .before .if1 .left) ((bring-gives (omega (arith, (c .before .before .before .before .before .before .before .before .before .before .before .before .before .before .before .before .before .before .before .before .before .pre .1) .base)) (c .before .before .before .before .before .before .before .before .before .before .before .before .before .before .before .before .get-node .ensures .0) (c .before .before .before .before .before .before .before .before .before .before .before .before .before .before .before .before .get-node .ensures .1) (c .before .before .before .before .before .before .before .before .before .before .before .before .bring .ensures)) .exact) (c .before .before .before .before .before .before .before .before .len-of .ensures) (c .before .before .before .before .before .before .before .steps-of .ensures))) .short)) (omega (arith, (c .before .before .before .before .before .before .before .before .before .before .before .before .before .before .before .before .before .before .before .before .before .pre .1) .few)) h
@@ -389,7 +389,7 @@ get-front-same-length-2 : (t : ℕ) → get-front-lts.Need-same-length-2 (get-fr
 get-front-same-length-2 t c = get-front-returns-2 t c .kept .long
 
 get-front-slice-read-unfit : (t : ℕ) → get-front-lts.Need-slice-read-unfit (get-front-claims t) (get-front-at t) get-front.Post
-get-front-slice-read-unfit t c = let thez1 = ((bring-gives (omega (arith, (c .before .before .before .before .before .before .before .before .before .before .before .before .before .before .before .before .before .before .before .before .before .before .before .before .before .before .pre .1) .base)) (c .before .before .before .before .before .before .before .before .before .before .before .before .before .before .before .before .before .before .before .before .before .get-node .ensures .0) (c .before .before .before .before .before .before .before .before .before .before .before .before .before .before .before .before .before .before .before .before .before .get-node .ensures .1) (c .before .before .before .before .before .before .before .before .before .before .before .before .before .before .before .before .before .bring .ensures)) .sized .at (found-there (c .before .before .before .before .before .before .before .before .before .before .before .before .before .before .if1 .left) ((bring-gives (omega (arith, (c .before .before .before .before .before .before .before .before .before .before .before .before .before .before .before .before .before .before .before .before .before .before .before .before .before .before .pre .1) .base)) (c .before .before .before .before .before .before .before .before .before .before .before .before .before .before .before .before .before .before .before .before .before .get-node .ensures .0) (c .before .before .before .before .before .before .before .before .before .before .before .before .before .before .before .before .before .before .before .before .before .get-node .ensures .1) (c .before .before .before .before .before .before .before .before .before .before .before .before .before .before .before .before .before .bring .ensures)) .exact) (c .before .before .before .before .before .before .before .before .before .before .before .before .before .len-of .ensures) (c .before .before .before .before .before .before .before .before .before .before .before .before .steps-of .ensures))) in omega (arith, (c .before .before .before .before .before .before .before .before .before .before .before .before .before .before .before .before .before .before .before .before .before .before .before .before .before .before .pre .1) .room, thez1 .short, thez1 .deep, (two-ready₂ (c .before .before .before .before .before .before .before .before .before .before .before .before .before .before .before .before .before .before .before .before .before .before .before .before .before .before .pre .1) (marked 3 (c .before .before .before .before .before .before .before .before .before .before .before .before .before .before .before .before .before .before .before .before .before .before .before .before .before .before .args .at .top) (c .before .before .before .before .before .before .before .before .before .before .before .before .before .before .before .before .before .before .before .before .before .before .before .before .before .before .args .arena .now) (omega (arith, (c .before .before .before .before .before .before .before .before .before .before .before .before .before .before .before .before .before .before .before .before .before .before .before .before .before .before .pre .1) .long, (c .before .before .before .before .before .before .before .before .before .before .before .before .before .before .before .before .before .before .before .before .before .before .before .before .before .before .pre .1) .room))) ((c .before .before .before .before .before .before .before .before .before .before .before .before .before .before .before .before .before .before .before .before .before .before .before .before .before .before .pre .1) .known .1 .0 .inside) (as-node (c .before .before .before .before .before .before .before .before .before .before .before .before .before .before .before .before .before .before .before .before .before .before .before .number-of .ensures) ((bring-gives (omega (arith, (c .before .before .before .before .before .before .before .before .before .before .before .before .before .before .before .before .before .before .before .before .before .before .before .before .before .before .pre .1) .base)) (c .before .before .before .before .before .before .before .before .before .before .before .before .before .before .before .before .before .before .before .before .before .get-node .ensures .0) (c .before .before .before .before .before .before .before .before .before .before .before .before .before .before .before .before .before .before .before .before .before .get-node .ensures .1) (c .before .before .before .before .before .before .before .before .before .before .before .before .before .before .before .before .before .bring .ensures)) .gives)) (found-there (c .before .before .before .before .before .before .before .before .before .before .before .before .before .before .if1 .left) ((bring-gives (omega (arith, (c .before .before .before .before .before .before .before .before .before .before .before .before .before .before .before .before .before .before .before .before .before .before .before .before .before .before .pre .1) .base)) (c .before .before .before .before .before .before .before .before .before .before .before .before .before .before .before .before .before .before .before .before .before .get-node .ensures .0) (c .before .before .before .before .before .before .before .before .before .before .before .before .before .before .before .before .before .before .before .before .before .get-node .ensures .1) (c .before .before .before .before .before .before .before .before .before .before .before .before .before .before .before .before .before .bring .ensures)) .exact) (c .before .before .before .before .before .before .before .before .before .before .before .before .before .len-of .ensures) (c .before .before .before .before .before .before .before .before .before .before .before .before .steps-of .ensures)) ((c .before .before .before .before .before .before .before .before .before .before .before .before .before .before .before .before .before .before .before .before .before .before .before .before .before .before .pre .1) .known .1 .1 .inside)) .long, (bring-gives (omega (arith, (c .before .before .before .before .before .before .before .before .before .before .before .before .before .before .before .before .before .before .before .before .before .before .before .before .before .before .pre .1) .base)) (c .before .before .before .before .before .before .before .before .get-node2 .ensures .0) (c .before .before .before .before .before .before .before .before .get-node2 .ensures .1) (c .before .before .before .before .bring2 .ensures)) .gives .kept .long)
+get-front-slice-read-unfit t c = let thez1 = ((bring-gives (omega (arith, (c .before .before .before .before .before .before .before .before .before .before .before .before .before .before .before .before .before .before .before .before .before .before .before .before .before .before .pre .1) .base)) (c .before .before .before .before .before .before .before .before .before .before .before .before .before .before .before .before .before .before .before .before .before .get-node .ensures .0) (c .before .before .before .before .before .before .before .before .before .before .before .before .before .before .before .before .before .before .before .before .before .get-node .ensures .1) (c .before .before .before .before .before .before .before .before .before .before .before .before .before .before .before .before .before .bring .ensures)) .sized .at (found-there (c .before .before .before .before .before .before .before .before .before .before .before .before .before .before .if1 .left) ((bring-gives (omega (arith, (c .before .before .before .before .before .before .before .before .before .before .before .before .before .before .before .before .before .before .before .before .before .before .before .before .before .before .pre .1) .base)) (c .before .before .before .before .before .before .before .before .before .before .before .before .before .before .before .before .before .before .before .before .before .get-node .ensures .0) (c .before .before .before .before .before .before .before .before .before .before .before .before .before .before .before .before .before .before .before .before .before .get-node .ensures .1) (c .before .before .before .before .before .before .before .before .before .before .before .before .before .before .before .before .before .bring .ensures)) .exact) (c .before .before .before .before .before .before .before .before .before .before .before .before .before .len-of .ensures) (c .before .before .before .before .before .before .before .before .before .before .before .before .steps-of .ensures))) in omega (arith, (c .before .before .before .before .before .before .before .before .before .before .before .before .before .before .before .before .before .before .before .before .before .before .before .before .before .before .pre .1) .room, thez1 .short, thez1 .deep, (two-ready₂ (c .before .before .before .before .before .before .before .before .before .before .before .before .before .before .before .before .before .before .before .before .before .before .before .before .before .before .pre .1) (marked 3 (c .before .before .before .before .before .before .before .before .before .before .before .before .before .before .before .before .before .before .before .before .before .before .before .before .before .before .args .at .top) (c .before .before .before .before .before .before .before .before .before .before .before .before .before .before .before .before .before .before .before .before .before .before .before .before .before .before .args .arena .now) (omega (arith, (c .before .before .before .before .before .before .before .before .before .before .before .before .before .before .before .before .before .before .before .before .before .before .before .before .before .before .pre .1) .long, (c .before .before .before .before .before .before .before .before .before .before .before .before .before .before .before .before .before .before .before .before .before .before .before .before .before .before .pre .1) .room))) ((c .before .before .before .before .before .before .before .before .before .before .before .before .before .before .before .before .before .before .before .before .before .before .before .before .before .before .pre .1) .known .1 .0 .inside) (as-node (c .before .before .before .before .before .before .before .before .before .before .before .before .before .before .before .before .before .before .before .before .before .before .before .number-of .ensures) ((bring-gives (omega (arith, (c .before .before .before .before .before .before .before .before .before .before .before .before .before .before .before .before .before .before .before .before .before .before .before .before .before .before .pre .1) .base)) (c .before .before .before .before .before .before .before .before .before .before .before .before .before .before .before .before .before .before .before .before .before .get-node .ensures .0) (c .before .before .before .before .before .before .before .before .before .before .before .before .before .before .before .before .before .before .before .before .before .get-node .ensures .1) (c .before .before .before .before .before .before .before .before .before .before .before .before .before .before .before .before .before .bring .ensures)) .gives)) (found-there (c .before .before .before .before .before .before .before .before .before .before .before .before .before .before .if1 .left) ((bring-gives (omega (arith, (c .before .before .before .before .before .before .before .before .before .before .before .before .before .before .before .before .before .before .before .before .before .before .before .before .before .before .pre .1) .base)) (c .before .before .before .before .before .before .before .before .before .before .before .before .before .before .before .before .before .before .before .before .before .get-node .ensures .0) (c .before .before .before .before .before .before .before .before .before .before .before .before .before .before .before .before .before .before .before .before .before .get-node .ensures .1) (c .before .before .before .before .before .before .before .before .before .before .before .before .before .before .before .before .before .bring .ensures)) .exact) (c .before .before .before .before .before .before .before .before .before .before .before .before .before .len-of .ensures) (c .before .before .before .before .before .before .before .before .before .before .before .before .steps-of .ensures)) ((c .before .before .before .before .before .before .before .before .before .before .before .before .before .before .before .before .before .before .before .before .before .before .before .before .before .before .pre .1) .known .1 .1 .0 .inside)) .long, (bring-gives (omega (arith, (c .before .before .before .before .before .before .before .before .before .before .before .before .before .before .before .before .before .before .before .before .before .before .before .before .before .before .pre .1) .base)) (c .before .before .before .before .before .before .before .before .get-node2 .ensures .0) (c .before .before .before .before .before .before .before .before .get-node2 .ensures .1) (c .before .before .before .before .bring2 .ensures)) .gives .kept .long)
 
 get-front-unfit-requires : (t : ℕ) → get-front-lts.Need-unfit-requires (get-front-claims t) (get-front-at t) get-front.Post
 get-front-unfit-requires t c κs = search needs
@@ -437,7 +437,7 @@ get-list-case-number-of-requires : (t : ℕ) → get-list-case-lts.Need-number-o
 get-list-case-number-of-requires t c κs = search needs
 
 get-list-case-get-node-requires : (t : ℕ) → get-list-case-lts.Need-get-node-requires (get-list-case-claims t) (get-list-case-at t) get-list-case.Post
-get-list-case-get-node-requires t c κs = (omega (arith, c .before .before .before .before .pre .0), subject-ready (c .before .before .before .before .pre .1) (omega (arith, c .before .number-of .ensures, ((c .before .before .before .before .pre .1) .known .1 .subject .inside))))
+get-list-case-get-node-requires t c κs = (omega (arith, c .before .before .before .before .pre .0), subject-ready (c .before .before .before .before .pre .1) (omega (arith, c .before .number-of .ensures, ((c .before .before .before .before .pre .1) .known .1 .0 .inside))))
 
 get-list-case-returns : (t : ℕ) → get-list-case-lts.Need-returns (get-list-case-claims t) (get-list-case-at t) get-list-case.Post
 get-list-case-returns t c = as-found (found-refused (c .if1 .taken)) (list-refused (as-node (c .before .before .before .before .before .number-of .ensures) (c .before .before .before .get-node .ensures .0)) (found-refused (c .if1 .taken)))
@@ -488,7 +488,7 @@ get-list-case-byte-of-requires : (t : ℕ) → get-list-case-lts.Need-byte-of-re
 get-list-case-byte-of-requires t c κs = search needs
 
 get-list-case-get-node-requires-2 : (t : ℕ) → get-list-case-lts.Need-get-node-requires-2 (get-list-case-claims t) (get-list-case-at t) get-list-case.Post
-get-list-case-get-node-requires-2 t c κs = (omega (arith, c .before .before .before .before .before .before .before .before .before .before .before .before .before .before .before .before .before .before .before .before .before .pre .0), case-ready (as-node (c .before .before .before .before .before .before .before .before .before .before .before .before .before .before .before .before .before .before .number-of .ensures) (c .before .before .before .before .before .before .before .before .before .before .before .before .before .before .before .before .get-node .ensures .0)) (found-as (c .before .before .before .before .before .before .before .before .before .before .before .before .before .if1 .left) (c .before .before .before .before .before .before .before .before .before .before .before .before .start-of .ensures) (c .before .before .before .before .before .before .before .before .before .before .before .len-of .ensures) (c .before .before .before .before .before .before .before .before .before .before .steps-of .ensures)) (c .before .before .before .before .before .shape-of .ensures) (c .before .before .before .before .before .before .before .before .above .ensures) (c .before .before .before .before .before .before .before .before .before .before .before .before .before .before .before .before .before .before .before .before .before .pre .1) ((c .before .before .before .before .before .before .before .before .before .before .before .before .before .before .before .before .before .before .before .before .before .pre .1) .known .1 .subject .inside) (omega (arith, c .before .before .number-of2 .ensures, (c .before .before .before .before .before .before .before .before .before .before .before .before .before .before .before .before .before .before .before .before .before .pre .1) .known .1 .empty .inside)))
+get-list-case-get-node-requires-2 t c κs = (omega (arith, c .before .before .before .before .before .before .before .before .before .before .before .before .before .before .before .before .before .before .before .before .before .pre .0), case-ready (as-node (c .before .before .before .before .before .before .before .before .before .before .before .before .before .before .before .before .before .before .number-of .ensures) (c .before .before .before .before .before .before .before .before .before .before .before .before .before .before .before .before .get-node .ensures .0)) (found-as (c .before .before .before .before .before .before .before .before .before .before .before .before .before .if1 .left) (c .before .before .before .before .before .before .before .before .before .before .before .before .start-of .ensures) (c .before .before .before .before .before .before .before .before .before .before .before .len-of .ensures) (c .before .before .before .before .before .before .before .before .before .before .steps-of .ensures)) (c .before .before .before .before .before .shape-of .ensures) (c .before .before .before .before .before .before .before .before .above .ensures) (c .before .before .before .before .before .before .before .before .before .before .before .before .before .before .before .before .before .before .before .before .before .pre .1) ((c .before .before .before .before .before .before .before .before .before .before .before .before .before .before .before .before .before .before .before .before .before .pre .1) .known .1 .0 .inside) (omega (arith, c .before .before .number-of2 .ensures, (c .before .before .before .before .before .before .before .before .before .before .before .before .before .before .before .before .before .before .before .before .before .pre .1) .known .1 .1 .0 .inside)))
 
 get-list-case-judge-branch-requires : (t : ℕ) → get-list-case-lts.Need-judge-branch-requires (get-list-case-claims t) (get-list-case-at t) get-list-case.Post
 get-list-case-judge-branch-requires t c κs = let z = c .before .before .before .before .before .before .before .before .before .before .before .before .before .before .before .before .before .before .before .before .get-node .ensures .1 .at (found-as (c .before .before .before .before .before .before .before .before .before .before .before .before .before .before .before .before .before .if1 .left) (c .before .before .before .before .before .before .before .before .before .before .before .before .before .before .before .before .start-of .ensures) (c .before .before .before .before .before .before .before .before .before .before .before .before .before .before .before .len-of .ensures) (c .before .before .before .before .before .before .before .before .before .before .before .before .before .before .steps-of .ensures)) in λ h. judgeable (c .before .before .before .get-node2 .ensures .1) (omega (arith, c .before .before .before .get-node2 .ensures .0 .kept .long, c .before .before .before .before .before .before .before .before .before .before .before .before .before .before .before .before .before .before .before .before .get-node .ensures .0 .kept .long, (c .before .before .before .before .before .before .before .before .before .before .before .before .before .before .before .before .before .before .before .before .before .before .before .before .before .pre .1) .long)) (omega (arith, (c .before .before .before .before .before .before .before .before .before .before .before .before .before .before .before .before .before .before .before .before .before .before .before .before .before .pre .1) .room, z .short, (c .before .before .before .before .before .before .before .before .before .before .before .before .above .ensures) .near)) (omega (arith, (c .before .before .before .before .before .before .before .before .before .before .before .before .before .before .before .before .before .before .before .before .before .before .before .before .before .pre .1) .few, z .steps)) h
@@ -506,25 +506,25 @@ get-list-case-add-add-two : (t : ℕ) → get-list-case-lts.Need-add-add-two (ge
 get-list-case-add-add-two t c = record { fits = omega (arith, (c .before .before .before .before .before .before .before .before .before .before .before .before .before .before .before .before .before .before .before .before .before .before .before .before .pre .1) .room, (c .before .before .before .before .before .before .before .before .before .before .before .before .before .before .before .before .before .before .before .get-node .ensures .1 .at (found-as (c .before .before .before .before .before .before .before .before .before .before .before .before .before .before .before .before .if1 .left) (c .before .before .before .before .before .before .before .before .before .before .before .before .before .before .before .start-of .ensures) (c .before .before .before .before .before .before .before .before .before .before .before .before .before .before .len-of .ensures) (c .before .before .before .before .before .before .before .before .before .before .before .before .before .steps-of .ensures))) .low) }
 
 get-list-case-add-add-two-2 : (t : ℕ) → get-list-case-lts.Need-add-add-two-2 (get-list-case-claims t) (get-list-case-at t) get-list-case.Post
-get-list-case-add-add-two-2 t c = let thez = (c .before .before .before .before .before .before .before .before .before .before .before .before .before .before .before .before .before .before .before .get-node .ensures .1 .at (found-as (c .before .before .before .before .before .before .before .before .before .before .before .before .before .before .before .before .if1 .left) (c .before .before .before .before .before .before .before .before .before .before .before .before .before .before .before .start-of .ensures) (c .before .before .before .before .before .before .before .before .before .before .before .before .before .before .len-of .ensures) (c .before .before .before .before .before .before .before .before .before .before .before .before .before .steps-of .ensures))) in record { fits = omega (arith, (c .before .before .before .before .before .before .before .before .before .before .before .before .before .before .before .before .before .before .before .before .before .before .before .before .pre .1) .room, thez .low, thez .short, (front-mid (as-node (c .before .before .before .before .before .before .before .before .before .before .before .before .before .before .before .before .before .before .before .before .before .number-of .ensures) (c .before .before .before .before .before .before .before .before .before .before .before .before .before .before .before .before .before .before .before .get-node .ensures .0)) (found-as (c .before .before .before .before .before .before .before .before .before .before .before .before .before .before .before .before .if1 .left) (c .before .before .before .before .before .before .before .before .before .before .before .before .before .before .before .start-of .ensures) (c .before .before .before .before .before .before .before .before .before .before .before .before .before .before .len-of .ensures) (c .before .before .before .before .before .before .before .before .before .before .before .before .before .steps-of .ensures)) (c .before .before .before .before .before .before .before .before .shape-of .ensures) (c .before .before .before .before .before .before .mid .given .1) (c .before .before .before .before .before .before .before .before .before .before .before .above .ensures) (subject-ready (c .before .before .before .before .before .before .before .before .before .before .before .before .before .before .before .before .before .before .before .before .before .before .before .before .pre .1) ((c .before .before .before .before .before .before .before .before .before .before .before .before .before .before .before .before .before .before .before .before .before .before .before .before .pre .1) .known .1 .subject .inside)))) }
+get-list-case-add-add-two-2 t c = let thez = (c .before .before .before .before .before .before .before .before .before .before .before .before .before .before .before .before .before .before .before .get-node .ensures .1 .at (found-as (c .before .before .before .before .before .before .before .before .before .before .before .before .before .before .before .before .if1 .left) (c .before .before .before .before .before .before .before .before .before .before .before .before .before .before .before .start-of .ensures) (c .before .before .before .before .before .before .before .before .before .before .before .before .before .before .len-of .ensures) (c .before .before .before .before .before .before .before .before .before .before .before .before .before .steps-of .ensures))) in record { fits = omega (arith, (c .before .before .before .before .before .before .before .before .before .before .before .before .before .before .before .before .before .before .before .before .before .before .before .before .pre .1) .room, thez .low, thez .short, (front-mid (as-node (c .before .before .before .before .before .before .before .before .before .before .before .before .before .before .before .before .before .before .before .before .before .number-of .ensures) (c .before .before .before .before .before .before .before .before .before .before .before .before .before .before .before .before .before .before .before .get-node .ensures .0)) (found-as (c .before .before .before .before .before .before .before .before .before .before .before .before .before .before .before .before .if1 .left) (c .before .before .before .before .before .before .before .before .before .before .before .before .before .before .before .start-of .ensures) (c .before .before .before .before .before .before .before .before .before .before .before .before .before .before .len-of .ensures) (c .before .before .before .before .before .before .before .before .before .before .before .before .before .steps-of .ensures)) (c .before .before .before .before .before .before .before .before .shape-of .ensures) (c .before .before .before .before .before .before .mid .given .1) (c .before .before .before .before .before .before .before .before .before .before .before .above .ensures) (subject-ready (c .before .before .before .before .before .before .before .before .before .before .before .before .before .before .before .before .before .before .before .before .before .before .before .before .pre .1) ((c .before .before .before .before .before .before .before .before .before .before .before .before .before .before .before .before .before .before .before .before .before .before .before .before .pre .1) .known .1 .0 .inside)))) }
 
 get-list-case-add-two-requires : (t : ℕ) → get-list-case-lts.Need-add-two-requires (get-list-case-claims t) (get-list-case-at t) get-list-case.Post
-get-list-case-add-two-requires t c κs = let thez = (c .before .before .before .before .before .before .before .before .before .before .before .before .before .before .before .before .before .before .before .get-node .ensures .1 .at (found-as (c .before .before .before .before .before .before .before .before .before .before .before .before .before .before .before .before .if1 .left) (c .before .before .before .before .before .before .before .before .before .before .before .before .before .before .before .start-of .ensures) (c .before .before .before .before .before .before .before .before .before .before .before .before .before .before .len-of .ensures) (c .before .before .before .before .before .before .before .before .before .before .before .before .before .steps-of .ensures))) in (omega (arith, (c .before .before .before .before .before .before .before .before .before .before .before .before .before .before .before .before .before .before .before .before .before .before .before .before .pre .1) .slots, thez .deep), omega (arith, (c .before .before .before .before .before .before .before .before .before .before .before .before .before .before .before .before .before .before .before .before .before .before .before .before .pre .1) .room, thez .low), omega (arith, (c .before .before .before .before .before .before .before .before .before .before .before .before .before .before .before .before .before .before .before .before .before .before .before .before .pre .1) .room, thez .low, thez .short, (front-mid (as-node (c .before .before .before .before .before .before .before .before .before .before .before .before .before .before .before .before .before .before .before .before .before .number-of .ensures) (c .before .before .before .before .before .before .before .before .before .before .before .before .before .before .before .before .before .before .before .get-node .ensures .0)) (found-as (c .before .before .before .before .before .before .before .before .before .before .before .before .before .before .before .before .if1 .left) (c .before .before .before .before .before .before .before .before .before .before .before .before .before .before .before .start-of .ensures) (c .before .before .before .before .before .before .before .before .before .before .before .before .before .before .len-of .ensures) (c .before .before .before .before .before .before .before .before .before .before .before .before .before .steps-of .ensures)) (c .before .before .before .before .before .before .before .before .shape-of .ensures) (c .before .before .before .before .before .before .mid .given .1) (c .before .before .before .before .before .before .before .before .before .before .before .above .ensures) (subject-ready (c .before .before .before .before .before .before .before .before .before .before .before .before .before .before .before .before .before .before .before .before .before .before .before .before .pre .1) ((c .before .before .before .before .before .before .before .before .before .before .before .before .before .before .before .before .before .before .before .before .before .before .before .before .pre .1) .known .1 .subject .inside)))))
+get-list-case-add-two-requires t c κs = let thez = (c .before .before .before .before .before .before .before .before .before .before .before .before .before .before .before .before .before .before .before .get-node .ensures .1 .at (found-as (c .before .before .before .before .before .before .before .before .before .before .before .before .before .before .before .before .if1 .left) (c .before .before .before .before .before .before .before .before .before .before .before .before .before .before .before .start-of .ensures) (c .before .before .before .before .before .before .before .before .before .before .before .before .before .before .len-of .ensures) (c .before .before .before .before .before .before .before .before .before .before .before .before .before .steps-of .ensures))) in (omega (arith, (c .before .before .before .before .before .before .before .before .before .before .before .before .before .before .before .before .before .before .before .before .before .before .before .before .pre .1) .slots, thez .deep), omega (arith, (c .before .before .before .before .before .before .before .before .before .before .before .before .before .before .before .before .before .before .before .before .before .before .before .before .pre .1) .room, thez .low), omega (arith, (c .before .before .before .before .before .before .before .before .before .before .before .before .before .before .before .before .before .before .before .before .before .before .before .before .pre .1) .room, thez .low, thez .short, (front-mid (as-node (c .before .before .before .before .before .before .before .before .before .before .before .before .before .before .before .before .before .before .before .before .before .number-of .ensures) (c .before .before .before .before .before .before .before .before .before .before .before .before .before .before .before .before .before .before .before .get-node .ensures .0)) (found-as (c .before .before .before .before .before .before .before .before .before .before .before .before .before .before .before .before .if1 .left) (c .before .before .before .before .before .before .before .before .before .before .before .before .before .before .before .start-of .ensures) (c .before .before .before .before .before .before .before .before .before .before .before .before .before .before .len-of .ensures) (c .before .before .before .before .before .before .before .before .before .before .before .before .before .steps-of .ensures)) (c .before .before .before .before .before .before .before .before .shape-of .ensures) (c .before .before .before .before .before .before .mid .given .1) (c .before .before .before .before .before .before .before .before .before .before .before .above .ensures) (subject-ready (c .before .before .before .before .before .before .before .before .before .before .before .before .before .before .before .before .before .before .before .before .before .before .before .before .pre .1) ((c .before .before .before .before .before .before .before .before .before .before .before .before .before .before .before .before .before .before .before .before .before .before .before .before .pre .1) .known .1 .0 .inside)))))
 
 get-list-case-sub-add-two : (t : ℕ) → get-list-case-lts.Need-sub-add-two (get-list-case-claims t) (get-list-case-at t) get-list-case.Post
-get-list-case-sub-add-two t c = omega (arith, (front-mid (as-node (c .before .before .before .before .before .before .before .before .before .before .before .before .before .before .before .before .before .before .before .before .before .before .before .number-of .ensures) (c .before .before .before .before .before .before .before .before .before .before .before .before .before .before .before .before .before .before .before .before .before .get-node .ensures .0)) (found-as (c .before .before .before .before .before .before .before .before .before .before .before .before .before .before .before .before .before .before .if1 .left) (c .before .before .before .before .before .before .before .before .before .before .before .before .before .before .before .before .before .start-of .ensures) (c .before .before .before .before .before .before .before .before .before .before .before .before .before .before .before .before .len-of .ensures) (c .before .before .before .before .before .before .before .before .before .before .before .before .before .before .before .steps-of .ensures)) (c .before .before .before .before .before .before .before .before .before .before .shape-of .ensures) (c .before .before .before .before .before .before .before .before .mid .given .1) (c .before .before .before .before .before .before .before .before .before .before .before .before .before .above .ensures) (subject-ready (c .before .before .before .before .before .before .before .before .before .before .before .before .before .before .before .before .before .before .before .before .before .before .before .before .before .before .pre .1) ((c .before .before .before .before .before .before .before .before .before .before .before .before .before .before .before .before .before .before .before .before .before .before .before .before .before .before .pre .1) .known .1 .subject .inside))))
+get-list-case-sub-add-two t c = omega (arith, (front-mid (as-node (c .before .before .before .before .before .before .before .before .before .before .before .before .before .before .before .before .before .before .before .before .before .before .before .number-of .ensures) (c .before .before .before .before .before .before .before .before .before .before .before .before .before .before .before .before .before .before .before .before .before .get-node .ensures .0)) (found-as (c .before .before .before .before .before .before .before .before .before .before .before .before .before .before .before .before .before .before .if1 .left) (c .before .before .before .before .before .before .before .before .before .before .before .before .before .before .before .before .before .start-of .ensures) (c .before .before .before .before .before .before .before .before .before .before .before .before .before .before .before .before .len-of .ensures) (c .before .before .before .before .before .before .before .before .before .before .before .before .before .before .before .steps-of .ensures)) (c .before .before .before .before .before .before .before .before .before .before .shape-of .ensures) (c .before .before .before .before .before .before .before .before .mid .given .1) (c .before .before .before .before .before .before .before .before .before .before .before .before .before .above .ensures) (subject-ready (c .before .before .before .before .before .before .before .before .before .before .before .before .before .before .before .before .before .before .before .before .before .before .before .before .before .before .pre .1) ((c .before .before .before .before .before .before .before .before .before .before .before .before .before .before .before .before .before .before .before .before .before .before .before .before .before .before .pre .1) .known .1 .0 .inside))))
 
 get-list-case-sub-add-two-2 : (t : ℕ) → get-list-case-lts.Need-sub-add-two-2 (get-list-case-claims t) (get-list-case-at t) get-list-case.Post
-get-list-case-sub-add-two-2 t c = omega (arith, (front-mid (as-node (c .before .before .before .before .before .before .before .before .before .before .before .before .before .before .before .before .before .before .before .before .before .before .before .number-of .ensures) (c .before .before .before .before .before .before .before .before .before .before .before .before .before .before .before .before .before .before .before .before .before .get-node .ensures .0)) (found-as (c .before .before .before .before .before .before .before .before .before .before .before .before .before .before .before .before .before .before .if1 .left) (c .before .before .before .before .before .before .before .before .before .before .before .before .before .before .before .before .before .start-of .ensures) (c .before .before .before .before .before .before .before .before .before .before .before .before .before .before .before .before .len-of .ensures) (c .before .before .before .before .before .before .before .before .before .before .before .before .before .before .before .steps-of .ensures)) (c .before .before .before .before .before .before .before .before .before .before .shape-of .ensures) (c .before .before .before .before .before .before .before .before .mid .given .1) (c .before .before .before .before .before .before .before .before .before .before .before .before .before .above .ensures) (subject-ready (c .before .before .before .before .before .before .before .before .before .before .before .before .before .before .before .before .before .before .before .before .before .before .before .before .before .before .pre .1) ((c .before .before .before .before .before .before .before .before .before .before .before .before .before .before .before .before .before .before .before .before .before .before .before .before .before .before .pre .1) .known .1 .subject .inside))))
+get-list-case-sub-add-two-2 t c = omega (arith, (front-mid (as-node (c .before .before .before .before .before .before .before .before .before .before .before .before .before .before .before .before .before .before .before .before .before .before .before .number-of .ensures) (c .before .before .before .before .before .before .before .before .before .before .before .before .before .before .before .before .before .before .before .before .before .get-node .ensures .0)) (found-as (c .before .before .before .before .before .before .before .before .before .before .before .before .before .before .before .before .before .before .if1 .left) (c .before .before .before .before .before .before .before .before .before .before .before .before .before .before .before .before .before .start-of .ensures) (c .before .before .before .before .before .before .before .before .before .before .before .before .before .before .before .before .len-of .ensures) (c .before .before .before .before .before .before .before .before .before .before .before .before .before .before .before .steps-of .ensures)) (c .before .before .before .before .before .before .before .before .before .before .shape-of .ensures) (c .before .before .before .before .before .before .before .before .mid .given .1) (c .before .before .before .before .before .before .before .before .before .before .before .before .before .above .ensures) (subject-ready (c .before .before .before .before .before .before .before .before .before .before .before .before .before .before .before .before .before .before .before .before .before .before .before .before .before .before .pre .1) ((c .before .before .before .before .before .before .before .before .before .before .before .before .before .before .before .before .before .before .before .before .before .before .before .before .before .before .pre .1) .known .1 .0 .inside))))
 
 get-list-case-add-two-requires-2 : (t : ℕ) → get-list-case-lts.Need-add-two-requires-2 (get-list-case-claims t) (get-list-case-at t) get-list-case.Post
-get-list-case-add-two-requires-2 t c κs = let thez = (c .before .before .before .before .before .before .before .before .before .before .before .before .before .before .before .before .before .before .before .before .before .get-node .ensures .1 .at (found-as (c .before .before .before .before .before .before .before .before .before .before .before .before .before .before .before .before .before .before .if1 .left) (c .before .before .before .before .before .before .before .before .before .before .before .before .before .before .before .before .before .start-of .ensures) (c .before .before .before .before .before .before .before .before .before .before .before .before .before .before .before .before .len-of .ensures) (c .before .before .before .before .before .before .before .before .before .before .before .before .before .before .before .steps-of .ensures))) in (omega (arith, (c .before .before .before .before .before .before .before .before .before .before .before .before .before .before .before .before .before .before .before .before .before .before .before .before .before .before .pre .1) .slots, thez .deep), omega (arith, thez .short, (front-mid (as-node (c .before .before .before .before .before .before .before .before .before .before .before .before .before .before .before .before .before .before .before .before .before .before .before .number-of .ensures) (c .before .before .before .before .before .before .before .before .before .before .before .before .before .before .before .before .before .before .before .before .before .get-node .ensures .0)) (found-as (c .before .before .before .before .before .before .before .before .before .before .before .before .before .before .before .before .before .before .if1 .left) (c .before .before .before .before .before .before .before .before .before .before .before .before .before .before .before .before .before .start-of .ensures) (c .before .before .before .before .before .before .before .before .before .before .before .before .before .before .before .before .len-of .ensures) (c .before .before .before .before .before .before .before .before .before .before .before .before .before .before .before .steps-of .ensures)) (c .before .before .before .before .before .before .before .before .before .before .shape-of .ensures) (c .before .before .before .before .before .before .before .before .mid .given .1) (c .before .before .before .before .before .before .before .before .before .before .before .before .before .above .ensures) (subject-ready (c .before .before .before .before .before .before .before .before .before .before .before .before .before .before .before .before .before .before .before .before .before .before .before .before .before .before .pre .1) ((c .before .before .before .before .before .before .before .before .before .before .before .before .before .before .before .before .before .before .before .before .before .before .before .before .before .before .pre .1) .known .1 .subject .inside)))), omega (arith, thez .short))
+get-list-case-add-two-requires-2 t c κs = let thez = (c .before .before .before .before .before .before .before .before .before .before .before .before .before .before .before .before .before .before .before .before .before .get-node .ensures .1 .at (found-as (c .before .before .before .before .before .before .before .before .before .before .before .before .before .before .before .before .before .before .if1 .left) (c .before .before .before .before .before .before .before .before .before .before .before .before .before .before .before .before .before .start-of .ensures) (c .before .before .before .before .before .before .before .before .before .before .before .before .before .before .before .before .len-of .ensures) (c .before .before .before .before .before .before .before .before .before .before .before .before .before .before .before .steps-of .ensures))) in (omega (arith, (c .before .before .before .before .before .before .before .before .before .before .before .before .before .before .before .before .before .before .before .before .before .before .before .before .before .before .pre .1) .slots, thez .deep), omega (arith, thez .short, (front-mid (as-node (c .before .before .before .before .before .before .before .before .before .before .before .before .before .before .before .before .before .before .before .before .before .before .before .number-of .ensures) (c .before .before .before .before .before .before .before .before .before .before .before .before .before .before .before .before .before .before .before .before .before .get-node .ensures .0)) (found-as (c .before .before .before .before .before .before .before .before .before .before .before .before .before .before .before .before .before .before .if1 .left) (c .before .before .before .before .before .before .before .before .before .before .before .before .before .before .before .before .before .start-of .ensures) (c .before .before .before .before .before .before .before .before .before .before .before .before .before .before .before .before .len-of .ensures) (c .before .before .before .before .before .before .before .before .before .before .before .before .before .before .before .steps-of .ensures)) (c .before .before .before .before .before .before .before .before .before .before .shape-of .ensures) (c .before .before .before .before .before .before .before .before .mid .given .1) (c .before .before .before .before .before .before .before .before .before .before .before .before .before .above .ensures) (subject-ready (c .before .before .before .before .before .before .before .before .before .before .before .before .before .before .before .before .before .before .before .before .before .before .before .before .before .before .pre .1) ((c .before .before .before .before .before .before .before .before .before .before .before .before .before .before .before .before .before .before .before .before .before .before .before .before .before .before .pre .1) .known .1 .0 .inside)))), omega (arith, thez .short))
 
 get-list-case-add-to : (t : ℕ) → get-list-case-lts.Need-add-to (get-list-case-claims t) (get-list-case-at t) get-list-case.Post
 get-list-case-add-to t c = record { fits = omega (arith, (c .before .before .before .before .before .before .before .before .before .before .before .before .before .before .before .before .before .before .before .before .before .before .before .before .before .before .before .pre .1) .slots) }
 
 get-list-case-get-node-requires-3 : (t : ℕ) → get-list-case-lts.Need-get-node-requires-3 (get-list-case-claims t) (get-list-case-at t) get-list-case.Post
-get-list-case-get-node-requires-3 t c κs = (omega (arith, c .before .before .before .before .before .before .before .before .before .before .before .before .before .before .before .before .before .before .before .before .before .before .before .before .before .before .before .before .before .before .pre .0), front-ready (as-node (c .before .before .before .before .before .before .before .before .before .before .before .before .before .before .before .before .before .before .before .before .before .before .before .before .before .before .before .number-of .ensures) (c .before .before .before .before .before .before .before .before .before .before .before .before .before .before .before .before .before .before .before .before .before .before .before .before .before .get-node .ensures .0)) (found-as (c .before .before .before .before .before .before .before .before .before .before .before .before .before .before .before .before .before .before .before .before .before .before .if1 .left) (c .before .before .before .before .before .before .before .before .before .before .before .before .before .before .before .before .before .before .before .before .before .start-of .ensures) (c .before .before .before .before .before .before .before .before .before .before .before .before .before .before .before .before .before .before .before .before .len-of .ensures) (c .before .before .before .before .before .before .before .before .before .before .before .before .before .before .before .before .before .before .before .steps-of .ensures)) (c .before .before .before .before .before .before .before .before .before .before .before .before .before .before .shape-of .ensures) (c .before .before .before .before .before .before .before .before .before .before .before .before .mid .given .1) (c .before .before .before .before .before .before .before .before .before .before .before .before .before .before .before .before .before .above .ensures) (two-pushed (c .before .before .before .before .before .before .before .before .before .before .before .before .before .before .before .before .before .before .before .before .before .before .before .before .before .before .before .before .before .before .args .at .count) _ _ _ _ (c .before .before .before .before .before .before .before .before .before .before .before .before .before .before .before .before .before .before .before .before .before .before .before .before .before .before .before .before .before .before .args .starts .now) (c .before .before .before .before .before .before .before .before .before .before .before .before .before .before .before .before .before .before .before .before .before .before .before .before .before .before .before .before .before .before .args .lens .now) (c .before .before .before .before .before .add-two .ensures) (c .before .before .before .add-two2 .ensures)) (c .before .before .before .before .before .before .before .before .before .before .before .before .before .before .before .before .before .before .before .before .before .before .before .before .before .before .before .before .before .before .pre .1) ((c .before .before .before .before .before .before .before .before .before .before .before .before .before .before .before .before .before .before .before .before .before .before .before .before .before .before .before .before .before .before .pre .1) .known .1 .subject .inside) (omega (arith, c .before .before .before .before .before .before .before .before .before .before .number-of3 .ensures, (c .before .before .before .before .before .before .before .before .before .before .before .before .before .before .before .before .before .before .before .before .before .before .before .before .before .before .before .before .before .before .pre .1) .known .1 .front .inside)))
+get-list-case-get-node-requires-3 t c κs = (omega (arith, c .before .before .before .before .before .before .before .before .before .before .before .before .before .before .before .before .before .before .before .before .before .before .before .before .before .before .before .before .before .before .pre .0), front-ready (as-node (c .before .before .before .before .before .before .before .before .before .before .before .before .before .before .before .before .before .before .before .before .before .before .before .before .before .before .before .number-of .ensures) (c .before .before .before .before .before .before .before .before .before .before .before .before .before .before .before .before .before .before .before .before .before .before .before .before .before .get-node .ensures .0)) (found-as (c .before .before .before .before .before .before .before .before .before .before .before .before .before .before .before .before .before .before .before .before .before .before .if1 .left) (c .before .before .before .before .before .before .before .before .before .before .before .before .before .before .before .before .before .before .before .before .before .start-of .ensures) (c .before .before .before .before .before .before .before .before .before .before .before .before .before .before .before .before .before .before .before .before .len-of .ensures) (c .before .before .before .before .before .before .before .before .before .before .before .before .before .before .before .before .before .before .before .steps-of .ensures)) (c .before .before .before .before .before .before .before .before .before .before .before .before .before .before .shape-of .ensures) (c .before .before .before .before .before .before .before .before .before .before .before .before .mid .given .1) (c .before .before .before .before .before .before .before .before .before .before .before .before .before .before .before .before .before .above .ensures) (two-pushed (c .before .before .before .before .before .before .before .before .before .before .before .before .before .before .before .before .before .before .before .before .before .before .before .before .before .before .before .before .before .before .args .at .count) _ _ _ _ (c .before .before .before .before .before .before .before .before .before .before .before .before .before .before .before .before .before .before .before .before .before .before .before .before .before .before .before .before .before .before .args .starts .now) (c .before .before .before .before .before .before .before .before .before .before .before .before .before .before .before .before .before .before .before .before .before .before .before .before .before .before .before .before .before .before .args .lens .now) (c .before .before .before .before .before .add-two .ensures) (c .before .before .before .add-two2 .ensures)) (c .before .before .before .before .before .before .before .before .before .before .before .before .before .before .before .before .before .before .before .before .before .before .before .before .before .before .before .before .before .before .pre .1) ((c .before .before .before .before .before .before .before .before .before .before .before .before .before .before .before .before .before .before .before .before .before .before .before .before .before .before .before .before .before .before .pre .1) .known .1 .0 .inside) (omega (arith, c .before .before .before .before .before .before .before .before .before .before .number-of3 .ensures, (c .before .before .before .before .before .before .before .before .before .before .before .before .before .before .before .before .before .before .before .before .before .before .before .before .before .before .before .before .before .before .pre .1) .known .1 .1 .1 .1 .0 .inside)))
 
 get-list-case-judge-branch-requires-2 : (t : ℕ) → get-list-case-lts.Need-judge-branch-requires-2 (get-list-case-claims t) (get-list-case-at t) get-list-case.Post
 get-list-case-judge-branch-requires-2 t c κs = let z = c .before .before .before .before .before .before .before .before .before .before .before .before .before .before .before .before .before .before .before .before .before .before .before .before .before .before .before .before .before .get-node .ensures .1 .at (found-as (c .before .before .before .before .before .before .before .before .before .before .before .before .before .before .before .before .before .before .before .before .before .before .before .before .before .before .if1 .left) (c .before .before .before .before .before .before .before .before .before .before .before .before .before .before .before .before .before .before .before .before .before .before .before .before .before .start-of .ensures) (c .before .before .before .before .before .before .before .before .before .before .before .before .before .before .before .before .before .before .before .before .before .before .before .before .len-of .ensures) (c .before .before .before .before .before .before .before .before .before .before .before .before .before .before .before .before .before .before .before .before .before .before .before .steps-of .ensures)) in λ h. judgeable (c .before .before .before .get-node3 .ensures .1) (omega (arith, c .before .before .before .get-node3 .ensures .0 .kept .long, c .before .before .before .before .before .before .before .before .before .before .before .before .before .before .before .before .before .before .before .before .before .before .before .before .before .before .before .before .before .get-node .ensures .0 .kept .long, (c .before .before .before .before .before .before .before .before .before .before .before .before .before .before .before .before .before .before .before .before .before .before .before .before .before .before .before .before .before .before .before .before .before .before .pre .1) .long)) (omega (arith, (c .before .before .before .before .before .before .before .before .before .before .before .before .before .before .before .before .before .before .before .before .before .before .before .before .before .before .before .before .before .before .before .before .before .before .pre .1) .room, z .short, (c .before .before .before .before .before .before .before .before .before .before .before .before .before .before .before .before .before .before .before .before .before .above .ensures) .near)) (omega (arith, (c .before .before .before .before .before .before .before .before .before .before .before .before .before .before .before .before .before .before .before .before .before .before .before .before .before .before .before .before .before .before .before .before .before .before .pre .1) .few, z .steps)) h
@@ -626,7 +626,7 @@ get-node-same-length-3 : (t : ℕ) → get-node-lts.Need-same-length-3 (get-node
 get-node-same-length-3 t c = get-node-returns-5 t c .0 .kept .long
 
 get-node-returns-6 : (t : ℕ) → get-node-lts.Need-returns-6 (get-node-claims t) (get-node-at t) get-node.Post
-get-node-returns-6 t c = let thed = (entered _ _ (c .before .before .before .before .before .before .before .before .before .before .entry .ensures) (c .before .before .before .before .before .before .before .before .before .if1 .left)) in let g = enter-body (c .before .before .before .before .before .before .before .before .before .before .before .before .before .pre .1) (thed .0) (thed .1) (kind-number (lent-made ((c .before .before .before .before .before .before .before .before .before .before .before .before .before .pre .1) .lent) ((c .before .before .before .before .before .before .before .before .before .before .before .before .before .pre .1) .known)) (c .before .before .before .before .before .byte-of .ensures) (c .before .before .before .before .match .keys5)) (number-done ((c .before .before .before .before .before .before .before .before .before .before .before .before .before .pre .1) .base) (omega (arith, (c .before .before .before .before .before .before .before .before .before .before .before .before .before .pre .1) .long, (c .before .before .before .before .before .before .before .before .before .before .before .before .before .pre .1) .room, thed .0)) (enter-ready (c .before .before .before .before .before .before .before .before .before .before .before .before .before .pre .1) (thed .0) (thed .1) (kind-number (lent-made ((c .before .before .before .before .before .before .before .before .before .before .before .before .before .pre .1) .lent) ((c .before .before .before .before .before .before .before .before .before .before .before .before .before .pre .1) .known)) (c .before .before .before .before .before .byte-of .ensures) (c .before .before .before .before .match .keys5)) .known .1) (c .before .before .get-number .ensures .0) (packed-done (c .before .before .get-number .ensures .1) (omega (arith, (c .before .before .before .before .before .before .before .before .before .before .before .before .before .pre .1) .room, thed .0)) (omega arith) (omega arith))) in (g, sized (c .before .before .before .before .before .before .before .before .before .before .before .before .before .pre .1) g)
+get-node-returns-6 t c = let thed = (entered _ _ (c .before .before .before .before .before .before .before .before .before .before .entry .ensures) (c .before .before .before .before .before .before .before .before .before .if1 .left)) in let g = enter-body (c .before .before .before .before .before .before .before .before .before .before .before .before .before .pre .1) (thed .0) (thed .1) (kind-number (lent-made ((c .before .before .before .before .before .before .before .before .before .before .before .before .before .pre .1) .lent) ((c .before .before .before .before .before .before .before .before .before .before .before .before .before .pre .1) .known)) (c .before .before .before .before .before .byte-of .ensures) (c .before .before .before .before .match .keys5)) (number-done ((c .before .before .before .before .before .before .before .before .before .before .before .before .before .pre .1) .base) (omega (arith, (c .before .before .before .before .before .before .before .before .before .before .before .before .before .pre .1) .long, (c .before .before .before .before .before .before .before .before .before .before .before .before .before .pre .1) .room, thed .0)) (enter-ready (c .before .before .before .before .before .before .before .before .before .before .before .before .before .pre .1) (thed .0) (thed .1) (kind-number (lent-made ((c .before .before .before .before .before .before .before .before .before .before .before .before .before .pre .1) .lent) ((c .before .before .before .before .before .before .before .before .before .before .before .before .before .pre .1) .known)) (c .before .before .before .before .before .byte-of .ensures) (c .before .before .before .before .match .keys5)) .known .1 .0) (c .before .before .get-number .ensures .0) (packed-done (c .before .before .get-number .ensures .1) (omega (arith, (c .before .before .before .before .before .before .before .before .before .before .before .before .before .pre .1) .room, thed .0)) (omega arith) (omega arith))) in (g, sized (c .before .before .before .before .before .before .before .before .before .before .before .before .before .pre .1) g)
 
 get-node-same-length-4 : (t : ℕ) → get-node-lts.Need-same-length-4 (get-node-claims t) (get-node-at t) get-node.Post
 get-node-same-length-4 t c = get-node-returns-6 t c .0 .kept .long
@@ -713,7 +713,7 @@ get-pair-number-of-requires-2 : (t : ℕ) → get-pair-lts.Need-number-of-requir
 get-pair-number-of-requires-2 t c κs = search needs
 
 get-pair-get-node-requires-2 : (t : ℕ) → get-pair-lts.Need-get-node-requires-2 (get-pair-claims t) (get-pair-at t) get-pair.Post
-get-pair-get-node-requires-2 t c κs = (omega (arith, c .before .before .before .before .before .before .before .before .before .before .before .before .before .before .before .before .before .pre .0), two-ready₂ (c .before .before .before .before .before .before .before .before .before .before .before .before .before .before .before .before .before .pre .1) (marked 5 (c .before .before .before .before .before .before .before .before .before .before .before .before .before .before .before .before .before .args .at .top) (c .before .before .before .before .before .before .before .before .before .before .before .before .before .before .before .before .before .args .arena .now) (omega (arith, (c .before .before .before .before .before .before .before .before .before .before .before .before .before .before .before .before .before .pre .1) .long, (c .before .before .before .before .before .before .before .before .before .before .before .before .before .before .before .before .before .pre .1) .room))) ((c .before .before .before .before .before .before .before .before .before .before .before .before .before .before .before .before .before .pre .1) .known .1 .0 .inside) (as-node (c .before .before .before .before .before .before .before .before .before .before .before .before .before .before .number-of .ensures) ((bring-gives (omega (arith, (c .before .before .before .before .before .before .before .before .before .before .before .before .before .before .before .before .before .pre .1) .base)) (c .before .before .before .before .before .before .before .before .before .before .before .before .get-node .ensures .0) (c .before .before .before .before .before .before .before .before .before .before .before .before .get-node .ensures .1) (c .before .before .before .before .before .before .before .before .bring .ensures)) .gives)) (found-there (c .before .before .before .before .before .if1 .left) ((bring-gives (omega (arith, (c .before .before .before .before .before .before .before .before .before .before .before .before .before .before .before .before .before .pre .1) .base)) (c .before .before .before .before .before .before .before .before .before .before .before .before .get-node .ensures .0) (c .before .before .before .before .before .before .before .before .before .before .before .before .get-node .ensures .1) (c .before .before .before .before .before .before .before .before .bring .ensures)) .exact) (c .before .before .before .before .len-of .ensures) (c .before .before .before .steps-of .ensures)) (omega (arith, c .before .number-of2 .ensures, (c .before .before .before .before .before .before .before .before .before .before .before .before .before .before .before .before .before .pre .1) .known .1 .1 .inside)))
+get-pair-get-node-requires-2 t c κs = (omega (arith, c .before .before .before .before .before .before .before .before .before .before .before .before .before .before .before .before .before .pre .0), two-ready₂ (c .before .before .before .before .before .before .before .before .before .before .before .before .before .before .before .before .before .pre .1) (marked 5 (c .before .before .before .before .before .before .before .before .before .before .before .before .before .before .before .before .before .args .at .top) (c .before .before .before .before .before .before .before .before .before .before .before .before .before .before .before .before .before .args .arena .now) (omega (arith, (c .before .before .before .before .before .before .before .before .before .before .before .before .before .before .before .before .before .pre .1) .long, (c .before .before .before .before .before .before .before .before .before .before .before .before .before .before .before .before .before .pre .1) .room))) ((c .before .before .before .before .before .before .before .before .before .before .before .before .before .before .before .before .before .pre .1) .known .1 .0 .inside) (as-node (c .before .before .before .before .before .before .before .before .before .before .before .before .before .before .number-of .ensures) ((bring-gives (omega (arith, (c .before .before .before .before .before .before .before .before .before .before .before .before .before .before .before .before .before .pre .1) .base)) (c .before .before .before .before .before .before .before .before .before .before .before .before .get-node .ensures .0) (c .before .before .before .before .before .before .before .before .before .before .before .before .get-node .ensures .1) (c .before .before .before .before .before .before .before .before .bring .ensures)) .gives)) (found-there (c .before .before .before .before .before .if1 .left) ((bring-gives (omega (arith, (c .before .before .before .before .before .before .before .before .before .before .before .before .before .before .before .before .before .pre .1) .base)) (c .before .before .before .before .before .before .before .before .before .before .before .before .get-node .ensures .0) (c .before .before .before .before .before .before .before .before .before .before .before .before .get-node .ensures .1) (c .before .before .before .before .before .before .before .before .bring .ensures)) .exact) (c .before .before .before .before .len-of .ensures) (c .before .before .before .steps-of .ensures)) (omega (arith, c .before .number-of2 .ensures, (c .before .before .before .before .before .before .before .before .before .before .before .before .before .before .before .before .before .pre .1) .known .1 .1 .0 .inside)))
 
 get-pair-bring-requires-2 : (t : ℕ) → get-pair-lts.Need-bring-requires-2 (get-pair-claims t) (get-pair-at t) get-pair.Post
 get-pair-bring-requires-2 t c κs = λ h. movable (c .before .before .before .get-node2 .ensures .1) (omega (arith, c .before .before .before .get-node2 .ensures .0 .kept .long, (bring-gives (omega (arith, (c .before .before .before .before .before .before .before .before .before .before .before .before .before .before .before .before .before .before .before .before .before .pre .1) .base)) (c .before .before .before .before .before .before .before .before .before .before .before .before .before .before .before .before .get-node .ensures .0) (c .before .before .before .before .before .before .before .before .before .before .before .before .before .before .before .before .get-node .ensures .1) (c .before .before .before .before .before .before .before .before .before .before .before .before .bring .ensures)) .gives .kept .long, (c .before .before .before .before .before .before .before .before .before .before .before .before .before .before .before .before .before .before .before .before .before .pre .1) .long, length-set (now (c .before .before .before .before .before .before .before .before .before .before .before .before .before .before .before .before .before .before .before .before .before .args .arena)) (c .before .before .before .before .before .before .before .before .before .before .before .before .before .before .before .before .before .before .before .before .before .args .at .top) 5)) (omega (arith, (c .before .before .before .before .before .before .before .before .before .before .before .before .before .before .before .before .before .before .before .before .before .pre .1) .room, ((bring-gives (omega (arith, (c .before .before .before .before .before .before .before .before .before .before .before .before .before .before .before .before .before .before .before .before .before .pre .1) .base)) (c .before .before .before .before .before .before .before .before .before .before .before .before .before .before .before .before .get-node .ensures .0) (c .before .before .before .before .before .before .before .before .before .before .before .before .before .before .before .before .get-node .ensures .1) (c .before .before .before .before .before .before .before .before .before .before .before .before .bring .ensures)) .sized .at (found-there (c .before .before .before .before .before .before .before .before .before .if1 .left) ((bring-gives (omega (arith, (c .before .before .before .before .before .before .before .before .before .before .before .before .before .before .before .before .before .before .before .before .before .pre .1) .base)) (c .before .before .before .before .before .before .before .before .before .before .before .before .before .before .before .before .get-node .ensures .0) (c .before .before .before .before .before .before .before .before .before .before .before .before .before .before .before .before .get-node .ensures .1) (c .before .before .before .before .before .before .before .before .before .before .before .before .bring .ensures)) .exact) (c .before .before .before .before .before .before .before .before .len-of .ensures) (c .before .before .before .before .before .before .before .steps-of .ensures))) .short)) (omega (arith, (c .before .before .before .before .before .before .before .before .before .before .before .before .before .before .before .before .before .before .before .before .before .pre .1) .few)) h
@@ -836,7 +836,7 @@ get-split-add-to : (t : ℕ) → get-split-lts.Need-add-to (get-split-claims t) 
 get-split-add-to t c = record { fits = omega (arith, (c .before .before .before .before .before .before .before .before .before .before .before .before .before .before .before .before .before .before .before .before .before .before .before .before .before .before .pre .1) .slots) }
 
 get-split-get-node-requires-2 : (t : ℕ) → get-split-lts.Need-get-node-requires-2 (get-split-claims t) (get-split-at t) get-split.Post
-get-split-get-node-requires-2 t c κs = (omega (arith, c .before .before .before .before .before .before .before .before .before .before .before .before .before .before .before .before .before .before .before .before .before .before .before .before .before .before .before .before .before .pre .0), pair-ready (as-node (c .before .before .before .before .before .before .before .before .before .before .before .before .before .before .before .before .before .before .before .before .before .before .before .before .before .before .number-of .ensures) (c .before .before .before .before .before .before .before .before .before .before .before .before .before .before .before .before .before .before .before .before .before .before .before .before .get-node .ensures .0)) (found-as (c .before .before .before .before .before .before .before .before .before .before .before .before .before .before .before .before .before .before .before .before .before .if1 .left) (c .before .before .before .before .before .before .before .before .before .before .before .before .before .before .before .before .before .before .before .before .start-of .ensures) (c .before .before .before .before .before .before .before .before .before .before .before .before .before .before .before .before .before .before .before .len-of .ensures) (c .before .before .before .before .before .before .before .before .before .before .before .before .before .before .before .before .before .before .steps-of .ensures)) (c .before .before .before .before .before .before .before .before .before .before .before .before .before .shape-of .ensures) (c .before .before .before .before .before .before .before .before .before .before .before .mid .given .1) (c .before .before .before .before .before .before .before .before .before .before .before .before .before .before .before .before .above .ensures) (two-pushed (c .before .before .before .before .before .before .before .before .before .before .before .before .before .before .before .before .before .before .before .before .before .before .before .before .before .before .before .before .before .args .at .count) _ _ _ _ (c .before .before .before .before .before .before .before .before .before .before .before .before .before .before .before .before .before .before .before .before .before .before .before .before .before .before .before .before .before .args .starts .now) (c .before .before .before .before .before .before .before .before .before .before .before .before .before .before .before .before .before .before .before .before .before .before .before .before .before .before .before .before .before .args .lens .now) (c .before .before .before .before .before .add-two .ensures) (c .before .before .before .add-two2 .ensures)) (c .before .before .before .before .before .before .before .before .before .before .before .before .before .before .before .before .before .before .before .before .before .before .before .before .before .before .before .before .before .pre .1) ((c .before .before .before .before .before .before .before .before .before .before .before .before .before .before .before .before .before .before .before .before .before .before .before .before .before .before .before .before .before .pre .1) .known .1 .0 .inside) (omega (arith, c .before .before .before .before .before .before .before .before .before .number-of2 .ensures, (c .before .before .before .before .before .before .before .before .before .before .before .before .before .before .before .before .before .before .before .before .before .before .before .before .before .before .before .before .before .pre .1) .known .1 .1 .inside)))
+get-split-get-node-requires-2 t c κs = (omega (arith, c .before .before .before .before .before .before .before .before .before .before .before .before .before .before .before .before .before .before .before .before .before .before .before .before .before .before .before .before .before .pre .0), pair-ready (as-node (c .before .before .before .before .before .before .before .before .before .before .before .before .before .before .before .before .before .before .before .before .before .before .before .before .before .before .number-of .ensures) (c .before .before .before .before .before .before .before .before .before .before .before .before .before .before .before .before .before .before .before .before .before .before .before .before .get-node .ensures .0)) (found-as (c .before .before .before .before .before .before .before .before .before .before .before .before .before .before .before .before .before .before .before .before .before .if1 .left) (c .before .before .before .before .before .before .before .before .before .before .before .before .before .before .before .before .before .before .before .before .start-of .ensures) (c .before .before .before .before .before .before .before .before .before .before .before .before .before .before .before .before .before .before .before .len-of .ensures) (c .before .before .before .before .before .before .before .before .before .before .before .before .before .before .before .before .before .before .steps-of .ensures)) (c .before .before .before .before .before .before .before .before .before .before .before .before .before .shape-of .ensures) (c .before .before .before .before .before .before .before .before .before .before .before .mid .given .1) (c .before .before .before .before .before .before .before .before .before .before .before .before .before .before .before .before .above .ensures) (two-pushed (c .before .before .before .before .before .before .before .before .before .before .before .before .before .before .before .before .before .before .before .before .before .before .before .before .before .before .before .before .before .args .at .count) _ _ _ _ (c .before .before .before .before .before .before .before .before .before .before .before .before .before .before .before .before .before .before .before .before .before .before .before .before .before .before .before .before .before .args .starts .now) (c .before .before .before .before .before .before .before .before .before .before .before .before .before .before .before .before .before .before .before .before .before .before .before .before .before .before .before .before .before .args .lens .now) (c .before .before .before .before .before .add-two .ensures) (c .before .before .before .add-two2 .ensures)) (c .before .before .before .before .before .before .before .before .before .before .before .before .before .before .before .before .before .before .before .before .before .before .before .before .before .before .before .before .before .pre .1) ((c .before .before .before .before .before .before .before .before .before .before .before .before .before .before .before .before .before .before .before .before .before .before .before .before .before .before .before .before .before .pre .1) .known .1 .0 .inside) (omega (arith, c .before .before .before .before .before .before .before .before .before .number-of2 .ensures, (c .before .before .before .before .before .before .before .before .before .before .before .before .before .before .before .before .before .before .before .before .before .before .before .before .before .before .before .before .before .pre .1) .known .1 .1 .0 .inside)))
 
 get-split-judge-branch-requires : (t : ℕ) → get-split-lts.Need-judge-branch-requires (get-split-claims t) (get-split-at t) get-split.Post
 get-split-judge-branch-requires t c κs = let z = c .before .before .before .before .before .before .before .before .before .before .before .before .before .before .before .before .before .before .before .before .before .before .before .before .before .before .before .before .get-node .ensures .1 .at (found-as (c .before .before .before .before .before .before .before .before .before .before .before .before .before .before .before .before .before .before .before .before .before .before .before .before .before .if1 .left) (c .before .before .before .before .before .before .before .before .before .before .before .before .before .before .before .before .before .before .before .before .before .before .before .before .start-of .ensures) (c .before .before .before .before .before .before .before .before .before .before .before .before .before .before .before .before .before .before .before .before .before .before .before .len-of .ensures) (c .before .before .before .before .before .before .before .before .before .before .before .before .before .before .before .before .before .before .before .before .before .before .steps-of .ensures)) in λ h. judgeable (c .before .before .before .get-node2 .ensures .1) (omega (arith, c .before .before .before .get-node2 .ensures .0 .kept .long, c .before .before .before .before .before .before .before .before .before .before .before .before .before .before .before .before .before .before .before .before .before .before .before .before .before .before .before .before .get-node .ensures .0 .kept .long, (c .before .before .before .before .before .before .before .before .before .before .before .before .before .before .before .before .before .before .before .before .before .before .before .before .before .before .before .before .before .before .before .before .before .pre .1) .long)) (omega (arith, (c .before .before .before .before .before .before .before .before .before .before .before .before .before .before .before .before .before .before .before .before .before .before .before .before .before .before .before .before .before .before .before .before .before .pre .1) .room, z .short, (c .before .before .before .before .before .before .before .before .before .before .before .before .before .before .before .before .before .before .before .before .above .ensures) .near)) (omega (arith, (c .before .before .before .before .before .before .before .before .before .before .before .before .before .before .before .before .before .before .before .before .before .before .before .before .before .before .before .before .before .before .before .before .before .pre .1) .few, z .steps)) h
@@ -851,7 +851,7 @@ get-truth-case-number-of-requires : (t : ℕ) → get-truth-case-lts.Need-number
 get-truth-case-number-of-requires t c κs = search needs
 
 get-truth-case-get-node-requires : (t : ℕ) → get-truth-case-lts.Need-get-node-requires (get-truth-case-claims t) (get-truth-case-at t) get-truth-case.Post
-get-truth-case-get-node-requires t c κs = (omega (arith, c .before .before .before .before .pre .0), subject-ready (c .before .before .before .before .pre .1) (omega (arith, c .before .number-of .ensures, ((c .before .before .before .before .pre .1) .known .1 .subject .inside))))
+get-truth-case-get-node-requires t c κs = (omega (arith, c .before .before .before .before .pre .0), subject-ready (c .before .before .before .before .pre .1) (omega (arith, c .before .number-of .ensures, ((c .before .before .before .before .pre .1) .known .1 .0 .inside))))
 
 get-truth-case-returns : (t : ℕ) → get-truth-case-lts.Need-returns (get-truth-case-claims t) (get-truth-case-at t) get-truth-case.Post
 get-truth-case-returns t c = as-found (found-refused (c .if1 .taken)) (truth-refused (as-node (c .before .before .before .before .before .number-of .ensures) (c .before .before .before .get-node .ensures .0)) (found-refused (c .if1 .taken)))
@@ -902,7 +902,7 @@ get-truth-case-byte-of-requires : (t : ℕ) → get-truth-case-lts.Need-byte-of-
 get-truth-case-byte-of-requires t c κs = search needs
 
 get-truth-case-get-node-requires-2 : (t : ℕ) → get-truth-case-lts.Need-get-node-requires-2 (get-truth-case-claims t) (get-truth-case-at t) get-truth-case.Post
-get-truth-case-get-node-requires-2 t c κs = (omega (arith, c .before .before .before .before .before .before .before .before .before .before .before .before .before .before .before .before .before .before .before .before .before .pre .0), case-ready (as-node (c .before .before .before .before .before .before .before .before .before .before .before .before .before .before .before .before .before .before .number-of .ensures) (c .before .before .before .before .before .before .before .before .before .before .before .before .before .before .before .before .get-node .ensures .0)) (found-as (c .before .before .before .before .before .before .before .before .before .before .before .before .before .if1 .left) (c .before .before .before .before .before .before .before .before .before .before .before .before .start-of .ensures) (c .before .before .before .before .before .before .before .before .before .before .before .len-of .ensures) (c .before .before .before .before .before .before .before .before .before .before .steps-of .ensures)) (c .before .before .before .before .before .shape-of .ensures) (c .before .before .before .before .before .before .before .before .above .ensures) (c .before .before .before .before .before .before .before .before .before .before .before .before .before .before .before .before .before .before .before .before .before .pre .1) ((c .before .before .before .before .before .before .before .before .before .before .before .before .before .before .before .before .before .before .before .before .before .pre .1) .known .1 .subject .inside) (omega (arith, c .before .before .number-of2 .ensures, (c .before .before .before .before .before .before .before .before .before .before .before .before .before .before .before .before .before .before .before .before .before .pre .1) .known .1 .no .inside)))
+get-truth-case-get-node-requires-2 t c κs = (omega (arith, c .before .before .before .before .before .before .before .before .before .before .before .before .before .before .before .before .before .before .before .before .before .pre .0), case-ready (as-node (c .before .before .before .before .before .before .before .before .before .before .before .before .before .before .before .before .before .before .number-of .ensures) (c .before .before .before .before .before .before .before .before .before .before .before .before .before .before .before .before .get-node .ensures .0)) (found-as (c .before .before .before .before .before .before .before .before .before .before .before .before .before .if1 .left) (c .before .before .before .before .before .before .before .before .before .before .before .before .start-of .ensures) (c .before .before .before .before .before .before .before .before .before .before .before .len-of .ensures) (c .before .before .before .before .before .before .before .before .before .before .steps-of .ensures)) (c .before .before .before .before .before .shape-of .ensures) (c .before .before .before .before .before .before .before .before .above .ensures) (c .before .before .before .before .before .before .before .before .before .before .before .before .before .before .before .before .before .before .before .before .before .pre .1) ((c .before .before .before .before .before .before .before .before .before .before .before .before .before .before .before .before .before .before .before .before .before .pre .1) .known .1 .0 .inside) (omega (arith, c .before .before .number-of2 .ensures, (c .before .before .before .before .before .before .before .before .before .before .before .before .before .before .before .before .before .before .before .before .before .pre .1) .known .1 .1 .0 .inside)))
 
 get-truth-case-judge-branch-requires : (t : ℕ) → get-truth-case-lts.Need-judge-branch-requires (get-truth-case-claims t) (get-truth-case-at t) get-truth-case.Post
 get-truth-case-judge-branch-requires t c κs = let z = c .before .before .before .before .before .before .before .before .before .before .before .before .before .before .before .before .before .before .before .before .get-node .ensures .1 .at (found-as (c .before .before .before .before .before .before .before .before .before .before .before .before .before .before .before .before .before .if1 .left) (c .before .before .before .before .before .before .before .before .before .before .before .before .before .before .before .before .start-of .ensures) (c .before .before .before .before .before .before .before .before .before .before .before .before .before .before .before .len-of .ensures) (c .before .before .before .before .before .before .before .before .before .before .before .before .before .before .steps-of .ensures)) in λ h. judgeable (c .before .before .before .get-node2 .ensures .1) (omega (arith, c .before .before .before .get-node2 .ensures .0 .kept .long, c .before .before .before .before .before .before .before .before .before .before .before .before .before .before .before .before .before .before .before .before .get-node .ensures .0 .kept .long, (c .before .before .before .before .before .before .before .before .before .before .before .before .before .before .before .before .before .before .before .before .before .before .before .before .before .pre .1) .long)) (omega (arith, (c .before .before .before .before .before .before .before .before .before .before .before .before .before .before .before .before .before .before .before .before .before .before .before .before .before .pre .1) .room, z .short, (c .before .before .before .before .before .before .before .before .before .before .before .before .above .ensures) .near)) (omega (arith, (c .before .before .before .before .before .before .before .before .before .before .before .before .before .before .before .before .before .before .before .before .before .before .before .before .before .pre .1) .few, z .steps)) h
@@ -917,7 +917,7 @@ get-truth-case-byte-of-requires-2 : (t : ℕ) → get-truth-case-lts.Need-byte-o
 get-truth-case-byte-of-requires-2 t c κs = search needs
 
 get-truth-case-get-node-requires-3 : (t : ℕ) → get-truth-case-lts.Need-get-node-requires-3 (get-truth-case-claims t) (get-truth-case-at t) get-truth-case.Post
-get-truth-case-get-node-requires-3 t c κs = (omega (arith, c .before .before .before .before .before .before .before .before .before .before .before .before .before .before .before .before .before .before .before .before .before .pre .0), case-ready (as-node (c .before .before .before .before .before .before .before .before .before .before .before .before .before .before .before .before .before .before .number-of .ensures) (c .before .before .before .before .before .before .before .before .before .before .before .before .before .before .before .before .get-node .ensures .0)) (found-as (c .before .before .before .before .before .before .before .before .before .before .before .before .before .if1 .left) (c .before .before .before .before .before .before .before .before .before .before .before .before .start-of .ensures) (c .before .before .before .before .before .before .before .before .before .before .before .len-of .ensures) (c .before .before .before .before .before .before .before .before .before .before .steps-of .ensures)) (c .before .before .before .before .before .shape-of .ensures) (c .before .before .before .before .before .before .before .before .above .ensures) (c .before .before .before .before .before .before .before .before .before .before .before .before .before .before .before .before .before .before .before .before .before .pre .1) ((c .before .before .before .before .before .before .before .before .before .before .before .before .before .before .before .before .before .before .before .before .before .pre .1) .known .1 .subject .inside) (omega (arith, c .before .before .number-of3 .ensures, (c .before .before .before .before .before .before .before .before .before .before .before .before .before .before .before .before .before .before .before .before .before .pre .1) .known .1 .yes .inside)))
+get-truth-case-get-node-requires-3 t c κs = (omega (arith, c .before .before .before .before .before .before .before .before .before .before .before .before .before .before .before .before .before .before .before .before .before .pre .0), case-ready (as-node (c .before .before .before .before .before .before .before .before .before .before .before .before .before .before .before .before .before .before .number-of .ensures) (c .before .before .before .before .before .before .before .before .before .before .before .before .before .before .before .before .get-node .ensures .0)) (found-as (c .before .before .before .before .before .before .before .before .before .before .before .before .before .if1 .left) (c .before .before .before .before .before .before .before .before .before .before .before .before .start-of .ensures) (c .before .before .before .before .before .before .before .before .before .before .before .len-of .ensures) (c .before .before .before .before .before .before .before .before .before .before .steps-of .ensures)) (c .before .before .before .before .before .shape-of .ensures) (c .before .before .before .before .before .before .before .before .above .ensures) (c .before .before .before .before .before .before .before .before .before .before .before .before .before .before .before .before .before .before .before .before .before .pre .1) ((c .before .before .before .before .before .before .before .before .before .before .before .before .before .before .before .before .before .before .before .before .before .pre .1) .known .1 .0 .inside) (omega (arith, c .before .before .number-of3 .ensures, (c .before .before .before .before .before .before .before .before .before .before .before .before .before .before .before .before .before .before .before .before .before .pre .1) .known .1 .1 .1 .1 .0 .inside)))
 
 get-truth-case-judge-branch-requires-2 : (t : ℕ) → get-truth-case-lts.Need-judge-branch-requires-2 (get-truth-case-claims t) (get-truth-case-at t) get-truth-case.Post
 get-truth-case-judge-branch-requires-2 t c κs = let z = c .before .before .before .before .before .before .before .before .before .before .before .before .before .before .before .before .before .before .before .before .get-node .ensures .1 .at (found-as (c .before .before .before .before .before .before .before .before .before .before .before .before .before .before .before .before .before .if1 .left) (c .before .before .before .before .before .before .before .before .before .before .before .before .before .before .before .before .start-of .ensures) (c .before .before .before .before .before .before .before .before .before .before .before .before .before .before .before .len-of .ensures) (c .before .before .before .before .before .before .before .before .before .before .before .before .before .before .steps-of .ensures)) in λ h. judgeable (c .before .before .before .get-node3 .ensures .1) (omega (arith, c .before .before .before .get-node3 .ensures .0 .kept .long, c .before .before .before .before .before .before .before .before .before .before .before .before .before .before .before .before .before .before .before .before .get-node .ensures .0 .kept .long, (c .before .before .before .before .before .before .before .before .before .before .before .before .before .before .before .before .before .before .before .before .before .before .before .before .before .pre .1) .long)) (omega (arith, (c .before .before .before .before .before .before .before .before .before .before .before .before .before .before .before .before .before .before .before .before .before .before .before .before .before .pre .1) .room, z .short, (c .before .before .before .before .before .before .before .before .before .before .before .before .above .ensures) .near)) (omega (arith, (c .before .before .before .before .before .before .before .before .before .before .before .before .before .before .before .before .before .before .before .before .before .before .before .before .before .pre .1) .few, z .steps)) h
