@@ -12,6 +12,7 @@ use Rattle.sheet.specs.declared.Node.{Node}
 use Rattle.sheet.specs.declared.Node.the-variants.{Var, False, True, Empty, Number, Front, Pair, ListCase, TruthCase, Split, Call, Add}
 use Rattle.sheet.specs.Sheet.{Sheet}
 use Rattle.rules.specs.Outcome.{Out, done, _>>=_}
+use Rattle.rules.specs.Text
 use Rattle.rules.specs.Rules.{Env, Cells, Getter, Putter, two, bounded, tested, onList, getNode, get, orOld, constant, write, both, under, mkList, mkPair, putNode, put}
 use Rattle.rules.specs.OutcomeLaws.{After, fine, stopped, after-map, after-at, gives-of, after-out, after-plus, after-bind, gives-bind, after-given, given-some, given-when, given-number, after-list, choose-first}
 use Rattle.rules.specs.Related.{All2, ends, more, all2-map, all2-append, all2-at, all2-of, all2-flip, all2-length, all2-take, all2-set, at-left, at-seam, at-last}
@@ -42,16 +43,16 @@ kept-again : {A : Type 0} {ω : Env} {b d s : ℕ} {a : A} {m : Out A} (f : A �
 kept-again f e h k = gives-bind f (gives-of e) λ t ht. after-map h λ X u p. (p .0, omega arith)
 
 take-same : (v : Value) (ω : Env) (b : ℕ) (W : Cells) → Keeps W ω → Kept ω b (constant v v W)
-unfolding constant
+unfolding Text.constant
 take-same v ω b W k = given-when _ _ refl λ _. fine (k, omega arith)
 
 take-write : (c : ℕ) (m : Value) (ω : Env) (b : ℕ) (W : Cells) (o : Option Value) → getElem? ω c ≡ some m → Keeps W ω → ((w : Value) → o ≡ some w → w ≡ m) → Kept ω b (write c m W o)
-unfolding write
+unfolding Text.write
 take-write c m ω b W none e k h = fine (all2-set c (some m) k e (λ w ew. sym (Option·some-injective _ _ ew)), omega arith)
 take-write c m ω b W (some w) e k h = given-when _ _ (h w refl) λ _. fine (k, omega arith)
 
 pub or-old : (o : Option Value) (m : Value) → ((w : Value) → o ≡ some w → w ≡ m) → orOld o m ≡ m
-unfolding orOld
+unfolding Text.orOld
 or-old none m h = refl
 or-old (some w) m h = h w refl
 
@@ -60,13 +61,13 @@ free m w e = absurd (Option·none-ne-some w e)
 
 module _ (g : Getter) (p : Putter) (l : ℕ) (ih : Stable g p l) (sh : Sheet) (μ : Env) (σ : List ℕ) (ω : Env) (old : Old σ ω μ) where
   both-takes : (a b : ℕ) (x y : Value) (i j : ℕ) → Accepts (p a μ σ) ω x i → Accepts (p b μ σ) ω y j → (W : Cells) → Keeps W ω → Kept ω (i + j) (both p μ σ W a x b y)
-  unfolding both
+  unfolding Text.both
   both-takes a b x y i j ha hb W k = after-bind (ha .1 W k) λ X t _ hx. after-map (hb .1 X (hx .0)) λ Y u hy. (hy .0, omega arith)
 
   under-takes : (b s : ℕ) (mk : Value → Value → Option Value) (f r u v : Value) (i j : ℕ) → mk f r ≡ some u
       → Accepts (p b (μ ++ two f r) (σ ++ two (length ω) (suc (length ω)))) (ω ++ two f r) v i → Accepts (p s μ σ) ω u j
       → (W : Cells) → Keeps W ω → Kept ω (i + j) (under p μ σ W b v s mk f r)
-  unfolding under
+  unfolding Text.under
   under-takes b s mk f r u v i j e hb hs W k = rw (all2-length k) (after-bind (hb .1 (W ++ two none none) (all2-append k (more (free f) (more (free r) ends)))) λ X t _ hx.
       let (x, ex, kx) = all2-at _ (all2-flip (hx .0)) (at-seam ω f r) in let (y, ey, ky) = all2-at _ (all2-flip (hx .0)) (at-last ω f r) in
       given-some _ _ ex (given-some _ _ ey (given-some _ _ (rw (or-old x f kx, or-old y r ky) e) (given-when _ _ (hs .0) λ _.
@@ -77,7 +78,7 @@ module _ (g : Getter) (p : Putter) (l : ℕ) (ih : Stable g p l) (sh : Sheet) (�
   deeper f r zf zr = all2-append (all2-map (λ c m h. (at-left ω _ c (h .0), h .1)) old) (more (at-seam ω f r, zf) (more (at-last ω f r, zr) ends))
 
   node-accepts : (n : Node) → After (Unit {0}) (λ v s. Accepts (putNode g p sh n μ σ) ω v (s + l * s)) (getNode g sh n μ)
-  unfolding getNode putNode size bounded asList asFront asPair asNumber asTruth tested onList mkPair mkList
+  unfolding Text.getNode Text.putNode size Text.bounded asList asFront asPair asNumber asTruth Text.tested onList mkPair mkList
   node-accepts (Var x) = after-given _ λ m em. let (c, ec, h) = all2-at x (all2-flip old) em in
       fine (h .1, λ W k. let (o, eo, ho) = all2-at c (all2-flip k) (h .0) in given-some _ _ ec (given-some _ _ eo (take-write c m ω _ W o (h .0) k ho)))
   node-accepts False = fine (omega arith, take-same vfalse ω _)
@@ -118,7 +119,7 @@ module _ (g : Getter) (p : Putter) (l : ℕ) (ih : Stable g p l) (sh : Sheet) (�
   )
 
 pub stable : (l : ℕ) (sh : Sheet) → Stable (get l sh) (put l sh) l
-unfolding get put
+unfolding Text.get Text.put
 stable zero sh n μ σ ω old = stopped tt
 stable (suc l) sh n μ σ ω old = after-plus 1 (after-map (node-accepts (get l sh) (put l sh) l (stable l sh) sh μ σ ω old _) λ v s h.
     (h .0, λ W k. after-plus 1 (after-map (h .1 W k) λ X t hx. (hx .0, omega arith))))

@@ -14,6 +14,7 @@ use Rattle.sheet.specs.declared.Node.{Node}
 use Rattle.sheet.specs.declared.Node.the-variants.{Var, False, True, Empty, Number, Front, Pair, ListCase, TruthCase, Split, Call, Add}
 use Rattle.sheet.specs.Sheet.{Sheet}
 use Rattle.rules.specs.Outcome.{Out, done, _>>=_}
+use Rattle.rules.specs.Text
 use Rattle.rules.specs.Rules.{Env, Cells, Getter, Putter, two, pick, bounded, tested, onList, getNode, get, orOld, constant, write, both, under, mkList, mkPair, putNode, put}
 use Rattle.rules.specs.OutcomeLaws.{After, fine, stopped, Gives, after-map, after-any, after-at, gives-le, gives-out, after-plus, after-bind, gives-bind, after-given, given-some, given-when, given-number, after-choose, after-list}
 use Rattle.rules.specs.Related.{All2, ends, more, all2-map, all2-append, all2-at, all2-of, all2-flip, all2-take, all2-set, all2-self, all2-join, at-take, at-set}
@@ -43,14 +44,14 @@ earlier : {X Y : Cells} {σ : List ℕ} {μ : Env} → Later X Y → Agree σ Y 
 earlier h = all2-map λ c m r. let (o, eo, k) = all2-at c (all2-flip h) (r .1) in (o, eo, λ w e. r .2 w (k w e))
 
 pub or-new : (o : Option Value) (m w : Value) → o ≡ some w → orOld o m ≡ w
-unfolding orOld
+unfolding Text.orOld
 or-new o m w e = rw e refl
 
 abbrev pub Lawful : Getter → Putter → Type 0
 Lawful g p = (n : ℕ) (μ : Env) (σ : List ℕ) (v : Value) (W : Cells) → Fits v → After (Unit {0}) (Puts (g n) σ v W) (p n μ σ v W)
 
 put-same : (G : Env → Out Value) (σ : List ℕ) (v u : Value) (W : Cells) → ((μ : Env) → G μ ≡ done u 0) → After (Unit {0}) (Puts G σ v W) (constant v u W)
-unfolding constant
+unfolding Text.constant
 put-same G σ v u W h = after-given _ λ e _. fine (later-refl W, λ μ _. rw h (fine (sym e, omega arith)))
 
 -- a get on the way takes steps and nothing else
@@ -60,11 +61,11 @@ puts-bind m k = after-bind (after-any m tt) λ a s _ _. after-map (k a) λ X t h
 
 module _ (g : Getter) (sh : Sheet) (σ : List ℕ) (x c : ℕ) (e : getElem? σ x ≡ some c) (v : Value) (W : Cells) where
   read-back : (X : Cells) (μ : Env) → getElem? X c ≡ some (some v) → Agree σ X μ → Gives (getNode g sh (Var x) μ) v 0
-  unfolding getNode
+  unfolding Text.getNode
   read-back X μ ev ag = let (m, em, (o, eo, h)) = all2-at x ag e in given-some _ _ em (fine (h v (cc), omega arith))
 
   write-law : (o : Option Value) → getElem? W c ≡ some o → After (Unit {0}) (Puts (getNode g sh (Var x)) σ v W) (write c v W o)
-  unfolding write
+  unfolding Text.write
   write-law none eo = fine (
     all2-flip (all2-set c (some v) (all2-flip (later-refl W)) eo (λ w ew. absurd (Option·none-ne-some w ew))),
     λ μ. read-back (set W c (some v)) μ (at-set W c (some v) eo),
@@ -87,14 +88,14 @@ module _ (g : Getter) (p : Putter) (ih : Lawful g p) (sh : Sheet) (μ : Env) (σ
 
   both-law : (G : Env → Out Value) (a b : ℕ) (x y : Value) → Fits x → Fits y
       → ((μ′ : Env) (i j : ℕ) → Gives (g a μ′) x i → Gives (g b μ′) y j → Gives (G μ′) v (i + j)) → Lays G (both p μ σ W a x b y)
-  unfolding both
+  unfolding Text.both
   both-law G a b x y zx zy k = after-bind (ih a μ σ x W zx) λ X i _ hx. after-map (ih b μ σ y X zy) λ Y j hy.
       (later-trans (hx .0) (hy .0), λ μ′ ag. k μ′ i j (hx .1 μ′ (earlier (hy .0) ag)) (hy .1 μ′ ag))
 
   under-law : (G : Env → Out Value) (b s : ℕ) (mk : Value → Value → Option Value) (f r : Value) → Fits v
       → ((μ′ : Env) (f′ r′ u : Value) (i j : ℕ) → mk f′ r′ ≡ some u → Gives (g b (μ′ ++ two f′ r′)) v i → Gives (g s μ′) u j → Gives (G μ′) v (i + j))
       → Lays G (under p μ σ W b v s mk f r)
-  unfolding under
+  unfolding Text.under
   under-law G b s mk f r zv k = after-bind (ih b _ _ v _ zv) λ X i _ hx. after-given _ λ x ex. after-given _ λ y ey.
       after-given _ λ u eu. after-given _ λ zu _. after-map (ih s μ σ u _ zu) λ Y j hy. (
         later-trans (all2-flip (all2-take W _ (all2-flip (hx .0)))) (hy .0),
@@ -103,7 +104,7 @@ module _ (g : Getter) (p : Putter) (ih : Lawful g p) (sh : Sheet) (μ : Env) (σ
       )
 
   node-law : (n : Node) → Fits v → Lays (getNode g sh n) (putNode g p sh n μ σ v W)
-  unfolding getNode putNode size bounded asList asPair asNumber asTruth tested onList mkPair mkList
+  unfolding Text.getNode Text.putNode size Text.bounded asList asPair asNumber asTruth Text.tested onList mkPair mkList
   node-law (Var x) z = after-given _ λ c e. after-given _ λ o eo. write-law g sh σ x c e v W o eo
   node-law False z = put-same _ σ v vfalse W (λ _. refl)
   node-law True z = put-same _ σ v vtrue W (λ _. refl)
@@ -146,7 +147,7 @@ module _ (g : Getter) (p : Putter) (ih : Lawful g p) (sh : Sheet) (μ : Env) (σ
   )
 
 pub lawful : (l : ℕ) (sh : Sheet) → Lawful (get l sh) (put l sh)
-unfolding get put
+unfolding Text.get Text.put
 lawful zero sh n μ σ v W z = stopped tt
 lawful (suc l) sh n μ σ v W z = after-plus 1 (after-map (node-law (get l sh) (put l sh) (lawful l sh) sh μ σ v W _ z) λ X s h.
     (h .0, λ μ′ ag. after-plus 1 (after-map (h .1 μ′ ag) λ a t k. (k .0, omega arith))))

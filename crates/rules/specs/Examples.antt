@@ -13,6 +13,7 @@ use Rattle.sheet.specs.Sheet.{readNodes, oneSection, ifSection, readRecords, wi
 use Rattle.sheet.specs.Kinds.{forms, formOf, bodyWidth, make, nodeInRange}
 use Rattle.rules.specs.Outcome.{plus, steps, when, _>>=_, mapOut, given, reading, choose}
 use Rattle.rules.specs.Allowance.{cap, within}
+use Rattle.rules.specs.Text
 use Rattle.rules.specs.Rules.{bounded, tested, onList, getNode, get, orOld, constant, write, both, under, mkList, mkPair, putNode, put}
 use Rattle.rules.specs.Answer.{Answer, refusal, success, answer, door, getWalk, getBytes, getAnswer, count, newPlan, putWalk, putBytes, putAnswer}
 
@@ -78,7 +79,7 @@ rows =
 -- each row has its answer
 pub starred : map run rows ≡ map (λ (r : Row). r .expected) rows
 unfolding rows run call getAnswer getBytes getWalk putAnswer putBytes putWalk answer door count newPlan within cap
-    plus steps when _>>=_ mapOut given reading choose bounded tested onList getNode get orOld constant write both under mkList mkPair putNode put
+    plus steps when _>>=_ mapOut given reading choose Text.bounded Text.tested onList Text.getNode Text.get Text.orOld Text.constant Text.write Text.both Text.under mkList mkPair Text.putNode Text.put
     andThen mapResult orRefuse unless encode encodes size sizes flat sameValue asList asFront asPair asNumber ifSmall asTruth class table holds passes
     onWhole kindOf makeFront makeNumber makePair makeRest beginValue beginRest beginByte read readValue onValue readValues
     forms formOf bodyWidth make readNodes oneSection ifSection readRecords withNodes readBody nodeInRange nodesInRange rootsInRange inRange readHeader readSheet decLe ℕ-discrete
@@ -117,7 +118,7 @@ telling =
 
 pub told-apart : map run telling ≡ map (λ (r : Row). r .expected) telling
 unfolding telling run call getAnswer getBytes getWalk putAnswer putBytes putWalk answer door count newPlan within cap
-    plus steps when _>>=_ mapOut given reading choose bounded tested onList getNode get orOld constant write both under mkList mkPair putNode put
+    plus steps when _>>=_ mapOut given reading choose Text.bounded Text.tested onList Text.getNode Text.get Text.orOld Text.constant Text.write Text.both Text.under mkList mkPair Text.putNode Text.put
     andThen mapResult orRefuse unless encode encodes size sizes flat sameValue asList asFront asPair asNumber ifSmall asTruth class table holds passes
     onWhole kindOf makeFront makeNumber makePair makeRest beginValue beginRest beginByte read readValue onValue readValues
     forms formOf bodyWidth make readNodes oneSection ifSection readRecords withNodes readBody nodeInRange nodesInRange rootsInRange inRange readHeader readSheet decLe ℕ-discrete

@@ -1,5 +1,6 @@
 pub mod Outcome
 pub mod Allowance
+pub mod Text
 pub mod Rules
 pub mod Answer
 pub mod Examples
@@ -19,3 +20,8 @@ pub mod PublishedGet
 pub mod PublishedCells
 pub mod PublishedPut
 pub mod PublishedWalks
+pub mod Explain
+pub mod ExplainLaws
+pub mod Explanation
+pub mod ExplainExamples
+pub mod ExplainChain

@@ -13,6 +13,7 @@ use Rattle.sheet.specs.declared.Node.the-variants.{Var, False, True, Empty, Num
 use Rattle.sheet.specs.Sheet.{Sheet}
 use Rattle.rules.specs.Outcome.{Out, done}
 use Rattle.rules.specs.Allowance.{within}
+use Rattle.rules.specs.Text
 use Rattle.rules.specs.Rules.{Env, Getter, pick, bounded, tested, onList, getNode, get}
 use Rattle.rules.specs.OutcomeLaws.{After, fine, stopped, after-map, after-at, as-number, after-plus, after-bind, after-given, after-list}
 use Rattle.rules.specs.AllowanceLaws.{within-done}
@@ -31,11 +32,11 @@ nil-scope d = rw append-nil d
 module _ (sh : Sheet) (g : Getter) (ih : GetsSoundly sh g) where
   -- a branch's result, and its exit condition
   tested-soundly : (t : ℕ) (o : Out Value) {P : Value → Type 0} → After (Unit {0}) (λ v s. P v) o → After (Unit {0}) (λ v s. P v × Passes t v) (tested t o)
-  unfolding tested
+  unfolding Text.tested
   tested-soundly t o h = after-bind h λ v s _ d. after-given _ λ p _. fine (d, p)
 
   get-node-sound : (nd : Node) (μ : Env) → After (Unit {0}) (λ v s. Get sh μ (expr nd) v) (getNode g sh nd μ)
-  unfolding getNode bounded
+  unfolding Text.getNode Text.bounded
   get-node-sound (Var x) μ = after-given _ λ v e. fine (g-var e)
   get-node-sound False μ = fine g-const
   get-node-sound True μ = fine g-const
@@ -58,7 +59,7 @@ module _ (sh : Sheet) (g : Getter) (ih : GetsSoundly sh g) where
   get-node-sound (Add n k) μ = after-bind (ih n μ) λ v s _ d. after-given _ λ m _. after-given _ λ q _. fine (g-add (rw (m .1) at d) q)
 
 pub gets-soundly : (l : ℕ) (sh : Sheet) → GetsSoundly sh (get l sh)
-unfolding get
+unfolding Text.get
 gets-soundly zero sh n μ = stopped tt
 gets-soundly (suc l) sh n μ = after-plus 1 (get-node-sound sh (get l sh) (gets-soundly l sh) _ μ)
 
@@ -72,11 +73,11 @@ scope-nil {sh} {μ} {e} {v} d = rw append-nil at d
 
 module _ (sh : Sheet) (g : Getter) (ih : GetsAll sh g) where
   tested-all : (t : ℕ) {o : Out Value} {v : Value} → Comes v o → Passes t v → Comes v (tested t o)
-  unfolding tested
+  unfolding Text.tested
   tested-all t h p = comes-bind _ h (up-when _ _ p λ _. reach refl)
 
   get-node-complete : (nd : Node) (μ : Env) (v : Value) → Get sh μ (expr nd) v → Comes v (getNode g sh nd μ)
-  unfolding getNode bounded asList asPair asTruth onList
+  unfolding Text.getNode Text.bounded asList asPair asTruth onList
   get-node-complete (Var x) μ v (g-var e) = up-given _ _ e (reach refl)
   get-node-complete False μ v g-const = reach refl
   get-node-complete True μ v g-const = reach refl
@@ -103,7 +104,7 @@ module _ (sh : Sheet) (g : Getter) (ih : GetsAll sh g) where
   get-node-complete (Add n k) μ v (g-add {m = m} d q) = comes-bind _ (ih n μ _ d) (let (z, e) = as-number m (omega arith) in up-given _ _ e (up-when _ _ q λ _. reach refl))
 
 pub gets-all : (l : ℕ) (sh : Sheet) → GetsAll sh (get l sh)
-unfolding get
+unfolding Text.get
 gets-all zero sh n μ v d = limited deep
 gets-all (suc l) sh n μ v d = up-plus 1 (get-node-complete sh (get l sh) (gets-all l sh) _ μ v d)
 

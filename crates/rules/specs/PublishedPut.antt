@@ -13,6 +13,7 @@ use Rattle.sheet.specs.declared.Node.the-variants.{Var, False, True, Empty, Num
 use Rattle.sheet.specs.Sheet.{Sheet}
 use Rattle.rules.specs.Outcome.{Out, done, choose}
 use Rattle.rules.specs.Allowance.{within}
+use Rattle.rules.specs.Text
 use Rattle.rules.specs.Rules.{Env, Cells, Getter, Putter, two, pick, onList, get, orOld, constant, write, both, under, mkList, mkPair, putNode, put}
 use Rattle.rules.specs.OutcomeLaws.{After, fine, stopped, after-map, after-at, as-number, after-plus, after-bind, after-given, after-list}
 use Rattle.rules.specs.AllowanceLaws.{within-done}
@@ -137,16 +138,16 @@ module _ (sh : Sheet) (g : Getter) (gets : GetsSoundly sh g) (p : Putter) (ih : 
   Sound e = After (Unit {0}) (λ X s. Written sh μ v e σ W X)
 
   constant-sound : (u : Value) → Sound (const u) (constant v u W)
-  unfolding constant
+  unfolding Text.constant
   constant-sound u = after-given _ λ e _. fine (record { ω = blank μ; rel = rw e p-const; joined = joined-blank laid })
 
   write-sound : (x c : ℕ) (m : Value) (o : Option Value) → getElem? μ x ≡ some m → getElem? σ x ≡ some c → getElem? W c ≡ some o → Sound (var x) (write c v W o)
-  unfolding write
+  unfolding Text.write
   write-sound x c m none em ec eo = fine (record { ω = only μ x (some v); rel = p-var em; joined = joined-new σ μ x c m em ec v laid eo })
   write-sound x c m (some w) em ec eo = after-given _ λ e _. fine (record { ω = only μ x (some v); rel = p-var em; joined = joined-same σ μ x c m em ec v laid (rw e at eo) })
 
   both-sound : (a b : ℕ) (x y : Value) → After (Unit {0}) (λ X s. Twice sh μ x a y b σ W X) (both p μ σ W a x b y)
-  unfolding both
+  unfolding Text.both
   both-sound a b x y = after-bind (ih a μ σ x W laid) λ X s _ h. after-map (ih b μ σ y X (laid-later laid (h .joined .later))) λ Y t k.
       let (ω, m) = merge-is (seen-later (h .joined .seen) (k .joined .later)) (k .joined .seen) in record {
         ω₁ = h .ω;
@@ -161,7 +162,7 @@ module _ (sh : Sheet) (g : Getter) (gets : GetsSoundly sh g) (p : Putter) (ih : 
 
   under-sound : (b s : ℕ) (q : Pattern) (mk : Value → Value → Option Value) (f r : Value) → ((x y u : Value) → mk x y ≡ some u → Match q u (two x y))
       → After (Unit {0}) (λ X t. Taken sh μ v q b (two f r) s σ W X) (under p μ σ W b v s mk f r)
-  unfolding under _◁_
+  unfolding Text.under _◁_
   under-sound b s q mk f r k = after-bind (ih b _ _ v _ (laid-wider W f r laid)) λ X i _ h. after-given _ λ x′ ex. after-given _ λ y′ ey.
       after-given _ λ u eu. after-given _ λ _ _.
       let (ω, x, y, e, _) = seen-cut σ _ _ (h .joined .seen) in
@@ -188,7 +189,7 @@ module _ (sh : Sheet) (g : Getter) (gets : GetsSoundly sh g) (p : Putter) (ih : 
       }
 
   put-node-sound : (nd : Node) → Sound (expr nd) (putNode g p sh nd μ σ v W)
-  unfolding putNode
+  unfolding Text.putNode
   put-node-sound (Var x) = after-given _ λ c ec. after-given _ λ o eo. let (m, em, _) = all2-at x laid ec in write-sound x c m o em ec eo
   put-node-sound False = constant-sound vfalse
   put-node-sound True = constant-sound vtrue
@@ -226,7 +227,7 @@ module _ (sh : Sheet) (g : Getter) (gets : GetsSoundly sh g) (p : Putter) (ih : 
   put-node-sound (Add n k) = after-given _ λ m _. after-given _ λ low _. after-map (ih n μ σ _ W laid) λ X s t. written-add (m .0) (m .1) (m .2) low t
 
 pub puts-soundly : (l : ℕ) (sh : Sheet) → PutsSoundly sh (put l sh)
-unfolding put
+unfolding Text.put
 puts-soundly zero sh n μ σ v W h = stopped tt
 puts-soundly (suc l) sh n μ σ v W h = after-plus 1 (put-node-sound sh (get l sh) (gets-soundly l sh) (put l sh) (puts-soundly l sh) μ σ v W h _)
 
@@ -268,12 +269,12 @@ by-case (p-case-switch i ds mᵢ q q′ dd mⱼ d o oⱼ r d₀ m) f g =
 module _ (sh : Sheet) (g : Getter) (gets : GetsAll sh g) (p : Putter) (ih : PutsAll sh p) (μ : Env) (σ : List ℕ) (W : Cells) (laid : Laid W σ μ)
     (Y : Cells) (later : Later W Y) where
   constant-all : (v : Value) → UpTo (Joined σ W (blank μ)) (constant v v W)
-  unfolding constant
+  unfolding Text.constant
   constant-all v = up-when _ _ refl λ _. reach (joined-blank laid)
 
   write-all : (v : Value) (x c : ℕ) (m : Value) (o : Option Value) → getElem? μ x ≡ some m → getElem? σ x ≡ some c → getElem? W c ≡ some o → Seen (only μ x (some v)) σ Y
       → UpTo (Joined σ W (only μ x (some v))) (write c v W o)
-  unfolding write
+  unfolding Text.write
   write-all v x c m none em ec eo s = reach (joined-new σ μ x c m em ec v laid eo)
   write-all v x c m (some w) em ec eo s =
       let (q, eq, h) = all2-at c later eo in let e : w ≡ v = cc (h w refl, seen-only σ μ x c m em ec (some v) s .has v refl) in
@@ -281,14 +282,14 @@ module _ (sh : Sheet) (g : Getter) (gets : GetsAll sh g) (p : Putter) (ih : Puts
 
   both-all : (a b : ℕ) (x y : Value) (ω₁ ω₂ ω : Writes) → Put sh μ x (residual sh a) ω₁ → Put sh μ y (residual sh b) ω₂ → Merge ω₁ ω₂ ω → Seen ω σ Y
       → UpTo (Joined σ W ω) (both p μ σ W a x b y)
-  unfolding both
+  unfolding Text.both
   both-all a b x y ω₁ ω₂ ω d₁ d₂ m s = up-bind _ (ih a μ σ x W ω₁ Y laid d₁ later (seen-left m s)) λ X j.
       up-map (ih b μ σ y X ω₂ Y (laid-later laid (j .later)) d₂ (j .least Y later (seen-left m s)) (seen-right m s)) λ Z k. joined-merge j k m
 
   under-all : (v : Value) (b s : ℕ) (mk : Value → Value → Option Value) (f r u : Value) (ω : Writes) (x y : Option Value) (ω₀ ω′ : Writes)
       → Put sh (μ ++ two f r) v (residual sh b) (ω ++ two x y) → Over ω μ → mk (orOld x f) (orOld y r) ≡ some u → Put sh μ u (residual sh s) ω₀ → Merge ω ω₀ ω′ → Seen ω′ σ Y
       → UpTo (Joined σ W ω′) (under p μ σ W b v s mk f r)
-  unfolding under
+  unfolding Text.under
   under-all v b s mk f r u ω x y ω₀ ω′ d over eu d₀ m h =
       up-bind _ (ih b _ _ v _ (ω ++ two x y) (Y ++ two x y) (laid-wider W f r laid) d (wider-later W laid ω x y later) (wider-seen W laid ω x y later (seen-left m h))) λ X j.
       let j₁ = joined-outside W laid ω x y over X j in let (cx, cy) = cells-inside W laid ω x y over X j in
@@ -311,7 +312,7 @@ module _ (sh : Sheet) (g : Getter) (gets : GetsAll sh g) (p : Putter) (ih : Puts
       go d (more {a = x} _ (more {a = y} _ ends)) m′ = under-all v b s mk f r (k .u) (k .ω) x y (k .ω₀) ω′ d (k .over) (inv _ _ _ m′) (k .subject) (k .merged) h
 
   put-node-complete : (nd : Node) (v : Value) {ω : Writes} → Put sh μ v (expr nd) ω → Seen ω σ Y → UpTo (Joined σ W ω) (putNode g p sh nd μ σ v W)
-  unfolding putNode asList asFront asPair asTruth onList
+  unfolding Text.putNode asList asFront asPair asTruth onList
   put-node-complete (Var x) v (p-var em) h =
       let (c, ec, _) = all2-at x (all2-flip laid) em in let (m, _, t) = all2-at x laid ec in
       up-given _ _ ec (up-given _ _ (t .there) (write-all v x c _ (t .cell) em ec (t .there) h))
@@ -351,7 +352,7 @@ module _ (sh : Sheet) (g : Getter) (gets : GetsAll sh g) (p : Putter) (ih : Puts
       let (z′, e) = as-number m z in up-given _ _ e (up-when _ _ low λ _. ih n μ σ _ W _ Y laid d later h)
 
 pub puts-all : (l : ℕ) (sh : Sheet) → PutsAll sh (put l sh)
-unfolding put
+unfolding Text.put
 puts-all zero sh n μ σ v W ω Y laid d later h = limited deep
 puts-all (suc l) sh n μ σ v W ω Y laid d later h = up-plus 1 (put-node-complete sh (get l sh) (gets-all l sh) (put l sh) (puts-all l sh) μ σ W laid Y later _ v d h)
 

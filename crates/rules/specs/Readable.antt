@@ -14,6 +14,7 @@ use Rattle.sheet.specs.declared.Node.{Node}
 use Rattle.sheet.specs.declared.Node.the-variants.{Var, False, True, Empty, Number, Front, Pair, ListCase, TruthCase, Split, Call, Add}
 use Rattle.sheet.specs.Sheet.{Sheet}
 use Rattle.rules.specs.Outcome.{Out}
+use Rattle.rules.specs.Text
 use Rattle.rules.specs.Rules.{Env, Cells, Getter, Putter, two, bounded, tested, getNode, get, orOld, constant, write, both, under, mkList, mkPair, putNode, put}
 use Rattle.rules.specs.OutcomeLaws.{After, fine, stopped, after-plus, after-bind, after-given, after-choose, after-list}
 
@@ -68,7 +69,7 @@ pair-readable : {a b : Value} → Readable a → Readable b → Fits (pair a b) 
 pair-readable g h z = record { fits = z; encodable = ePair (g .encodable) (h .encodable) }
 
 pub old-readable : {o : Option Value} {v : Value} → ReadableCell o → Readable v → Readable (orOld o v)
-unfolding orOld
+unfolding Text.orOld
 old-readable blank g = g
 old-readable (full h) g = h
 
@@ -93,12 +94,12 @@ abbrev pub GetsReadable : Getter → Type 0
 GetsReadable g = (n : ℕ) (μ : Env) → All Readable μ → After (Unit {0}) (λ v s. Readable v) (g n μ)
 
 after-tested : (t : ℕ) (o : Out Value) → After (Unit {0}) (λ v s. Readable v) o → After (Unit {0}) (λ v s. Readable v) (tested t o)
-unfolding tested
+unfolding Text.tested
 after-tested t o h = after-bind h λ v s _ g. after-given _ λ _ _. fine g
 
 module _ (g : Getter) (ih : GetsReadable g) (sh : Sheet) where
   get-node-readable : (nd : Node) → NumberFits nd → (μ : Env) → All Readable μ → After (Unit {0}) (λ v s. Readable v) (getNode g sh nd μ)
-  unfolding getNode bounded
+  unfolding Text.getNode Text.bounded
   get-node-readable (Var x) nf μ ok = after-given _ λ v e. fine (all-at x ok e)
   get-node-readable False nf μ ok = fine (truth-readable false)
   get-node-readable True nf μ ok = fine (truth-readable true)
@@ -117,7 +118,7 @@ module _ (g : Getter) (ih : GetsReadable g) (sh : Sheet) where
   get-node-readable (Add n k) nf μ ok = after-bind (ih n μ ok) λ v s _ _. after-given _ λ m _. after-given _ λ q _. fine (number-readable q)
 
 pub get-readable : (l : ℕ) (sh : Sheet) → NumbersFit sh → GetsReadable (get l sh)
-unfolding get
+unfolding Text.get
 get-readable zero sh nf n μ ok = stopped tt
 get-readable (suc l) sh nf n μ ok = after-plus 1 (get-node-readable (get l sh) (get-readable l sh nf) sh _ (nf n) μ ok)
 
@@ -132,27 +133,27 @@ module _ (g : Getter) (gets : GetsReadable g) (p : Putter) (ih : PutsReadable p)
   Fine = After (Unit {0}) (λ X s. All ReadableCell X)
 
   constant-readable : (u : Value) → Fine (constant v u W)
-  unfolding constant
+  unfolding Text.constant
   constant-readable u = after-given _ λ _ _. fine gw
 
   write-readable : (c : ℕ) (o : Option Value) → Fine (write c v W o)
-  unfolding write
+  unfolding Text.write
   write-readable c none = fine (all-set c (some v) gw (full gv))
   write-readable c (some w) = after-given _ λ _ _. fine gw
 
   both-readable : (a b : ℕ) (x y : Value) → Readable x → Readable y → Fine (both p μ σ W a x b y)
-  unfolding both
+  unfolding Text.both
   both-readable a b x y gx gy = after-bind (ih a μ σ x W ok gx gw) λ X s _ gX. ih b μ σ y X ok gy gX
 
   under-readable : (b s : ℕ) (mk : Value → Value → Option Value) (f r : Value) → ((x y u : Value) → mk x y ≡ some u → Readable x → Readable y → Fits u → Readable u)
       → Readable f → Readable r → Fine (under p μ σ W b v s mk f r)
-  unfolding under
+  unfolding Text.under
   under-readable b s mk f r k gf gr = after-bind (ih b _ _ v _ (all-append ok (all-two gf gr)) gv (all-append gw (all-two blank blank))) λ X i _ gX.
       after-given _ λ x ex. after-given _ λ y ey. after-given _ λ u eu. after-given _ λ z _.
       ih s μ σ u _ ok (k _ _ u eu (old-readable (all-at _ gX ex) gf) (old-readable (all-at _ gX ey) gr) z) (all-take (length W) gX)
 
   put-node-readable : (nd : Node) → Fine (putNode g p sh nd μ σ v W)
-  unfolding putNode
+  unfolding Text.putNode
   put-node-readable (Var x) = after-given _ λ c _. after-given _ λ o _. write-readable c o
   put-node-readable False = constant-readable vfalse
   put-node-readable True = constant-readable vtrue
@@ -174,6 +175,6 @@ module _ (g : Getter) (gets : GetsReadable g) (p : Putter) (ih : PutsReadable p)
   put-node-readable (Add n k) = after-given _ λ m _. after-given _ λ low _. ih n μ σ (number (m .0 - k)) W ok (number-readable (omega (arith, m .2))) gw
 
 pub put-readable : (l : ℕ) (sh : Sheet) → NumbersFit sh → PutsReadable (put l sh)
-unfolding put
+unfolding Text.put
 put-readable zero sh nf n μ σ v W ok gv gw = stopped tt
 put-readable (suc l) sh nf n μ σ v W ok gv gw = after-plus 1 (put-node-readable (get l sh) (get-readable l sh nf) (put l sh) (put-readable l sh nf) sh μ σ v W ok gv gw _)

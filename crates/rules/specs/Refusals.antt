@@ -18,6 +18,7 @@ use Rattle.sheet.specs.Sheet.{Sheet, readNodes, oneSection, ifSection, readReco
 use Rattle.sheet.specs.Kinds.{formOf}
 use Rattle.rules.specs.Outcome.{Out, done, refused, plus, steps, when, mapOut, _>>=_, given, reading, choose}
 use Rattle.rules.specs.Allowance.{within, cap}
+use Rattle.rules.specs.Text
 use Rattle.rules.specs.Rules.{Env, Cells, Getter, Putter, bounded, tested, onList, getNode, get, constant, write, both, under, putNode, put}
 use Rattle.rules.specs.Answer.{Answer, answer, door, getWalk, getBytes, getAnswer, putWalk, putBytes, putAnswer}
 
@@ -174,11 +175,11 @@ module _ (c : ℕ) (h₀ : Listed c) (h₁ : Listed (c + 1)) (h₂ : Listed (c +
 
 module _ (g : Getter) (gets : (n : ℕ) (μ : Env) → Lists (g n μ)) (sh : Sheet) where
   lists-tested : (t : ℕ) (o : Out Value) → Lists o → Lists (tested t o)
-  unfolding tested among table
+  unfolding Text.tested among table
   lists-tested t o h = lists-bind _ h λ v. lists-given 46 _ _ refl λ _. lDone
 
   lists-get-node : (nd : Node) (μ : Env) → Lists (getNode g sh nd μ)
-  unfolding getNode bounded among table
+  unfolding Text.getNode Text.bounded among table
   lists-get-node (Var x) μ = lists-given 42 _ _ refl λ _. lDone
   lists-get-node False μ = lDone
   lists-get-node True μ = lDone
@@ -194,32 +195,32 @@ module _ (g : Getter) (gets : (n : ℕ) (μ : Env) → Lists (g n μ)) (sh : She
   lists-get-node (Add n k) μ = lists-bind _ (gets n μ) λ v. lists-given 43 _ _ refl λ _. lists-given 45 _ _ refl λ _. lDone
 
 lists-get : (l : ℕ) (sh : Sheet) (n : ℕ) (μ : Env) → Lists (get l sh n μ)
-unfolding get among table
+unfolding Text.get among table
 lists-get zero sh n μ = lRefused refl
 lists-get (suc l) sh n μ = lists-plus 1 (lists-get-node (get l sh) (lists-get l sh) sh _ μ)
 
 module _ (g : Getter) (gets : (n : ℕ) (μ : Env) → Lists (g n μ)) (p : Putter)
     (puts : (n : ℕ) (μ : Env) (σ : List ℕ) (v : Value) (W : Cells) → Lists (p n μ σ v W)) (sh : Sheet) (μ : Env) (σ : List ℕ) (v : Value) (W : Cells) where
   lists-constant : (u : Value) → Lists (constant v u W)
-  unfolding constant among table
+  unfolding Text.constant among table
   lists-constant u = lists-given 50 _ _ refl λ _. lDone
 
   lists-write : (c : ℕ) (o : Option Value) → Lists (write c v W o)
-  unfolding write among table
+  unfolding Text.write among table
   lists-write c none = lDone
   lists-write c (some w) = lists-given 54 _ _ refl λ _. lDone
 
   lists-both : (a b : ℕ) (x y : Value) → Lists (both p μ σ W a x b y)
-  unfolding both
+  unfolding Text.both
   lists-both a b x y = lists-bind _ (puts a μ σ x W) λ X. puts b μ σ y X
 
   lists-under : (b s : ℕ) (mk : Value → Value → Option Value) (f r : Value) → Lists (under p μ σ W b v s mk f r)
-  unfolding under among table
+  unfolding Text.under among table
   lists-under b s mk f r = lists-bind _ (puts b _ _ v _) λ X. lists-given 42 _ _ refl λ x. lists-given 42 _ _ refl λ y.
       lists-given 43 _ _ refl λ u. lists-given 44 _ _ refl λ _. puts s μ σ u _
 
   lists-put-node : (nd : Node) → Lists (putNode g p sh nd μ σ v W)
-  unfolding putNode among table
+  unfolding Text.putNode among table
   lists-put-node (Var x) = lists-given 42 _ _ refl λ c. lists-given 42 _ _ refl λ o. lists-write c o
   lists-put-node False = lists-constant _
   lists-put-node True = lists-constant _
@@ -237,7 +238,7 @@ module _ (g : Getter) (gets : (n : ℕ) (μ : Env) → Lists (g n μ)) (p : Putt
   lists-put-node (Add n k) = lists-given 51 _ _ refl λ m. lists-given 52 _ _ refl λ _. puts n μ σ _ W
 
 lists-put : (l : ℕ) (sh : Sheet) (n : ℕ) (μ : Env) (σ : List ℕ) (v : Value) (W : Cells) → Lists (put l sh n μ σ v W)
-unfolding put among table
+unfolding Text.put among table
 lists-put zero sh n μ σ v W = lRefused refl
 lists-put (suc l) sh n μ σ v W = lists-plus 1 (lists-put-node (get l sh) (lists-get l sh) (put l sh) (lists-put l sh) sh μ σ v W _)
 

@@ -1,137 +1,69 @@
--- Get and put of a node (document 01, "Walking a sheet"; HOBiT, sections 2 and 4).
-use mathlib.Core.Bool.{Bool, true, false, not}
-use mathlib.Core.Option.{Option, none, some, Option·map}
-use mathlib.Core.List.{List, [], _∷_, _++_}
-use Prim.Native.Nat.{ℕ, zero, suc, _+_, _-_}
-use native.Mathlib.Decide.{decLe}
-use lib.ListN.{length, getD, take, set, getElem?}
-use Rattle.value.specs.Value.{Value, Values, vfalse, vtrue, list, number, pair, nil, cons, size, sameValue, truth}
-use Rattle.value.specs.Views.{asList, asFront, asPair, asNumber, asTruth}
-use Rattle.value.specs.Tests.{passes}
+-- The counting reading of get and put: what was done or why it was refused, with the steps taken.
+use mathlib.Core.Option.{Option}
+use mathlib.Core.List.{List}
+use Prim.Native.Nat.{ℕ}
+use Rattle.value.specs.Value.{Value}
 use Rattle.sheet.specs.declared.Node.{Node}
-use Rattle.sheet.specs.declared.Node.the-variants.{Var, False, True, Empty, Number, Front, Pair, ListCase, TruthCase, Split, Call, Add}
 use Rattle.sheet.specs.Sheet.{Sheet}
-use Rattle.rules.specs.Outcome.{Out, done, refused, plus, when, _>>=_, given, choose}
+use Rattle.rules.specs.Outcome.{Out, done, refused, plus, _>>=_, given, choose}
+use Rattle.rules.specs.Text
+use Rattle.rules.specs.Text.{Reading}
+unfoldable pub use Rattle.rules.specs.Text.{Env, two, pick, onList, mkList, mkPair}
 
--- what the variables in scope stand for
-abbrev pub Env : Type 0
-Env = List Value
+-- a cell is the value that was written; a node that is too deep costs no step
+abbrev pub counting : Reading
+counting = record {
+  M = Out;
+  give = λ a. done a 0;
+  bind = _>>=_;
+  given = given;
+  choose = choose;
+  enter = λ n. plus 1;
+  deep = λ n. refused 40 0;
+  Cell = Value;
+  mark = λ n v. v;
+  held = λ w. w;
+  clash = λ w. given 54;
+}
 
--- for each cell, what was written to it. A plan variable is a cell, and a branch adds two
 abbrev pub Cells : Type 0
-Cells = List (Option Value)
+Cells = Text.Cells counting
 
 abbrev pub Getter : Type 0
-Getter = ℕ → Env → Out Value
+Getter = Text.Getter counting
 
--- node, what the variables stood for, the cell that each is, the view, what was written before
 abbrev pub Putter : Type 0
-Putter = ℕ → Env → List ℕ → Value → Cells → Out Cells
+Putter = Text.Putter counting
 
-abbrev pub two : {A : Type 0} → A → A → List A
-two a b = a ∷ b ∷ []
+abbrev pub bounded : Value → Out Value
+bounded = Text.bounded counting
 
-abbrev pub pick : {A : Type 0} → Bool → A → A → A
-pick false a b = a
-pick true a b = b
+abbrev pub tested : ℕ → Out Value → Out Value
+tested = Text.tested counting
 
--- GET
+abbrev pub getNode : Getter → Sheet → Node → Env → Out Value
+getNode = Text.getNode counting
 
-unfoldable pub bounded : Value → Out Value
-bounded v = given 44 (when (decLe (size v) 256)) λ _. done v 0
+abbrev pub get : ℕ → Sheet → Getter
+get = Text.get counting
 
-unfoldable pub tested : ℕ → Out Value → Out Value
-tested t o = o >>= λ v. given 46 (when (passes t v)) λ _. done v 0
+abbrev pub orOld : Option Value → Value → Value
+orOld = Text.orOld counting
 
-unfoldable pub onList : {B : Type 0} → Values → B → (Value → Values → B) → B
-onList nil a f = a
-onList (cons x r) a f = f x r
+abbrev pub constant : Value → Value → Cells → Out Cells
+constant = Text.constant counting
 
--- g gets the nodes that this one enters
-unfoldable pub getNode : Getter → Sheet → Node → Env → Out Value
-getNode g sh (Var x) μ = given 42 (getElem? μ x) λ v. done v 0
-getNode g sh False μ = done vfalse 0
-getNode g sh True μ = done vtrue 0
-getNode g sh Empty μ = done (list nil) 0
-getNode g sh (Number n) μ = done (number n) 0
-getNode g sh (Front a b) μ = g a μ >>= λ f. g b μ >>= λ r. given 43 (asList r) λ l. bounded (list (cons f (l .0)))
-getNode g sh (Pair a b) μ = g a μ >>= λ u. g b μ >>= λ v. bounded (pair u v)
-getNode g sh (ListCase s e te n tn df dr) μ =
-    g s μ >>= λ v. given 43 (asList v) λ l. onList (l .0) (tested te (g e μ)) λ f r. tested tn (g n (μ ++ two f (list r)))
-getNode g sh (TruthCase s f tf t tt) μ =
-    g s μ >>= λ v. given 43 (asTruth v) λ b. tested (pick (b .0) tf tt) (g (pick (b .0) f t) μ)
-getNode g sh (Split s i) μ = g s μ >>= λ v. given 43 (asPair v) λ p. g i (μ ++ two (p .0) (p .1))
-getNode g sh (Call sec x y) μ =
-    given 42 (getElem? μ x) λ a. given 42 (getElem? μ y) λ b. g (getD (sh .sections) sec 0) (two a b)
-getNode g sh (Add n k) μ =
-    g n μ >>= λ v. given 43 (asNumber v) λ m. given 45 (when (decLe (m .0 + k) 65535)) λ _. done (number (m .0 + k)) 0
+abbrev pub write : ℕ → Value → Cells → Option Value → Out Cells
+write = Text.write counting (λ v. v)
 
--- with l levels left: 48 at the root, and a node for which none is left is at depth 49. Entering costs one step
-unfoldable pub get : ℕ → Sheet → Getter
-get zero sh n μ = refused 40 0
-get (suc l) sh n μ = plus 1 (getNode (get l sh) sh (getD (sh .nodes) n False) μ)
+abbrev pub both : Putter → Env → List ℕ → Cells → ℕ → Value → ℕ → Value → Out Cells
+both = Text.both counting
 
--- PUT
+abbrev pub under : Putter → Env → List ℕ → Cells → ℕ → Value → ℕ → (Value → Value → Option Value) → Value → Value → Out Cells
+under = Text.under counting
 
--- what was written, or else what it stood for
-unfoldable pub orOld : Option Value → Value → Value
-orOld none v = v
-orOld (some w) v = w
+abbrev pub putNode : Getter → Putter → Sheet → Node → Env → List ℕ → Value → Cells → Out Cells
+putNode = Text.putNode counting (λ v. v)
 
--- a constant u must equal the view
-unfoldable pub constant : Value → Value → Cells → Out Cells
-constant v u W = given 50 (when (sameValue v u)) λ _. done W 0
-
--- write v to the cell c, which holds o: a second view must equal the first
-unfoldable pub write : ℕ → Value → Cells → Option Value → Out Cells
-write c v W none = done (set W c (some v)) 0
-write c v W (some w) = given 54 (when (sameValue w v)) λ _. done W 0
-
--- v into node a, then u into node b
-unfoldable pub both : Putter → Env → List ℕ → Cells → ℕ → Value → ℕ → Value → Out Cells
-both p μ σ W a v b u = p a μ σ v W >>= λ X. p b μ σ u X
-
--- v into a branch b that adds two variables, which stand for f and r; then what `mk` rebuilds of their new values into the
--- subject s, under the old plan. The branch's two cells are dropped
-unfoldable pub under : Putter → Env → List ℕ → Cells → ℕ → Value → ℕ → (Value → Value → Option Value) → Value → Value → Out Cells
-under p μ σ W b v s mk f r =
-    p b (μ ++ two f r) (σ ++ two (length W) (suc (length W))) v (W ++ two none none) >>= λ X.
-    given 42 (getElem? X (length W)) λ x. given 42 (getElem? X (suc (length W))) λ y.
-    given 43 (mk (orOld x f) (orOld y r)) λ u. given 44 (when (decLe (size u) 256)) λ _. p s μ σ u (take (length W) X)
-
-unfoldable pub mkList : Value → Value → Option Value
-mkList f r = Option·map (λ l. list (cons f (l .0))) (asList r)
-
-unfoldable pub mkPair : Value → Value → Option Value
-mkPair a b = some (pair a b)
-
--- g gets and p puts the nodes that this one enters
-unfoldable pub putNode : Getter → Putter → Sheet → Node → Env → List ℕ → Value → Cells → Out Cells
-putNode g p sh (Var x) μ σ v W = given 42 (getElem? σ x) λ c. given 42 (getElem? W c) λ o. write c v W o
-putNode g p sh False μ σ v W = constant v vfalse W
-putNode g p sh True μ σ v W = constant v vtrue W
-putNode g p sh Empty μ σ v W = constant v (list nil) W
-putNode g p sh (Number n) μ σ v W = constant v (number n) W
-putNode g p sh (Front a b) μ σ v W = given 51 (asFront v) λ c. both p μ σ W a (c .0) b (list (c .1))
-putNode g p sh (Pair a b) μ σ v W = given 51 (asPair v) λ c. both p μ σ W a (c .0) b (c .1)
-putNode g p sh (ListCase s e te n tn df dr) μ σ v W =
-    g s μ >>= λ o. given 43 (asList o) λ l.
-    onList (l .0)
-    (choose (passes te v) (passes tn v) (both p μ σ W e v s (list nil))
-    (g df [] >>= λ f. g dr [] >>= λ r. given 43 (asList r) λ _. under p μ σ W n v s mkList f r))
-    (λ f r. choose (passes tn v) (passes te v) (under p μ σ W n v s mkList f (list r)) (both p μ σ W e v s (list nil)))
-putNode g p sh (TruthCase s f tf t tt) μ σ v W =
-    g s μ >>= λ o. given 43 (asTruth o) λ b.
-    choose (passes (pick (b .0) tf tt) v) (passes (pick (not (b .0)) tf tt) v)
-    (both p μ σ W (pick (b .0) f t) v s (truth (b .0)))
-    (both p μ σ W (pick (not (b .0)) f t) v s (truth (not (b .0))))
-putNode g p sh (Split s i) μ σ v W = g s μ >>= λ o. given 43 (asPair o) λ c. under p μ σ W i v s mkPair (c .0) (c .1)
-putNode g p sh (Call sec x y) μ σ v W =
-    given 42 (getElem? μ x) λ a. given 42 (getElem? σ x) λ c. given 42 (getElem? μ y) λ b. given 42 (getElem? σ y) λ d.
-    p (getD (sh .sections) sec 0) (two a b) (two c d) v W
-putNode g p sh (Add n k) μ σ v W =
-    given 51 (asNumber v) λ m. given 52 (when (decLe k (m .0))) λ _. p n μ σ (number (m .0 - k)) W
-
-unfoldable pub put : ℕ → Sheet → Putter
-put zero sh n μ σ v W = refused 40 0
-put (suc l) sh n μ σ v W = plus 1 (putNode (get l sh) (put l sh) sh (getD (sh .nodes) n False) μ σ v W)
+abbrev pub put : ℕ → Sheet → Putter
+put = Text.put counting

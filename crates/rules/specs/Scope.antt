@@ -11,6 +11,7 @@ use Rattle.sheet.specs.declared.Node.{Node}
 use Rattle.sheet.specs.declared.Node.the-variants.{Var, False, True, Empty, Number, Front, Pair, ListCase, TruthCase, Split, Call, Add}
 use Rattle.sheet.specs.Sheet.{Sheet}
 use Rattle.rules.specs.Outcome.{Out, refused, plus, when, _>>=_, given, choose}
+use Rattle.rules.specs.Text
 use Rattle.rules.specs.Rules.{Env, Cells, Getter, Putter, two, tested, onList, getNode, get, both, under, mkList, mkPair, putNode, put}
 use Rattle.rules.specs.OutcomeLaws.{given-yes}
 
@@ -52,7 +53,7 @@ SameGets k g h = (n : ℕ) (μ : Env) → length μ ≤ k → g n μ ≡ h n μ
 
 module _ {k : ℕ} {g h : Getter} (same : SameGets k g h) (sh : Sheet) where
   get-ext : (nd : Node) (μ : Env) → length μ + 2 ≤ k → getNode g sh nd μ ≡ getNode h sh nd μ
-  unfolding getNode
+  unfolding Text.getNode
   get-ext (Var x) μ z = refl
   get-ext False μ z = refl
   get-ext True μ z = refl
@@ -68,7 +69,7 @@ module _ {k : ℕ} {g h : Getter} (same : SameGets k g h) (sh : Sheet) where
   get-ext (Add n c) μ z = bind-ext (same n μ (omega arith)) λ v. refl
 
 pub get-narrow : (l : ℕ) (sh : Sheet) (n : ℕ) (μ : Env) → length μ + 2 * l ≤ 112 → getNarrow l sh n μ ≡ get l sh n μ
-unfolding getNarrow get
+unfolding getNarrow Text.get
 get-narrow zero sh n μ z = refl
 get-narrow (suc l) sh n μ z = given-yes 0 (decLe (length μ) 110) (omega arith)
     ∙ (ap (plus 1) (get-ext {k = length μ + 2} (λ m ν y. get-narrow l sh m ν (omega arith)) sh _ μ (omega arith)))
@@ -81,15 +82,15 @@ SamePuts k p q = (n : ℕ) (μ : Env) (σ : List ℕ) (v : Value) (W : Cells) �
 module _ {k : ℕ} {g h : Getter} {p q : Putter} (gets : SameGets k g h) (same : SamePuts k p q) (sh : Sheet)
     (μ : Env) (σ : List ℕ) (v : Value) (W : Cells) (z : length μ + 2 ≤ k) where
   both-ext : (a b : ℕ) (x y : Value) → both p μ σ W a x b y ≡ both q μ σ W a x b y
-  unfolding both
+  unfolding Text.both
   both-ext a b x y = bind-ext (same a μ σ x W (omega arith)) λ X. same b μ σ y X (omega arith)
 
   under-ext : (b s : ℕ) (mk : Value → Value → Option Value) (f r : Value) → under p μ σ W b v s mk f r ≡ under q μ σ W b v s mk f r
-  unfolding under
+  unfolding Text.under
   under-ext b s mk f r = bind-ext (same b _ _ v _ (longer μ f r z)) λ X. given-ext _ _ λ x. given-ext _ _ λ y. given-ext _ _ λ u. given-ext _ _ λ _. same s μ σ u _ (omega arith)
 
   put-ext : (nd : Node) → putNode g p sh nd μ σ v W ≡ putNode h q sh nd μ σ v W
-  unfolding putNode
+  unfolding Text.putNode
   put-ext (Var x) = refl
   put-ext False = refl
   put-ext True = refl
@@ -107,7 +108,7 @@ module _ {k : ℕ} {g h : Getter} {p q : Putter} (gets : SameGets k g h) (same :
 
 pub put-narrow : (l : ℕ) (sh : Sheet) (n : ℕ) (μ : Env) (σ : List ℕ) (v : Value) (W : Cells) → length μ + 2 * l ≤ 112
     → putNarrow l sh n μ σ v W ≡ put l sh n μ σ v W
-unfolding putNarrow put
+unfolding putNarrow Text.put
 put-narrow zero sh n μ σ v W z = refl
 put-narrow (suc l) sh n μ σ v W z = given-yes 0 (decLe (length μ) 110) (omega arith)
     ∙ (ap (plus 1) (put-ext {k = length μ + 2} (λ m ν y. get-narrow l sh m ν (omega arith)) (λ m ν τ u X y. put-narrow l sh m ν τ u X (omega arith)) sh μ σ v W (omega arith) _))

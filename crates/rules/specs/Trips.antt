@@ -18,6 +18,7 @@ use Rattle.sheet.specs.declared.Node.the-variants.{False}
 use Rattle.sheet.specs.Sheet.{Sheet, readSheet}
 use Rattle.sheet.specs.Laws.{sheet-ranges}
 use Rattle.rules.specs.Outcome.{Out, done, refused, plus}
+use Rattle.rules.specs.Text
 use Rattle.rules.specs.Rules.{Env, Cells, getNode, get}
 use Rattle.rules.specs.Answer.{success, getAnswer, count, newPlan, putAnswer}
 use Rattle.rules.specs.Related.{All2, ends, more, all2-length}
@@ -83,7 +84,7 @@ keeps-plan ends = refl
 keeps-plan (more {a = o} {b = v} h k) = ap₂ (λ x xs. x ∷ xs) (or-old o v h) (keeps-plan k)
 
 steps-pos : (l : ℕ) (sh : Sheet) (n : ℕ) (μ : Env) {v : Value} {s : ℕ} → get l sh n μ ≡ done v s → 1 ≤ s
-unfolding get plus
+unfolding Text.get plus
 steps-pos zero sh n μ e = let z : _≡_ {A = ℕ} 0 1 = cc in absurd (omega arith)
 steps-pos (suc l) sh n μ {v} {s} e = go (getNode (get l sh) sh (getD (sh .nodes) n False) μ) e
   where

@@ -13,6 +13,7 @@ use Rattle.value.specs.Parts.{shapeOf}
 use Rattle.value.specs.declared.Shape.{Shape}
 use Rattle.value.specs.declared.Shape.the-variants as shapes
 use Rattle.sheet.specs.declared.Node.the-variants.{Add}
+use Rattle.rules.specs.Text
 use Rattle.rules.specs.Rules.{getNode, get}
 use Rattle.rules.specs.Readable.{number-readable}
 use Rattle.step.specs.declared.Scope.{Scope}
@@ -50,12 +51,12 @@ sum-as e f g = rw (← f, ← g) e
 
 module _ {b a s : List ℕ} {sc : Scope} {top left : ℕ} {r : Found} {l x : ℕ} (g : Gives b a s sc top top left 0 r l (enter x)) where
   pub add-refused : {k c : ℕ} → r ≡ Refused c → Gives b a s sc top top left 1 (Refused c) l (body (Add x k))
-  unfolding run getNode
+  unfolding run Text.getNode
   add-refused q = record { kept = g .kept; told = λ sh es μ w. then-refused _ _ (not-got g sh es μ w q .1) (record { is = refl }) }
 
   module _ {len n : ℕ} (e : r ≡ Done top len n) {q : Shape} (qs : q ≡ shapeOf (part a top (top + len - top))) where
     pub add-43 : {k : ℕ} → ((v : Value) → Shaped v q → asNumber v ≡ none) → Gives b a s sc top top left 1 (Refused 43) l (body (Add x k))
-    unfolding run getNode
+    unfolding run Text.getNode
     add-43 other = record {
       kept = g .kept;
       told = λ sh es μ w. let d = got g sh es μ w e in then-done _ _ (d .is) (give-none _ _ (other (d .value) (held-shape (d .held) qs)) (record { is = refl }));
@@ -71,7 +72,7 @@ module _ {b a s : List ℕ} {sc : Scope} {top left : ℕ} {r : Found} {l x : ℕ
       add-long w = let h = held-number (got g (w .lent .sh) (w .lent .read) (w .env) (w .scoped) e) .1 in (h .long, fits (h .readable .encodable))
 
       pub add-45 : {k : ℕ} → 65535 < m + k → Gives b a s sc top top left 1 (Refused 45) l (body (Add x k))
-      unfolding run getNode
+      unfolding run Text.getNode
       add-45 lt = record {
         kept = g .kept;
         told = λ sh es μ w.
@@ -84,7 +85,7 @@ module _ {b a s : List ℕ} {sc : Scope} {top left : ℕ} {r : Found} {l x : ℕ
 
       pub add-done : {k : ℕ} {a₂ : List ℕ} → 32256 ≤ top → top + 3 ≤ length a → m + k ≤ 65535 → a₂ ≡ set (set a (top + 1) ((m + k) / 256)) (top + 2) ((m + k) % 256)
           → Gives b a₂ s sc top top left 1 (Done top 3 (1 + n)) l (body (Add x k))
-      unfolding run getNode encode size
+      unfolding run Text.getNode encode size
       add-done {k} {a₂} base room le is = record {
         kept = rw is (kept-then (kept-then (g .kept) (kept-set top a (top + 1) ((m + k) / 256) (omega arith)) (le-refl top))
             (kept-set top (set a (top + 1) ((m + k) / 256)) (top + 2) ((m + k) % 256) (omega arith)) (le-refl top));

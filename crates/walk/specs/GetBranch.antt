@@ -8,6 +8,7 @@ use native.Mathlib.Nat.{le-refl}
 use native.Mathlib.Omega.{arith}
 use Rattle.value.specs.Tests.{passes, holds}
 use Rattle.value.specs.Parts.{passesBytes}
+use Rattle.rules.specs.Text
 use Rattle.rules.specs.Rules.{tested}
 use Rattle.step.specs.declared.Scope.{Scope}
 use Rattle.step.specs.Step.{packed}
@@ -38,12 +39,12 @@ pub data Judged (test spent top g : ℕ) (b a : List ℕ) (r : ℕ) : Type 0 whe
 
 module _ {b a s : List ℕ} {sc : Scope} {from top left spent test x l : ℕ} {r : Found} (base : 32256 ≤ top) (down : top ≤ from) (g : Gives b a s sc from from left 0 r l (enter x)) where
   branch-refused : {c : ℕ} → r ≡ Refused c → Gives b a s sc from top left spent (Refused c) l (branch test x)
-  unfolding run tested
+  unfolding run Text.tested
   branch-refused e = record { kept = kept-below (g .kept) top down; told = λ sh es μ w. then-refused _ _ (not-got g sh es μ w e .1) (record { is = refl }) }
 
   module _ {start len n : ℕ} (e : r ≡ Done start len n) {p : Bool} (q : p ≡ passesBytes test (part a start (start + len - start))) where
     branch-46 : p ≡ false → Gives b a s sc from top left spent (Refused 46) l (branch test x)
-    unfolding run tested passes
+    unfolding run Text.tested passes
     branch-46 f = record {
       kept = kept-below (g .kept) top down;
       told = λ sh es μ w.
@@ -54,7 +55,7 @@ module _ {b a s : List ℕ} {sc : Scope} {from top left spent test x l : ℕ} {r
 
     -- it stands where it is, or is moved down
     branch-kept : p ≡ true → start ≤ top → Gives b a s sc from top left spent (Done start len (spent + n)) l (branch test x)
-    unfolding run tested passes
+    unfolding run Text.tested passes
     branch-kept f low = record {
       kept = kept-below (g .kept) top down;
       told = λ sh es μ w.
@@ -70,7 +71,7 @@ module _ {b a s : List ℕ} {sc : Scope} {from top left spent test x l : ℕ} {r
     }
 
     branch-done : {a₂ : List ℕ} → p ≡ true → Copied start top len a a₂ → Gives b a₂ s sc from top left spent (Done top len (spent + n)) l (branch test x)
-    unfolding run tested passes
+    unfolding run Text.tested passes
     branch-done f m = record {
       kept = kept-then (kept-below (g .kept) top down) (m .kept) (le-refl top);
       told = λ sh es μ w.

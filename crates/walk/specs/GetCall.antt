@@ -11,6 +11,7 @@ use Rattle.sheet.specs.declared.Node.the-variants.{Call}
 use Rattle.sheet.specs.Sheet.{Sheet, readSheet}
 use Rattle.sheet.specs.Table.{sectionAt}
 use Rattle.sheet.specs.Laws.{sheet-ranges, section-read}
+use Rattle.rules.specs.Text
 use Rattle.rules.specs.Rules.{Env as Values, two, getNode, get}
 use Rattle.step.specs.declared.Scope.{Scope}
 use Rattle.walk.specs.Found.{Found, Done, Refused}
@@ -25,14 +26,14 @@ use Rattle.walk.specs.GetEnter.{same-sheet}
 
 module _ {b s : List ℕ} {sc : Scope} {top left l sec x y : ℕ} where
   pub call-42₁ : sc .count ≤ x → Gives b b s sc top top left 1 (Refused 42) l (body (Call sec x y))
-  unfolding run getNode
+  unfolding run Text.getNode
   call-42₁ h = record {
     kept = kept-refl top b;
     told = λ sh es μ w. give-none _ _ (elem-none μ x (omega (arith, w .count))) (record { is = refl });
   }
 
   pub call-42₂ : x < sc .count → sc .count ≤ y → Gives b b s sc top top left 1 (Refused 42) l (body (Call sec x y))
-  unfolding run getNode
+  unfolding run Text.getNode
   call-42₂ g h = record {
     kept = kept-refl top b;
     told = λ sh es μ w. give _ _ (elem-at μ x vfalse (omega (arith, w .count))) (give-none _ _ (elem-none μ y (omega (arith, w .count))) (record { is = refl }));
@@ -60,7 +61,7 @@ module _ {b s starts : List ℕ} {sc : Scope} {top left l sec x y : ℕ} (w : Re
     rooted e = root-read ∙ ap (λ (y : Sheet). getD (y .sections) sec 0) (same-sheet (w .lent) e)
 
     pub call-refused : {c : ℕ} → r ≡ Refused c → Gives b a s sc top top left 1 (Refused c) l (body (Call sec x y))
-    unfolding run getNode
+    unfolding run Text.getNode
     call-refused q = record {
       kept = g .kept;
       told = λ sh es μ e. give _ _ (elem-at μ x vfalse (omega (arith, e .count))) (give _ _ (elem-at μ y vfalse (omega (arith, e .count)))
@@ -68,7 +69,7 @@ module _ {b s starts : List ℕ} {sc : Scope} {top left l sec x y : ℕ} (w : Re
     }
 
     pub call-done : {start len n : ℕ} → r ≡ Done start len n → Gives b a s sc top top left 1 (Done start len (1 + n)) l (body (Call sec x y))
-    unfolding run getNode
+    unfolding run Text.getNode
     call-done {start} {len} {n} q = record {
       kept = g .kept;
       told = λ sh es μ e.

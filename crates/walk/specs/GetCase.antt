@@ -15,6 +15,7 @@ use Rattle.value.specs.declared.Shape.{Shape}
 use Rattle.value.specs.declared.Shape.the-variants as shapes
 use Rattle.sheet.specs.declared.Node.the-variants.{ListCase, TruthCase, Split}
 use Rattle.rules.specs.Outcome.{Out, done, refused, plus, when, _>>=_, given}
+use Rattle.rules.specs.Text
 use Rattle.rules.specs.Rules.{Env as Values, two, getNode, get, tested, onList}
 use Rattle.step.specs.declared.Scope.{Scope}
 use Rattle.walk.specs.Found.{Found, Done, Refused}
@@ -38,7 +39,7 @@ any-holds (number n) = refl
 any-holds (pair a b) = refl
 
 untested : (o : Out Value) → tested 0 o ≡ o
-unfolding tested _>>=_ plus given when
+unfolding Text.tested _>>=_ plus given when
 untested (done v s) = ap (plus s) (go (passes 0 v)) ∙ ap (done v) (add-zero s)
   where
     go : (d : Dec (holds 0 v ≡ true)) → given 46 (when d) (λ _. done v 0) ≡ done v 0
@@ -89,35 +90,35 @@ subject-ready {l = l} {left = left} w h = record {
 -- the subject x is got
 module _ {b a₁ s : List ℕ} {sc : Scope} {top left : ℕ} {r₁ : Found} {l x : ℕ} (g₁ : Gives b a₁ s sc top top left 0 r₁ l (enter x)) where
   pub list-refused : {e te n tn df dr c : ℕ} → r₁ ≡ Refused c → Gives b a₁ s sc top top left 1 (Refused c) l (body (ListCase x e te n tn df dr))
-  unfolding run getNode
+  unfolding run Text.getNode
   list-refused q = record { kept = g₁ .kept; told = λ sh es μ w. then-refused _ _ (not-got g₁ sh es μ w q .1) (record { is = refl }) }
 
   pub truth-refused : {f tf t tt′ c : ℕ} → r₁ ≡ Refused c → Gives b a₁ s sc top top left 1 (Refused c) l (body (TruthCase x f tf t tt′))
-  unfolding run getNode
+  unfolding run Text.getNode
   truth-refused q = record { kept = g₁ .kept; told = λ sh es μ w. then-refused _ _ (not-got g₁ sh es μ w q .1) (record { is = refl }) }
 
   pub split-refused : {i c : ℕ} → r₁ ≡ Refused c → Gives b a₁ s sc top top left 1 (Refused c) l (body (Split x i))
-  unfolding run getNode
+  unfolding run Text.getNode
   split-refused q = record { kept = g₁ .kept; told = λ sh es μ w. then-refused _ _ (not-got g₁ sh es μ w q .1) (record { is = refl }) }
 
   module _ {start len n : ℕ} (e₁ : r₁ ≡ Done start len n) {q : Shape} (qs : q ≡ shapeOf (part a₁ start (start + len - start))) where
     -- it is of another shape
     pub list-43 : {e te m tm df dr : ℕ} → ((v : Value) → Shaped v q → asList v ≡ none) → Gives b a₁ s sc top top left 1 (Refused 43) l (body (ListCase x e te m tm df dr))
-    unfolding run getNode
+    unfolding run Text.getNode
     list-43 other = record {
       kept = g₁ .kept;
       told = λ sh es μ w. let d = got g₁ sh es μ w e₁ in then-done _ _ (d .is) (give-none _ _ (other (d .value) (held-shape (d .held) qs)) (record { is = refl }));
     }
 
     pub truth-43 : {f tf t tt′ : ℕ} → ((v : Value) → Shaped v q → asTruth v ≡ none) → Gives b a₁ s sc top top left 1 (Refused 43) l (body (TruthCase x f tf t tt′))
-    unfolding run getNode
+    unfolding run Text.getNode
     truth-43 other = record {
       kept = g₁ .kept;
       told = λ sh es μ w. let d = got g₁ sh es μ w e₁ in then-done _ _ (d .is) (give-none _ _ (other (d .value) (held-shape (d .held) qs)) (record { is = refl }));
     }
 
     pub split-43 : {i : ℕ} → ((v : Value) → Shaped v q → asPair v ≡ none) → Gives b a₁ s sc top top left 1 (Refused 43) l (body (Split x i))
-    unfolding run getNode
+    unfolding run Text.getNode
     split-43 other = record {
       kept = g₁ .kept;
       told = λ sh es μ w. let d = got g₁ sh es μ w e₁ in then-done _ _ (d .is) (give-none _ _ (other (d .value) (held-shape (d .held) qs)) (record { is = refl }));
@@ -130,7 +131,7 @@ module _ {b a₁ s : List ℕ} {sc : Scope} {top left : ℕ} {r₁ : Found} {l x
 
       pub list-empty : {a₂ : List ℕ} {r₂ : Found} {e te m tm df dr : ℕ} → q ≡ shapes.Empty → Gives a₁ a₂ s sc top′ top (left - n) (1 + n) r₂ l (branch te e)
           → Gives b a₂ s sc top top left 1 r₂ l (body (ListCase x e te m tm df dr))
-      unfolding run getNode asList onList
+      unfolding run Text.getNode asList onList
       list-empty p g₂ = record {
         kept = kept-then (g₁ .kept) (g₂ .kept) (le-refl top);
         told = λ sh es μ w.
@@ -141,7 +142,7 @@ module _ {b a₁ s : List ℕ} {sc : Scope} {top left : ℕ} {r₁ : Found} {l x
 
       pub truth-no : {a₂ : List ℕ} {r₂ : Found} {f tf t tt′ : ℕ} → q ≡ shapes.False → Gives a₁ a₂ s sc top′ top (left - n) (1 + n) r₂ l (branch tf f)
           → Gives b a₂ s sc top top left 1 r₂ l (body (TruthCase x f tf t tt′))
-      unfolding run getNode asTruth
+      unfolding run Text.getNode asTruth
       truth-no p g₂ = record {
         kept = kept-then (g₁ .kept) (g₂ .kept) (le-refl top);
         told = λ sh es μ w.
@@ -152,7 +153,7 @@ module _ {b a₁ s : List ℕ} {sc : Scope} {top left : ℕ} {r₁ : Found} {l x
 
       pub truth-yes : {a₂ : List ℕ} {r₂ : Found} {f tf t tt′ : ℕ} → q ≡ shapes.True → Gives a₁ a₂ s sc top′ top (left - n) (1 + n) r₂ l (branch tt′ t)
           → Gives b a₂ s sc top top left 1 r₂ l (body (TruthCase x f tf t tt′))
-      unfolding run getNode asTruth
+      unfolding run Text.getNode asTruth
       truth-yes p g₂ = record {
         kept = kept-then (g₁ .kept) (g₂ .kept) (le-refl top);
         told = λ sh es μ w.
@@ -201,7 +202,7 @@ module _ {b a₁ s : List ℕ} {sc : Scope} {top left : ℕ} {r₁ : Found} {l x
 
         pub list-front : 32256 ≤ top → sc .count + 2 ≤ 110 → {a₂ : List ℕ} {r₂ : Found} {e te m tm df dr : ℕ} → Gives a₁ a₂ s more top′ top (left - n) (1 + n) r₂ l (branch tm m)
             → Gives b a₂ s sc top top left 1 r₂ l (body (ListCase x e te m tm df dr))
-        unfolding run getNode asList onList
+        unfolding run Text.getNode asList onList
         list-front base c g₂ = record {
           kept = kept-then (g₁ .kept) (g₂ .kept) (le-refl top);
           told = λ sh es μ w.
@@ -228,7 +229,7 @@ module _ {b a₁ s : List ℕ} {sc : Scope} {top left : ℕ} {r₁ : Found} {l x
 
         pub split-done : 32256 ≤ top → sc .count + 2 ≤ 110 → {a₂ : List ℕ} {r₂ : Found} {i : ℕ} → Gives a₁ a₂ s more top′ top (left - n) (1 + n) r₂ l (branch 0 i)
             → Gives b a₂ s sc top top left 1 r₂ l (body (Split x i))
-        unfolding run getNode asPair
+        unfolding run Text.getNode asPair
         split-done base c g₂ = record {
           kept = kept-then (g₁ .kept) (g₂ .kept) (le-refl top);
           told = λ sh es μ w.

@@ -16,6 +16,7 @@ use Rattle.sheet.specs.Kinds.{formOf, forms, make, width}
 use Rattle.sheet.specs.Rows.{width-8}
 use Rattle.sheet.specs.Forms.{NoneFrom, beyond}
 use mathlib.Core.Logic.{_⊎_, inl, inr}
+use Rattle.rules.specs.Text
 use Rattle.rules.specs.Rules.{get}
 use Rattle.step.specs.declared.Scope.{Scope}
 use Rattle.walk.specs.Found.{Found, Refused}
@@ -28,11 +29,11 @@ use Rattle.step.specs.StepLaws.{no-level, no-step as out-of-steps, both-left}
 
 module _ {b s : List ℕ} {sc : Scope} {top left x : ℕ} where
   pub enter-40 : {levels : ℕ} → levels ≡ 0 → Gives b b s sc top top left 0 (Refused 40) levels (enter x)
-  unfolding run get
+  unfolding run Text.get
   enter-40 e = rw e (record { kept = kept-refl top b; told = λ sh es μ w. refuse 40 (record { is = refl }) })
 
   pub enter-41 : {levels : ℕ} → (levels ≡ 0 → ⊥) → left ≡ 0 → Gives b b s sc top top left 0 (Refused 41) levels (enter x)
-  unfolding run get
+  unfolding run Text.get
   enter-41 {levels = zero} n e = absurd (n refl)
   enter-41 {levels = suc l} n e = record { kept = kept-refl top b; told = λ sh es μ w. no-step _ e (record { is = refl }) }
 
@@ -146,7 +147,7 @@ module _ {s starts b : List ℕ} {sc : Scope} {top levels left x : ℕ} (w : Rea
       rw (p, q) (ready-later w (kept-refl top b) top levels left (le-refl top) (w .few) (w .room) (le-refl levels) (x, ranged-node))
 
   pub enter-body : {a : List ℕ} {k : Found} → Gives b a s sc top top (left - 1) 1 k (levels - 1) (body nd) → Gives b a s sc top top left 0 k levels (enter x)
-  unfolding run get
+  unfolding run Text.get
   enter-body {a} {k} g = go levels (omega arith) g
     where
       go : (l : ℕ) → 1 ≤ l → Gives b a s sc top top (left - 1) 1 k (l - 1) (body nd) → Gives b a s sc top top left 0 k l (enter x)

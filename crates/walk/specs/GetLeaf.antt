@@ -10,6 +10,7 @@ use lib.Seq.{getD-set-same, getD-set-other}
 use Rattle.value.specs.Value.{Value, vfalse, number, encode, encodes, size, sizes}
 use Rattle.value.specs.Laws.{Readable}
 use Rattle.sheet.specs.declared.Node.the-variants.{Var, False, True, Empty, Number}
+use Rattle.rules.specs.Text
 use Rattle.rules.specs.Rules.{getNode}
 use Rattle.rules.specs.Readable.{nil-readable, truth-readable, number-readable}
 use Rattle.step.specs.declared.Scope.{Scope}
@@ -26,14 +27,14 @@ use Rattle.walk.specs.Gets.{Task, body, run, Ready, Served, Gives, as-fo
 
 module _ {b s : List ℕ} {sc : Scope} {top left l x : ℕ} where
   pub var-42 : sc .count ≤ x → Gives b b s sc top top left 1 (Refused 42) l (body (Var x))
-  unfolding run getNode
+  unfolding run Text.getNode
   var-42 h = record {
     kept = kept-refl top b;
     told = λ sh es μ w. give-none _ _ (elem-none μ x (omega (arith, w .count))) (record { is = refl });
   }
 
   pub var-done : x < sc .count → 32256 ≤ top → Gives b b s sc top top left 1 (Done (getD (sc .starts) x 0) (getD (sc .lens) x 0) 1) l (body (Var x))
-  unfolding run getNode
+  unfolding run Text.getNode
   var-done h base = record {
     kept = kept-refl top b;
     told = λ sh es μ w.
@@ -90,15 +91,15 @@ module _ {k : ℕ} {b a : List ℕ} {top : ℕ} {r : Found} (base : 32256 ≤ to
 
   module _ {s : List ℕ} {sc : Scope} {left l : ℕ} where
     pub false-done : k ≡ 0 → Gives b a s sc top top left 1 r l (body False)
-    unfolding run getNode encode size
+    unfolding run Text.getNode encode size
     false-done q = record { kept = marked-kept m; told = λ sh es μ w. finish refl (constant-done (ap (λ (i : ℕ). i ∷ []) q) refl (truth-readable false)) }
 
     pub true-done : k ≡ 1 → Gives b a s sc top top left 1 r l (body True)
-    unfolding run getNode encode size
+    unfolding run Text.getNode encode size
     true-done q = record { kept = marked-kept m; told = λ sh es μ w. finish refl (constant-done (ap (λ (i : ℕ). i ∷ []) q) refl (truth-readable true)) }
 
     pub empty-done : k ≡ 2 → Gives b a s sc top top left 1 r l (body Empty)
-    unfolding run getNode encode encodes size sizes
+    unfolding run Text.getNode encode encodes size sizes
     empty-done q = record { kept = marked-kept m; told = λ sh es μ w. finish refl (constant-done (ap (λ (i : ℕ). i ∷ []) q) refl nil-readable) }
 
 -- NUMBERS
@@ -123,7 +124,7 @@ number-bytes b top n h k =
 
 pub number-done : {b a s : List ℕ} {sc : Scope} {top left l n : ℕ} {r : Found} → 32256 ≤ top → top + 3 ≤ length b → n ≤ 65535
     → a ≡ numbered b top n → r ≡ Done top 3 1 → Gives b a s sc top top left 1 r l (body (Number n))
-unfolding run getNode size
+unfolding run Text.getNode size
 number-done {b} {top = top} {n = n} base h le e f =
     let c : List ℕ = set b top 4 in
     let lc : length c ≡ length b = length-set b top 4 in

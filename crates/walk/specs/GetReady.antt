@@ -7,6 +7,7 @@ use Rattle.value.specs.Value.{Value}
 use Rattle.sheet.specs.Sheet.{Sheet}
 use Rattle.rules.specs.Outcome.{done, refused}
 use Rattle.rules.specs.AllowanceLaws.{within-done}
+use Rattle.rules.specs.Text
 use Rattle.rules.specs.Rules.{Env as Values, get}
 use Rattle.step.specs.declared.Scope.{Scope}
 use Rattle.walk.specs.Found.{Found, Done}
@@ -45,7 +46,7 @@ pub record Sizes (top start len n left levels : ℕ) : Type 0 where
 
 -- with no level left a node is refused
 deep : {l : ℕ} (sh : Sheet) (x : ℕ) (μ : Values) {v : Value} {n : ℕ} → run l sh (enter x) μ ≡ done v n → 1 ≤ l
-unfolding run get
+unfolding run Text.get
 deep {l = zero} sh x μ e = absurd (let z : _≡_ {A = ℕ} 0 1 = cc in omega arith)
 deep {l = suc l} sh x μ e = omega arith
 

@@ -16,6 +16,7 @@ use Rattle.value.specs.Laws.{encodable-front}
 use Rattle.sheet.specs.declared.Node.the-variants.{Front, Pair}
 use Rattle.sheet.specs.Sheet.{Sheet, readSheet}
 use Rattle.rules.specs.Allowance.{within}
+use Rattle.rules.specs.Text
 use Rattle.rules.specs.Rules.{Env as Values, getNode, get, bounded}
 use Rattle.step.specs.declared.Scope.{Scope}
 use Rattle.walk.specs.Found.{Found, Done, Refused}
@@ -72,11 +73,11 @@ module _ {k : ℕ} {b m a₁ s : List ℕ} {sc : Scope} {top left : ℕ} {r₁ :
   env₁ w = env-later (marked-kept mk) base (top + 1) (omega arith) w
 
   pub pair-refused₁ : {y c : ℕ} → r₁ ≡ Refused c → Gives b a₁ s sc top top left 1 (Refused c) l (body (Pair x y))
-  unfolding run getNode
+  unfolding run Text.getNode
   pair-refused₁ e = record { kept = kept₁; told = λ sh es μ w. then-refused _ _ (not-got g₁ sh es μ (env₁ w) e .1) (record { is = refl }) }
 
   pub front-refused₁ : {y c : ℕ} → r₁ ≡ Refused c → Gives b a₁ s sc top top left 1 (Refused c) l (body (Front x y))
-  unfolding run getNode
+  unfolding run Text.getNode
   front-refused₁ e = record { kept = kept₁; told = λ sh es μ w. then-refused _ _ (not-got g₁ sh es μ (env₁ w) e .1) (record { is = refl }) }
 
   module _ {f n : ℕ} (e₁ : r₁ ≡ Done (top + 1) f n) {a₂ : List ℕ} {r₂ : Found} {y : ℕ} (g₂ : Gives a₁ a₂ s sc (top + 1 + f) (top + 1 + f) (left - n) 0 r₂ l (enter y)) where
@@ -87,14 +88,14 @@ module _ {k : ℕ} {b m a₁ s : List ℕ} {sc : Scope} {top left : ℕ} {r₁ :
     env₂ w = env-later kept₁ base (top + 1 + f) (omega arith) w
 
     pub pair-refused₂ : {c : ℕ} → r₂ ≡ Refused c → Gives b a₂ s sc top top left 1 (Refused c) l (body (Pair x y))
-    unfolding run getNode
+    unfolding run Text.getNode
     pair-refused₂ e = record {
       kept = kept₂;
       told = λ sh es μ w. then-done _ _ (got g₁ sh es μ (env₁ w) e₁ .is) (then-refused _ _ (not-got g₂ sh es μ (env₂ w) e .1) (record { is = refl }));
     }
 
     pub front-refused₂ : {c : ℕ} → r₂ ≡ Refused c → Gives b a₂ s sc top top left 1 (Refused c) l (body (Front x y))
-    unfolding run getNode
+    unfolding run Text.getNode
     front-refused₂ e = record {
       kept = kept₂;
       told = λ sh es μ w. then-done _ _ (got g₁ sh es μ (env₁ w) e₁ .is) (then-refused _ _ (not-got g₂ sh es μ (env₂ w) e .1) (record { is = refl }));
@@ -120,7 +121,7 @@ module _ {k : ℕ} {b m a₁ s : List ℕ} {sc : Scope} {top left : ℕ} {r₁ :
           }
 
       pub pair-44 : 256 < 1 + f + r → Gives b a₂ s sc top top left 1 (Refused 44) l (body (Pair x y))
-      unfolding run getNode bounded size
+      unfolding run Text.getNode Text.bounded size
       pair-44 lt = record {
         kept = kept₂;
         told = λ sh es μ w. let d = both sh es μ w in
@@ -128,7 +129,7 @@ module _ {k : ℕ} {b m a₁ s : List ℕ} {sc : Scope} {top left : ℕ} {r₁ :
       }
 
       pub pair-done : k ≡ 5 → 1 + f + r ≤ 256 → Gives b a₂ s sc top top left 1 (Done top (1 + f + r) (1 + n + t)) l (body (Pair x y))
-      unfolding run getNode bounded size encode
+      unfolding run Text.getNode Text.bounded size encode
       pair-done five le = record {
         kept = kept₂;
         told = λ sh es μ w.
@@ -150,7 +151,7 @@ module _ {k : ℕ} {b m a₁ s : List ℕ} {sc : Scope} {top left : ℕ} {r₁ :
       }
 
       pub front-43 : (2 ≤ getD a₂ (top + 1 + f) 0 → getD a₂ (top + 1 + f) 0 ≤ 3 → ⊥) → Gives b a₂ s sc top top left 1 (Refused 43) l (body (Front x y))
-      unfolding run getNode
+      unfolding run Text.getNode
       front-43 other = record {
         kept = kept₂;
         told = λ sh es μ w. let d = both sh es μ w in
@@ -159,7 +160,7 @@ module _ {k : ℕ} {b m a₁ s : List ℕ} {sc : Scope} {top left : ℕ} {r₁ :
 
       module _ (above : 2 ≤ getD a₂ (top + 1 + f) 0) (below : getD a₂ (top + 1 + f) 0 ≤ 3) where
         pub front-44 : 256 < 1 + f + r → Gives b a₂ s sc top top left 1 (Refused 44) l (body (Front x y))
-        unfolding run getNode bounded size rest-sizes
+        unfolding run Text.getNode Text.bounded size rest-sizes
         front-44 lt = record {
           kept = kept₂;
           told = λ sh es μ w.
@@ -171,7 +172,7 @@ module _ {k : ℕ} {b m a₁ s : List ℕ} {sc : Scope} {top left : ℕ} {r₁ :
         }
 
         pub front-done : k ≡ 3 → 1 + f + r ≤ 256 → Gives b a₂ s sc top top left 1 (Done top (1 + f + r) (1 + n + t)) l (body (Front x y))
-        unfolding run getNode bounded size rest-sizes encode encodes
+        unfolding run Text.getNode Text.bounded size rest-sizes encode encodes
         front-done three le = record {
           kept = kept₂;
           told = λ sh es μ w.

@@ -18,6 +18,7 @@ use Rattle.sheet.specs.declared.Node.the-variants.{ListCase, TruthCase, Split}
 use Rattle.sheet.specs.Sheet.{Sheet}
 use Rattle.rules.specs.Outcome.{done}
 use Rattle.rules.specs.Allowance.{within}
+use Rattle.rules.specs.Text
 use Rattle.rules.specs.Rules.{Env as Values, Cells, get, putNode}
 use Rattle.step.specs.declared.Scope.{Scope}
 use Rattle.walk.specs.Found.{Found}
@@ -97,15 +98,15 @@ module _ {b a₁ s : List ℕ} {sc : Scope} {top left : ℕ} {r₀ : Found} {l x
 
   module _ {lens : List ℕ} {P : Value → Type 0} {cells : Owners} {m c : ℕ} (e : r₀ ≡ walked.Refused c) where
     pub list-refused : {te tn n₁ n₂ df dr : ℕ} → Gives b a₁ lens lens s P sc cells m top left 1 (Refused c) l (body (ListCase x n₁ te n₂ tn df dr))
-    unfolding run gets.run putNode
+    unfolding run gets.run Text.putNode
     list-refused = record { frame = frame₀; long = refl; told = λ w. then-refused _ _ (gets.not-got g₀ _ (w .read) _ (w .scoped) e .1) (record { is = refl }) }
 
     pub truth-refused : {te tn n₁ n₂ : ℕ} → Gives b a₁ lens lens s P sc cells m top left 1 (Refused c) l (body (TruthCase x n₁ te n₂ tn))
-    unfolding run gets.run putNode
+    unfolding run gets.run Text.putNode
     truth-refused = record { frame = frame₀; long = refl; told = λ w. then-refused _ _ (gets.not-got g₀ _ (w .read) _ (w .scoped) e .1) (record { is = refl }) }
 
     pub split-refused : {n : ℕ} → Gives b a₁ lens lens s P sc cells m top left 1 (Refused c) l (body (Split x n))
-    unfolding run gets.run putNode
+    unfolding run gets.run Text.putNode
     split-refused = record { frame = frame₀; long = refl; told = λ w. then-refused _ _ (gets.not-got g₀ _ (w .read) _ (w .scoped) e .1) (record { is = refl }) }
 
 -- the subject is got

@@ -10,6 +10,7 @@ use Rattle.sheet.specs.declared.Node.{Node}
 use Rattle.sheet.specs.declared.Node.the-variants.{False}
 use Rattle.sheet.specs.Sheet.{Sheet, readSheet}
 use Rattle.sheet.specs.Laws.{sheet-ranges}
+use Rattle.rules.specs.Text
 use Rattle.rules.specs.Rules.{put}
 use Rattle.step.specs.declared.Scope.{Scope}
 use Rattle.walk.specs.Taken.{Put, Refused}
@@ -27,11 +28,11 @@ same-sheet {s} {sh = sh} t e = let q : readSheet s ≡ ok (t .sh) = t .read in c
 
 module _ {b lens s : List ℕ} {P : Value → Type 0} {sc : Scope} {cells : Owners} {m top left x : ℕ} where
   pub put-40 : {levels : ℕ} → levels ≡ 0 → Gives b b lens lens s P sc cells m top left 0 (Refused 40) levels (enter x)
-  unfolding run put
+  unfolding run Text.put
   put-40 e = rw e (record { frame = frame-refl top b; long = refl; told = λ w. refuse 40 (record { is = refl }) })
 
   put-none : (l : ℕ) → left ≡ 0 → Gives b b lens lens s P sc cells m top left 0 (Refused 41) (suc l) (enter x)
-  unfolding run put
+  unfolding run Text.put
   put-none l e = record { frame = frame-refl top b; long = refl; told = λ w. no-step _ e (record { is = refl }) }
 
   pub put-41 : {levels : ℕ} → (levels ≡ 0 → ⊥) → left ≡ 0 → Gives b b lens lens s P sc cells m top left 0 (Refused 41) levels (enter x)
@@ -48,7 +49,7 @@ module _ {b lens s : List ℕ} {P : Value → Type 0} {sc : Scope} {cells : Owne
   module _ {starts : List ℕ} {N : Node} where
     put-one : {a lens′ : List ℕ} {r : Put} (l : ℕ) (t : Lent s starts) → getD (t .sh .nodes) x False ≡ N → 0 < left
         → Gives b a lens lens′ s P sc cells m top (left - 1) 1 r l (body N) → Gives b a lens lens′ s P sc cells m top left 0 r (suc l) (enter x)
-    unfolding run put
+    unfolding run Text.put
     put-one l t is p g = record {
       frame = g .frame;
       long = g .long;

@@ -21,6 +21,7 @@ use Rattle.sheet.specs.declared.Table.{Table}
 use Rattle.sheet.specs.Laws.{sheet-ranges}
 use Rattle.rules.specs.Outcome.{Out, done, refused, mapOut, reading}
 use Rattle.rules.specs.Allowance.{within}
+use Rattle.rules.specs.Text
 use Rattle.rules.specs.Rules.{Env as Values, Cells, orOld, put}
 use Rattle.rules.specs.Answer.{count, newPlan, putWalk, putBytes}
 use Rattle.step.specs.declared.Scope.{Scope}
@@ -104,7 +105,7 @@ new-at (o ∷ X) (v ∷ μ) zero e h = refl
 new-at (o ∷ X) (v ∷ μ) (suc i) e h = new-at X μ i (omega arith) (omega arith)
 
 rests : {a : List ℕ} {start len c w : ℕ} {o : Option Value} {v : Value} → Slot a (4096 + 256 * c) w o → c < 110 → Held a 32256 start len v → Rests a (placeOf w c start len) (orOld o v)
-unfolding placeOf orOld
+unfolding placeOf Text.orOld
 rests (blank z) h k = rw z (record { bytes = k .bytes; short = held-short k; inside = below-ends (k .place) (le-refl 32256) })
 rests {start = start} {len = len} {c = c} {w = w} (full {v = u} z p r) h k =
     let n : w ≡ 0 → ⊥ = λ e. omega (arith, size-pos u) in

@@ -15,6 +15,7 @@ use Rattle.value.specs.PartsLaws.{same-values, other-values}
 use Rattle.sheet.specs.declared.Node.{Node}
 use Rattle.sheet.specs.declared.Node.the-variants.{Var, False, True, Empty, Number}
 use Rattle.sheet.specs.Sheet.{Sheet}
+use Rattle.rules.specs.Text
 use Rattle.rules.specs.Rules.{Env as Values, Cells, putNode, constant, write}
 use Rattle.step.specs.declared.Scope.{Scope}
 use Rattle.walk.specs.Taken.{Put, Done, Refused, taken, taken-refused, took-done}
@@ -72,7 +73,7 @@ one-step = took-done refl (omega arith)
 
 same-constant : (u v : Value) {b lens view : List ℕ} {left n : ℕ} {W : Cells} {q : Bool} → Shown view v → q ≡ sameBytes view (encode u) → Written b lens n W
     → Answers (Served b lens n (taken (judged 50 q))) (Denied (taken (judged 50 q))) 1 left (constant v u W)
-unfolding judged constant
+unfolding judged Text.constant
 same-constant u v {q = true} h e w = give-yes 50 _ _ (same-values v u (rw (h .bytes) at (sym e))) λ _. finish refl (record { is = one-step; written = w })
 same-constant u v {q = false} h e w = give-no 50 _ _ (other-values v u (rw (h .bytes) at (sym e))) (record { is = taken-refused (omega arith) })
 
@@ -87,19 +88,19 @@ module _ {b lens s view : List ℕ} {sc : Scope} {cells : Owners} {top left l : 
     }
 
     pub false-gives : q ≡ sameBytes view (0 ∷ []) → Gives b b lens lens s (Shown view) sc cells (cells .count) top left 1 (taken r) l (body False)
-    unfolding run putNode encode
+    unfolding run Text.putNode encode
     false-gives = constant-gives vfalse (0 ∷ []) False (λ _ _ _ _ _. refl) refl
 
     pub true-gives : q ≡ sameBytes view (1 ∷ []) → Gives b b lens lens s (Shown view) sc cells (cells .count) top left 1 (taken r) l (body True)
-    unfolding run putNode encode
+    unfolding run Text.putNode encode
     true-gives = constant-gives vtrue (1 ∷ []) True (λ _ _ _ _ _. refl) refl
 
     pub empty-gives : q ≡ sameBytes view (2 ∷ []) → Gives b b lens lens s (Shown view) sc cells (cells .count) top left 1 (taken r) l (body Empty)
-    unfolding run putNode encode encodes
+    unfolding run Text.putNode encode encodes
     empty-gives = constant-gives (list nil) (2 ∷ []) Empty (λ _ _ _ _ _. refl) refl
 
     pub number-gives : {n : ℕ} → q ≡ sameBytes view (4 ∷ n / 256 ∷ n % 256 ∷ []) → Gives b b lens lens s (Shown view) sc cells (cells .count) top left 1 (taken r) l (body (Number n))
-    unfolding run putNode encode
+    unfolding run Text.putNode encode
     number-gives {n} = constant-gives (number n) (4 ∷ n / 256 ∷ n % 256 ∷ []) (Number n) (λ _ _ _ _ _. refl) refl
 
 -- VARIABLES
@@ -133,7 +134,7 @@ compared b view c len u v e q h = let z : 4096 + 256 * c + len - (4096 + 256 * c
 
 module _ {b lens view : List ℕ} {sc : Scope} {cells : Owners} {x : ℕ} where
   pub var-42 : {s : List ℕ} {top left l : ℕ} → sc .count ≤ x → Gives b b lens lens s (Shown view) sc cells (cells .count) top left 1 (Refused 42) l (body (Var x))
-  unfolding run putNode
+  unfolding run Text.putNode
   var-42 h = record {
     frame = frame-refl _ b;
     long = refl;
@@ -176,7 +177,7 @@ module _ {b lens view : List ℕ} {sc : Scope} {cells : Owners} {x : ℕ} where
   module _ (lt : x < sc .count) where
     pub var-blank : {a s : List ℕ} {top left l : ℕ} → Leaf b lens view (sc .count) cells → getD lens (getD (cells .of) x 0) 0 ≡ 0 → a ≡ paste b (4096 + 256 * getD (cells .of) x 0) view (length view)
         → Gives b a lens (set lens (getD (cells .of) x 0) (length view)) s (Shown view) sc cells (cells .count) top left 1 (Done 1) l (body (Var x))
-    unfolding run putNode write
+    unfolding run Text.putNode Text.write
     var-blank {a} {s} {top} k z e =
         let c = getD (cells .of) x 0 in
         let f = filled b view (4096 + 256 * c) (omega (arith, cell-few lt k .0, view-few lt k, k .long)) in
@@ -195,7 +196,7 @@ module _ {b lens view : List ℕ} {sc : Scope} {cells : Owners} {x : ℕ} where
     module _ (n : getD lens (getD (cells .of) x 0) 0 ≡ 0 → ⊥) {p : Bool}
         (e : p ≡ sameBytes (part b (4096 + 256 * getD (cells .of) x 0) (4096 + 256 * getD (cells .of) x 0 + getD lens (getD (cells .of) x 0) 0 - (4096 + 256 * getD (cells .of) x 0))) view) where
       pub var-same : {s : List ℕ} {top left l : ℕ} → p ≡ true → Gives b b lens lens s (Shown view) sc cells (cells .count) top left 1 (Done 1) l (body (Var x))
-      unfolding run putNode write
+      unfolding run Text.putNode Text.write
       var-same t = record {
         frame = frame-refl _ b;
         long = refl;
@@ -207,7 +208,7 @@ module _ {b lens view : List ℕ} {sc : Scope} {cells : Owners} {x : ℕ} where
       }
 
       pub var-54 : {s : List ℕ} {top left l : ℕ} → p ≡ false → Gives b b lens lens s (Shown view) sc cells (cells .count) top left 1 (Refused 54) l (body (Var x))
-      unfolding run putNode write
+      unfolding run Text.putNode Text.write
       var-54 t = record {
         frame = frame-refl _ b;
         long = refl;

@@ -9,6 +9,7 @@ use Rattle.value.specs.Parts.{shapeOf, passesBytes}
 use Rattle.value.specs.declared.Shape.{Shape}
 use Rattle.value.specs.declared.Shape.the-variants as is
 use Rattle.sheet.specs.declared.Node.the-variants.{ListCase}
+use Rattle.rules.specs.Text
 use Rattle.rules.specs.Rules.{putNode, onList}
 use Rattle.step.specs.declared.Scope.{Scope}
 use Rattle.walk.specs.Found.{Found}
@@ -32,7 +33,7 @@ module _ {b a₁ s : List ℕ} {sc : Scope} {top left : ℕ} {r₀ : Found} {l x
     {start len k : ℕ} (e₀ : r₀ ≡ walked.Done start len k) {top′ : ℕ} (up : Above top start len top′) {q : Shape} (eq : q ≡ shapeOf (part a₁ start (start + len - start))) where
   list-43 : {lens : List ℕ} {P : Value → Type 0} {cells : Owners} {m te tn n₁ n₂ df dr : ℕ} → (q ≡ is.Empty → ⊥) → ((mid : ℕ) → q ≡ is.Front mid → ⊥)
       → Gives b a₁ lens lens s P sc cells m top left 1 (Refused 43) l (body (ListCase x n₁ te n₂ tn df dr))
-  unfolding run putNode
+  unfolding run Text.putNode
   list-43 n f = record {
     frame = frame₀ base g₀;
     long = refl;
@@ -46,7 +47,7 @@ module _ {b a₁ s : List ℕ} {sc : Scope} {top left : ℕ} {r₀ : Found} {l x
       empty-both : {a lens′ : List ℕ} {r : Put} → p₁ ≡ true
           → ((u : Value) → Shown (2 ∷ []) u → Gives a₁ a lens lens′ s (Shown view) sc cells (cells .count) top′ (left - k) (1 + k) r l (Two n₁ x u))
           → Gives b a lens lens′ s (Shown view) sc cells (cells .count) top left 1 r l (body (ListCase x n₁ te n₂ tn df dr))
-      unfolding run putNode onList
+      unfolding run Text.putNode onList
       empty-both y g = record {
         frame = frame-then (frame₀ base g₀) (g _ shown-nil .frame) base (up .over);
         long = g _ shown-nil .long;
@@ -58,7 +59,7 @@ module _ {b a₁ s : List ℕ} {sc : Scope} {top left : ℕ} {r₀ : Found} {l x
         empty-switch : {a lens′ : List ℕ} {r : Put} → p₂ ≡ true
             → Gives a₁ a lens lens′ s (Shown view) sc cells (cells .count) top′ (left - k) (1 + k) r l (switch n₂ x df dr)
             → Gives b a lens lens′ s (Shown view) sc cells (cells .count) top left 1 r l (body (ListCase x n₁ te n₂ tn df dr))
-        unfolding run putNode onList
+        unfolding run Text.putNode onList
         empty-switch y g = record {
           frame = frame-then (frame₀ base g₀) (g .frame) base (up .over);
           long = g .long;
@@ -68,7 +69,7 @@ module _ {b a₁ s : List ℕ} {sc : Scope} {top left : ℕ} {r₀ : Found} {l x
         }
 
         empty-53 : p₂ ≡ false → Gives b a₁ lens lens s (Shown view) sc cells (cells .count) top left 1 (Refused 53) l (body (ListCase x n₁ te n₂ tn df dr))
-        unfolding run putNode onList
+        unfolding run Text.putNode onList
         empty-53 m = record {
           frame = frame₀ base g₀;
           long = refl;
@@ -83,7 +84,7 @@ module _ {b a₁ s : List ℕ} {sc : Scope} {top left : ℕ} {r₀ : Found} {l x
           → ((f u : Value) → Spans a₁ top′ (start + 1) (mid - 1) (len - mid) f u
           → Gives a₁ a lens lens′ s (Shown view) sc cells (cells .count) top′ (left - k) (1 + k) r l (inside 3 n₂ x f u))
           → Gives b a lens lens′ s (Shown view) sc cells (cells .count) top left 1 r l (body (ListCase x n₁ te n₂ tn df dr))
-      unfolding run putNode onList maker
+      unfolding run Text.putNode onList maker
       front-under w₀ y g =
           let d₀ = had base g₀ e₀ up eq (w₀ .given) in
           let g′ = g _ _ (spans-front (d₀ .held) (front-of (d₀ .value) (sym j ∙ d₀ .shaped))) in
@@ -101,7 +102,7 @@ module _ {b a₁ s : List ℕ} {sc : Scope} {top left : ℕ} {r₀ : Found} {l x
         front-both : {a lens′ : List ℕ} {r : Put} → p₁ ≡ true
             → ((u : Value) → Shown (2 ∷ []) u → Gives a₁ a lens lens′ s (Shown view) sc cells (cells .count) top′ (left - k) (1 + k) r l (Two n₁ x u))
             → Gives b a lens lens′ s (Shown view) sc cells (cells .count) top left 1 r l (body (ListCase x n₁ te n₂ tn df dr))
-        unfolding run putNode onList
+        unfolding run Text.putNode onList
         front-both y g = record {
           frame = frame-then (frame₀ base g₀) (g _ shown-nil .frame) base (up .over);
           long = g _ shown-nil .long;
@@ -113,7 +114,7 @@ module _ {b a₁ s : List ℕ} {sc : Scope} {top left : ℕ} {r₀ : Found} {l x
         }
 
         front-53 : p₁ ≡ false → Gives b a₁ lens lens s (Shown view) sc cells (cells .count) top left 1 (Refused 53) l (body (ListCase x n₁ te n₂ tn df dr))
-        unfolding run putNode onList
+        unfolding run Text.putNode onList
         front-53 m = record {
           frame = frame₀ base g₀;
           long = refl;

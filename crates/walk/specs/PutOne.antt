@@ -13,6 +13,7 @@ use Rattle.sheet.specs.declared.Node.the-variants.{Call, Add}
 use Rattle.sheet.specs.Sheet.{Sheet}
 use Rattle.sheet.specs.Table.{sectionAt}
 use Rattle.sheet.specs.Laws.{section-read, sheet-ranges}
+use Rattle.rules.specs.Text
 use Rattle.rules.specs.Rules.{Env as Values, Cells, two, putNode}
 use Rattle.step.specs.declared.Scope.{Scope}
 use Rattle.walk.specs.Taken.{Put, Done, Refused}
@@ -50,7 +51,7 @@ given-picked px py is ic w =
 
 module _ {b lens s : List ℕ} {P : Value → Type 0} {sc : Scope} {cells : Owners} {top left l sec x y : ℕ} where
   pub call-first : sc .count ≤ x → Gives b b lens lens s P sc cells (cells .count) top left 1 (Refused 42) l (body (Call sec x y))
-  unfolding run putNode
+  unfolding run Text.putNode
   call-first h = record {
     frame = frame-refl top b;
     long = refl;
@@ -58,7 +59,7 @@ module _ {b lens s : List ℕ} {P : Value → Type 0} {sc : Scope} {cells : Owne
   }
 
   pub call-second : x < sc .count → sc .count ≤ y → Gives b b lens lens s P sc cells (cells .count) top left 1 (Refused 42) l (body (Call sec x y))
-  unfolding run putNode
+  unfolding run Text.putNode
   call-second p h = record {
     frame = frame-refl top b;
     long = refl;
@@ -100,7 +101,7 @@ module _ {b lens s : List ℕ} {P : Value → Type 0} {sc : Scope} {cells : Owne
       into : {S : Cells → ℕ → Type 0} {D : ℕ → Type 0} {sh : Sheet} {μ : Values} {σ : List ℕ} {v : Value} {W : Cells} → Given b lens s P sc cells (cells .count) top sh μ σ v W
           → Answers S D 1 left (run l sh (cells′ .count) (enter root) (two (getD μ x vfalse) (getD μ y vfalse)) (two (getD σ x 0) (getD σ y 0)) v W)
           → Answers S D 1 left (run l sh (cells .count) (body (Call sec x y)) μ σ v W)
-      unfolding run putNode
+      unfolding run Text.putNode
       into {μ = μ} {σ = σ} w t =
           let n = w .scoped .count in
           let m = w .as-many in
@@ -134,7 +135,7 @@ less {m = m} {k = k} e j le eh el h =
 
 module _ {b lens s view : List ℕ} {sc : Scope} {cells : Owners} {top left l x k : ℕ} {q : Shape} (e : q ≡ shapeOf view) where
   pub add-51 : ((m : ℕ) → q ≡ is.Number m → ⊥) → Gives b b lens lens s (Shown view) sc cells (cells .count) top left 1 (Refused 51) l (body (Add x k))
-  unfolding run putNode
+  unfolding run Text.putNode
   add-51 n = record {
     frame = frame-refl top b;
     long = refl;
@@ -143,7 +144,7 @@ module _ {b lens s view : List ℕ} {sc : Scope} {cells : Owners} {top left l x 
 
   module _ {m : ℕ} (j : q ≡ is.Number m) where
     pub add-52 : m < k → Gives b b lens lens s (Shown view) sc cells (cells .count) top left 1 (Refused 52) l (body (Add x k))
-    unfolding run putNode
+    unfolding run Text.putNode
     add-52 h = record {
       frame = frame-refl top b;
       long = refl;
@@ -159,7 +160,7 @@ module _ {b lens s view : List ℕ} {sc : Scope} {cells : Owners} {top left l x 
 
       module _ {a lens′ : List ℕ} {r : Put} (g : Gives b a lens lens′ s (Shown (4 ∷ hi ∷ lo ∷ [])) sc cells (cells .count) top left 0 r l (enter x)) where
         pub add-refused : {c : ℕ} → r ≡ Refused c → Gives b a lens lens′ s (Shown view) sc cells (cells .count) top left 1 (Refused c) l (body (Add x k))
-        unfolding run putNode
+        unfolding run Text.putNode
         add-refused n = record {
           frame = g .frame;
           long = g .long;
@@ -167,7 +168,7 @@ module _ {b lens s view : List ℕ} {sc : Scope} {cells : Owners} {top left l x 
         }
 
         pub add-done : {i : ℕ} → r ≡ Done i → Gives b a lens lens′ s (Shown view) sc cells (cells .count) top left 1 (Done (1 + i)) l (body (Add x k))
-        unfolding run putNode
+        unfolding run Text.putNode
         add-done {i} n = record {
           frame = g .frame;
           long = g .long;

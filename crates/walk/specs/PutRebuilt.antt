@@ -14,6 +14,7 @@ use Rattle.value.specs.Encoding.{size-encode, size-pos}
 use Rattle.value.specs.Views.{asList}
 use Rattle.value.specs.Laws.{Readable, encodable-front}
 use Rattle.sheet.specs.Sheet.{Sheet}
+use Rattle.rules.specs.Text
 use Rattle.rules.specs.Rules.{Env as Values, Cells, orOld, mkList, mkPair}
 use Rattle.step.specs.declared.Scope.{Scope}
 use Rattle.step.specs.declared.Span.{Span}
@@ -42,7 +43,7 @@ pub record Stands (a : List ℕ) (p : Span) (v : Value) : Type 0 where
 
 stands : {a : List ℕ} {top start len c w : ℕ} {o : Option Value} {v : Value} → Slot a (4096 + 256 * c) w o → c < 110 → Held a top start len v → 32256 ≤ top → top ≤ 65536
     → Stands a (placeOf w c start len) (orOld o v)
-unfolding placeOf orOld
+unfolding placeOf Text.orOld
 stands {start = start} {len = len} (blank z) h k base most = rw z (record { long = k .long; bytes = k .bytes; readable = k .readable; inside = omega (arith, below-ends (k .place) base) })
 stands {start = start} {len = len} {c = c} {w = w} (full {v = u} z p r) h k base most =
     let n : w ≡ 0 → ⊥ = λ e. omega (arith, size-pos u) in

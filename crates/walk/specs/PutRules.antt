@@ -10,6 +10,7 @@ use Rattle.sheet.specs.Sheet.{Sheet, readSheet}
 use Rattle.rules.specs.Outcome.{Out, done, refused, steps, choose}
 use Rattle.rules.specs.Allowance.{within}
 use Rattle.rules.specs.AllowanceLaws.{within-yes, within-done}
+use Rattle.rules.specs.Text
 use Rattle.rules.specs.Rules.{Env as Values, Cells, get, put}
 use Rattle.step.specs.declared.Scope.{Scope}
 use Rattle.walk.specs.Found.{Found}
@@ -90,7 +91,7 @@ few w g = record { at = λ e. did-few g (w .given) e }
 
 -- with no level left nothing is got
 none-left : (left : ℕ) (sh : Sheet) (x : ℕ) (μ : Values) {v : Value} {n : ℕ} → within left (get zero sh x μ) ≡ done v n → ⊥
-unfolding get steps
+unfolding Text.get steps
 none-left left sh x μ q =
     let o : Out Value = refused 40 0 in
     let z : within left o ≡ refused 40 0 = within-yes left o (omega arith) in

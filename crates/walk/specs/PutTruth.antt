@@ -11,6 +11,7 @@ use Rattle.value.specs.Parts.{shapeOf, passesBytes}
 use Rattle.value.specs.declared.Shape.{Shape}
 use Rattle.value.specs.declared.Shape.the-variants as is
 use Rattle.sheet.specs.declared.Node.the-variants.{TruthCase, Split}
+use Rattle.rules.specs.Text
 use Rattle.rules.specs.Rules.{putNode}
 use Rattle.step.specs.declared.Scope.{Scope}
 use Rattle.walk.specs.Found.{Found}
@@ -58,7 +59,7 @@ module _ {b a₁ s : List ℕ} {sc : Scope} {top left : ℕ} {r₀ : Found} {l x
     {start len k : ℕ} (e₀ : r₀ ≡ walked.Done start len k) {top′ : ℕ} (up : Above top start len top′) {q : Shape} (eq : q ≡ shapeOf (part a₁ start (start + len - start))) where
   truth-43 : {lens : List ℕ} {P : Value → Type 0} {cells : Owners} {m te tn n₁ n₂ : ℕ} → (q ≡ is.False → ⊥) → (q ≡ is.True → ⊥)
       → Gives b a₁ lens lens s P sc cells m top left 1 (Refused 43) l (body (TruthCase x n₁ te n₂ tn))
-  unfolding run putNode
+  unfolding run Text.putNode
   truth-43 n f = record {
     frame = frame₀ base g₀;
     long = refl;
@@ -71,7 +72,7 @@ module _ {b a₁ s : List ℕ} {sc : Scope} {top left : ℕ} {r₀ : Found} {l x
       false-no : {a lens′ : List ℕ} {r : Put} → p₁ ≡ true
           → ((u : Value) → Shown (0 ∷ []) u → Gives a₁ a lens lens′ s (Shown view) sc cells (cells .count) top′ (left - k) (1 + k) r l (Two n₁ x u))
           → Gives b a lens lens′ s (Shown view) sc cells (cells .count) top left 1 r l (body (TruthCase x n₁ te n₂ tn))
-      unfolding run putNode
+      unfolding run Text.putNode
       false-no y g = record {
         frame = frame-then (frame₀ base g₀) (g _ shown-false .frame) base (up .over);
         long = g _ shown-false .long;
@@ -83,7 +84,7 @@ module _ {b a₁ s : List ℕ} {sc : Scope} {top left : ℕ} {r₀ : Found} {l x
         false-yes : {a lens′ : List ℕ} {r : Put} → p₂ ≡ true
             → ((u : Value) → Shown (1 ∷ []) u → Gives a₁ a lens lens′ s (Shown view) sc cells (cells .count) top′ (left - k) (1 + k) r l (Two n₂ x u))
             → Gives b a lens lens′ s (Shown view) sc cells (cells .count) top left 1 r l (body (TruthCase x n₁ te n₂ tn))
-        unfolding run putNode
+        unfolding run Text.putNode
         false-yes y g = record {
           frame = frame-then (frame₀ base g₀) (g _ shown-true .frame) base (up .over);
           long = g _ shown-true .long;
@@ -93,7 +94,7 @@ module _ {b a₁ s : List ℕ} {sc : Scope} {top left : ℕ} {r₀ : Found} {l x
         }
 
         false-53 : p₂ ≡ false → Gives b a₁ lens lens s (Shown view) sc cells (cells .count) top left 1 (Refused 53) l (body (TruthCase x n₁ te n₂ tn))
-        unfolding run putNode
+        unfolding run Text.putNode
         false-53 m = record {
           frame = frame₀ base g₀;
           long = refl;
@@ -106,7 +107,7 @@ module _ {b a₁ s : List ℕ} {sc : Scope} {top left : ℕ} {r₀ : Found} {l x
       true-yes : {a lens′ : List ℕ} {r : Put} → p₂ ≡ true
           → ((u : Value) → Shown (1 ∷ []) u → Gives a₁ a lens lens′ s (Shown view) sc cells (cells .count) top′ (left - k) (1 + k) r l (Two n₂ x u))
           → Gives b a lens lens′ s (Shown view) sc cells (cells .count) top left 1 r l (body (TruthCase x n₁ te n₂ tn))
-      unfolding run putNode
+      unfolding run Text.putNode
       true-yes y g = record {
         frame = frame-then (frame₀ base g₀) (g _ shown-true .frame) base (up .over);
         long = g _ shown-true .long;
@@ -118,7 +119,7 @@ module _ {b a₁ s : List ℕ} {sc : Scope} {top left : ℕ} {r₀ : Found} {l x
         true-no : {a lens′ : List ℕ} {r : Put} → p₁ ≡ true
             → ((u : Value) → Shown (0 ∷ []) u → Gives a₁ a lens lens′ s (Shown view) sc cells (cells .count) top′ (left - k) (1 + k) r l (Two n₁ x u))
             → Gives b a lens lens′ s (Shown view) sc cells (cells .count) top left 1 r l (body (TruthCase x n₁ te n₂ tn))
-        unfolding run putNode
+        unfolding run Text.putNode
         true-no y g = record {
           frame = frame-then (frame₀ base g₀) (g _ shown-false .frame) base (up .over);
           long = g _ shown-false .long;
@@ -128,7 +129,7 @@ module _ {b a₁ s : List ℕ} {sc : Scope} {top left : ℕ} {r₀ : Found} {l x
         }
 
         true-53 : p₁ ≡ false → Gives b a₁ lens lens s (Shown view) sc cells (cells .count) top left 1 (Refused 53) l (body (TruthCase x n₁ te n₂ tn))
-        unfolding run putNode
+        unfolding run Text.putNode
         true-53 m = record {
           frame = frame₀ base g₀;
           long = refl;
@@ -163,7 +164,7 @@ module _ {b a₁ s : List ℕ} {sc : Scope} {top left : ℕ} {r₀ : Found} {l x
 
   pub split-43 : {lens : List ℕ} {P : Value → Type 0} {cells : Owners} {m n : ℕ} → ((mid : ℕ) → q ≡ is.Pair mid → ⊥)
       → Gives b a₁ lens lens s P sc cells m top left 1 (Refused 43) l (body (Split x n))
-  unfolding run putNode
+  unfolding run Text.putNode
   split-43 f = record {
     frame = frame₀ base g₀;
     long = refl;
@@ -176,7 +177,7 @@ module _ {b a₁ s : List ℕ} {sc : Scope} {top left : ℕ} {r₀ : Found} {l x
       → ((f u : Value) → Spans a₁ top′ (start + 1) (mid - 1) (len - mid) f u
       → Gives a₁ a lens lens′ s P sc cells (cells .count) top′ (left - k) (1 + k) r l (inside 5 n x f u))
       → Gives b a lens lens′ s P sc cells (cells .count) top left 1 r l (body (Split x n))
-  unfolding run putNode maker
+  unfolding run Text.putNode maker
   split-under j w₀ g =
       let d₀ = had base g₀ e₀ up eq (w₀ .given) in
       let g′ = g _ _ (spans-pair (d₀ .held) (pair-of (d₀ .value) (sym j ∙ d₀ .shaped))) in

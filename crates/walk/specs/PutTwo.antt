@@ -13,6 +13,7 @@ use Rattle.value.specs.declared.Shape.{Shape}
 use Rattle.value.specs.declared.Shape.the-variants as is
 use Rattle.sheet.specs.declared.Node.the-variants.{Front, Pair}
 use Rattle.sheet.specs.Sheet.{Sheet}
+use Rattle.rules.specs.Text
 use Rattle.rules.specs.Rules.{Env as Values, Cells, putNode, both}
 use Rattle.step.specs.declared.Scope.{Scope}
 use Rattle.walk.specs.Taken.{Put, Done, Refused}
@@ -59,7 +60,7 @@ both-ready₁ w h = ready-for w (w .known .0) (w .given) refl h (le-refl _) (le-
 module _ {b a₁ lens lens₁ s : List ℕ} {P : Value → Type 0} {sc : Scope} {cells : Owners} {top left : ℕ} {r₁ : Put} {l x : ℕ}
     (g₁ : Gives b a₁ lens lens₁ s P sc cells (cells .count) top left 0 r₁ l (enter x)) where
   pub both-refused₁ : {y c spent : ℕ} {u : Value} → r₁ ≡ Refused c → Gives b a₁ lens lens₁ s P sc cells (cells .count) top left spent (Refused c) l (Two x y u)
-  unfolding run both
+  unfolding run Text.both
   both-refused₁ e = record { frame = g₁ .frame; long = g₁ .long; told = λ w. then-refused _ _ (not-did g₁ w e .1) (record { is = refl }) }
 
   module _ {k : ℕ} (e₁ : r₁ ≡ Done k) where
@@ -72,7 +73,7 @@ module _ {b a₁ lens lens₁ s : List ℕ} {P : Value → Type 0} {sc : Scope} 
     module _ (base : 32256 ≤ top) {a₂ lens₂ : List ℕ} {Q : Value → Type 0} {r₂ : Put} {y : ℕ}
         (g₂ : Gives a₁ a₂ lens₁ lens₂ s Q sc cells (cells .count) top (left - k) 0 r₂ l (enter y)) {u : Value} (q : Q u) where
       pub both-refused₂ : {c spent : ℕ} → r₂ ≡ Refused c → Gives b a₂ lens lens₂ s P sc cells (cells .count) top left spent (Refused c) l (Two x y u)
-      unfolding run both
+      unfolding run Text.both
       both-refused₂ e = record {
         frame = frame-then (g₁ .frame) (g₂ .frame) base (le-refl top);
         long = g₂ .long ∙ g₁ .long;
@@ -80,7 +81,7 @@ module _ {b a₁ lens lens₁ s : List ℕ} {P : Value → Type 0} {sc : Scope} 
       }
 
       pub both-done : {j spent : ℕ} → r₂ ≡ Done j → Gives b a₂ lens lens₂ s P sc cells (cells .count) top left spent (Done (spent + k + j)) l (Two x y u)
-      unfolding run both
+      unfolding run Text.both
       both-done {j} {spent} e = record {
         frame = frame-then (g₁ .frame) (g₂ .frame) base (le-refl top);
         long = g₂ .long ∙ g₁ .long;
@@ -131,7 +132,7 @@ module _ {view p₁ p₂ : List ℕ} {q : Shape} {mid : ℕ} (e : q ≡ shapeOf 
 
 module _ {b lens s view : List ℕ} {sc : Scope} {cells : Owners} {top left l x y : ℕ} {q : Shape} (e : q ≡ shapeOf view) where
   pub front-51 : ((mid : ℕ) → q ≡ is.Front mid → ⊥) → Gives b b lens lens s (Shown view) sc cells (cells .count) top left 1 (Refused 51) l (body (Front x y))
-  unfolding run putNode
+  unfolding run Text.putNode
   front-51 n = record {
     frame = frame-refl top b;
     long = refl;
@@ -139,7 +140,7 @@ module _ {b lens s view : List ℕ} {sc : Scope} {cells : Owners} {top left l x 
   }
 
   pub pair-51 : ((mid : ℕ) → q ≡ is.Pair mid → ⊥) → Gives b b lens lens s (Shown view) sc cells (cells .count) top left 1 (Refused 51) l (body (Pair x y))
-  unfolding run putNode
+  unfolding run Text.putNode
   pair-51 n = record {
     frame = frame-refl top b;
     long = refl;
@@ -165,7 +166,7 @@ module _ {starts b lens s view p₁ p₂ : List ℕ} {sc : Scope} {cells : Owner
   module _ {a lens′ : List ℕ} {r : Put} (g : (u : Value) → Shown p₂ u → Gives b a lens lens′ s (Shown p₁) sc cells (cells .count) top left 1 r levels (Two x y u)) where
     pub front-both : Ready s starts b lens (Shown view) sc cells (cells .count) top (suc levels) (suc left) (body (Front x y)) → q ≡ is.Front mid
         → Gives b a lens lens′ s (Shown view) sc cells (cells .count) top left 1 r levels (body (Front x y))
-    unfolding run putNode
+    unfolding run Text.putNode
     front-both w₀ k =
         let o₀ = front-parts e e₁ e₂ k (w₀ .given .shown) in
         record {
@@ -176,7 +177,7 @@ module _ {starts b lens s view p₁ p₂ : List ℕ} {sc : Scope} {cells : Owner
 
     pub pair-both : Ready s starts b lens (Shown view) sc cells (cells .count) top (suc levels) (suc left) (body (Pair x y)) → q ≡ is.Pair mid
         → Gives b a lens lens′ s (Shown view) sc cells (cells .count) top left 1 r levels (body (Pair x y))
-    unfolding run putNode
+    unfolding run Text.putNode
     pair-both w₀ k =
         let o₀ = pair-parts e e₁ e₂ k (w₀ .given .shown) in
         record {

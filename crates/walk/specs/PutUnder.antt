@@ -9,6 +9,7 @@ use lib.ListN.{length, set, length-set, length-append}
 use Rattle.value.specs.Value.{Value, vfalse, number}
 use Rattle.sheet.specs.Sheet.{Sheet}
 use Rattle.rules.specs.Outcome.{_>>=_}
+use Rattle.rules.specs.Text
 use Rattle.rules.specs.Rules.{Env as Values, Cells, Putter, two, under}
 use Rattle.step.specs.declared.Scope.{Scope}
 use Rattle.walk.specs.Taken.{Put, Done, Refused}
@@ -63,7 +64,7 @@ given-inner {μ = μ} {σ = σ} {f = f} {u = u} o w t = rw (o .scope, o .owners,
 -- a branch's put and then the rest of the rule, with the number of cells for the length of what was written
 under-run : (p : Putter) (μ : Values) (σ : List ℕ) (W : Cells) (b : ℕ) (v : Value) (s : ℕ) (mk : Value → Value → Option Value) (f r : Value) (n : ℕ) → length W ≡ n
     → under p μ σ W b v s mk f r ≡ (p b (μ ++ two f r) (σ ++ two n (suc n)) v (W ++ two none none) >>= λ X. rebuild p μ σ n X s mk f r)
-unfolding under rebuild
+unfolding Text.under rebuild
 under-run p μ σ W b v s mk f r n e = rw e
 
 module _ {b lens lens₁ s : List ℕ} {P : Value → Type 0} {sc sc′ : Scope} {cells cells′ : Owners} {top start first second : ℕ} (o : Opened lens lens₁ sc sc′ cells cells′ start first second) where
