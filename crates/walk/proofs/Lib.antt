@@ -1,2 +1,3 @@
+pub mod Places
 pub mod Tags
 pub mod PutTags

@@ -1,7 +1,7 @@
 -- What the answer of a get, which is one number, says.
 use mathlib.Core.Path.{_≡_, ap, _∙_}
 use mathlib.Core.Bool.{Bool, true, false}
-use Prim.Native.Nat.{ℕ, _/_, _%_, _≤_, _<_}
+use Prim.Native.Nat.{ℕ, _+_, _/_, _%_, _≤_, _<_}
 use native.Mathlib.Omega.{arith}
 use lib.Dec.{ltb}
 use borrow.Author.Tests.{lt-ltb, le-ltb}
@@ -70,3 +70,17 @@ module _ (start len steps : ℕ) (h : start < 65536) (k : len < 65536) where
 pub packed-done : {a start len steps : ℕ} → a ≡ packed start len steps → start < 65536 → 1 ≤ len → len < 65536 → found a ≡ Done start len steps
 packed-done {a} {start} {len} {steps} e h some k =
     ap found e ∙ found-done (large start len steps h k some) ∙ rw (start-packed start len steps h k, len-packed start len steps h k, steps-packed start len steps h k)
+
+-- the same value, after n steps more
+pub record More (a n r : ℕ) : Type 0 where
+  pub is : found r ≡ Done (startOf a) (lenOf a) (n + stepsOf a)
+
+pub more-done : {a start len steps r n : ℕ} → start ≡ startOf a → len ≡ lenOf a → steps ≡ stepsOf a → r ≡ packed start len (n + steps) → 1 ≤ lenOf a → More a n r
+more-done {a} {r = r} {n = n} e f g is some =
+    let q : r ≡ packed (startOf a) (lenOf a) (n + stepsOf a) = rw (← e, ← f, ← g) is in
+    record { is = packed-done q (start-small a) some (len-small a) }
+
+-- the answer of a get, after n steps more
+pub record Later (a n r : ℕ) : Type 0 where
+  pub refused : a < 256 → r ≡ a
+  pub done : 256 ≤ a → More a n r

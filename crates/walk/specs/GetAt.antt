@@ -12,7 +12,7 @@ use native.Mathlib.Decide.{decLt}
 use lib.ListN.{length}
 use Rattle.walk.specs.Arena.{onStack}
 use Rattle.walk.specs.Answers.{as-done}
-use Rattle.walk.specs.Gets.{Task, Gives, got, Exact, as-found}
+use Rattle.walk.specs.Gets.{Task, enter, Gives, got, Exact, as-found}
 use Rattle.walk.specs.GetReady.{Sized}
 
 -- the value that the answer g tells of, and the place at `top` for it
@@ -98,3 +98,7 @@ bring-gives {b} {a} {a₂} {s} {sc} {top} {left} {l} {g} {r} {t} base h w m = go
                 rw (x, y, u) (record { low = le-refl top; some = z .some; short = z .short; steps = z .steps; deep = z .deep });
           };
         }
+
+-- the same for a node by another name
+pub up-as : {b a s : List ℕ} {sc : Scope} {top left l x y : ℕ} {r : Found} → x ≡ y → Up b a s sc top left r l (enter x) → Up b a s sc top left r l (enter y)
+up-as e u = rw e at u

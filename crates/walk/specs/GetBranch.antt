@@ -17,7 +17,7 @@ use Rattle.walk.specs.Parts.{part, kept-below, kept-then, Copied}
 use Rattle.walk.specs.Arena.{onStack, below-within}
 use Rattle.walk.specs.Seen.{held-passes}
 use Rattle.walk.specs.Answers.{finish, then-done, then-refused, give-yes, give-no}
-use Rattle.walk.specs.Gets.{enter, branch, run, Gives, got, not-got, as-found}
+use Rattle.walk.specs.Gets.{enter, branch, run, Gives, got, not-got, as-found, Here, Asks, Told′}
 use Rattle.walk.specs.GetReady.{Sized}
 
 -- the value that the answer g tells of is in the arena, and so many steps can be told
@@ -95,6 +95,10 @@ judgeable w long room few n =
       some = z .some;
       few = omega (arith, z .steps);
     }
+
+pub judge-asks : {h : Here} {a : List ℕ} {x g spent : ℕ} → Asks h x → Told′ h a (found g) x → Sized (h .top) (h .left) (h .levels) (found g) → spent + h .left ≤ 1000001
+    → 256 ≤ g → Judgeable a g spent
+judge-asks w g z few = judgeable z (g .kept .long ∙ w .long) (w .room) few
 
 -- and what it gives
 pub judge-gives : {b a a₂ s : List ℕ} {sc : Scope} {from top left spent test x l g r : ℕ} → 32256 ≤ top → top ≤ from → Gives b a s sc from from left 0 (found g) l (enter x) → Judged test spent top g a a₂ r

@@ -6,26 +6,28 @@ use mathlib.Core.List.{List, [], _∷_, _++_, append-assoc}
 use Prim.Native.Nat.{ℕ, suc, _+_, _-_, _≤_, _<_}
 use native.Mathlib.Nat.{le-refl, add-zero}
 use native.Mathlib.Omega.{arith}
-use lib.ListN.{length}
+use lib.ListN.{length, getD}
 use Rattle.value.specs.Value.{Value, Values as Rest, vfalse, vtrue, list, number, pair, nil, cons, size}
 use Rattle.value.specs.Views.{asList, asPair, asTruth}
 use Rattle.value.specs.Tests.{passes, holds, table, class}
 use Rattle.value.specs.Parts.{shapeOf}
 use Rattle.value.specs.declared.Shape.{Shape}
 use Rattle.value.specs.declared.Shape.the-variants as shapes
+use Rattle.sheet.specs.declared.Node.{Node}
 use Rattle.sheet.specs.declared.Node.the-variants.{ListCase, TruthCase, Split}
 use Rattle.rules.specs.Outcome.{Out, done, refused, plus, when, _>>=_, given}
 use Rattle.rules.specs.Text
 use Rattle.rules.specs.Rules.{Env as Values, two, getNode, get, tested, onList}
 use Rattle.step.specs.declared.Scope.{Scope}
-use Rattle.walk.specs.Found.{Found, Done, Refused}
+use Rattle.walk.specs.Found.{Found, Done, Refused, found, startOf, lenOf, stepsOf, found-refused, found-done}
 use Rattle.walk.specs.Parts.{part, kept-then}
 use Rattle.walk.specs.Scope.{pushed}
 use Rattle.walk.specs.Arena.{below-within, Held, Env, env-later, env-push}
 use Rattle.walk.specs.Seen.{Shaped, isFalse, isTrue, isEmpty, isFront, isPair, shaped-as, held-shape, TwoHeld, held-front, held-pair}
 use Rattle.walk.specs.Answers.{answer-by, then-done, then-refused, give, give-none}
-use Rattle.walk.specs.Gets.{Task, enter, body, branch, run, Ready, Gives, GotDone, got, not-got}
+use Rattle.walk.specs.Gets.{Task, enter, body, branch, run, Ready, Gives, GotDone, got, not-got, as-found, as-branch, Here, h-in, later, Asked, Asks, Tells, Told′, listCaseAt, truthCaseAt, splitAt}
 use Rattle.walk.specs.GetReady.{ready-in, ready-later, sizes}
+use Rattle.walk.specs.GetBranch.{Judged, judge-gives}
 
 -- a test that says yes to anything changes nothing
 any-holds : (v : Value) → holds 0 v ≡ true
@@ -237,3 +239,90 @@ module _ {b a₁ s : List ℕ} {sc : Scope} {top left : ℕ} {r₁ : Found} {l x
               let (u, v, z, h) = pair-parts up d in
               then-done _ _ (d .is) (rw z (give _ _ refl (answer-by (g₂ .told sh es (μ ++ two u v) (env-inner up is base c w h)) (sym (untested _)))));
         }
+
+-- CASES, AT A STAGE: the subject was got, as the answer g. It is a value of the shape q; the stack goes on behind it, at top′, with left′ steps
+pub record Subject (h : Here) (kind : List ℕ → ℕ → Node) (n g : ℕ) (a : List ℕ) (q : Shape) (top′ left′ : ℕ) : Type 0 where
+  pub asked : Asked h (kind (h .sheet) n)
+  pub known : getD (h .sheet) (n + 1) 0 < length (asked .lent .sh .nodes)
+  pub gives : Told′ h a (found g) (getD (h .sheet) (n + 1) 0)
+  pub done : 256 ≤ g
+  pub shape : q ≡ shapeOf (part a (startOf g) (startOf g + lenOf g - startOf g))
+  pub up : Above (h .top) (startOf g) (lenOf g) top′
+  pub left : left′ ≡ h .left - stepsOf g
+
+-- it has two parts, and there is room for them as variables
+pub record Sides (h : Here) (g mid : ℕ) : Type 0 where
+  pub inside : startOf g + lenOf g < 65536
+  pub slots : h .scope .count + 2 ≤ 110
+  pub first : 1 ≤ mid
+  pub second : mid ≤ lenOf g
+
+-- the scope `more` has them
+pub record Parted (h : Here) (q : Shape) (make : ℕ → Shape) (g mid : ℕ) (more : Scope) : Type 0 where
+  pub is : q ≡ make mid
+  pub scope : more ≡ pushed (pushed (h .scope) (startOf g + 1) (mid - 1)) (startOf g + mid) (lenOf g - mid)
+
+module _ {h : Here} {kind : List ℕ → ℕ → Node} {n g top′ left′ : ℕ} {a : List ℕ} {q : Shape} (k : Subject h kind n g a q top′ left′) where
+  -- a branch in the same scope
+  pub case-asks : {e : ℕ} → e < length (k .asked .lent .sh .nodes) → Asks (later h a top′ left′) e
+  case-asks i = rw (k .left) (case-ready (k .gives) (found-done (k .done)) (k .shape) (k .up) (k .asked) (k .known) i)
+
+  -- and with two variables more
+  pub front-sides : {mid : ℕ} → q ≡ shapes.Front mid → Sides h g mid
+  front-sides p =
+      let z = sizes (subject-ready (k .asked) (k .known)) (k .gives) (found-done (k .done)) in
+      let m = front-mid (k .gives) (found-done (k .done)) (k .shape) p (k .up) (subject-ready (k .asked) (k .known)) in
+      let w = k .asked in
+      record { inside = omega arith; slots = omega arith; first = m .0; second = m .1 }
+
+  pub front-asks : {e mid : ℕ} {more : Scope} → Parted h q shapes.Front g mid more → e < length (k .asked .lent .sh .nodes) → Asks (h-in (later h a top′ left′) more) e
+  front-asks m i = rw (k .left) (front-ready (k .gives) (found-done (k .done)) (k .shape) (m .is) (k .up) (m .scope) (k .asked) (k .known) i)
+
+  pub pair-sides : {mid : ℕ} → q ≡ shapes.Pair mid → Sides h g mid
+  pair-sides p =
+      let z = sizes (subject-ready (k .asked) (k .known)) (k .gives) (found-done (k .done)) in
+      let m = pair-mid (k .gives) (found-done (k .done)) (k .shape) p (k .up) (subject-ready (k .asked) (k .known)) in
+      let w = k .asked in
+      record { inside = omega arith; slots = omega arith; first = m .0; second = m .1 }
+
+  pub pair-asks : {e mid : ℕ} {more : Scope} → Parted h q shapes.Pair g mid more → e < length (k .asked .lent .sh .nodes) → Asks (h-in (later h a top′ left′) more) e
+  pair-asks m i = rw (k .left) (pair-ready (k .gives) (found-done (k .done)) (k .shape) (m .is) (k .up) (m .scope) (k .asked) (k .known) i)
+
+module _ {h : Here} {n g top′ left′ : ℕ} {a : List ℕ} {q : Shape} (k : Subject h listCaseAt n g a q top′ left′) where
+  pub list-other : ((v : Value) → Shaped v q → asList v ≡ none) → Tells h a (found 43) (listCaseAt (h .sheet) n)
+  list-other other = as-found (found-refused (omega arith)) (list-43 (k .gives) (found-done (k .done)) (k .shape) other)
+
+  module _ {e t g₂ r : ℕ} {a₂ a₃ : List ℕ} (j : Judged t (1 + stepsOf g) (h .top) g₂ a₂ a₃ r) where
+    pub list-none : q ≡ shapes.Empty → e ≡ getD (h .sheet) (n + 2) 0 → t ≡ getD (h .sheet) (n + 3) 0 → Told′ (later h a top′ left′) a₂ (found g₂) e
+        → Tells h a₃ (found r) (listCaseAt (h .sheet) n)
+    list-none p f u b = list-empty (k .gives) (found-done (k .done)) (k .shape) (k .asked .base) (k .up) p
+        (as-branch u f (judge-gives (k .asked .base) (k .up .over) (rw (k .left) at b) j))
+
+    pub list-some : {mid : ℕ} {more : Scope} → Parted h q shapes.Front g mid more → e ≡ getD (h .sheet) (n + 4) 0 → t ≡ getD (h .sheet) (n + 5) 0
+        → Told′ (h-in (later h a top′ left′) more) a₂ (found g₂) e → Tells h a₃ (found r) (listCaseAt (h .sheet) n)
+    list-some m f u b = list-front (k .gives) (found-done (k .done)) (k .shape) (m .is) (k .up) (m .scope) (k .asked .base) (front-sides k (m .is) .slots)
+        (as-branch u f (judge-gives (k .asked .base) (k .up .over) (rw (k .left) at b) j))
+
+module _ {h : Here} {n g top′ left′ : ℕ} {a : List ℕ} {q : Shape} (k : Subject h truthCaseAt n g a q top′ left′) where
+  pub truth-other : ((v : Value) → Shaped v q → asTruth v ≡ none) → Tells h a (found 43) (truthCaseAt (h .sheet) n)
+  truth-other other = as-found (found-refused (omega arith)) (truth-43 (k .gives) (found-done (k .done)) (k .shape) other)
+
+  module _ {e t g₂ r : ℕ} {a₂ a₃ : List ℕ} (j : Judged t (1 + stepsOf g) (h .top) g₂ a₂ a₃ r) where
+    pub truth-false : q ≡ shapes.False → e ≡ getD (h .sheet) (n + 2) 0 → t ≡ getD (h .sheet) (n + 3) 0 → Told′ (later h a top′ left′) a₂ (found g₂) e
+        → Tells h a₃ (found r) (truthCaseAt (h .sheet) n)
+    truth-false p f u b = truth-no (k .gives) (found-done (k .done)) (k .shape) (k .asked .base) (k .up) p
+        (as-branch u f (judge-gives (k .asked .base) (k .up .over) (rw (k .left) at b) j))
+
+    pub truth-true : q ≡ shapes.True → e ≡ getD (h .sheet) (n + 4) 0 → t ≡ getD (h .sheet) (n + 5) 0 → Told′ (later h a top′ left′) a₂ (found g₂) e
+        → Tells h a₃ (found r) (truthCaseAt (h .sheet) n)
+    truth-true p f u b = truth-yes (k .gives) (found-done (k .done)) (k .shape) (k .asked .base) (k .up) p
+        (as-branch u f (judge-gives (k .asked .base) (k .up .over) (rw (k .left) at b) j))
+
+module _ {h : Here} {n g top′ left′ : ℕ} {a : List ℕ} {q : Shape} (k : Subject h splitAt n g a q top′ left′) where
+  pub split-other : ((v : Value) → Shaped v q → asPair v ≡ none) → Tells h a (found 43) (splitAt (h .sheet) n)
+  split-other other = as-found (found-refused (omega arith)) (split-43 (k .gives) (found-done (k .done)) (k .shape) other)
+
+  pub split-told : {e g₂ r mid : ℕ} {more : Scope} {a₂ a₃ : List ℕ} → Judged 0 (1 + stepsOf g) (h .top) g₂ a₂ a₃ r → Parted h q shapes.Pair g mid more
+      → e ≡ getD (h .sheet) (n + 2) 0 → Told′ (h-in (later h a top′ left′) more) a₂ (found g₂) e → Tells h a₃ (found r) (splitAt (h .sheet) n)
+  split-told j m f b = split-done (k .gives) (found-done (k .done)) (k .shape) (m .is) (k .up) (m .scope) (k .asked .base) (pair-sides k (m .is) .slots)
+      (as-branch refl f (judge-gives (k .asked .base) (k .up .over) (rw (k .left) at b) j))

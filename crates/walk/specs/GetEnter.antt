@@ -23,7 +23,7 @@ use Rattle.walk.specs.Found.{Found, Refused}
 use Rattle.walk.specs.Parts.{kept-refl}
 use Rattle.walk.specs.Answers.{refuse, step, no-step}
 use Rattle.walk.specs.Gets.{enter, body, run, Lent, Ready, Gives, varAt, numberAt, frontAt, pairAt, listCaseAt, truthCaseAt, splitAt, callAt, addAt}
-use Rattle.walk.specs.GetReady.{ready-later}
+use Rattle.walk.specs.GetReady.{ready-later, Sized, sized}
 use Rattle.step.specs.Step.{entryRefusal}
 use Rattle.step.specs.StepLaws.{no-level, no-step as out-of-steps, both-left}
 
@@ -159,3 +159,25 @@ module _ {s starts b : List ℕ} {sc : Scope} {top levels left x : ℕ} (w : Rea
             let n : getD (sh .nodes) x False ≡ nd = ap (λ (y : Sheet). getD (y .nodes) x False) (sym (same-sheet (w .lent) es)) ∙ is in
             step _ (omega arith) (rw (n, ← z) (g .told sh es μ e));
       }
+
+-- AT A STAGE: a node is entered, a level and a step are there for it, and its record's kind byte is k
+pub record Entered (s starts b : List ℕ) (sc : Scope) (top levels left x k : ℕ) : Type 0 where
+  pub asked : Ready s starts b sc top levels left (enter x)
+  pub deep : levels ≡ 0 → ⊥
+  pub paid : left ≡ 0 → ⊥
+  pub kind : k ≡ getD s (getD starts x 0 + 0) 0
+
+-- it is the node nd
+abbrev pub Is : {s starts b : List ℕ} {sc : Scope} {top levels left x k : ℕ} → Entered s starts b sc top levels left x k → Node → Type 0
+Is {x = x} e nd = getD (e .asked .lent .sh .nodes) x False ≡ nd
+
+module _ {s starts b : List ℕ} {sc : Scope} {top levels left x k : ℕ} (e : Entered s starts b sc top levels left x k) where
+  pub made : Made s (getD starts x 0) (getD (e .asked .lent .sh .nodes) x False)
+  made = lent-made (e .asked .lent) (e .asked .known)
+
+  pub body-ready : {nd : Node} → Is e nd → Ready s starts b sc top (suc (levels - 1)) (suc (left - 1)) (body nd)
+  body-ready is = enter-ready (e .asked) (e .deep) (e .paid) is
+
+  pub body-told : {nd : Node} {a : List ℕ} {r : Found} → Is e nd → Gives b a s sc top top (left - 1) 1 r (levels - 1) (body nd)
+      → Gives b a s sc top top left 0 r levels (enter x) × Sized top left levels r
+  body-told is g = let h = enter-body (e .asked) (e .deep) (e .paid) is g in (h, sized (e .asked) h)

@@ -1,7 +1,7 @@
 -- What a function of get may assume, and what it shows.
 use mathlib.Core.Path.{_≡_, ap}
 use mathlib.Core.List.{List}
-use Prim.Native.Nat.{ℕ, _+_, _*_, _≤_, _<_}
+use Prim.Native.Nat.{ℕ, suc, _+_, _*_, _≤_, _<_}
 use native.Mathlib.Omega.{arith}
 use lib.ListN.{length, getD}
 use Rattle.value.specs.Result.{ok}
@@ -90,6 +90,35 @@ pub record Ready (s starts a : List ℕ) (sc : Scope) (top levels left : ℕ) (t
   pub env : Values
   pub scoped : Env a sc top env
 
+-- where a function of a kind is: what it is lent, and its `At`
+pub record Here : Type 0 where
+  pub sheet : List ℕ
+  pub table : List ℕ
+  pub arena : List ℕ
+  pub scope : Scope
+  pub top : ℕ
+  pub left : ℕ
+  pub levels : ℕ
+
+-- where the function is that was asked so
+abbrev pub here : {s starts a : List ℕ} {sc : Scope} {top l left : ℕ} {nd : Node} → Ready s starts a sc top (suc l) (suc left) (body nd) → Here
+here {s} {starts} {a} {sc} {top} {l} {left} w = record { sheet = s; table = starts; arena = a; scope = sc; top = top; left = left; levels = l }
+
+-- the same in another scope
+abbrev pub h-in : Here → Scope → Here
+h-in h sc = record { sheet = h .sheet; table = h .table; arena = h .arena; scope = sc; top = h .top; left = h .left; levels = h .levels }
+
+-- and with another arena, top and allowance
+abbrev pub later : Here → (arena : List ℕ) (top left : ℕ) → Here
+later h a top left = record { sheet = h .sheet; table = h .table; arena = a; scope = h .scope; top = top; left = left; levels = h .levels }
+
+-- what such a function is asked, and what a call of a node asks there
+abbrev pub Asked : Here → Node → Type 0
+Asked h nd = Ready (h .sheet) (h .table) (h .arena) (h .scope) (h .top) (suc (h .levels)) (suc (h .left)) (body nd)
+
+abbrev pub Asks : Here → ℕ → Type 0
+Asks h x = Ready (h .sheet) (h .table) (h .arena) (h .scope) (h .top) (h .levels) (h .left) (enter x)
+
 -- the value v stands at the top or starts below it, and r says where, how long it is and how many steps were taken
 pub record Served (a : List ℕ) (top : ℕ) (r : Found) (v : Value) (n : ℕ) : Type 0 where
   pub start : ℕ
@@ -105,6 +134,13 @@ pub record Denied (r : Found) (c : ℕ) : Type 0 where
 pub record Gives (b a s : List ℕ) (sc : Scope) (from top left spent : ℕ) (r : Found) (l : ℕ) (t : Task) : Type 0 where
   pub kept : Kept top b a
   pub told : (sh : Sheet) → readSheet s ≡ ok sh → (μ : Values) → Env b sc from μ → Answers (Served a top r) (Denied r) spent left (run l sh t μ)
+
+-- what the function of a kind tells, and what a node told, each with the arena as it leaves it
+abbrev pub Tells : Here → List ℕ → Found → Node → Type 0
+Tells h a r nd = Gives (h .arena) a (h .sheet) (h .scope) (h .top) (h .top) (h .left) 1 r (h .levels) (body nd)
+
+abbrev pub Told′ : Here → List ℕ → Found → ℕ → Type 0
+Told′ h a r x = Gives (h .arena) a (h .sheet) (h .scope) (h .top) (h .top) (h .left) 0 r (h .levels) (enter x)
 
 -- A CALL'S RESULT, TAKEN APART
 

@@ -124,3 +124,13 @@ module _ {b lens lens₁ s : List ℕ} {P : Value → Type 0} {sc sc′ : Scope}
             told = λ {sh} {μ} {σ} {v} {W} w.
                 answer-by (then-done _ _ (did g₁ (given-inner o w t) e₁ .is) (g .told (given-rest w t))) (under-run _ μ σ W x v y (maker kind) f u (cells .count) (w .written .count));
           }
+
+-- THE SAME, AT A STAGE: what `put_under` is asked, and with it the scope, the cells and the slots that the branch has
+pub record Under (s starts b lens : List ℕ) (P : Value → Type 0) (sc : Scope) (cells : Owners) (top l total kind x y start first second : ℕ) : Type 0 where
+  pub ready : Ready s starts b lens P sc cells (cells .count) top l total (inside kind x y vfalse vfalse)
+  pub inner : Inner sc cells l
+  pub spans : SomeSpans b top start first second
+
+module _ {s starts b lens : List ℕ} {P : Value → Type 0} {sc : Scope} {cells : Owners} {top l total kind x y start first second : ℕ} (k : Under s starts b lens P sc cells top l total kind x y start first second) where
+  pub open-under : Opened lens (set (set lens (cells .count) 0) (cells .count + 1) 0) sc (pushed (pushed sc start first) (start + first) second) cells (moreCells cells (sc .count)) start first second
+  open-under = opened lens start first second (k .inner) refl (λ _ _. refl)

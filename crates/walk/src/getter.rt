@@ -3,10 +3,13 @@
 //! the scope's `starts` and `lens`.
 ghost use mathlib.Core.Path.{_≡_};
 ghost use mathlib.Core.List.{List};
-ghost use Prim.Native.Nat.{ℕ, suc, _+_, _*_, _≤_, _<_};
+ghost use Prim.Native.Nat.{ℕ, suc, _+_, _-_, _*_, _≤_, _<_};
 ghost use lib.ListN.{length, set, getD};
 ghost use Rattle.step.specs.Step.{When, packed};
-ghost use Rattle.walk.specs.Found.{found};
+ghost use Rattle.value.specs.Parts.{shapeOf};
+ghost use Rattle.step.specs.Step.{addedTwo};
+ghost use Rattle.walk.specs.Found.{found, lenOf, startOf, stepsOf, Later};
+ghost use Rattle.walk.specs.Parts.{part};
 ghost use Rattle.walk.specs.Gets.{Ready, Gives, enter, body, scope, frontAt, pairAt, listCaseAt, truthCaseAt, splitAt, callAt, addAt};
 ghost use Rattle.walk.specs.GetLeaf.{numbered};
 ghost use Rattle.walk.specs.GetReady.{Sized};
@@ -65,6 +68,56 @@ pub fn above(top: usize, start: usize, len: usize) -> usize
     if start + len < top { top } else { start + len }
 }
 
+/// The answer of a get, after `n` steps more.
+pub fn later(got: usize, n: usize) -> usize
+    requires { ⌜ (256 ≤ got → (1 ≤ lenOf got) × (n + stepsOf got ≤ 1000001)) ⌝ }
+    ensures { λ r. ⌜ Later got n r ⌝ }
+{
+    if got < 256 {
+        return got;
+    }
+    found(start_of(got), len_of(got), n + steps_of(got))
+}
+
+/// The steps that are left after a get.
+pub fn left_after(left: usize, got: usize) -> usize
+    requires { ⌜ stepsOf got ≤ left ⌝ }
+    ensures { λ r. ⌜ r ≡ left - stepsOf got ⌝ }
+{
+    left - steps_of(got)
+}
+
+/// The top of the stack behind a value that was got at `top`.
+pub fn top_after(top: usize, got: usize) -> usize
+    requires { ⌜ (startOf got ≤ top) × (top + lenOf got ≤ 65536) ⌝ }
+    ensures { λ r. ⌜ Above top (startOf got) (lenOf got) r ⌝ }
+{
+    let end = start_of(got) + len_of(got);
+    if end < top { top } else { end }
+}
+
+/// The shape of a value that was got.
+pub fn shape_at(arena: &[u8], got: usize) -> Shape
+    requires { ⌜ startOf got + lenOf got ≤ length (now arena) ⌝ }
+    ensures { λ r. ⌜ r ≡ shapeOf (part (now (arena .entry)) (startOf got) (startOf got + lenOf got - startOf got)) ⌝ }
+{
+    let start = start_of(got);
+    let end = start + len_of(got);
+    value::shape_of(&arena[start..end])
+}
+
+/// The two parts of a value that was got, as variables `n` and n + 1. The second starts `mid` bytes behind it.
+pub fn add_parts(starts: &mut [u16; 110], lens: &mut [u16; 110], n: usize, got: usize, mid: usize)
+    requires { ⌜ (n + 2 ≤ 110) × (startOf got + lenOf got < 65536) × (1 ≤ mid) × (mid ≤ lenOf got) ⌝ }
+    ensures { λ _. ⌜ now (starts .exit) ≡ addedTwo (now (starts .entry)) n (startOf got + 1) (startOf got + mid) ⌝ }
+    ensures { λ _. ⌜ now (lens .exit) ≡ addedTwo (now (lens .entry)) n (mid - 1) (lenOf got - mid) ⌝ }
+{
+    let start = start_of(got);
+    let len = len_of(got);
+    add_two(starts, n, start + 1, start + mid);
+    add_two(lens, n, mid - 1, len - mid);
+}
+
 /// A value that was got, brought to the top of the stack.
 pub fn bring(arena: &mut [u8], got: usize, top: usize) -> usize
     requires { ⌜ (256 ≤ got → Movable (now arena) top got) ⌝ }
@@ -99,6 +152,14 @@ fn judge_branch(arena: &mut [u8], got: usize, test: u8, spent: usize, top: usize
     }
     copy(arena, start, top, len);
     found(top, len, steps)
+}
+
+// The same behind a subject that was got.
+fn judge_after(arena: &mut [u8], got: usize, test: u8, subject: usize, top: usize) -> usize
+    requires { ⌜ (stepsOf subject ≤ 1000000) × (256 ≤ got → Judgeable (now arena) got (1 + stepsOf subject)) ⌝ }
+    ensures { λ r. ⌜ Judged «test» (1 + stepsOf subject) top got (now (arena .entry)) (now (arena .exit)) r ⌝ }
+{
+    judge_branch(arena, got, test, 1 + steps_of(subject), top)
 }
 
 /// The value of a node: its depth is judged, then the allowance.
@@ -264,21 +325,16 @@ fn get_list_case(
     if got < 256 {
         return got;
     }
-    let start = start_of(got);
-    let len = len_of(got);
-    let end = start + len;
-    let steps = steps_of(got);
-    let s = 1 + steps;
     let base = at.top;
     let mut to = at;
-    to.left = at.left - steps;
-    to.top = above(base, start, len);
-    match value::shape_of(&arena[start..end]) {
+    to.left = left_after(at.left, got);
+    to.top = top_after(base, got);
+    match shape_at(arena, got) {
         Shape::Empty => {
             let node = sheet::number_of(sheet, n, 2);
             let test = sheet::byte_of(sheet, n, 3);
-            let got = get_node(sheet, table, arena, starts, lens, node, to);
-            judge_branch(arena, got, test, s, base)
+            let branch = get_node(sheet, table, arena, starts, lens, node, to);
+            judge_after(arena, branch, test, got, base)
         }
         Shape::Front(mid) => {
             let node = sheet::number_of(sheet, n, 4);
@@ -286,11 +342,10 @@ fn get_list_case(
             let count = at.count;
             let mut starts = *starts;
             let mut lens = *lens;
-            add_two(&mut starts, count, start + 1, start + mid);
-            add_two(&mut lens, count, mid - 1, len - mid);
+            add_parts(&mut starts, &mut lens, count, got, mid);
             to.count = count + 2;
-            let got = get_node(sheet, table, arena, &starts, &lens, node, to);
-            judge_branch(arena, got, test, s, base)
+            let branch = get_node(sheet, table, arena, &starts, &lens, node, to);
+            judge_after(arena, branch, test, got, base)
         }
         _ => 43,
     }
@@ -313,27 +368,22 @@ fn get_truth_case(
     if got < 256 {
         return got;
     }
-    let start = start_of(got);
-    let len = len_of(got);
-    let end = start + len;
-    let steps = steps_of(got);
-    let s = 1 + steps;
     let base = at.top;
     let mut to = at;
-    to.left = at.left - steps;
-    to.top = above(base, start, len);
-    match value::shape_of(&arena[start..end]) {
+    to.left = left_after(at.left, got);
+    to.top = top_after(base, got);
+    match shape_at(arena, got) {
         Shape::False => {
             let node = sheet::number_of(sheet, n, 2);
             let test = sheet::byte_of(sheet, n, 3);
-            let got = get_node(sheet, table, arena, starts, lens, node, to);
-            judge_branch(arena, got, test, s, base)
+            let branch = get_node(sheet, table, arena, starts, lens, node, to);
+            judge_after(arena, branch, test, got, base)
         }
         Shape::True => {
             let node = sheet::number_of(sheet, n, 4);
             let test = sheet::byte_of(sheet, n, 5);
-            let got = get_node(sheet, table, arena, starts, lens, node, to);
-            judge_branch(arena, got, test, s, base)
+            let branch = get_node(sheet, table, arena, starts, lens, node, to);
+            judge_after(arena, branch, test, got, base)
         }
         _ => 43,
     }
@@ -357,27 +407,21 @@ fn get_split(
     if got < 256 {
         return got;
     }
-    let start = start_of(got);
-    let len = len_of(got);
-    let end = start + len;
-    let steps = steps_of(got);
-    let s = 1 + steps;
     let base = at.top;
     let mut to = at;
-    to.left = at.left - steps;
-    to.top = above(base, start, len);
-    let Shape::Pair(mid) = value::shape_of(&arena[start..end]) else {
+    to.left = left_after(at.left, got);
+    to.top = top_after(base, got);
+    let Shape::Pair(mid) = shape_at(arena, got) else {
         return 43;
     };
     let node = sheet::number_of(sheet, n, 2);
     let count = at.count;
     let mut starts = *starts;
     let mut lens = *lens;
-    add_two(&mut starts, count, start + 1, start + mid);
-    add_two(&mut lens, count, mid - 1, len - mid);
+    add_parts(&mut starts, &mut lens, count, got, mid);
     to.count = count + 2;
-    let got = get_node(sheet, table, arena, &starts, &lens, node, to);
-    judge_branch(arena, got, 0, s, base)
+    let branch = get_node(sheet, table, arena, &starts, &lens, node, to);
+    judge_after(arena, branch, 0, got, base)
 }
 
 fn get_call(
@@ -412,10 +456,7 @@ fn get_call(
         cells: at.cells,
     };
     let got = get_node(sheet, table, arena, &two_starts, &two_lens, root, inner);
-    if got < 256 {
-        return got;
-    }
-    found(start_of(got), len_of(got), 1 + steps_of(got))
+    later(got, 1)
 }
 
 fn get_add(

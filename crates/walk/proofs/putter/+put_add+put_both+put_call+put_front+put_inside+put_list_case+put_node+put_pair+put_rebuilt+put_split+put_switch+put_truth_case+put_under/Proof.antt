@@ -27,48 +27,31 @@ use Rattle.walk.specs.PutTruth.{truth-not, truth-both, truth-code, node-
 use Rattle.walk.specs.PutSwitch.{default-ready, switch-few₁, switch-few₂, switch-refused₁, switch-refused₂, switch-43, switch-spans, switch-ready, switch-under}
 use Rattle.step.specs.StepLaws.{entered, truth-says, list-says}
 use Rattle.walk.proofs.PutTags as tags
-use Prim.Native.Nat.{ℕ, _+_, _*_, _<_}
-use borrow.Fn.Kinds.{In}
-use borrow.Fn.PlainCycle.{Measures, is, falls, and}
+use Prim.Native.Nat.{ℕ}
 use Rattle.walk.proofs.putter.put_add.Reads as put-add
-use Rattle.walk.proofs.putter.put_add.Kinds as put-add-kinds
 use Rattle.walk.proofs.putter.+put_add+put_both+put_call+put_front+put_inside+put_list_case+put_node+put_pair+put_rebuilt+put_split+put_switch+put_truth_case+put_under.Lts-put_add as put-add-lts
 use Rattle.walk.proofs.putter.put_both.Reads as put-both
-use Rattle.walk.proofs.putter.put_both.Kinds as put-both-kinds
 use Rattle.walk.proofs.putter.+put_add+put_both+put_call+put_front+put_inside+put_list_case+put_node+put_pair+put_rebuilt+put_split+put_switch+put_truth_case+put_under.Lts-put_both as put-both-lts
 use Rattle.walk.proofs.putter.put_call.Reads as put-call
-use Rattle.walk.proofs.putter.put_call.Kinds as put-call-kinds
 use Rattle.walk.proofs.putter.+put_add+put_both+put_call+put_front+put_inside+put_list_case+put_node+put_pair+put_rebuilt+put_split+put_switch+put_truth_case+put_under.Lts-put_call as put-call-lts
 use Rattle.walk.proofs.putter.put_front.Reads as put-front
-use Rattle.walk.proofs.putter.put_front.Kinds as put-front-kinds
 use Rattle.walk.proofs.putter.+put_add+put_both+put_call+put_front+put_inside+put_list_case+put_node+put_pair+put_rebuilt+put_split+put_switch+put_truth_case+put_under.Lts-put_front as put-front-lts
 use Rattle.walk.proofs.putter.put_inside.Reads as put-inside
-use Rattle.walk.proofs.putter.put_inside.Kinds as put-inside-kinds
 use Rattle.walk.proofs.putter.+put_add+put_both+put_call+put_front+put_inside+put_list_case+put_node+put_pair+put_rebuilt+put_split+put_switch+put_truth_case+put_under.Lts-put_inside as put-inside-lts
 use Rattle.walk.proofs.putter.put_list_case.Reads as put-list-case
-use Rattle.walk.proofs.putter.put_list_case.Kinds as put-list-case-kinds
 use Rattle.walk.proofs.putter.+put_add+put_both+put_call+put_front+put_inside+put_list_case+put_node+put_pair+put_rebuilt+put_split+put_switch+put_truth_case+put_under.Lts-put_list_case as put-list-case-lts
 use Rattle.walk.proofs.putter.put_node.Reads as put-node
-use Rattle.walk.proofs.putter.put_node.Kinds as put-node-kinds
 use Rattle.walk.proofs.putter.+put_add+put_both+put_call+put_front+put_inside+put_list_case+put_node+put_pair+put_rebuilt+put_split+put_switch+put_truth_case+put_under.Lts-put_node as put-node-lts
 use Rattle.walk.proofs.putter.put_pair.Reads as put-pair
-use Rattle.walk.proofs.putter.put_pair.Kinds as put-pair-kinds
 use Rattle.walk.proofs.putter.+put_add+put_both+put_call+put_front+put_inside+put_list_case+put_node+put_pair+put_rebuilt+put_split+put_switch+put_truth_case+put_under.Lts-put_pair as put-pair-lts
 use Rattle.walk.proofs.putter.put_rebuilt.Reads as put-rebuilt
-use Rattle.walk.proofs.putter.put_rebuilt.Kinds as put-rebuilt-kinds
 use Rattle.walk.proofs.putter.+put_add+put_both+put_call+put_front+put_inside+put_list_case+put_node+put_pair+put_rebuilt+put_split+put_switch+put_truth_case+put_under.Lts-put_rebuilt as put-rebuilt-lts
 use Rattle.walk.proofs.putter.put_split.Reads as put-split
-use Rattle.walk.proofs.putter.put_split.Kinds as put-split-kinds
 use Rattle.walk.proofs.putter.+put_add+put_both+put_call+put_front+put_inside+put_list_case+put_node+put_pair+put_rebuilt+put_split+put_switch+put_truth_case+put_under.Lts-put_split as put-split-lts
 use Rattle.walk.proofs.putter.put_switch.Reads as put-switch
-use Rattle.walk.proofs.putter.put_switch.Kinds as put-switch-kinds
-use Rattle.walk.proofs.putter.+put_add+put_both+put_call+put_front+put_inside+put_list_case+put_node+put_pair+put_rebuilt+put_split+put_switch+put_truth_case+put_under.Lts-put_switch as put-switch-lts
 use Rattle.walk.proofs.putter.put_truth_case.Reads as put-truth-case
-use Rattle.walk.proofs.putter.put_truth_case.Kinds as put-truth-case-kinds
 use Rattle.walk.proofs.putter.+put_add+put_both+put_call+put_front+put_inside+put_list_case+put_node+put_pair+put_rebuilt+put_split+put_switch+put_truth_case+put_under.Lts-put_truth_case as put-truth-case-lts
 use Rattle.walk.proofs.putter.put_under.Reads as put-under
-use Rattle.walk.proofs.putter.put_under.Kinds as put-under-kinds
-use Rattle.walk.proofs.putter.+put_add+put_both+put_call+put_front+put_inside+put_list_case+put_node+put_pair+put_rebuilt+put_split+put_switch+put_truth_case+put_under.Lts-put_under as put-under-lts
 use Rattle.sheet.proofs.byte_of.Reads as byte-of-reads
 use Rattle.sheet.proofs.number_of.Reads as number-of-reads
 use Rattle.sheet.proofs.section_root.Reads as section-root-reads
@@ -101,152 +84,12 @@ use Rattle.walk.proofs.putter.put_var.Reads as put-var-reads
 use Rattle.walk.proofs.scope.add_two.Reads as add-two-reads
 use Rattle.walk.proofs.putter.+put_add+put_both+put_call+put_front+put_inside+put_list_case+put_node+put_pair+put_rebuilt+put_split+put_switch+put_truth_case+put_under.{statement}
 use Rattle.walk.proofs.putter.+put_add+put_both+put_call+put_front+put_inside+put_list_case+put_node+put_pair+put_rebuilt+put_split+put_switch+put_truth_case+put_under.Tie.{close}
-
-abbrev μ-put-add : Measures 8 put-add-kinds.ps ℕ
-μ-put-add κs a = 6 * (a .1 .1 .1 .1 .1 .1 .1 .1 .1 .0 .levels) + 4
-
-abbrev μ-put-both : Measures 9 put-both-kinds.ps ℕ
-μ-put-both κs a = 6 * (a .1 .1 .1 .1 .1 .1 .1 .1 .1 .1 .1 .1 .0 .levels) + 1
-
-abbrev μ-put-call : Measures 8 put-call-kinds.ps ℕ
-μ-put-call κs a = 6 * (a .1 .1 .1 .1 .1 .1 .1 .1 .1 .0 .levels) + 4
-
-abbrev μ-put-front : Measures 8 put-front-kinds.ps ℕ
-μ-put-front κs a = 6 * (a .1 .1 .1 .1 .1 .1 .1 .1 .1 .0 .levels) + 4
-
-abbrev μ-put-inside : Measures 8 put-inside-kinds.ps ℕ
-μ-put-inside κs a = 6 * (a .1 .1 .1 .1 .1 .1 .1 .1 .1 .1 .0 .levels) + 1
-
-abbrev μ-put-list-case : Measures 8 put-list-case-kinds.ps ℕ
-μ-put-list-case κs a = 6 * (a .1 .1 .1 .1 .1 .1 .1 .1 .1 .0 .levels) + 4
-
-abbrev μ-put-node : Measures 8 put-node-kinds.ps ℕ
-μ-put-node κs a = 6 * (a .1 .1 .1 .1 .1 .1 .1 .1 .1 .0 .levels)
-
-abbrev μ-put-pair : Measures 8 put-pair-kinds.ps ℕ
-μ-put-pair κs a = 6 * (a .1 .1 .1 .1 .1 .1 .1 .1 .1 .0 .levels) + 4
-
-abbrev μ-put-rebuilt : Measures 7 put-rebuilt-kinds.ps ℕ
-μ-put-rebuilt κs a = 6 * (a .1 .1 .1 .1 .1 .1 .1 .1 .1 .1 .1 .0 .levels) + 1
-
-abbrev μ-put-split : Measures 8 put-split-kinds.ps ℕ
-μ-put-split κs a = 6 * (a .1 .1 .1 .1 .1 .1 .1 .1 .1 .0 .levels) + 4
-
-abbrev μ-put-switch : Measures 8 put-switch-kinds.ps ℕ
-μ-put-switch κs a = 6 * (a .1 .1 .1 .1 .1 .1 .1 .1 .1 .1 .0 .levels) + 3
-
-abbrev μ-put-truth-case : Measures 8 put-truth-case-kinds.ps ℕ
-μ-put-truth-case κs a = 6 * (a .1 .1 .1 .1 .1 .1 .1 .1 .1 .0 .levels) + 4
-
-abbrev μ-put-under : Measures 8 put-under-kinds.ps ℕ
-μ-put-under κs a = 6 * (a .1 .1 .1 .1 .1 .1 .1 .1 .1 .1 .1 .1 .1 .0 .levels) + 2
-
-abbrev put-add-at : ℕ → In 8 put-add-kinds.ps
-put-add-at t = and 8 put-add-kinds.ps (is 8 put-add-kinds.ps μ-put-add t) put-add.Pre
-
-abbrev put-add-below : ℕ → In 8 put-add-kinds.ps
-put-add-below t = and 8 put-add-kinds.ps (falls 8 put-add-kinds.ps _<_ μ-put-add t) put-add.Pre
-
-abbrev put-both-at : ℕ → In 9 put-both-kinds.ps
-put-both-at t = and 9 put-both-kinds.ps (is 9 put-both-kinds.ps μ-put-both t) put-both.Pre
-
-abbrev put-both-below : ℕ → In 9 put-both-kinds.ps
-put-both-below t =
-    and 9 put-both-kinds.ps (falls 9 put-both-kinds.ps _<_ μ-put-both t) put-both.Pre
-
-abbrev put-call-at : ℕ → In 8 put-call-kinds.ps
-put-call-at t = and 8 put-call-kinds.ps (is 8 put-call-kinds.ps μ-put-call t) put-call.Pre
-
-abbrev put-call-below : ℕ → In 8 put-call-kinds.ps
-put-call-below t =
-    and 8 put-call-kinds.ps (falls 8 put-call-kinds.ps _<_ μ-put-call t) put-call.Pre
-
-abbrev put-front-at : ℕ → In 8 put-front-kinds.ps
-put-front-at t = and 8 put-front-kinds.ps (is 8 put-front-kinds.ps μ-put-front t) put-front.Pre
-
-abbrev put-front-below : ℕ → In 8 put-front-kinds.ps
-put-front-below t =
-    and 8 put-front-kinds.ps (falls 8 put-front-kinds.ps _<_ μ-put-front t) put-front.Pre
-
-abbrev put-inside-at : ℕ → In 8 put-inside-kinds.ps
-put-inside-at t =
-    and 8 put-inside-kinds.ps (is 8 put-inside-kinds.ps μ-put-inside t) put-inside.Pre
-
-abbrev put-inside-below : ℕ → In 8 put-inside-kinds.ps
-put-inside-below t =
-    and 8 put-inside-kinds.ps (falls 8 put-inside-kinds.ps _<_ μ-put-inside t) put-inside.Pre
-
-abbrev put-list-case-at : ℕ → In 8 put-list-case-kinds.ps
-put-list-case-at t =
-    and 8 put-list-case-kinds.ps (is 8 put-list-case-kinds.ps μ-put-list-case t) put-list-case.Pre
-
-abbrev put-list-case-below : ℕ → In 8 put-list-case-kinds.ps
-put-list-case-below t =
-    and
-    8
-    put-list-case-kinds.ps
-    (falls 8 put-list-case-kinds.ps _<_ μ-put-list-case t)
-    put-list-case.Pre
-
-abbrev put-node-at : ℕ → In 8 put-node-kinds.ps
-put-node-at t = and 8 put-node-kinds.ps (is 8 put-node-kinds.ps μ-put-node t) put-node.Pre
-
-abbrev put-node-below : ℕ → In 8 put-node-kinds.ps
-put-node-below t =
-    and 8 put-node-kinds.ps (falls 8 put-node-kinds.ps _<_ μ-put-node t) put-node.Pre
-
-abbrev put-pair-at : ℕ → In 8 put-pair-kinds.ps
-put-pair-at t = and 8 put-pair-kinds.ps (is 8 put-pair-kinds.ps μ-put-pair t) put-pair.Pre
-
-abbrev put-pair-below : ℕ → In 8 put-pair-kinds.ps
-put-pair-below t =
-    and 8 put-pair-kinds.ps (falls 8 put-pair-kinds.ps _<_ μ-put-pair t) put-pair.Pre
-
-abbrev put-rebuilt-at : ℕ → In 7 put-rebuilt-kinds.ps
-put-rebuilt-at t =
-    and 7 put-rebuilt-kinds.ps (is 7 put-rebuilt-kinds.ps μ-put-rebuilt t) put-rebuilt.Pre
-
-abbrev put-rebuilt-below : ℕ → In 7 put-rebuilt-kinds.ps
-put-rebuilt-below t =
-    and 7 put-rebuilt-kinds.ps (falls 7 put-rebuilt-kinds.ps _<_ μ-put-rebuilt t) put-rebuilt.Pre
-
-abbrev put-split-at : ℕ → In 8 put-split-kinds.ps
-put-split-at t = and 8 put-split-kinds.ps (is 8 put-split-kinds.ps μ-put-split t) put-split.Pre
-
-abbrev put-split-below : ℕ → In 8 put-split-kinds.ps
-put-split-below t =
-    and 8 put-split-kinds.ps (falls 8 put-split-kinds.ps _<_ μ-put-split t) put-split.Pre
-
-abbrev put-switch-at : ℕ → In 8 put-switch-kinds.ps
-put-switch-at t =
-    and 8 put-switch-kinds.ps (is 8 put-switch-kinds.ps μ-put-switch t) put-switch.Pre
-
-abbrev put-switch-below : ℕ → In 8 put-switch-kinds.ps
-put-switch-below t =
-    and 8 put-switch-kinds.ps (falls 8 put-switch-kinds.ps _<_ μ-put-switch t) put-switch.Pre
-
-abbrev put-truth-case-at : ℕ → In 8 put-truth-case-kinds.ps
-put-truth-case-at t =
-    and
-    8
-    put-truth-case-kinds.ps
-    (is 8 put-truth-case-kinds.ps μ-put-truth-case t)
-    put-truth-case.Pre
-
-abbrev put-truth-case-below : ℕ → In 8 put-truth-case-kinds.ps
-put-truth-case-below t =
-    and
-    8
-    put-truth-case-kinds.ps
-    (falls 8 put-truth-case-kinds.ps _<_ μ-put-truth-case t)
-    put-truth-case.Pre
-
-abbrev put-under-at : ℕ → In 8 put-under-kinds.ps
-put-under-at t = and 8 put-under-kinds.ps (is 8 put-under-kinds.ps μ-put-under t) put-under.Pre
-
-abbrev put-under-below : ℕ → In 8 put-under-kinds.ps
-put-under-below t =
-    and 8 put-under-kinds.ps (falls 8 put-under-kinds.ps _<_ μ-put-under t) put-under.Pre
+use Frame.{μ-put-add, μ-put-both, μ-put-call, μ-put-front, μ-put-inside, μ-put-list-case, μ-put-node, μ-put-pair, μ-put-rebuilt, μ-put-split, μ-put-switch, μ-put-truth-case, μ-put-under, put-add-at, put-add-below, put-both-at, put-both-below, put-call-at, put-call-below, put-front-at, put-front-below, put-inside-at, put-inside-below, put-list-case-at, put-list-case-below, put-node-at, put-node-below, put-pair-at, put-pair-below, put-rebuilt-at, put-rebuilt-below, put-split-at, put-split-below, put-switch-at, put-switch-below, put-truth-case-at, put-truth-case-below, put-under-at, put-under-below}
+use Switch.{put-switch-met}
+use Under.{put-under-met}
+mod Frame
+mod Switch
+mod Under
 
 abbrev put-add-claims : ℕ → put-add-lts.Claims
 put-add-claims t = (shape-of-reads.Asked, shape-of-reads.Learnt, byte-of-reads.Asked, byte-of-reads.Learnt, number-reads.Asked, number-reads.Learnt, high-reads.Asked, high-reads.Learnt, low-reads.Asked, low-reads.Learnt, number-of-reads.Asked, number-of-reads.Learnt, put-node-below t, put-node.Post, taken-reads.Asked, taken-reads.Learnt, took-reads.Asked, took-reads.Learnt)
@@ -278,14 +121,8 @@ put-rebuilt-claims t = (place-of-reads.Asked, place-of-reads.Learnt, unfit-reads
 abbrev put-split-claims : ℕ → put-split-lts.Claims
 put-split-claims t = (number-of-reads.Asked, number-of-reads.Learnt, get-node-reads.Asked, get-node-reads.Learnt, start-of-reads.Asked, start-of-reads.Learnt, len-of-reads.Asked, len-of-reads.Learnt, steps-of-reads.Asked, steps-of-reads.Learnt, above-reads.Asked, above-reads.Learnt, shape-of-reads.Asked, shape-of-reads.Learnt, put-under-below t, put-under.Post)
 
-abbrev put-switch-claims : ℕ → put-switch-lts.Claims
-put-switch-claims t = (number-of-reads.Asked, number-of-reads.Learnt, get-node-reads.Asked, get-node-reads.Learnt, bring-reads.Asked, bring-reads.Learnt, len-of-reads.Asked, len-of-reads.Learnt, steps-of-reads.Asked, steps-of-reads.Learnt, unfit-reads.Asked, unfit-reads.Learnt, put-under-below t, put-under.Post)
-
 abbrev put-truth-case-claims : ℕ → put-truth-case-lts.Claims
 put-truth-case-claims t = (number-of-reads.Asked, number-of-reads.Learnt, get-node-reads.Asked, get-node-reads.Learnt, start-of-reads.Asked, start-of-reads.Learnt, len-of-reads.Asked, len-of-reads.Learnt, steps-of-reads.Asked, steps-of-reads.Learnt, above-reads.Asked, above-reads.Learnt, byte-of-reads.Asked, byte-of-reads.Learnt, truth-branch-reads.Asked, truth-branch-reads.Learnt, put-both-below t, put-both.Post)
-
-abbrev put-under-claims : ℕ → put-under-lts.Claims
-put-under-claims t = (put-inside-below t, put-inside.Post, taken-reads.Asked, taken-reads.Learnt, put-rebuilt-below t, put-rebuilt.Post)
 
 put-add-shape-of-requires : (t : ℕ) → put-add-lts.Need-shape-of-requires (put-add-claims t) (put-add-at t) put-add.Post
 put-add-shape-of-requires t c κs = search needs
@@ -1003,93 +840,6 @@ put-split-returns-3 t c = split-under ((c .before .before .before .before .befor
 put-split-same-length-3 : (t : ℕ) → put-split-lts.Need-same-length-3 (put-split-claims t) (put-split-at t) put-split.Post
 put-split-same-length-3 t c = put-split-returns-3 t c .frame .long
 
-put-switch-number-of-requires : (t : ℕ) → put-switch-lts.Need-number-of-requires (put-switch-claims t) (put-switch-at t) put-switch.Post
-put-switch-number-of-requires t c κs = search needs
-
-put-switch-get-node-requires : (t : ℕ) → put-switch-lts.Need-get-node-requires (put-switch-claims t) (put-switch-at t) put-switch.Post
-put-switch-get-node-requires t c κs = default-ready (c .before .before .before .before .before .before .before .pre .1 .0) refl (omega (arith, c .before .before .before .number-of .ensures, (c .before .before .before .before .before .before .before .pre .1 .0) .known .1 .0)) refl (omega arith) (le-refl _) (omega (arith, (c .before .before .before .before .before .before .before .pre .1 .0) .room))
-
-put-switch-bring-requires : (t : ℕ) → put-switch-lts.Need-bring-requires (put-switch-claims t) (put-switch-at t) put-switch.Post
-put-switch-bring-requires t c κs = λ h. movable (c .before .before .before .get-node .ensures .1) (omega (arith, c .before .before .before .get-node .ensures .0 .kept .long, (c .before .before .before .before .before .before .before .before .before .before .before .pre .1 .0) .long)) (omega (arith, (c .before .before .before .before .before .before .before .before .before .before .before .pre .1 .0) .room)) (omega (arith, (c .before .before .before .before .before .before .before .before .before .before .before .pre .1 .0) .few)) h
-
-put-switch-returns : (t : ℕ) → put-switch-lts.Need-returns (put-switch-claims t) (put-switch-at t) put-switch.Post
-put-switch-returns t c = as-taken (taken-refused (c .if1 .taken)) (switch-refused₁ ((c .before .before .before .before .before .before .before .before .before .before .before .before .before .before .before .pre .1 .0) .base) refl (as-node (c .before .before .before .before .before .before .before .before .before .before .before .number-of .ensures) ((bring-gives ((c .before .before .before .before .before .before .before .before .before .before .before .before .before .before .before .pre .1 .0) .base) (c .before .before .before .before .before .before .before .get-node .ensures .0) (c .before .before .before .before .before .before .before .get-node .ensures .1) (c .before .before .before .bring .ensures)) .gives)) (found-refused (c .if1 .taken)))
-
-put-switch-same-length : (t : ℕ) → put-switch-lts.Need-same-length (put-switch-claims t) (put-switch-at t) put-switch.Post
-put-switch-same-length t c = put-switch-returns t c .frame .long
-
-put-switch-len-of-requires : (t : ℕ) → put-switch-lts.Need-len-of-requires (put-switch-claims t) (put-switch-at t) put-switch.Post
-put-switch-len-of-requires t c κs = search needs
-
-put-switch-steps-of-requires : (t : ℕ) → put-switch-lts.Need-steps-of-requires (put-switch-claims t) (put-switch-at t) put-switch.Post
-put-switch-steps-of-requires t c κs = search needs
-
-put-switch-add-mid : (t : ℕ) → put-switch-lts.Need-add-mid (put-switch-claims t) (put-switch-at t) put-switch.Post
-put-switch-add-mid t c = record { fits = omega (arith, (switch-few₁ ((c .before .before .before .before .before .before .before .before .before .before .before .before .before .before .before .before .before .before .pre .1 .0) .base) refl (as-node (c .before .before .before .before .before .before .before .before .before .before .before .before .before .before .number-of .ensures) ((bring-gives ((c .before .before .before .before .before .before .before .before .before .before .before .before .before .before .before .before .before .before .pre .1 .0) .base) (c .before .before .before .before .before .before .before .before .before .before .get-node .ensures .0) (c .before .before .before .before .before .before .before .before .before .before .get-node .ensures .1) (c .before .before .before .before .before .before .bring .ensures)) .gives)) (found-there (c .before .before .before .if1 .left) ((bring-gives ((c .before .before .before .before .before .before .before .before .before .before .before .before .before .before .before .before .before .before .pre .1 .0) .base) (c .before .before .before .before .before .before .before .before .before .before .get-node .ensures .0) (c .before .before .before .before .before .before .before .before .before .before .get-node .ensures .1) (c .before .before .before .before .before .before .bring .ensures)) .exact) (c .before .before .len-of .ensures) (c .before .steps-of .ensures)) (c .before .before .before .before .before .before .before .before .before .before .before .before .before .before .before .before .before .before .pre .1 .0)), (c .before .before .before .before .before .before .before .before .before .before .before .before .before .before .before .before .before .before .pre .1 .1 .1)) }
-
-put-switch-sub-two : (t : ℕ) → put-switch-lts.Need-sub-two (put-switch-claims t) (put-switch-at t) put-switch.Post
-put-switch-sub-two t c = omega (arith, (switch-few₁ ((c .before .before .before .before .before .before .before .before .before .before .before .before .before .before .before .before .before .before .before .pre .1 .0) .base) refl (as-node (c .before .before .before .before .before .before .before .before .before .before .before .before .before .before .before .number-of .ensures) ((bring-gives ((c .before .before .before .before .before .before .before .before .before .before .before .before .before .before .before .before .before .before .before .pre .1 .0) .base) (c .before .before .before .before .before .before .before .before .before .before .before .get-node .ensures .0) (c .before .before .before .before .before .before .before .before .before .before .before .get-node .ensures .1) (c .before .before .before .before .before .before .before .bring .ensures)) .gives)) (found-there (c .before .before .before .before .if1 .left) ((bring-gives ((c .before .before .before .before .before .before .before .before .before .before .before .before .before .before .before .before .before .before .before .pre .1 .0) .base) (c .before .before .before .before .before .before .before .before .before .before .before .get-node .ensures .0) (c .before .before .before .before .before .before .before .before .before .before .before .get-node .ensures .1) (c .before .before .before .before .before .before .before .bring .ensures)) .exact) (c .before .before .before .len-of .ensures) (c .before .before .steps-of .ensures)) (c .before .before .before .before .before .before .before .before .before .before .before .before .before .before .before .before .before .before .before .pre .1 .0)))
-
-put-switch-number-of-requires-2 : (t : ℕ) → put-switch-lts.Need-number-of-requires-2 (put-switch-claims t) (put-switch-at t) put-switch.Post
-put-switch-number-of-requires-2 t c κs = search needs
-
-put-switch-get-node-requires-2 : (t : ℕ) → put-switch-lts.Need-get-node-requires-2 (put-switch-claims t) (put-switch-at t) put-switch.Post
-put-switch-get-node-requires-2 t c κs = let thef1 = (switch-few₁ ((c .before .before .before .before .before .before .before .before .before .before .before .before .before .before .before .before .before .before .before .before .before .before .before .pre .1 .0) .base) refl (as-node (c .before .before .before .before .before .before .before .before .before .before .before .before .before .before .before .before .before .before .before .number-of .ensures) ((bring-gives ((c .before .before .before .before .before .before .before .before .before .before .before .before .before .before .before .before .before .before .before .before .before .before .before .pre .1 .0) .base) (c .before .before .before .before .before .before .before .before .before .before .before .before .before .before .before .get-node .ensures .0) (c .before .before .before .before .before .before .before .before .before .before .before .before .before .before .before .get-node .ensures .1) (c .before .before .before .before .before .before .before .before .before .before .before .bring .ensures)) .gives)) (found-there (c .before .before .before .before .before .before .before .before .if1 .left) ((bring-gives ((c .before .before .before .before .before .before .before .before .before .before .before .before .before .before .before .before .before .before .before .before .before .before .before .pre .1 .0) .base) (c .before .before .before .before .before .before .before .before .before .before .before .before .before .before .before .get-node .ensures .0) (c .before .before .before .before .before .before .before .before .before .before .before .before .before .before .before .get-node .ensures .1) (c .before .before .before .before .before .before .before .before .before .before .before .bring .ensures)) .exact) (c .before .before .before .before .before .before .before .len-of .ensures) (c .before .before .before .before .before .before .steps-of .ensures)) (c .before .before .before .before .before .before .before .before .before .before .before .before .before .before .before .before .before .before .before .before .before .before .before .pre .1 .0)) in default-ready (c .before .before .before .before .before .before .before .before .before .before .before .before .before .before .before .before .before .before .before .before .before .before .before .pre .1 .0) refl (omega (arith, c .before .before .before .number-of2 .ensures, (c .before .before .before .before .before .before .before .before .before .before .before .before .before .before .before .before .before .before .before .before .before .before .before .pre .1 .0) .known .1 .1)) ((bring-gives ((c .before .before .before .before .before .before .before .before .before .before .before .before .before .before .before .before .before .before .before .before .before .before .before .pre .1 .0) .base) (c .before .before .before .before .before .before .before .before .before .before .before .before .before .before .before .get-node .ensures .0) (c .before .before .before .before .before .before .before .before .before .before .before .before .before .before .before .get-node .ensures .1) (c .before .before .before .before .before .before .before .before .before .before .before .bring .ensures)) .gives .kept .long) (omega (arith, thef1)) (omega arith) (omega (arith, thef1, (c .before .before .before .before .before .before .before .before .before .before .before .before .before .before .before .before .before .before .before .before .before .before .before .pre .1 .1 .1)))
-
-put-switch-bring-requires-2 : (t : ℕ) → put-switch-lts.Need-bring-requires-2 (put-switch-claims t) (put-switch-at t) put-switch.Post
-put-switch-bring-requires-2 t c κs = λ h. movable (c .before .before .before .get-node2 .ensures .1) (omega (arith, c .before .before .before .get-node2 .ensures .0 .kept .long, (bring-gives ((c .before .before .before .before .before .before .before .before .before .before .before .before .before .before .before .before .before .before .before .before .before .before .before .before .before .before .before .pre .1 .0) .base) (c .before .before .before .before .before .before .before .before .before .before .before .before .before .before .before .before .before .before .before .get-node .ensures .0) (c .before .before .before .before .before .before .before .before .before .before .before .before .before .before .before .before .before .before .before .get-node .ensures .1) (c .before .before .before .before .before .before .before .before .before .before .before .before .before .before .before .bring .ensures)) .gives .kept .long, (c .before .before .before .before .before .before .before .before .before .before .before .before .before .before .before .before .before .before .before .before .before .before .before .before .before .before .before .pre .1 .0) .long)) (omega (arith, (c .before .before .before .before .before .before .before .before .before .before .before .before .before .before .before .before .before .before .before .before .before .before .before .before .before .before .before .pre .1 .1 .1), ((bring-gives ((c .before .before .before .before .before .before .before .before .before .before .before .before .before .before .before .before .before .before .before .before .before .before .before .before .before .before .before .pre .1 .0) .base) (c .before .before .before .before .before .before .before .before .before .before .before .before .before .before .before .before .before .before .before .get-node .ensures .0) (c .before .before .before .before .before .before .before .before .before .before .before .before .before .before .before .before .before .before .before .get-node .ensures .1) (c .before .before .before .before .before .before .before .before .before .before .before .before .before .before .before .bring .ensures)) .sized .at (found-there (c .before .before .before .before .before .before .before .before .before .before .before .before .if1 .left) ((bring-gives ((c .before .before .before .before .before .before .before .before .before .before .before .before .before .before .before .before .before .before .before .before .before .before .before .before .before .before .before .pre .1 .0) .base) (c .before .before .before .before .before .before .before .before .before .before .before .before .before .before .before .before .before .before .before .get-node .ensures .0) (c .before .before .before .before .before .before .before .before .before .before .before .before .before .before .before .before .before .before .before .get-node .ensures .1) (c .before .before .before .before .before .before .before .before .before .before .before .before .before .before .before .bring .ensures)) .exact) (c .before .before .before .before .before .before .before .before .before .before .before .len-of .ensures) (c .before .before .before .before .before .before .before .before .before .before .steps-of .ensures))) .short)) (omega (arith, (c .before .before .before .before .before .before .before .before .before .before .before .before .before .before .before .before .before .before .before .before .before .before .before .before .before .before .before .pre .1 .0) .few)) h
-
-put-switch-returns-2 : (t : ℕ) → put-switch-lts.Need-returns-2 (put-switch-claims t) (put-switch-at t) put-switch.Post
-put-switch-returns-2 t c = as-taken (taken-refused (c .if2 .taken)) (switch-refused₂ ((c .before .before .before .before .before .before .before .before .before .before .before .before .before .before .before .before .before .before .before .before .before .before .before .before .before .before .before .before .before .before .before .pre .1 .0) .base) refl (as-node (c .before .before .before .before .before .before .before .before .before .before .before .before .before .before .before .before .before .before .before .before .before .before .before .before .before .before .before .number-of .ensures) ((bring-gives ((c .before .before .before .before .before .before .before .before .before .before .before .before .before .before .before .before .before .before .before .before .before .before .before .before .before .before .before .before .before .before .before .pre .1 .0) .base) (c .before .before .before .before .before .before .before .before .before .before .before .before .before .before .before .before .before .before .before .before .before .before .before .get-node .ensures .0) (c .before .before .before .before .before .before .before .before .before .before .before .before .before .before .before .before .before .before .before .before .before .before .before .get-node .ensures .1) (c .before .before .before .before .before .before .before .before .before .before .before .before .before .before .before .before .before .before .before .bring .ensures)) .gives)) (found-there (c .before .before .before .before .before .before .before .before .before .before .before .before .before .before .before .before .if1 .left) ((bring-gives ((c .before .before .before .before .before .before .before .before .before .before .before .before .before .before .before .before .before .before .before .before .before .before .before .before .before .before .before .before .before .before .before .pre .1 .0) .base) (c .before .before .before .before .before .before .before .before .before .before .before .before .before .before .before .before .before .before .before .before .before .before .before .get-node .ensures .0) (c .before .before .before .before .before .before .before .before .before .before .before .before .before .before .before .before .before .before .before .before .before .before .before .get-node .ensures .1) (c .before .before .before .before .before .before .before .before .before .before .before .before .before .before .before .before .before .before .before .bring .ensures)) .exact) (c .before .before .before .before .before .before .before .before .before .before .before .before .before .before .before .len-of .ensures) (c .before .before .before .before .before .before .before .before .before .before .before .before .before .before .steps-of .ensures)) refl (as-node (c .before .before .before .before .before .before .before .before .before .before .before .number-of2 .ensures) ((bring-gives (omega (arith, (c .before .before .before .before .before .before .before .before .before .before .before .before .before .before .before .before .before .before .before .before .before .before .before .before .before .before .before .before .before .before .before .pre .1 .0) .base)) (c .before .before .before .before .before .before .before .get-node2 .ensures .0) (c .before .before .before .before .before .before .before .get-node2 .ensures .1) (c .before .before .before .bring2 .ensures)) .gives)) (found-refused (c .if2 .taken)))
-
-put-switch-same-length-2 : (t : ℕ) → put-switch-lts.Need-same-length-2 (put-switch-claims t) (put-switch-at t) put-switch.Post
-put-switch-same-length-2 t c = put-switch-returns-2 t c .frame .long
-
-put-switch-slice-read-unfit : (t : ℕ) → put-switch-lts.Need-slice-read-unfit (put-switch-claims t) (put-switch-at t) put-switch.Post
-put-switch-slice-read-unfit t c = omega (arith, (switch-few₁ ((c .before .before .before .before .before .before .before .before .before .before .before .before .before .before .before .before .before .before .before .before .before .before .before .before .before .before .before .before .before .before .before .before .pre .1 .0) .base) refl (as-node (c .before .before .before .before .before .before .before .before .before .before .before .before .before .before .before .before .before .before .before .before .before .before .before .before .before .before .before .before .number-of .ensures) ((bring-gives ((c .before .before .before .before .before .before .before .before .before .before .before .before .before .before .before .before .before .before .before .before .before .before .before .before .before .before .before .before .before .before .before .before .pre .1 .0) .base) (c .before .before .before .before .before .before .before .before .before .before .before .before .before .before .before .before .before .before .before .before .before .before .before .before .get-node .ensures .0) (c .before .before .before .before .before .before .before .before .before .before .before .before .before .before .before .before .before .before .before .before .before .before .before .before .get-node .ensures .1) (c .before .before .before .before .before .before .before .before .before .before .before .before .before .before .before .before .before .before .before .before .bring .ensures)) .gives)) (found-there (c .before .before .before .before .before .before .before .before .before .before .before .before .before .before .before .before .before .if1 .left) ((bring-gives ((c .before .before .before .before .before .before .before .before .before .before .before .before .before .before .before .before .before .before .before .before .before .before .before .before .before .before .before .before .before .before .before .before .pre .1 .0) .base) (c .before .before .before .before .before .before .before .before .before .before .before .before .before .before .before .before .before .before .before .before .before .before .before .before .get-node .ensures .0) (c .before .before .before .before .before .before .before .before .before .before .before .before .before .before .before .before .before .before .before .before .before .before .before .before .get-node .ensures .1) (c .before .before .before .before .before .before .before .before .before .before .before .before .before .before .before .before .before .before .before .before .bring .ensures)) .exact) (c .before .before .before .before .before .before .before .before .before .before .before .before .before .before .before .before .len-of .ensures) (c .before .before .before .before .before .before .before .before .before .before .before .before .before .before .before .steps-of .ensures)) (c .before .before .before .before .before .before .before .before .before .before .before .before .before .before .before .before .before .before .before .before .before .before .before .before .before .before .before .before .before .before .before .before .pre .1 .0)), (switch-few₂ ((c .before .before .before .before .before .before .before .before .before .before .before .before .before .before .before .before .before .before .before .before .before .before .before .before .before .before .before .before .before .before .before .before .pre .1 .0) .base) refl (as-node (c .before .before .before .before .before .before .before .before .before .before .before .before .before .before .before .before .before .before .before .before .before .before .before .before .before .before .before .before .number-of .ensures) ((bring-gives ((c .before .before .before .before .before .before .before .before .before .before .before .before .before .before .before .before .before .before .before .before .before .before .before .before .before .before .before .before .before .before .before .before .pre .1 .0) .base) (c .before .before .before .before .before .before .before .before .before .before .before .before .before .before .before .before .before .before .before .before .before .before .before .before .get-node .ensures .0) (c .before .before .before .before .before .before .before .before .before .before .before .before .before .before .before .before .before .before .before .before .before .before .before .before .get-node .ensures .1) (c .before .before .before .before .before .before .before .before .before .before .before .before .before .before .before .before .before .before .before .before .bring .ensures)) .gives)) (found-there (c .before .before .before .before .before .before .before .before .before .before .before .before .before .before .before .before .before .if1 .left) ((bring-gives ((c .before .before .before .before .before .before .before .before .before .before .before .before .before .before .before .before .before .before .before .before .before .before .before .before .before .before .before .before .before .before .before .before .pre .1 .0) .base) (c .before .before .before .before .before .before .before .before .before .before .before .before .before .before .before .before .before .before .before .before .before .before .before .before .get-node .ensures .0) (c .before .before .before .before .before .before .before .before .before .before .before .before .before .before .before .before .before .before .before .before .before .before .before .before .get-node .ensures .1) (c .before .before .before .before .before .before .before .before .before .before .before .before .before .before .before .before .before .before .before .before .bring .ensures)) .exact) (c .before .before .before .before .before .before .before .before .before .before .before .before .before .before .before .before .len-of .ensures) (c .before .before .before .before .before .before .before .before .before .before .before .before .before .before .before .steps-of .ensures)) refl (as-node (c .before .before .before .before .before .before .before .before .before .before .before .before .number-of2 .ensures) ((bring-gives (omega (arith, (c .before .before .before .before .before .before .before .before .before .before .before .before .before .before .before .before .before .before .before .before .before .before .before .before .before .before .before .before .before .before .before .before .pre .1 .0) .base)) (c .before .before .before .before .before .before .before .before .get-node2 .ensures .0) (c .before .before .before .before .before .before .before .before .get-node2 .ensures .1) (c .before .before .before .before .bring2 .ensures)) .gives)) (found-there (c .before .if2 .left) ((bring-gives (omega (arith, (c .before .before .before .before .before .before .before .before .before .before .before .before .before .before .before .before .before .before .before .before .before .before .before .before .before .before .before .before .before .before .before .before .pre .1 .0) .base)) (c .before .before .before .before .before .before .before .before .get-node2 .ensures .0) (c .before .before .before .before .before .before .before .before .get-node2 .ensures .1) (c .before .before .before .before .bring2 .ensures)) .exact) refl refl) (c .before .before .before .before .before .before .before .before .before .before .before .before .before .before .before .before .before .before .before .before .before .before .before .before .before .before .before .before .before .before .before .before .pre .1 .0)), (c .before .before .before .before .before .before .before .before .before .before .before .before .before .before .before .before .before .before .before .before .before .before .before .before .before .before .before .before .before .before .before .before .pre .1 .1 .1))
-
-put-switch-unfit-requires : (t : ℕ) → put-switch-lts.Need-unfit-requires (put-switch-claims t) (put-switch-at t) put-switch.Post
-put-switch-unfit-requires t c κs = search needs
-
-put-switch-returns-3 : (t : ℕ) → put-switch-lts.Need-returns-3 (put-switch-claims t) (put-switch-at t) put-switch.Post
-put-switch-returns-3 t c = as-taken (taken-refused (omega arith)) (switch-43 ((c .before .before .before .before .before .before .before .before .before .before .before .before .before .before .before .before .before .before .before .before .before .before .before .before .before .before .before .before .before .before .before .before .before .before .pre .1 .0) .base) refl (as-node (c .before .before .before .before .before .before .before .before .before .before .before .before .before .before .before .before .before .before .before .before .before .before .before .before .before .before .before .before .before .before .number-of .ensures) ((bring-gives ((c .before .before .before .before .before .before .before .before .before .before .before .before .before .before .before .before .before .before .before .before .before .before .before .before .before .before .before .before .before .before .before .before .before .before .pre .1 .0) .base) (c .before .before .before .before .before .before .before .before .before .before .before .before .before .before .before .before .before .before .before .before .before .before .before .before .before .before .get-node .ensures .0) (c .before .before .before .before .before .before .before .before .before .before .before .before .before .before .before .before .before .before .before .before .before .before .before .before .before .before .get-node .ensures .1) (c .before .before .before .before .before .before .before .before .before .before .before .before .before .before .before .before .before .before .before .before .before .before .bring .ensures)) .gives)) (found-there (c .before .before .before .before .before .before .before .before .before .before .before .before .before .before .before .before .before .before .before .if1 .left) ((bring-gives ((c .before .before .before .before .before .before .before .before .before .before .before .before .before .before .before .before .before .before .before .before .before .before .before .before .before .before .before .before .before .before .before .before .before .before .pre .1 .0) .base) (c .before .before .before .before .before .before .before .before .before .before .before .before .before .before .before .before .before .before .before .before .before .before .before .before .before .before .get-node .ensures .0) (c .before .before .before .before .before .before .before .before .before .before .before .before .before .before .before .before .before .before .before .before .before .before .before .before .before .before .get-node .ensures .1) (c .before .before .before .before .before .before .before .before .before .before .before .before .before .before .before .before .before .before .before .before .before .before .bring .ensures)) .exact) (c .before .before .before .before .before .before .before .before .before .before .before .before .before .before .before .before .before .before .len-of .ensures) (c .before .before .before .before .before .before .before .before .before .before .before .before .before .before .before .before .before .steps-of .ensures)) refl (as-node (c .before .before .before .before .before .before .before .before .before .before .before .before .before .before .number-of2 .ensures) ((bring-gives (omega (arith, (c .before .before .before .before .before .before .before .before .before .before .before .before .before .before .before .before .before .before .before .before .before .before .before .before .before .before .before .before .before .before .before .before .before .before .pre .1 .0) .base)) (c .before .before .before .before .before .before .before .before .before .before .get-node2 .ensures .0) (c .before .before .before .before .before .before .before .before .before .before .get-node2 .ensures .1) (c .before .before .before .before .before .before .bring2 .ensures)) .gives)) (found-there (c .before .before .before .if2 .left) ((bring-gives (omega (arith, (c .before .before .before .before .before .before .before .before .before .before .before .before .before .before .before .before .before .before .before .before .before .before .before .before .before .before .before .before .before .before .before .before .before .before .pre .1 .0) .base)) (c .before .before .before .before .before .before .before .before .before .before .get-node2 .ensures .0) (c .before .before .before .before .before .before .before .before .before .before .get-node2 .ensures .1) (c .before .before .before .before .before .before .bring2 .ensures)) .exact) refl refl) (unfit-no _ (c .before .unfit .ensures) (c .if3 .taken)))
-
-put-switch-same-length-3 : (t : ℕ) → put-switch-lts.Need-same-length-3 (put-switch-claims t) (put-switch-at t) put-switch.Post
-put-switch-same-length-3 t c = put-switch-returns-3 t c .frame .long
-
-put-switch-len-of-requires-2 : (t : ℕ) → put-switch-lts.Need-len-of-requires-2 (put-switch-claims t) (put-switch-at t) put-switch.Post
-put-switch-len-of-requires-2 t c κs = search needs
-
-put-switch-steps-of-requires-2 : (t : ℕ) → put-switch-lts.Need-steps-of-requires-2 (put-switch-claims t) (put-switch-at t) put-switch.Post
-put-switch-steps-of-requires-2 t c κs = search needs
-
-put-switch-sub-to : (t : ℕ) → put-switch-lts.Need-sub-to (put-switch-claims t) (put-switch-at t) put-switch.Post
-put-switch-sub-to t c = omega (arith, (switch-few₂ ((c .before .before .before .before .before .before .before .before .before .before .before .before .before .before .before .before .before .before .before .before .before .before .before .before .before .before .before .before .before .before .before .before .before .before .before .before .before .pre .1 .0) .base) refl (as-node (c .before .before .before .before .before .before .before .before .before .before .before .before .before .before .before .before .before .before .before .before .before .before .before .before .before .before .before .before .before .before .before .before .before .number-of .ensures) ((bring-gives ((c .before .before .before .before .before .before .before .before .before .before .before .before .before .before .before .before .before .before .before .before .before .before .before .before .before .before .before .before .before .before .before .before .before .before .before .before .before .pre .1 .0) .base) (c .before .before .before .before .before .before .before .before .before .before .before .before .before .before .before .before .before .before .before .before .before .before .before .before .before .before .before .before .before .get-node .ensures .0) (c .before .before .before .before .before .before .before .before .before .before .before .before .before .before .before .before .before .before .before .before .before .before .before .before .before .before .before .before .before .get-node .ensures .1) (c .before .before .before .before .before .before .before .before .before .before .before .before .before .before .before .before .before .before .before .before .before .before .before .before .before .bring .ensures)) .gives)) (found-there (c .before .before .before .before .before .before .before .before .before .before .before .before .before .before .before .before .before .before .before .before .before .before .if1 .left) ((bring-gives ((c .before .before .before .before .before .before .before .before .before .before .before .before .before .before .before .before .before .before .before .before .before .before .before .before .before .before .before .before .before .before .before .before .before .before .before .before .before .pre .1 .0) .base) (c .before .before .before .before .before .before .before .before .before .before .before .before .before .before .before .before .before .before .before .before .before .before .before .before .before .before .before .before .before .get-node .ensures .0) (c .before .before .before .before .before .before .before .before .before .before .before .before .before .before .before .before .before .before .before .before .before .before .before .before .before .before .before .before .before .get-node .ensures .1) (c .before .before .before .before .before .before .before .before .before .before .before .before .before .before .before .before .before .before .before .before .before .before .before .before .before .bring .ensures)) .exact) (c .before .before .before .before .before .before .before .before .before .before .before .before .before .before .before .before .before .before .before .before .before .len-of .ensures) (c .before .before .before .before .before .before .before .before .before .before .before .before .before .before .before .before .before .before .before .before .steps-of .ensures)) refl (as-node (c .before .before .before .before .before .before .before .before .before .before .before .before .before .before .before .before .before .number-of2 .ensures) ((bring-gives (omega (arith, (c .before .before .before .before .before .before .before .before .before .before .before .before .before .before .before .before .before .before .before .before .before .before .before .before .before .before .before .before .before .before .before .before .before .before .before .before .before .pre .1 .0) .base)) (c .before .before .before .before .before .before .before .before .before .before .before .before .before .get-node2 .ensures .0) (c .before .before .before .before .before .before .before .before .before .before .before .before .before .get-node2 .ensures .1) (c .before .before .before .before .before .before .before .before .before .bring2 .ensures)) .gives)) (found-there (c .before .before .before .before .before .before .if2 .left) ((bring-gives (omega (arith, (c .before .before .before .before .before .before .before .before .before .before .before .before .before .before .before .before .before .before .before .before .before .before .before .before .before .before .before .before .before .before .before .before .before .before .before .before .before .pre .1 .0) .base)) (c .before .before .before .before .before .before .before .before .before .before .before .before .before .get-node2 .ensures .0) (c .before .before .before .before .before .before .before .before .before .before .before .before .before .get-node2 .ensures .1) (c .before .before .before .before .before .before .before .before .before .bring2 .ensures)) .exact) (c .before .before .len-of2 .ensures) (c .before .steps-of2 .ensures)) (c .before .before .before .before .before .before .before .before .before .before .before .before .before .before .before .before .before .before .before .before .before .before .before .before .before .before .before .before .before .before .before .before .before .before .before .before .before .pre .1 .0)))
-
-put-switch-add-to : (t : ℕ) → put-switch-lts.Need-add-to (put-switch-claims t) (put-switch-at t) put-switch.Post
-put-switch-add-to t c = record { fits = omega (arith, (switch-few₁ ((c .before .before .before .before .before .before .before .before .before .before .before .before .before .before .before .before .before .before .before .before .before .before .before .before .before .before .before .before .before .before .before .before .before .before .before .before .before .pre .1 .0) .base) refl (as-node (c .before .before .before .before .before .before .before .before .before .before .before .before .before .before .before .before .before .before .before .before .before .before .before .before .before .before .before .before .before .before .before .before .before .number-of .ensures) ((bring-gives ((c .before .before .before .before .before .before .before .before .before .before .before .before .before .before .before .before .before .before .before .before .before .before .before .before .before .before .before .before .before .before .before .before .before .before .before .before .before .pre .1 .0) .base) (c .before .before .before .before .before .before .before .before .before .before .before .before .before .before .before .before .before .before .before .before .before .before .before .before .before .before .before .before .before .get-node .ensures .0) (c .before .before .before .before .before .before .before .before .before .before .before .before .before .before .before .before .before .before .before .before .before .before .before .before .before .before .before .before .before .get-node .ensures .1) (c .before .before .before .before .before .before .before .before .before .before .before .before .before .before .before .before .before .before .before .before .before .before .before .before .before .bring .ensures)) .gives)) (found-there (c .before .before .before .before .before .before .before .before .before .before .before .before .before .before .before .before .before .before .before .before .before .before .if1 .left) ((bring-gives ((c .before .before .before .before .before .before .before .before .before .before .before .before .before .before .before .before .before .before .before .before .before .before .before .before .before .before .before .before .before .before .before .before .before .before .before .before .before .pre .1 .0) .base) (c .before .before .before .before .before .before .before .before .before .before .before .before .before .before .before .before .before .before .before .before .before .before .before .before .before .before .before .before .before .get-node .ensures .0) (c .before .before .before .before .before .before .before .before .before .before .before .before .before .before .before .before .before .before .before .before .before .before .before .before .before .before .before .before .before .get-node .ensures .1) (c .before .before .before .before .before .before .before .before .before .before .before .before .before .before .before .before .before .before .before .before .before .before .before .before .before .bring .ensures)) .exact) (c .before .before .before .before .before .before .before .before .before .before .before .before .before .before .before .before .before .before .before .before .before .len-of .ensures) (c .before .before .before .before .before .before .before .before .before .before .before .before .before .before .before .before .before .before .before .before .steps-of .ensures)) (c .before .before .before .before .before .before .before .before .before .before .before .before .before .before .before .before .before .before .before .before .before .before .before .before .before .before .before .before .before .before .before .before .before .before .before .before .before .pre .1 .0)), (switch-few₂ ((c .before .before .before .before .before .before .before .before .before .before .before .before .before .before .before .before .before .before .before .before .before .before .before .before .before .before .before .before .before .before .before .before .before .before .before .before .before .pre .1 .0) .base) refl (as-node (c .before .before .before .before .before .before .before .before .before .before .before .before .before .before .before .before .before .before .before .before .before .before .before .before .before .before .before .before .before .before .before .before .before .number-of .ensures) ((bring-gives ((c .before .before .before .before .before .before .before .before .before .before .before .before .before .before .before .before .before .before .before .before .before .before .before .before .before .before .before .before .before .before .before .before .before .before .before .before .before .pre .1 .0) .base) (c .before .before .before .before .before .before .before .before .before .before .before .before .before .before .before .before .before .before .before .before .before .before .before .before .before .before .before .before .before .get-node .ensures .0) (c .before .before .before .before .before .before .before .before .before .before .before .before .before .before .before .before .before .before .before .before .before .before .before .before .before .before .before .before .before .get-node .ensures .1) (c .before .before .before .before .before .before .before .before .before .before .before .before .before .before .before .before .before .before .before .before .before .before .before .before .before .bring .ensures)) .gives)) (found-there (c .before .before .before .before .before .before .before .before .before .before .before .before .before .before .before .before .before .before .before .before .before .before .if1 .left) ((bring-gives ((c .before .before .before .before .before .before .before .before .before .before .before .before .before .before .before .before .before .before .before .before .before .before .before .before .before .before .before .before .before .before .before .before .before .before .before .before .before .pre .1 .0) .base) (c .before .before .before .before .before .before .before .before .before .before .before .before .before .before .before .before .before .before .before .before .before .before .before .before .before .before .before .before .before .get-node .ensures .0) (c .before .before .before .before .before .before .before .before .before .before .before .before .before .before .before .before .before .before .before .before .before .before .before .before .before .before .before .before .before .get-node .ensures .1) (c .before .before .before .before .before .before .before .before .before .before .before .before .before .before .before .before .before .before .before .before .before .before .before .before .before .bring .ensures)) .exact) (c .before .before .before .before .before .before .before .before .before .before .before .before .before .before .before .before .before .before .before .before .before .len-of .ensures) (c .before .before .before .before .before .before .before .before .before .before .before .before .before .before .before .before .before .before .before .before .steps-of .ensures)) refl (as-node (c .before .before .before .before .before .before .before .before .before .before .before .before .before .before .before .before .before .number-of2 .ensures) ((bring-gives (omega (arith, (c .before .before .before .before .before .before .before .before .before .before .before .before .before .before .before .before .before .before .before .before .before .before .before .before .before .before .before .before .before .before .before .before .before .before .before .before .before .pre .1 .0) .base)) (c .before .before .before .before .before .before .before .before .before .before .before .before .before .get-node2 .ensures .0) (c .before .before .before .before .before .before .before .before .before .before .before .before .before .get-node2 .ensures .1) (c .before .before .before .before .before .before .before .before .before .bring2 .ensures)) .gives)) (found-there (c .before .before .before .before .before .before .if2 .left) ((bring-gives (omega (arith, (c .before .before .before .before .before .before .before .before .before .before .before .before .before .before .before .before .before .before .before .before .before .before .before .before .before .before .before .before .before .before .before .before .before .before .before .before .before .pre .1 .0) .base)) (c .before .before .before .before .before .before .before .before .before .before .before .before .before .get-node2 .ensures .0) (c .before .before .before .before .before .before .before .before .before .before .before .before .before .get-node2 .ensures .1) (c .before .before .before .before .before .before .before .before .before .bring2 .ensures)) .exact) (c .before .before .len-of2 .ensures) (c .before .steps-of2 .ensures)) (c .before .before .before .before .before .before .before .before .before .before .before .before .before .before .before .before .before .before .before .before .before .before .before .before .before .before .before .before .before .before .before .before .before .before .before .before .before .pre .1 .0)), (c .before .before .before .before .before .before .before .before .before .before .before .before .before .before .before .before .before .before .before .before .before .before .before .before .before .before .before .before .before .before .before .before .before .before .before .before .before .pre .1 .1 .1)) }
-
-put-switch-number-of-requires-3 : (t : ℕ) → put-switch-lts.Need-number-of-requires-3 (put-switch-claims t) (put-switch-at t) put-switch.Post
-put-switch-number-of-requires-3 t c κs = search needs
-
-put-switch-number-of-requires-4 : (t : ℕ) → put-switch-lts.Need-number-of-requires-4 (put-switch-claims t) (put-switch-at t) put-switch.Post
-put-switch-number-of-requires-4 t c κs = search needs
-
-put-switch-add-put-under : (t : ℕ) → put-switch-lts.Need-add-put-under (put-switch-claims t) (put-switch-at t) put-switch.Post
-put-switch-add-put-under t c = record { fits = omega (arith, (switch-few₁ ((c .before .before .before .before .before .before .before .before .before .before .before .before .before .before .before .before .before .before .before .before .before .before .before .before .before .before .before .before .before .before .before .before .before .before .before .before .before .before .before .before .before .pre .1 .0) .base) refl (as-node (c .before .before .before .before .before .before .before .before .before .before .before .before .before .before .before .before .before .before .before .before .before .before .before .before .before .before .before .before .before .before .before .before .before .before .before .before .before .number-of .ensures) ((bring-gives ((c .before .before .before .before .before .before .before .before .before .before .before .before .before .before .before .before .before .before .before .before .before .before .before .before .before .before .before .before .before .before .before .before .before .before .before .before .before .before .before .before .before .pre .1 .0) .base) (c .before .before .before .before .before .before .before .before .before .before .before .before .before .before .before .before .before .before .before .before .before .before .before .before .before .before .before .before .before .before .before .before .before .get-node .ensures .0) (c .before .before .before .before .before .before .before .before .before .before .before .before .before .before .before .before .before .before .before .before .before .before .before .before .before .before .before .before .before .before .before .before .before .get-node .ensures .1) (c .before .before .before .before .before .before .before .before .before .before .before .before .before .before .before .before .before .before .before .before .before .before .before .before .before .before .before .before .before .bring .ensures)) .gives)) (found-there (c .before .before .before .before .before .before .before .before .before .before .before .before .before .before .before .before .before .before .before .before .before .before .before .before .before .before .if1 .left) ((bring-gives ((c .before .before .before .before .before .before .before .before .before .before .before .before .before .before .before .before .before .before .before .before .before .before .before .before .before .before .before .before .before .before .before .before .before .before .before .before .before .before .before .before .before .pre .1 .0) .base) (c .before .before .before .before .before .before .before .before .before .before .before .before .before .before .before .before .before .before .before .before .before .before .before .before .before .before .before .before .before .before .before .before .before .get-node .ensures .0) (c .before .before .before .before .before .before .before .before .before .before .before .before .before .before .before .before .before .before .before .before .before .before .before .before .before .before .before .before .before .before .before .before .before .get-node .ensures .1) (c .before .before .before .before .before .before .before .before .before .before .before .before .before .before .before .before .before .before .before .before .before .before .before .before .before .before .before .before .before .bring .ensures)) .exact) (c .before .before .before .before .before .before .before .before .before .before .before .before .before .before .before .before .before .before .before .before .before .before .before .before .before .len-of .ensures) (c .before .before .before .before .before .before .before .before .before .before .before .before .before .before .before .before .before .before .before .before .before .before .before .before .steps-of .ensures)) (c .before .before .before .before .before .before .before .before .before .before .before .before .before .before .before .before .before .before .before .before .before .before .before .before .before .before .before .before .before .before .before .before .before .before .before .before .before .before .before .before .before .pre .1 .0)), (switch-few₂ ((c .before .before .before .before .before .before .before .before .before .before .before .before .before .before .before .before .before .before .before .before .before .before .before .before .before .before .before .before .before .before .before .before .before .before .before .before .before .before .before .before .before .pre .1 .0) .base) refl (as-node (c .before .before .before .before .before .before .before .before .before .before .before .before .before .before .before .before .before .before .before .before .before .before .before .before .before .before .before .before .before .before .before .before .before .before .before .before .before .number-of .ensures) ((bring-gives ((c .before .before .before .before .before .before .before .before .before .before .before .before .before .before .before .before .before .before .before .before .before .before .before .before .before .before .before .before .before .before .before .before .before .before .before .before .before .before .before .before .before .pre .1 .0) .base) (c .before .before .before .before .before .before .before .before .before .before .before .before .before .before .before .before .before .before .before .before .before .before .before .before .before .before .before .before .before .before .before .before .before .get-node .ensures .0) (c .before .before .before .before .before .before .before .before .before .before .before .before .before .before .before .before .before .before .before .before .before .before .before .before .before .before .before .before .before .before .before .before .before .get-node .ensures .1) (c .before .before .before .before .before .before .before .before .before .before .before .before .before .before .before .before .before .before .before .before .before .before .before .before .before .before .before .before .before .bring .ensures)) .gives)) (found-there (c .before .before .before .before .before .before .before .before .before .before .before .before .before .before .before .before .before .before .before .before .before .before .before .before .before .before .if1 .left) ((bring-gives ((c .before .before .before .before .before .before .before .before .before .before .before .before .before .before .before .before .before .before .before .before .before .before .before .before .before .before .before .before .before .before .before .before .before .before .before .before .before .before .before .before .before .pre .1 .0) .base) (c .before .before .before .before .before .before .before .before .before .before .before .before .before .before .before .before .before .before .before .before .before .before .before .before .before .before .before .before .before .before .before .before .before .get-node .ensures .0) (c .before .before .before .before .before .before .before .before .before .before .before .before .before .before .before .before .before .before .before .before .before .before .before .before .before .before .before .before .before .before .before .before .before .get-node .ensures .1) (c .before .before .before .before .before .before .before .before .before .before .before .before .before .before .before .before .before .before .before .before .before .before .before .before .before .before .before .before .before .bring .ensures)) .exact) (c .before .before .before .before .before .before .before .before .before .before .before .before .before .before .before .before .before .before .before .before .before .before .before .before .before .len-of .ensures) (c .before .before .before .before .before .before .before .before .before .before .before .before .before .before .before .before .before .before .before .before .before .before .before .before .steps-of .ensures)) refl (as-node (c .before .before .before .before .before .before .before .before .before .before .before .before .before .before .before .before .before .before .before .before .before .number-of2 .ensures) ((bring-gives (omega (arith, (c .before .before .before .before .before .before .before .before .before .before .before .before .before .before .before .before .before .before .before .before .before .before .before .before .before .before .before .before .before .before .before .before .before .before .before .before .before .before .before .before .before .pre .1 .0) .base)) (c .before .before .before .before .before .before .before .before .before .before .before .before .before .before .before .before .before .get-node2 .ensures .0) (c .before .before .before .before .before .before .before .before .before .before .before .before .before .before .before .before .before .get-node2 .ensures .1) (c .before .before .before .before .before .before .before .before .before .before .before .before .before .bring2 .ensures)) .gives)) (found-there (c .before .before .before .before .before .before .before .before .before .before .if2 .left) ((bring-gives (omega (arith, (c .before .before .before .before .before .before .before .before .before .before .before .before .before .before .before .before .before .before .before .before .before .before .before .before .before .before .before .before .before .before .before .before .before .before .before .before .before .before .before .before .before .pre .1 .0) .base)) (c .before .before .before .before .before .before .before .before .before .before .before .before .before .before .before .before .before .get-node2 .ensures .0) (c .before .before .before .before .before .before .before .before .before .before .before .before .before .before .before .before .before .get-node2 .ensures .1) (c .before .before .before .before .before .before .before .before .before .before .before .before .before .bring2 .ensures)) .exact) (c .before .before .before .before .before .before .len-of2 .ensures) (c .before .before .before .before .before .steps-of2 .ensures)) (c .before .before .before .before .before .before .before .before .before .before .before .before .before .before .before .before .before .before .before .before .before .before .before .before .before .before .before .before .before .before .before .before .before .before .before .before .before .before .before .before .before .pre .1 .0)), (c .before .before .before .before .before .before .before .before .before .before .before .before .before .before .before .before .before .before .before .before .before .before .before .before .before .before .before .before .before .before .before .before .before .before .before .before .before .before .before .before .before .pre .1 .0) .few) }
-
-put-switch-add-put-under-2 : (t : ℕ) → put-switch-lts.Need-add-put-under-2 (put-switch-claims t) (put-switch-at t) put-switch.Post
-put-switch-add-put-under-2 t c = record { fits = omega (arith, (switch-few₁ ((c .before .before .before .before .before .before .before .before .before .before .before .before .before .before .before .before .before .before .before .before .before .before .before .before .before .before .before .before .before .before .before .before .before .before .before .before .before .before .before .before .before .pre .1 .0) .base) refl (as-node (c .before .before .before .before .before .before .before .before .before .before .before .before .before .before .before .before .before .before .before .before .before .before .before .before .before .before .before .before .before .before .before .before .before .before .before .before .before .number-of .ensures) ((bring-gives ((c .before .before .before .before .before .before .before .before .before .before .before .before .before .before .before .before .before .before .before .before .before .before .before .before .before .before .before .before .before .before .before .before .before .before .before .before .before .before .before .before .before .pre .1 .0) .base) (c .before .before .before .before .before .before .before .before .before .before .before .before .before .before .before .before .before .before .before .before .before .before .before .before .before .before .before .before .before .before .before .before .before .get-node .ensures .0) (c .before .before .before .before .before .before .before .before .before .before .before .before .before .before .before .before .before .before .before .before .before .before .before .before .before .before .before .before .before .before .before .before .before .get-node .ensures .1) (c .before .before .before .before .before .before .before .before .before .before .before .before .before .before .before .before .before .before .before .before .before .before .before .before .before .before .before .before .before .bring .ensures)) .gives)) (found-there (c .before .before .before .before .before .before .before .before .before .before .before .before .before .before .before .before .before .before .before .before .before .before .before .before .before .before .if1 .left) ((bring-gives ((c .before .before .before .before .before .before .before .before .before .before .before .before .before .before .before .before .before .before .before .before .before .before .before .before .before .before .before .before .before .before .before .before .before .before .before .before .before .before .before .before .before .pre .1 .0) .base) (c .before .before .before .before .before .before .before .before .before .before .before .before .before .before .before .before .before .before .before .before .before .before .before .before .before .before .before .before .before .before .before .before .before .get-node .ensures .0) (c .before .before .before .before .before .before .before .before .before .before .before .before .before .before .before .before .before .before .before .before .before .before .before .before .before .before .before .before .before .before .before .before .before .get-node .ensures .1) (c .before .before .before .before .before .before .before .before .before .before .before .before .before .before .before .before .before .before .before .before .before .before .before .before .before .before .before .before .before .bring .ensures)) .exact) (c .before .before .before .before .before .before .before .before .before .before .before .before .before .before .before .before .before .before .before .before .before .before .before .before .before .len-of .ensures) (c .before .before .before .before .before .before .before .before .before .before .before .before .before .before .before .before .before .before .before .before .before .before .before .before .steps-of .ensures)) (c .before .before .before .before .before .before .before .before .before .before .before .before .before .before .before .before .before .before .before .before .before .before .before .before .before .before .before .before .before .before .before .before .before .before .before .before .before .before .before .before .before .pre .1 .0)), (switch-few₂ ((c .before .before .before .before .before .before .before .before .before .before .before .before .before .before .before .before .before .before .before .before .before .before .before .before .before .before .before .before .before .before .before .before .before .before .before .before .before .before .before .before .before .pre .1 .0) .base) refl (as-node (c .before .before .before .before .before .before .before .before .before .before .before .before .before .before .before .before .before .before .before .before .before .before .before .before .before .before .before .before .before .before .before .before .before .before .before .before .before .number-of .ensures) ((bring-gives ((c .before .before .before .before .before .before .before .before .before .before .before .before .before .before .before .before .before .before .before .before .before .before .before .before .before .before .before .before .before .before .before .before .before .before .before .before .before .before .before .before .before .pre .1 .0) .base) (c .before .before .before .before .before .before .before .before .before .before .before .before .before .before .before .before .before .before .before .before .before .before .before .before .before .before .before .before .before .before .before .before .before .get-node .ensures .0) (c .before .before .before .before .before .before .before .before .before .before .before .before .before .before .before .before .before .before .before .before .before .before .before .before .before .before .before .before .before .before .before .before .before .get-node .ensures .1) (c .before .before .before .before .before .before .before .before .before .before .before .before .before .before .before .before .before .before .before .before .before .before .before .before .before .before .before .before .before .bring .ensures)) .gives)) (found-there (c .before .before .before .before .before .before .before .before .before .before .before .before .before .before .before .before .before .before .before .before .before .before .before .before .before .before .if1 .left) ((bring-gives ((c .before .before .before .before .before .before .before .before .before .before .before .before .before .before .before .before .before .before .before .before .before .before .before .before .before .before .before .before .before .before .before .before .before .before .before .before .before .before .before .before .before .pre .1 .0) .base) (c .before .before .before .before .before .before .before .before .before .before .before .before .before .before .before .before .before .before .before .before .before .before .before .before .before .before .before .before .before .before .before .before .before .get-node .ensures .0) (c .before .before .before .before .before .before .before .before .before .before .before .before .before .before .before .before .before .before .before .before .before .before .before .before .before .before .before .before .before .before .before .before .before .get-node .ensures .1) (c .before .before .before .before .before .before .before .before .before .before .before .before .before .before .before .before .before .before .before .before .before .before .before .before .before .before .before .before .before .bring .ensures)) .exact) (c .before .before .before .before .before .before .before .before .before .before .before .before .before .before .before .before .before .before .before .before .before .before .before .before .before .len-of .ensures) (c .before .before .before .before .before .before .before .before .before .before .before .before .before .before .before .before .before .before .before .before .before .before .before .before .steps-of .ensures)) refl (as-node (c .before .before .before .before .before .before .before .before .before .before .before .before .before .before .before .before .before .before .before .before .before .number-of2 .ensures) ((bring-gives (omega (arith, (c .before .before .before .before .before .before .before .before .before .before .before .before .before .before .before .before .before .before .before .before .before .before .before .before .before .before .before .before .before .before .before .before .before .before .before .before .before .before .before .before .before .pre .1 .0) .base)) (c .before .before .before .before .before .before .before .before .before .before .before .before .before .before .before .before .before .get-node2 .ensures .0) (c .before .before .before .before .before .before .before .before .before .before .before .before .before .before .before .before .before .get-node2 .ensures .1) (c .before .before .before .before .before .before .before .before .before .before .before .before .before .bring2 .ensures)) .gives)) (found-there (c .before .before .before .before .before .before .before .before .before .before .if2 .left) ((bring-gives (omega (arith, (c .before .before .before .before .before .before .before .before .before .before .before .before .before .before .before .before .before .before .before .before .before .before .before .before .before .before .before .before .before .before .before .before .before .before .before .before .before .before .before .before .before .pre .1 .0) .base)) (c .before .before .before .before .before .before .before .before .before .before .before .before .before .before .before .before .before .get-node2 .ensures .0) (c .before .before .before .before .before .before .before .before .before .before .before .before .before .before .before .before .before .get-node2 .ensures .1) (c .before .before .before .before .before .before .before .before .before .before .before .before .before .bring2 .ensures)) .exact) (c .before .before .before .before .before .before .len-of2 .ensures) (c .before .before .before .before .before .steps-of2 .ensures)) (c .before .before .before .before .before .before .before .before .before .before .before .before .before .before .before .before .before .before .before .before .before .before .before .before .before .before .before .before .before .before .before .before .before .before .before .before .before .before .before .before .before .pre .1 .0)), (c .before .before .before .before .before .before .before .before .before .before .before .before .before .before .before .before .before .before .before .before .before .before .before .before .before .before .before .before .before .before .before .before .before .before .before .before .before .before .before .before .before .pre .1 .0) .few) }
-
-put-switch-put-under-requires : (t : ℕ) → put-switch-lts.Need-put-under-requires (put-switch-claims t) (put-switch-at t) put-switch.Post
-put-switch-put-under-requires t c κs = (omega (arith, c .before .before .before .before .before .before .before .before .before .before .before .before .before .before .before .before .before .before .before .before .before .before .before .before .before .before .before .before .before .before .before .before .before .before .before .before .before .before .before .before .before .pre .0), (as-ready (inside-named (c .before .before .before .number-of3 .ensures) (c .before .before .number-of4 .ensures)) (switch-ready ((c .before .before .before .before .before .before .before .before .before .before .before .before .before .before .before .before .before .before .before .before .before .before .before .before .before .before .before .before .before .before .before .before .before .before .before .before .before .before .before .before .before .pre .1 .0) .base) refl (as-node (c .before .before .before .before .before .before .before .before .before .before .before .before .before .before .before .before .before .before .before .before .before .before .before .before .before .before .before .before .before .before .before .before .before .before .before .before .before .number-of .ensures) ((bring-gives ((c .before .before .before .before .before .before .before .before .before .before .before .before .before .before .before .before .before .before .before .before .before .before .before .before .before .before .before .before .before .before .before .before .before .before .before .before .before .before .before .before .before .pre .1 .0) .base) (c .before .before .before .before .before .before .before .before .before .before .before .before .before .before .before .before .before .before .before .before .before .before .before .before .before .before .before .before .before .before .before .before .before .get-node .ensures .0) (c .before .before .before .before .before .before .before .before .before .before .before .before .before .before .before .before .before .before .before .before .before .before .before .before .before .before .before .before .before .before .before .before .before .get-node .ensures .1) (c .before .before .before .before .before .before .before .before .before .before .before .before .before .before .before .before .before .before .before .before .before .before .before .before .before .before .before .before .before .bring .ensures)) .gives)) (found-there (c .before .before .before .before .before .before .before .before .before .before .before .before .before .before .before .before .before .before .before .before .before .before .before .before .before .before .if1 .left) ((bring-gives ((c .before .before .before .before .before .before .before .before .before .before .before .before .before .before .before .before .before .before .before .before .before .before .before .before .before .before .before .before .before .before .before .before .before .before .before .before .before .before .before .before .before .pre .1 .0) .base) (c .before .before .before .before .before .before .before .before .before .before .before .before .before .before .before .before .before .before .before .before .before .before .before .before .before .before .before .before .before .before .before .before .before .get-node .ensures .0) (c .before .before .before .before .before .before .before .before .before .before .before .before .before .before .before .before .before .before .before .before .before .before .before .before .before .before .before .before .before .before .before .before .before .get-node .ensures .1) (c .before .before .before .before .before .before .before .before .before .before .before .before .before .before .before .before .before .before .before .before .before .before .before .before .before .before .before .before .before .bring .ensures)) .exact) (c .before .before .before .before .before .before .before .before .before .before .before .before .before .before .before .before .before .before .before .before .before .before .before .before .before .len-of .ensures) (c .before .before .before .before .before .before .before .before .before .before .before .before .before .before .before .before .before .before .before .before .before .before .before .before .steps-of .ensures)) refl (as-node (c .before .before .before .before .before .before .before .before .before .before .before .before .before .before .before .before .before .before .before .before .before .number-of2 .ensures) ((bring-gives (omega (arith, (c .before .before .before .before .before .before .before .before .before .before .before .before .before .before .before .before .before .before .before .before .before .before .before .before .before .before .before .before .before .before .before .before .before .before .before .before .before .before .before .before .before .pre .1 .0) .base)) (c .before .before .before .before .before .before .before .before .before .before .before .before .before .before .before .before .before .get-node2 .ensures .0) (c .before .before .before .before .before .before .before .before .before .before .before .before .before .before .before .before .before .get-node2 .ensures .1) (c .before .before .before .before .before .before .before .before .before .before .before .before .before .bring2 .ensures)) .gives)) (found-there (c .before .before .before .before .before .before .before .before .before .before .if2 .left) ((bring-gives (omega (arith, (c .before .before .before .before .before .before .before .before .before .before .before .before .before .before .before .before .before .before .before .before .before .before .before .before .before .before .before .before .before .before .before .before .before .before .before .before .before .before .before .before .before .pre .1 .0) .base)) (c .before .before .before .before .before .before .before .before .before .before .before .before .before .before .before .before .before .get-node2 .ensures .0) (c .before .before .before .before .before .before .before .before .before .before .before .before .before .before .before .before .before .get-node2 .ensures .1) (c .before .before .before .before .before .before .before .before .before .before .before .before .before .bring2 .ensures)) .exact) (c .before .before .before .before .before .before .len-of2 .ensures) (c .before .before .before .before .before .steps-of2 .ensures)) (c .before .before .before .before .before .before .before .before .before .before .before .before .before .before .before .before .before .before .before .before .before .before .before .before .before .before .before .before .before .before .before .before .before .before .before .before .before .before .before .before .before .pre .1 .0) (omega (arith, (switch-few₁ ((c .before .before .before .before .before .before .before .before .before .before .before .before .before .before .before .before .before .before .before .before .before .before .before .before .before .before .before .before .before .before .before .before .before .before .before .before .before .before .before .before .before .pre .1 .0) .base) refl (as-node (c .before .before .before .before .before .before .before .before .before .before .before .before .before .before .before .before .before .before .before .before .before .before .before .before .before .before .before .before .before .before .before .before .before .before .before .before .before .number-of .ensures) ((bring-gives ((c .before .before .before .before .before .before .before .before .before .before .before .before .before .before .before .before .before .before .before .before .before .before .before .before .before .before .before .before .before .before .before .before .before .before .before .before .before .before .before .before .before .pre .1 .0) .base) (c .before .before .before .before .before .before .before .before .before .before .before .before .before .before .before .before .before .before .before .before .before .before .before .before .before .before .before .before .before .before .before .before .before .get-node .ensures .0) (c .before .before .before .before .before .before .before .before .before .before .before .before .before .before .before .before .before .before .before .before .before .before .before .before .before .before .before .before .before .before .before .before .before .get-node .ensures .1) (c .before .before .before .before .before .before .before .before .before .before .before .before .before .before .before .before .before .before .before .before .before .before .before .before .before .before .before .before .before .bring .ensures)) .gives)) (found-there (c .before .before .before .before .before .before .before .before .before .before .before .before .before .before .before .before .before .before .before .before .before .before .before .before .before .before .if1 .left) ((bring-gives ((c .before .before .before .before .before .before .before .before .before .before .before .before .before .before .before .before .before .before .before .before .before .before .before .before .before .before .before .before .before .before .before .before .before .before .before .before .before .before .before .before .before .pre .1 .0) .base) (c .before .before .before .before .before .before .before .before .before .before .before .before .before .before .before .before .before .before .before .before .before .before .before .before .before .before .before .before .before .before .before .before .before .get-node .ensures .0) (c .before .before .before .before .before .before .before .before .before .before .before .before .before .before .before .before .before .before .before .before .before .before .before .before .before .before .before .before .before .before .before .before .before .get-node .ensures .1) (c .before .before .before .before .before .before .before .before .before .before .before .before .before .before .before .before .before .before .before .before .before .before .before .before .before .before .before .before .before .bring .ensures)) .exact) (c .before .before .before .before .before .before .before .before .before .before .before .before .before .before .before .before .before .before .before .before .before .before .before .before .before .len-of .ensures) (c .before .before .before .before .before .before .before .before .before .before .before .before .before .before .before .before .before .before .before .before .before .before .before .before .steps-of .ensures)) (c .before .before .before .before .before .before .before .before .before .before .before .before .before .before .before .before .before .before .before .before .before .before .before .before .before .before .before .before .before .before .before .before .before .before .before .before .before .before .before .before .before .pre .1 .0)), (switch-few₂ ((c .before .before .before .before .before .before .before .before .before .before .before .before .before .before .before .before .before .before .before .before .before .before .before .before .before .before .before .before .before .before .before .before .before .before .before .before .before .before .before .before .before .pre .1 .0) .base) refl (as-node (c .before .before .before .before .before .before .before .before .before .before .before .before .before .before .before .before .before .before .before .before .before .before .before .before .before .before .before .before .before .before .before .before .before .before .before .before .before .number-of .ensures) ((bring-gives ((c .before .before .before .before .before .before .before .before .before .before .before .before .before .before .before .before .before .before .before .before .before .before .before .before .before .before .before .before .before .before .before .before .before .before .before .before .before .before .before .before .before .pre .1 .0) .base) (c .before .before .before .before .before .before .before .before .before .before .before .before .before .before .before .before .before .before .before .before .before .before .before .before .before .before .before .before .before .before .before .before .before .get-node .ensures .0) (c .before .before .before .before .before .before .before .before .before .before .before .before .before .before .before .before .before .before .before .before .before .before .before .before .before .before .before .before .before .before .before .before .before .get-node .ensures .1) (c .before .before .before .before .before .before .before .before .before .before .before .before .before .before .before .before .before .before .before .before .before .before .before .before .before .before .before .before .before .bring .ensures)) .gives)) (found-there (c .before .before .before .before .before .before .before .before .before .before .before .before .before .before .before .before .before .before .before .before .before .before .before .before .before .before .if1 .left) ((bring-gives ((c .before .before .before .before .before .before .before .before .before .before .before .before .before .before .before .before .before .before .before .before .before .before .before .before .before .before .before .before .before .before .before .before .before .before .before .before .before .before .before .before .before .pre .1 .0) .base) (c .before .before .before .before .before .before .before .before .before .before .before .before .before .before .before .before .before .before .before .before .before .before .before .before .before .before .before .before .before .before .before .before .before .get-node .ensures .0) (c .before .before .before .before .before .before .before .before .before .before .before .before .before .before .before .before .before .before .before .before .before .before .before .before .before .before .before .before .before .before .before .before .before .get-node .ensures .1) (c .before .before .before .before .before .before .before .before .before .before .before .before .before .before .before .before .before .before .before .before .before .before .before .before .before .before .before .before .before .bring .ensures)) .exact) (c .before .before .before .before .before .before .before .before .before .before .before .before .before .before .before .before .before .before .before .before .before .before .before .before .before .len-of .ensures) (c .before .before .before .before .before .before .before .before .before .before .before .before .before .before .before .before .before .before .before .before .before .before .before .before .steps-of .ensures)) refl (as-node (c .before .before .before .before .before .before .before .before .before .before .before .before .before .before .before .before .before .before .before .before .before .number-of2 .ensures) ((bring-gives (omega (arith, (c .before .before .before .before .before .before .before .before .before .before .before .before .before .before .before .before .before .before .before .before .before .before .before .before .before .before .before .before .before .before .before .before .before .before .before .before .before .before .before .before .before .pre .1 .0) .base)) (c .before .before .before .before .before .before .before .before .before .before .before .before .before .before .before .before .before .get-node2 .ensures .0) (c .before .before .before .before .before .before .before .before .before .before .before .before .before .before .before .before .before .get-node2 .ensures .1) (c .before .before .before .before .before .before .before .before .before .before .before .before .before .bring2 .ensures)) .gives)) (found-there (c .before .before .before .before .before .before .before .before .before .before .if2 .left) ((bring-gives (omega (arith, (c .before .before .before .before .before .before .before .before .before .before .before .before .before .before .before .before .before .before .before .before .before .before .before .before .before .before .before .before .before .before .before .before .before .before .before .before .before .before .before .before .before .pre .1 .0) .base)) (c .before .before .before .before .before .before .before .before .before .before .before .before .before .before .before .before .before .get-node2 .ensures .0) (c .before .before .before .before .before .before .before .before .before .before .before .before .before .before .before .before .before .get-node2 .ensures .1) (c .before .before .before .before .before .before .before .before .before .before .before .before .before .bring2 .ensures)) .exact) (c .before .before .before .before .before .before .len-of2 .ensures) (c .before .before .before .before .before .steps-of2 .ensures)) (c .before .before .before .before .before .before .before .before .before .before .before .before .before .before .before .before .before .before .before .before .before .before .before .before .before .before .before .before .before .before .before .before .before .before .before .before .before .before .before .before .before .pre .1 .0)))) (c .before .before .before .before .before .before .before .before .before .before .before .before .before .before .before .before .before .before .before .before .before .before .before .before .before .before .before .before .before .before .before .before .before .before .before .before .before .before .before .before .before .pre .1 .1 .1)), ((c .before .before .before .before .before .before .before .before .before .before .before .before .before .before .before .before .before .before .before .before .before .before .before .before .before .before .before .before .before .before .before .before .before .before .before .before .before .before .before .before .before .pre .1 .1 .0), switch-spans ((c .before .before .before .before .before .before .before .before .before .before .before .before .before .before .before .before .before .before .before .before .before .before .before .before .before .before .before .before .before .before .before .before .before .before .before .before .before .before .before .before .before .pre .1 .0) .base) refl (as-node (c .before .before .before .before .before .before .before .before .before .before .before .before .before .before .before .before .before .before .before .before .before .before .before .before .before .before .before .before .before .before .before .before .before .before .before .before .before .number-of .ensures) ((bring-gives ((c .before .before .before .before .before .before .before .before .before .before .before .before .before .before .before .before .before .before .before .before .before .before .before .before .before .before .before .before .before .before .before .before .before .before .before .before .before .before .before .before .before .pre .1 .0) .base) (c .before .before .before .before .before .before .before .before .before .before .before .before .before .before .before .before .before .before .before .before .before .before .before .before .before .before .before .before .before .before .before .before .before .get-node .ensures .0) (c .before .before .before .before .before .before .before .before .before .before .before .before .before .before .before .before .before .before .before .before .before .before .before .before .before .before .before .before .before .before .before .before .before .get-node .ensures .1) (c .before .before .before .before .before .before .before .before .before .before .before .before .before .before .before .before .before .before .before .before .before .before .before .before .before .before .before .before .before .bring .ensures)) .gives)) (found-there (c .before .before .before .before .before .before .before .before .before .before .before .before .before .before .before .before .before .before .before .before .before .before .before .before .before .before .if1 .left) ((bring-gives ((c .before .before .before .before .before .before .before .before .before .before .before .before .before .before .before .before .before .before .before .before .before .before .before .before .before .before .before .before .before .before .before .before .before .before .before .before .before .before .before .before .before .pre .1 .0) .base) (c .before .before .before .before .before .before .before .before .before .before .before .before .before .before .before .before .before .before .before .before .before .before .before .before .before .before .before .before .before .before .before .before .before .get-node .ensures .0) (c .before .before .before .before .before .before .before .before .before .before .before .before .before .before .before .before .before .before .before .before .before .before .before .before .before .before .before .before .before .before .before .before .before .get-node .ensures .1) (c .before .before .before .before .before .before .before .before .before .before .before .before .before .before .before .before .before .before .before .before .before .before .before .before .before .before .before .before .before .bring .ensures)) .exact) (c .before .before .before .before .before .before .before .before .before .before .before .before .before .before .before .before .before .before .before .before .before .before .before .before .before .len-of .ensures) (c .before .before .before .before .before .before .before .before .before .before .before .before .before .before .before .before .before .before .before .before .before .before .before .before .steps-of .ensures)) refl (as-node (c .before .before .before .before .before .before .before .before .before .before .before .before .before .before .before .before .before .before .before .before .before .number-of2 .ensures) ((bring-gives (omega (arith, (c .before .before .before .before .before .before .before .before .before .before .before .before .before .before .before .before .before .before .before .before .before .before .before .before .before .before .before .before .before .before .before .before .before .before .before .before .before .before .before .before .before .pre .1 .0) .base)) (c .before .before .before .before .before .before .before .before .before .before .before .before .before .before .before .before .before .get-node2 .ensures .0) (c .before .before .before .before .before .before .before .before .before .before .before .before .before .before .before .before .before .get-node2 .ensures .1) (c .before .before .before .before .before .before .before .before .before .before .before .before .before .bring2 .ensures)) .gives)) (found-there (c .before .before .before .before .before .before .before .before .before .before .if2 .left) ((bring-gives (omega (arith, (c .before .before .before .before .before .before .before .before .before .before .before .before .before .before .before .before .before .before .before .before .before .before .before .before .before .before .before .before .before .before .before .before .before .before .before .before .before .before .before .before .before .pre .1 .0) .base)) (c .before .before .before .before .before .before .before .before .before .before .before .before .before .before .before .before .before .get-node2 .ensures .0) (c .before .before .before .before .before .before .before .before .before .before .before .before .before .before .before .before .before .get-node2 .ensures .1) (c .before .before .before .before .before .before .before .before .before .before .before .before .before .bring2 .ensures)) .exact) (c .before .before .before .before .before .before .len-of2 .ensures) (c .before .before .before .before .before .steps-of2 .ensures)) (c .before .before .before .before .before .before .before .before .before .before .before .before .before .before .before .before .before .before .before .before .before .before .before .before .before .before .before .before .before .before .before .before .before .before .before .before .before .before .before .before .before .pre .1 .0))))
-
-put-switch-returns-4 : (t : ℕ) → put-switch-lts.Need-returns-4 (put-switch-claims t) (put-switch-at t) put-switch.Post
-put-switch-returns-4 t c = switch-under ((c .before .before .before .before .before .before .before .before .before .before .before .before .before .before .before .before .before .before .before .before .before .before .before .before .before .before .before .before .before .before .before .before .before .before .before .before .before .before .before .before .before .before .before .before .pre .1 .0) .base) refl (as-node (c .before .before .before .before .before .before .before .before .before .before .before .before .before .before .before .before .before .before .before .before .before .before .before .before .before .before .before .before .before .before .before .before .before .before .before .before .before .before .before .before .number-of .ensures) ((bring-gives ((c .before .before .before .before .before .before .before .before .before .before .before .before .before .before .before .before .before .before .before .before .before .before .before .before .before .before .before .before .before .before .before .before .before .before .before .before .before .before .before .before .before .before .before .before .pre .1 .0) .base) (c .before .before .before .before .before .before .before .before .before .before .before .before .before .before .before .before .before .before .before .before .before .before .before .before .before .before .before .before .before .before .before .before .before .before .before .before .get-node .ensures .0) (c .before .before .before .before .before .before .before .before .before .before .before .before .before .before .before .before .before .before .before .before .before .before .before .before .before .before .before .before .before .before .before .before .before .before .before .before .get-node .ensures .1) (c .before .before .before .before .before .before .before .before .before .before .before .before .before .before .before .before .before .before .before .before .before .before .before .before .before .before .before .before .before .before .before .before .bring .ensures)) .gives)) (found-there (c .before .before .before .before .before .before .before .before .before .before .before .before .before .before .before .before .before .before .before .before .before .before .before .before .before .before .before .before .before .if1 .left) ((bring-gives ((c .before .before .before .before .before .before .before .before .before .before .before .before .before .before .before .before .before .before .before .before .before .before .before .before .before .before .before .before .before .before .before .before .before .before .before .before .before .before .before .before .before .before .before .before .pre .1 .0) .base) (c .before .before .before .before .before .before .before .before .before .before .before .before .before .before .before .before .before .before .before .before .before .before .before .before .before .before .before .before .before .before .before .before .before .before .before .before .get-node .ensures .0) (c .before .before .before .before .before .before .before .before .before .before .before .before .before .before .before .before .before .before .before .before .before .before .before .before .before .before .before .before .before .before .before .before .before .before .before .before .get-node .ensures .1) (c .before .before .before .before .before .before .before .before .before .before .before .before .before .before .before .before .before .before .before .before .before .before .before .before .before .before .before .before .before .before .before .before .bring .ensures)) .exact) (c .before .before .before .before .before .before .before .before .before .before .before .before .before .before .before .before .before .before .before .before .before .before .before .before .before .before .before .before .len-of .ensures) (c .before .before .before .before .before .before .before .before .before .before .before .before .before .before .before .before .before .before .before .before .before .before .before .before .before .before .before .steps-of .ensures)) refl (as-node (c .before .before .before .before .before .before .before .before .before .before .before .before .before .before .before .before .before .before .before .before .before .before .before .before .number-of2 .ensures) ((bring-gives (omega (arith, (c .before .before .before .before .before .before .before .before .before .before .before .before .before .before .before .before .before .before .before .before .before .before .before .before .before .before .before .before .before .before .before .before .before .before .before .before .before .before .before .before .before .before .before .before .pre .1 .0) .base)) (c .before .before .before .before .before .before .before .before .before .before .before .before .before .before .before .before .before .before .before .before .get-node2 .ensures .0) (c .before .before .before .before .before .before .before .before .before .before .before .before .before .before .before .before .before .before .before .before .get-node2 .ensures .1) (c .before .before .before .before .before .before .before .before .before .before .before .before .before .before .before .before .bring2 .ensures)) .gives)) (found-there (c .before .before .before .before .before .before .before .before .before .before .before .before .before .if2 .left) ((bring-gives (omega (arith, (c .before .before .before .before .before .before .before .before .before .before .before .before .before .before .before .before .before .before .before .before .before .before .before .before .before .before .before .before .before .before .before .before .before .before .before .before .before .before .before .before .before .before .before .before .pre .1 .0) .base)) (c .before .before .before .before .before .before .before .before .before .before .before .before .before .before .before .before .before .before .before .before .get-node2 .ensures .0) (c .before .before .before .before .before .before .before .before .before .before .before .before .before .before .before .before .before .before .before .before .get-node2 .ensures .1) (c .before .before .before .before .before .before .before .before .before .before .before .before .before .before .before .before .bring2 .ensures)) .exact) (c .before .before .before .before .before .before .before .before .before .len-of2 .ensures) (c .before .before .before .before .before .before .before .before .steps-of2 .ensures)) (fit-low _ (c .before .before .before .before .before .before .before .before .before .before .before .unfit .ensures) (c .before .before .before .before .before .before .before .before .before .before .if3 .left)) (fit-high _ (c .before .before .before .before .before .before .before .before .before .before .before .unfit .ensures) (c .before .before .before .before .before .before .before .before .before .before .if3 .left)) (c .before .before .before .before .before .before .before .before .before .before .before .before .before .before .before .before .before .before .before .before .before .before .before .before .before .before .before .before .before .before .before .before .before .before .before .before .before .before .before .before .before .before .before .before .pre .1 .0) (as-inside (c .before .before .before .before .before .before .number-of3 .ensures) (c .before .before .before .before .before .number-of4 .ensures) (c .before .before .put-under .ensures))
-
-put-switch-same-length-4 : (t : ℕ) → put-switch-lts.Need-same-length-4 (put-switch-claims t) (put-switch-at t) put-switch.Post
-put-switch-same-length-4 t c = put-switch-returns-4 t c .frame .long
-
 put-truth-case-number-of-requires : (t : ℕ) → put-truth-case-lts.Need-number-of-requires (put-truth-case-claims t) (put-truth-case-at t) put-truth-case.Post
 put-truth-case-number-of-requires t c κs = search needs
 
@@ -1193,33 +943,6 @@ put-truth-case-returns-3 t c = truth-both ((c .before .before .before .before .b
 
 put-truth-case-same-length-3 : (t : ℕ) → put-truth-case-lts.Need-same-length-3 (put-truth-case-claims t) (put-truth-case-at t) put-truth-case.Post
 put-truth-case-same-length-3 t c = put-truth-case-returns-3 t c .frame .long
-
-put-under-put-inside-requires : (t : ℕ) → put-under-lts.Need-put-inside-requires (put-under-claims t) (put-under-at t) put-under.Post
-put-under-put-inside-requires t c κs = let thesf = (spans-few (c .before .before .before .before .before .pre .1 .1 .1) ((c .before .before .before .before .before .pre .1 .0) .base)) in (omega (arith, c .before .before .before .before .before .pre .0), (under-ready₁ (opened (now (c .before .before .before .before .before .args .slots)) (c .before .before .before .before .before .args .parts .start) (c .before .before .before .before .before .args .parts .first) (c .before .before .before .before .before .args .parts .second) (c .before .before .before .before .before .pre .1 .1 .0) refl (λ _ _. refl)) (c .before .before .before .before .before .pre .1 .0) (omega arith) (c .before .before .before .before .before .pre .1 .1 .0) (c .before .before .before .before .before .pre .1 .1 .1), (omega (arith, (c .before .before .before .before .before .pre .1 .1 .0) .some, (c .before .before .before .before .before .pre .1 .1 .0) .slots), omega (arith, (c .before .before .before .before .before .pre .1 .1 .0) .some, (c .before .before .before .before .before .pre .1 .1 .0) .more-cells), omega (arith, thesf, (c .before .before .before .before .before .pre .1 .0) .room, (c .before .before .before .before .before .pre .1 .1 .0) .some), omega (arith, thesf))))
-
-put-under-same-length : (t : ℕ) → put-under-lts.Need-same-length (put-under-claims t) (put-under-at t) put-under.Post
-put-under-same-length t c = search needs
-
-put-under-returns : (t : ℕ) → put-under-lts.Need-returns (put-under-claims t) (put-under-at t) put-under.Post
-put-under-returns t c = λ f u h. as-taken (taken-refused (c .if1 .taken)) (under-refused (opened (now (c .before .before .before .before .before .before .before .before .before .args .slots)) (c .before .before .before .before .before .before .before .before .before .args .parts .start) (c .before .before .before .before .before .before .before .before .before .args .parts .first) (c .before .before .before .before .before .before .before .before .before .args .parts .second) (c .before .before .before .before .before .before .before .before .before .pre .1 .1 .0) refl (λ _ _. refl)) (c .before .before .before .put-inside .ensures .0) h (taken-refused (c .if1 .taken)))
-
-put-under-taken-requires : (t : ℕ) → put-under-lts.Need-taken-requires (put-under-claims t) (put-under-at t) put-under.Post
-put-under-taken-requires t c κs = search needs
-
-put-under-sub-put-rebuilt : (t : ℕ) → put-under-lts.Need-sub-put-rebuilt (put-under-claims t) (put-under-at t) put-under.Post
-put-under-sub-put-rebuilt t c = omega (arith, (c .before .before .before .before .before .put-inside .ensures .1 .at (taken-as (c .before .before .if1 .left) (c .before .taken .ensures))))
-
-put-under-add-put-rebuilt : (t : ℕ) → put-under-lts.Need-add-put-rebuilt (put-under-claims t) (put-under-at t) put-under.Post
-put-under-add-put-rebuilt t c = record { fits = omega (arith, (c .before .before .before .before .before .before .before .put-inside .ensures .1 .at (taken-as (c .before .before .before .before .if1 .left) (c .before .before .before .taken .ensures))), (c .before .before .before .before .before .before .before .before .before .before .before .before .before .pre .1 .0) .few) }
-
-put-under-put-rebuilt-requires : (t : ℕ) → put-under-lts.Need-put-rebuilt-requires (put-under-claims t) (put-under-at t) put-under.Post
-put-under-put-rebuilt-requires t c κs = (omega (arith, c .before .before .before .before .before .before .before .before .before .before .before .before .before .pre .0), (under-ready₂ (opened (now (c .before .before .before .before .before .before .before .before .before .before .before .before .before .args .slots)) (c .before .before .before .before .before .before .before .before .before .before .before .before .before .args .parts .start) (c .before .before .before .before .before .before .before .before .before .before .before .before .before .args .parts .first) (c .before .before .before .before .before .before .before .before .before .before .before .before .before .args .parts .second) (c .before .before .before .before .before .before .before .before .before .before .before .before .before .pre .1 .1 .0) refl (λ _ _. refl)) (c .before .before .before .before .before .before .before .put-inside .ensures .0) (taken-as (c .before .before .before .before .if1 .left) (c .before .before .before .taken .ensures)) (c .before .before .before .before .before .before .before .before .before .before .before .before .before .pre .1 .0) (omega (arith, (c .before .before .before .before .before .before .before .put-inside .ensures .1 .at (taken-as (c .before .before .before .before .if1 .left) (c .before .before .before .taken .ensures))))) (c .before .before .before .before .before .before .before .before .before .before .before .before .before .pre .1 .1 .1), under-spans (opened (now (c .before .before .before .before .before .before .before .before .before .before .before .before .before .args .slots)) (c .before .before .before .before .before .before .before .before .before .before .before .before .before .args .parts .start) (c .before .before .before .before .before .before .before .before .before .before .before .before .before .args .parts .first) (c .before .before .before .before .before .before .before .before .before .before .before .before .before .args .parts .second) (c .before .before .before .before .before .before .before .before .before .before .before .before .before .pre .1 .1 .0) refl (λ _ _. refl)) (c .before .before .before .before .before .before .before .put-inside .ensures .0) (taken-as (c .before .before .before .before .if1 .left) (c .before .before .before .taken .ensures)) (c .before .before .before .before .before .before .before .before .before .before .before .before .before .pre .1 .1 .1)))
-
-put-under-same-length-2 : (t : ℕ) → put-under-lts.Need-same-length-2 (put-under-claims t) (put-under-at t) put-under.Post
-put-under-same-length-2 t c = search needs
-
-put-under-returns-2 : (t : ℕ) → put-under-lts.Need-returns-2 (put-under-claims t) (put-under-at t) put-under.Post
-put-under-returns-2 t c = λ f u h. under-done (opened (now (c .before .before .before .before .before .before .before .before .before .before .before .before .before .before .before .before .args .slots)) (c .before .before .before .before .before .before .before .before .before .before .before .before .before .before .before .before .args .parts .start) (c .before .before .before .before .before .before .before .before .before .before .before .before .before .before .before .before .args .parts .first) (c .before .before .before .before .before .before .before .before .before .before .before .before .before .before .before .before .args .parts .second) (c .before .before .before .before .before .before .before .before .before .before .before .before .before .before .before .before .pre .1 .1 .0) refl (λ _ _. refl)) (c .before .before .before .before .before .before .before .before .before .before .put-inside .ensures .0) (taken-as (c .before .before .before .before .before .before .before .if1 .left) (c .before .before .before .before .before .before .taken .ensures)) ((c .before .before .before .before .before .before .before .before .before .before .before .before .before .before .before .before .pre .1 .0) .base) (c .before .before .put-rebuilt .ensures) h
 
 pub +put-add+put-both+put-call+put-front+put-inside+put-list-case+put-node+put-pair+put-rebuilt+put-split+put-switch+put-truth-case+put-under-spec :
     {M : Type 1} → statement M
@@ -1502,38 +1225,7 @@ pub +put-add+put-both+put-call+put-front+put-inside+put-list-case+put-node+put-p
     (put-split-put-under-requires t)
     (put-split-same-length-3 t)
     (put-split-returns-3 t))
-    (λ t. put-switch-lts.spec (put-switch-claims t)
-    (put-switch-at t)
-    put-switch.Post
-    (put-switch-number-of-requires t)
-    (put-switch-get-node-requires t)
-    (put-switch-bring-requires t)
-    (put-switch-same-length t)
-    (put-switch-returns t)
-    (put-switch-len-of-requires t)
-    (put-switch-steps-of-requires t)
-    (put-switch-add-mid t)
-    (put-switch-sub-two t)
-    (put-switch-number-of-requires-2 t)
-    (put-switch-get-node-requires-2 t)
-    (put-switch-bring-requires-2 t)
-    (put-switch-same-length-2 t)
-    (put-switch-returns-2 t)
-    (put-switch-slice-read-unfit t)
-    (put-switch-unfit-requires t)
-    (put-switch-same-length-3 t)
-    (put-switch-returns-3 t)
-    (put-switch-len-of-requires-2 t)
-    (put-switch-steps-of-requires-2 t)
-    (put-switch-sub-to t)
-    (put-switch-add-to t)
-    (put-switch-number-of-requires-3 t)
-    (put-switch-number-of-requires-4 t)
-    (put-switch-add-put-under t)
-    (put-switch-add-put-under-2 t)
-    (put-switch-put-under-requires t)
-    (put-switch-same-length-4 t)
-    (put-switch-returns-4 t))
+    (λ t. put-switch-met t)
     (λ t. put-truth-case-lts.spec (put-truth-case-claims t)
     (put-truth-case-at t)
     put-truth-case.Post
@@ -1565,15 +1257,4 @@ pub +put-add+put-both+put-call+put-front+put-inside+put-list-case+put-node+put-p
     (put-truth-case-put-both-requires t)
     (put-truth-case-same-length-3 t)
     (put-truth-case-returns-3 t))
-    λ t. put-under-lts.spec (put-under-claims t)
-    (put-under-at t)
-    put-under.Post
-    (put-under-put-inside-requires t)
-    (put-under-same-length t)
-    (put-under-returns t)
-    (put-under-taken-requires t)
-    (put-under-sub-put-rebuilt t)
-    (put-under-add-put-rebuilt t)
-    (put-under-put-rebuilt-requires t)
-    (put-under-same-length-2 t)
-    (put-under-returns-2 t)
+    λ t. put-under-met t
