@@ -54,8 +54,8 @@ mkPair a b = some (pair a b)
 
 module _ (R : Reading) where
   open Reading R using (M, give, bind as _>>=_, given, choose, enter, deep, Cell, mark, held, clash)
-  infixl 20 _>>=_
 
+  infixl 20 _>>=_
   -- for each cell, what was written to it. A plan variable is a cell, and a branch adds two
   abbrev pub Cells : Type 0
   Cells = List (Option Cell)
