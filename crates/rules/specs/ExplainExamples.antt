@@ -10,7 +10,7 @@ use Rattle.value.specs.Views.{asList, asFront, asPair, asNumber, ifSmall, asTru
 use Rattle.value.specs.Tests.{class, table, holds, passes}
 use Rattle.value.specs.Reading.{onWhole, kindOf, makeFront, makeNumber, makePair, makeRest, beginValue, beginRest, beginByte, read, readValue, onValue, readValues}
 use Rattle.sheet.specs.Sheet.{readNodes, oneSection, ifSection, readRecords, withNodes, readBody, nodesInRange, rootsInRange, inRange, readHeader, readSheet}
-use Rattle.sheet.specs.Kinds.{forms, formOf, bodyWidth, make, nodeInRange}
+use Rattle.sheet.specs.Kinds.{formOf, bodyWidth, make, nodeInRange}
 use Rattle.rules.specs.Outcome.{plus, steps, when, _>>=_, mapOut, given, reading, choose}
 use Rattle.rules.specs.Allowance.{cap, within}
 use Rattle.rules.specs.Text
@@ -39,5 +39,5 @@ unfolding explainings explainGet explainPut explained afterwards more below ente
     plus steps when _>>=_ mapOut given reading choose Text.bounded Text.tested onList Text.getNode Text.get Text.orOld Text.constant Text.write Text.both Text.under mkList mkPair Text.putNode Text.put
     andThen mapResult orRefuse unless encode encodes size sizes flat sameValue asList asFront asPair asNumber ifSmall asTruth class table holds passes
     onWhole kindOf makeFront makeNumber makePair makeRest beginValue beginRest beginByte read readValue onValue readValues
-    forms formOf bodyWidth make readNodes oneSection ifSection readRecords withNodes readBody nodeInRange nodesInRange rootsInRange inRange readHeader readSheet decLe ℕ-discrete
+    formOf bodyWidth make readNodes oneSection ifSection readRecords withNodes readBody nodeInRange nodesInRange rootsInRange inRange readHeader readSheet decLe ℕ-discrete
 worked = refl

@@ -58,7 +58,7 @@ behind zero i l a = rw zero-add at a
 behind (suc n) i l a = let q : suc n + i ≡ n + suc i = omega arith in (tt, behind n (suc i) l (rw q at a))
 
 all-told : AllFrom IfTold 0 (replicate 16 none ++ forms)
-unfolding forms bodyWidth
+unfolding bodyWidth
 all-told = behind 16 0 forms
     (told (λ v. refl) refl tt
     and told (λ v. refl) refl tt
@@ -89,7 +89,7 @@ by-row : {n : Node} {f : Form} → formOf (row n .kind) ≡ some f → made f (v
 by-row {f = f} e m l = record { form = f; known = e; node = m; many = l }
 
 pub built : (n : Node) → Built n
-unfolding formOf forms
+unfolding formOf
 built (Var x) = by-row refl refl refl
 built False = by-row refl refl refl
 built True = by-row refl refl refl
@@ -105,7 +105,7 @@ built (Add n a) = by-row refl refl refl
 
 -- a byte below 10 or behind the last is no node's kind
 pub no-form : (b : ℕ) → (b < 16) ⊎ (past ≤ b) → formOf b ≡ none
-unfolding formOf forms
+unfolding formOf
 no-form b (inl h) = List·getD-append (replicate 16 none) forms none b h ∙ getD-replicate 16 b none none h
 no-form b (inr h) = List·getD-eq-default (replicate 16 none ++ forms) none h
 
@@ -169,7 +169,7 @@ roles-of (r ∷ rs) (v ∷ vs) e = ap (λ (l : List Role). r ∷ l) (roles-of rs
 pub row-made : {b : ℕ} {f : Form} → Told b f → (vs : List ℕ) → length vs ≡ f .fields → row (made f vs) ≡ (b is fieldsOf (rolesOf f) vs)
 row-made {b} {f} t vs e = rw (listed (f .fields) vs e) at (t .rows (λ i. getD vs i 0))
 
-length-values : (rs : List Role) (b : ℕ → ℕ) → length (valuesOf rs b) ≡ length rs
+pub length-values : (rs : List Role) (b : ℕ → ℕ) → length (valuesOf rs b) ≡ length rs
 length-values [] b = refl
 length-values (r ∷ rs) b = ap suc (length-values rs (λ i. b (size r + i)))
 

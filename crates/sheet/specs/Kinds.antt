@@ -75,7 +75,7 @@ abbrev pub form : (n : ℕ) → Maker n → Option Form
 form n m = some (record { fields = n; maker = m })
 
 -- the constructors with the number of their fields, kinds 10 to 1B in order
-unfoldable pub forms : List (Option Form)
+abbrev pub forms : List (Option Form)
 forms =
     form 1 Var ∷ form 0 False ∷ form 0 True ∷ form 0 Empty ∷ form 1 Number ∷ form 2 Front ∷ form 2 Pair ∷ form 7 ListCase ∷ form 5 TruthCase ∷ form 2 Split ∷ form 3 Call
     ∷ form 2 Add
@@ -85,9 +85,12 @@ forms =
 abbrev pub past : ℕ
 past = 0x1C
 
+-- the form of a kind byte: of a known one it computes, and `formOf` is the same, shut
+abbrev pub formAt : ℕ → Option Form
+formAt b = getD (replicate 16 none ++ forms) b none
+
 unfoldable pub formOf : ℕ → Option Form
-unfolding forms
-formOf b = getD (replicate 16 none ++ forms) b none
+formOf b = formAt b
 
 -- READ OFF THE ROW
 

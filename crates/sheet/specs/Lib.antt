@@ -5,4 +5,5 @@ pub mod Forms
 pub mod Places
 pub mod Reading
 pub mod Laws
+pub mod Records
 pub mod Rows

@@ -1,7 +1,7 @@
 -- `sheet::decode` meets its contract: in each arm the kind byte picks a row of the table of forms.
 use mathlib.Core.Path.{refl, sym}
 use borrow.Author.Needs.{needs}
-use Rattle.sheet.specs.Kinds.{formOf, forms, make}
+use Rattle.sheet.specs.Kinds.{formOf, make}
 use Rattle.sheet.specs.Forms.{no-form, beyond, decoded, node-unknown}
 use Rattle.sheet.proofs.decode.Statement.{statement}
 use Rattle.sheet.proofs.decode.Tie as tie
@@ -85,51 +85,51 @@ pair-at-requires-2 : tie.Need-pair-at-requires-2
 pair-at-requires-2 c κs = search needs
 
 returns : tie.Need-returns
-unfolding formOf forms make
+unfolding formOf make
 returns c = rw (c .at .ensures) (sym (decoded (c .before .before .before .before .args .r .now) (c .before .before .byte-at .ensures) (c .before .match .keys1) refl (c .before .before .before .before .pre .1)))
 
 returns-2 : tie.Need-returns-2
-unfolding formOf forms make
+unfolding formOf make
 returns-2 c = sym (decoded (c .before .before .before .args .r .now) (c .before .byte-at .ensures) (c .match .keys2) refl (c .before .before .before .pre .1))
 
 returns-3 : tie.Need-returns-3
-unfolding formOf forms make
+unfolding formOf make
 returns-3 c = sym (decoded (c .before .before .before .args .r .now) (c .before .byte-at .ensures) (c .match .keys3) refl (c .before .before .before .pre .1))
 
 returns-4 : tie.Need-returns-4
-unfolding formOf forms make
+unfolding formOf make
 returns-4 c = sym (decoded (c .before .before .before .args .r .now) (c .before .byte-at .ensures) (c .match .keys4) refl (c .before .before .before .pre .1))
 
 returns-5 : tie.Need-returns-5
-unfolding formOf forms make
+unfolding formOf make
 returns-5 c = rw (c .pair-at .ensures) (sym (decoded (c .before .before .before .before .args .r .now) (c .before .before .byte-at .ensures) (c .before .match .keys5) refl (c .before .before .before .before .pre .1)))
 
 returns-6 : tie.Need-returns-6
-unfolding formOf forms make
+unfolding formOf make
 returns-6 c = rw (c .before .at2 .ensures, c .at3 .ensures) (sym (decoded (c .before .before .before .before .before .args .r .now) (c .before .before .before .byte-at .ensures) (c .before .before .match .keys6) refl (c .before .before .before .before .before .pre .1)))
 
 returns-7 : tie.Need-returns-7
-unfolding formOf forms make
+unfolding formOf make
 returns-7 c = rw (c .before .at4 .ensures, c .at5 .ensures) (sym (decoded (c .before .before .before .before .before .args .r .now) (c .before .before .before .byte-at .ensures) (c .before .before .match .keys7) refl (c .before .before .before .before .before .pre .1)))
 
 returns-8 : tie.Need-returns-8
-unfolding formOf forms make
+unfolding formOf make
 returns-8 c = rw (c .before .before .before .before .before .before .at6 .ensures, c .before .before .before .before .before .at7 .ensures, c .before .before .before .before .byte-at2 .ensures, c .before .before .before .at8 .ensures, c .before .before .byte-at3 .ensures, c .before .at9 .ensures, c .at10 .ensures) (sym (decoded (c .before .before .before .before .before .before .before .before .before .before .args .r .now) (c .before .before .before .before .before .before .before .before .byte-at .ensures) (c .before .before .before .before .before .before .before .match .keys8) refl (c .before .before .before .before .before .before .before .before .before .before .pre .1)))
 
 returns-9 : tie.Need-returns-9
-unfolding formOf forms make
+unfolding formOf make
 returns-9 c = rw (c .before .before .before .before .at11 .ensures, c .before .before .before .at12 .ensures, c .before .before .byte-at4 .ensures, c .before .at13 .ensures, c .byte-at5 .ensures) (sym (decoded (c .before .before .before .before .before .before .before .before .args .r .now) (c .before .before .before .before .before .before .byte-at .ensures) (c .before .before .before .before .before .match .keys9) refl (c .before .before .before .before .before .before .before .before .pre .1)))
 
 returns-10 : tie.Need-returns-10
-unfolding formOf forms make
+unfolding formOf make
 returns-10 c = rw (c .before .at14 .ensures, c .at15 .ensures) (sym (decoded (c .before .before .before .before .before .args .r .now) (c .before .before .before .byte-at .ensures) (c .before .before .match .keys10) refl (c .before .before .before .before .before .pre .1)))
 
 returns-11 : tie.Need-returns-11
-unfolding formOf forms make
+unfolding formOf make
 returns-11 c = rw (c .before .before .at16 .ensures, c .before .at17 .ensures, c .at18 .ensures) (sym (decoded (c .before .before .before .before .before .before .args .r .now) (c .before .before .before .before .byte-at .ensures) (c .before .before .before .match .keys11) refl (c .before .before .before .before .before .before .pre .1)))
 
 returns-12 : tie.Need-returns-12
-unfolding formOf forms make
+unfolding formOf make
 returns-12 c = rw (c .before .at19 .ensures, c .pair-at2 .ensures) (sym (decoded (c .before .before .before .before .before .args .r .now) (c .before .before .before .byte-at .ensures) (c .before .before .match .keys12) refl (c .before .before .before .before .before .pre .1)))
 
 returns-13 : tie.Need-returns-13

@@ -31,7 +31,7 @@ wide-requires-2 : tie.Need-wide-requires-2
 wide-requires-2 c κs = search needs
 
 returns-3 : tie.Need-returns-3
-unfolding formWidth forms bodyWidth
+unfolding formWidth bodyWidth
 returns-3 c =
     let e : 16 + (c .before .before .wide .result - 16) ≡ c .before .before .before .before .args .kind = omega (arith, c .before .before .wide .ensures) in
     c .wide2 .ensures ∙ sym (kind-width (c .before .before .wide .result - 16)) ∙ ap kindWidth e
