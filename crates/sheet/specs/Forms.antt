@@ -11,7 +11,8 @@ use lib.Dec.{T, leb, leb→le}
 use lib.ListN.{length, getD, replicate, List·getD-eq-default, List·getD-append, List·getD-map, getD-replicate}
 use lib.Seq.{getD-append-add}
 use borrow.Author.Tests.{le-leb}
-use Rattle.sheet.specs.Kinds.{Role, Field, _of_, Row, _is_, row, Form, forms, past, formOf, made, rolesOf, roles, values, valuesOf, size, sizes, bodyWidth, make, width}
+use Rattle.sheet.specs.Kinds.{Role, Field, _of_, Row, _is_, row, Form, forms, past, formOf, made, rolesOf}
+use Rattle.sheet.specs.Kinds.{roles, values, valuesOf, size, sizes, bodyWidth, make, width}
 use Rattle.sheet.specs.Table.{nodeOf, ofForm, ifWhole, formWidth, kindWidth}
 use Rattle.sheet.specs.declared.Node.{Node}
 use Rattle.sheet.specs.declared.Node.the-variants.{Var, False, True, Empty, Number, Front, Pair, ListCase, TruthCase, Split, Call, Add}
@@ -46,7 +47,8 @@ abbrev IfTold : ℕ → Option Form → Type 0
 IfTold b none = Unit
 IfTold b (some f) = Told b f
 
-told : {b : ℕ} {f : Form} → ((v : ℕ → ℕ) → row (made f (listing (f .fields) v)) ≡ (b is fieldsOf (rolesOf f) (listing (f .fields) v))) → length (rolesOf f) ≡ f .fields → T (leb (bodyWidth f) 7) → Told b f
+told : {b : ℕ} {f : Form} → ((v : ℕ → ℕ) → row (made f (listing (f .fields) v)) ≡ (b is fieldsOf (rolesOf f) (listing (f .fields) v)))
+    → length (rolesOf f) ≡ f .fields → T (leb (bodyWidth f) 7) → Told b f
 told {b} {f} r m t = record { rows = r; many = m; small = leb→le (bodyWidth f) 7 t }
 
 infixr 20 _and_
@@ -134,7 +136,8 @@ beyond zero {a} {b} w = either (decLt b a)
 beyond (suc n) w = above n (beyond n (w .0)) (w .1)
 
 -- the node of a whole record whose first byte x is k
-pub decoded : (r : List ℕ) {x k : ℕ} → x ≡ getD r 0 0 → x ≡ k → {f : Form} → formOf k ≡ some f → kindWidth (getD r 0 0) ≤ length r → nodeOf r ≡ make f (λ i. getD r (suc i) 0)
+pub decoded : (r : List ℕ) {x k : ℕ} → x ≡ getD r 0 0 → x ≡ k → {f : Form} → formOf k ≡ some f → kindWidth (getD r 0 0) ≤ length r
+    → nodeOf r ≡ make f (λ i. getD r (suc i) 0)
 unfolding kindWidth formWidth
 decoded r {x} {k} b e {f} q h =
     let z : getD r 0 0 ≡ k = sym b ∙ e in

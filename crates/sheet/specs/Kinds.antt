@@ -77,9 +77,8 @@ form n m = some (record { fields = n; maker = m })
 -- the constructors with the number of their fields, kinds 10 to 1B in order
 abbrev pub forms : List (Option Form)
 forms =
-    form 1 Var ∷ form 0 False ∷ form 0 True ∷ form 0 Empty ∷ form 1 Number ∷ form 2 Front ∷ form 2 Pair ∷ form 7 ListCase ∷ form 5 TruthCase ∷ form 2 Split ∷ form 3 Call
-    ∷ form 2 Add
-    ∷ []
+    form 1 Var ∷ form 0 False ∷ form 0 True ∷ form 0 Empty ∷ form 1 Number ∷ form 2 Front ∷ form 2 Pair
+    ∷ form 7 ListCase ∷ form 5 TruthCase ∷ form 2 Split ∷ form 3 Call ∷ form 2 Add ∷ []
 
 -- the first byte behind them
 abbrev pub past : ℕ

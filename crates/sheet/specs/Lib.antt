@@ -7,3 +7,4 @@ pub mod Reading
 pub mod Laws
 pub mod Records
 pub mod Rows
+pub mod Written

@@ -13,7 +13,9 @@ use lib.ListN.{length, getD, drop, length-append}
 use lib.Seq.{getD-append-add, drop-at}
 use borrow.Author.Tests.{le-leb, lt-ltb, eqb-true, ne-eqb}
 use Rattle.value.specs.Result.{Result, ok, andThen, mapResult, orRefuse, unless}
-use Rattle.sheet.specs.Kinds.{Role, aNode, aSection, aVariable, aTest, aNumber, Field, Row, _is_, row, Form, past, formOf, made, rolesOf, roles, values, valueOf, valuesOf, size, sizes, bytesOf, bodyBytes, bodyWidth, make, width, written, place, keep, pick, children, calls, variables, anew, fieldAnew, ofKind, renumber, fits, allFit, nodeInRange}
+use Rattle.sheet.specs.Kinds.{Role, aNode, aSection, aVariable, aTest, aNumber, Field, _of_, Row, _is_, row, Form, past, formOf, made, rolesOf}
+use Rattle.sheet.specs.Kinds.{roles, values, valueOf, valuesOf, size, sizes, bytesOf, bodyBytes, bodyWidth, make, width, written}
+use Rattle.sheet.specs.Kinds.{place, keep, pick, children, calls, variables, anew, fieldAnew, ofKind, renumber, fits, allFit, nodeInRange}
 use Rattle.sheet.specs.Sheet.{Sheet, Records, readNodes, oneSection, ifSection, readRecords, withNodes, readBody, inRange, readHeader, readSheet}
 use Rattle.sheet.specs.Table.{nodeOf, ofForm, ifWhole}
 use Rattle.sheet.specs.Forms.{no-form, fieldsOf, Told, form-told, Built, built, roles-of, row-made}
@@ -51,9 +53,9 @@ module _ (n : Node) where
   pub row-remade : (fs : List Field) → roles fs ≡ roles (row n .body) → row (ofKind (formOf (row n .kind)) (values fs)) ≡ (row n .kind is fs)
   unfolding ofKind
   row-remade fs e =
-      let l : length (values fs) ≡ built n .form .fields = length-values-of fs ∙ sym (length-roles fs) ∙ ap length e ∙ length-roles (row n .body) ∙ built n .many in
+      let l : length (values fs) ≡ length (row n .body) = length-values-of fs ∙ sym (length-roles fs) ∙ ap length e ∙ length-roles (row n .body) in
       rw (built n .known)
-      (row-made its-told (values fs) l
+      (row-made its-told (values fs) (l ∙ built n .many)
       ∙ ap (λ (rs : List Role). row n .kind is fieldsOf rs (values fs)) (sym (e ∙ its-roles))
       ∙ ap (λ (b : List Field). row n .kind is b) (fields-of fs))
 
@@ -97,6 +99,10 @@ abbrev pub Every : (ℕ → Type 0) → List ℕ → Type 0
 Every P [] = Unit
 Every P (x ∷ xs) = P x × Every P xs
 
+-- P at every child and Q at every section called
+abbrev Named : (P Q : ℕ → Type 0) → List Field → Type 0
+Named P Q fs = Every P (pick aNode fs) × Every Q (pick aSection fs)
+
 module _ (φ ψ : ℕ → ℕ) where
   roles-anew : (fs : List Field) → roles (map (fieldAnew φ ψ) fs) ≡ roles fs
   roles-anew [] = refl
@@ -106,13 +112,16 @@ module _ (φ ψ : ℕ → ℕ) where
   unfolding renumber
   row-renumbered n = row-remade n (map (fieldAnew φ ψ) (row n .body)) (roles-anew (row n .body))
 
-  keep-anew : (b : Bool) (q r : Role) (v : ℕ) (xs ys : List ℕ) → (b ≡ true → q ≡ r) → ys ≡ map (anew φ ψ r) xs → keep b (anew φ ψ q v) ys ≡ map (anew φ ψ r) (keep b v xs)
+  keep-anew : (b : Bool) (q r : Role) (v : ℕ) (xs ys : List ℕ) → (b ≡ true → q ≡ r) → ys ≡ map (anew φ ψ r) xs
+      → keep b (anew φ ψ q v) ys ≡ map (anew φ ψ r) (keep b v xs)
   keep-anew true q r v xs ys s e = ap (λ (x : Role). anew φ ψ x v ∷ ys) (s refl) ∙ ap (λ (l : List ℕ). anew φ ψ r v ∷ l) e
   keep-anew false q r v xs ys s e = e
 
   pub pick-anew : (r : Role) (fs : List Field) → pick r (map (fieldAnew φ ψ) fs) ≡ map (anew φ ψ r) (pick r fs)
   pick-anew r [] = refl
-  pick-anew r (f ∷ fs) = keep-anew (eqb (place (f .role)) (place r)) (f .role) r (f .value) (pick r fs) (pick r (map (fieldAnew φ ψ) fs)) (same-role (f .role) r) (pick-anew r fs)
+  pick-anew r (f ∷ fs) =
+      keep-anew (eqb (place (f .role)) (place r)) (f .role) r (f .value) (pick r fs) (pick r (map (fieldAnew φ ψ) fs)) (same-role (f .role) r)
+      (pick-anew r fs)
 
   module _ (n : Node) where
     -- renumbering commutes with the children and the sections called, and leaves kind, width and variables be
@@ -137,28 +146,97 @@ module _ (φ ψ : ℕ → ℕ) where
 
   -- what renumbering keeps in range
   module _ (nodes sections own nodes′ sections′ own′ : ℕ) where
-    role-anew : (r : Role) (v : ℕ) (fs : List Field) → Fits nodes sections own r v → Every (λ c. Child nodes′ own′ (φ c)) (pick aNode (record { role = r; value = v } ∷ fs)) → Every (λ s. ψ s < sections′) (pick aSection (record { role = r; value = v } ∷ fs))
-        → Fits nodes′ sections′ own′ r (anew φ ψ r v) × Every (λ c. Child nodes′ own′ (φ c)) (pick aNode fs) × Every (λ s. ψ s < sections′) (pick aSection fs)
-    role-anew aNode v fs h c s = (c .0, c .1, s)
-    role-anew aSection v fs h c s = (s .0, c, s .1)
-    role-anew aVariable v fs h c s = (tt, c, s)
-    role-anew aTest v fs h c s = (h, c, s)
-    role-anew aNumber v fs h c s = (h, c, s)
+    abbrev Sent : List Field → Type 0
+    Sent = Named (λ c. Child nodes′ own′ (φ c)) (λ s. ψ s < sections′)
 
-    all-anew : (fs : List Field) → AllFit nodes sections own fs → Every (λ c. Child nodes′ own′ (φ c)) (pick aNode fs) → Every (λ s. ψ s < sections′) (pick aSection fs) → AllFit nodes′ sections′ own′ (map (fieldAnew φ ψ) fs)
-    all-anew [] h c s = tt
-    all-anew (f ∷ fs) h c s =
-        let q = role-anew (f .role) (f .value) fs (h .0) c s in
-        (q .0, all-anew fs (h .1) (q .1) (q .2))
+    role-anew : (r : Role) (v : ℕ) (fs : List Field) → Fits nodes sections own r v → Sent ((r of v) ∷ fs) → Fits nodes′ sections′ own′ r (anew φ ψ r v) × Sent fs
+    role-anew aNode v fs h s = (s .0 .0, (s .0 .1, s .1))
+    role-anew aSection v fs h s = (s .1 .0, (s .0, s .1 .1))
+    role-anew aVariable v fs h s = (tt, s)
+    role-anew aTest v fs h s = (h, s)
+    role-anew aNumber v fs h s = (h, s)
 
-    pub ranged-anew : (n : Node) → Ranged nodes sections own n → Every (λ c. Child nodes′ own′ (φ c)) (children n) → Every (λ s. ψ s < sections′) (calls n) → Ranged nodes′ sections′ own′ (renumber φ ψ n)
+    all-anew : (fs : List Field) → AllFit nodes sections own fs → Sent fs → AllFit nodes′ sections′ own′ (map (fieldAnew φ ψ) fs)
+    all-anew [] h s = tt
+    all-anew (f ∷ fs) h s =
+        let q = role-anew (f .role) (f .value) fs (h .0) s in
+        (q .0, all-anew fs (h .1) (q .1))
+
+    pub ranged-anew : (n : Node) → Ranged nodes sections own n → Every (λ c. Child nodes′ own′ (φ c)) (children n) → Every (λ s. ψ s < sections′) (calls n)
+        → Ranged nodes′ sections′ own′ (renumber φ ψ n)
     unfolding children calls
-    ranged-anew n h c s = rw (row-renumbered n) (all-anew (row n .body) h c s)
+    ranged-anew n h c s = rw (row-renumbered n) (all-anew (row n .body) h (c, s))
+
+-- by functions that agree on its children and on the sections that it calls, it is renumbered to the same node
+module _ (φ ψ φ′ ψ′ : ℕ → ℕ) where
+  abbrev Agree : List Field → Type 0
+  Agree = Named (λ c. φ c ≡ φ′ c) (λ s. ψ s ≡ ψ′ s)
+
+  role-agrees : (r : Role) (v : ℕ) (fs : List Field) → Agree ((r of v) ∷ fs) → (anew φ ψ r v ≡ anew φ′ ψ′ r v) × Agree fs
+  role-agrees aNode v fs h = (h .0 .0, (h .0 .1, h .1))
+  role-agrees aSection v fs h = (h .1 .0, (h .0, h .1 .1))
+  role-agrees aVariable v fs h = (refl, h)
+  role-agrees aTest v fs h = (refl, h)
+  role-agrees aNumber v fs h = (refl, h)
+
+  fields-agree : (fs : List Field) → Agree fs → map (fieldAnew φ ψ) fs ≡ map (fieldAnew φ′ ψ′) fs
+  fields-agree [] h = refl
+  fields-agree (f ∷ fs) h =
+      let q = role-agrees (f .role) (f .value) fs h in
+      ap (λ (v : ℕ). (f .role of v) ∷ map (fieldAnew φ ψ) fs) (q .0) ∙ ap (λ (l : List Field). fieldAnew φ′ ψ′ f ∷ l) (fields-agree fs (q .1))
+
+  pub renumbered-alike : (n : Node) → Every (λ c. φ c ≡ φ′ c) (children n) → Every (λ s. ψ s ≡ ψ′ s) (calls n) → renumber φ ψ n ≡ renumber φ′ ψ′ n
+  unfolding renumber children calls
+  renumbered-alike n c s = ap (λ (fs : List Field). ofKind (formOf (row n .kind)) (values fs)) (fields-agree (row n .body) (c, s))
+
+  -- twice is once, by one function behind the other
+  role-twice : (r : Role) (v : ℕ) → anew φ′ ψ′ r (anew φ ψ r v) ≡ anew (λ x. φ′ (φ x)) (λ x. ψ′ (ψ x)) r v
+  role-twice aNode v = refl
+  role-twice aSection v = refl
+  role-twice aVariable v = refl
+  role-twice aTest v = refl
+  role-twice aNumber v = refl
+
+  fields-twice : (fs : List Field) → map (fieldAnew φ′ ψ′) (map (fieldAnew φ ψ) fs) ≡ map (fieldAnew (λ x. φ′ (φ x)) (λ x. ψ′ (ψ x))) fs
+  fields-twice [] = refl
+  fields-twice (f ∷ fs) =
+      ap (λ (v : ℕ). (f .role of v) ∷ map (fieldAnew φ′ ψ′) (map (fieldAnew φ ψ) fs)) (role-twice (f .role) (f .value))
+      ∙ ap (λ (l : List Field). fieldAnew (λ x. φ′ (φ x)) (λ x. ψ′ (ψ x)) f ∷ l) (fields-twice fs)
+
+  pub renumbered-twice : (n : Node) → renumber φ′ ψ′ (renumber φ ψ n) ≡ renumber (λ x. φ′ (φ x)) (λ x. ψ′ (ψ x)) n
+  renumbered-twice n =
+      same-row _ _
+      (row-renumbered φ′ ψ′ (renumber φ ψ n)
+      ∙ ap (λ (r : Row). r .kind is map (fieldAnew φ′ ψ′) (r .body)) (row-renumbered φ ψ n)
+      ∙ ap (λ (fs : List Field). row n .kind is fs) (fields-twice (row n .body))
+      ∙ sym (row-renumbered (λ x. φ′ (φ x)) (λ x. ψ′ (ψ x)) n))
+
+-- and by functions that change none of them, it is the node itself
+role-still : (r : Role) (v : ℕ) → anew (λ x. x) (λ x. x) r v ≡ v
+role-still aNode v = refl
+role-still aSection v = refl
+role-still aVariable v = refl
+role-still aTest v = refl
+role-still aNumber v = refl
+
+fields-still : (fs : List Field) → map (fieldAnew (λ x. x) (λ x. x)) fs ≡ fs
+fields-still [] = refl
+fields-still (f ∷ fs) =
+    ap (λ (v : ℕ). (f .role of v) ∷ map (fieldAnew (λ x. x) (λ x. x)) fs) (role-still (f .role) (f .value))
+    ∙ ap (λ (l : List Field). f ∷ l) (fields-still fs)
+
+pub renumbered-same : (n : Node) → renumber (λ x. x) (λ x. x) n ≡ n
+unfolding renumber
+renumbered-same n = ap (λ (fs : List Field). ofKind (formOf (row n .kind)) (values fs)) (fields-still (row n .body)) ∙ as-kind n
+
+pub renumbered-still : (φ ψ : ℕ → ℕ) (n : Node) → Every (λ c. φ c ≡ c) (children n) → Every (λ s. ψ s ≡ s) (calls n) → renumber φ ψ n ≡ n
+renumbered-still φ ψ n c s = renumbered-alike φ ψ (λ x. x) (λ x. x) n c s ∙ renumbered-same n
 
 -- IN RANGE
 
 module _ (nodes sections own : ℕ) where
-  keep-fits : (b : Bool) (q r : Role) (v : ℕ) (xs : List ℕ) → (b ≡ true → q ≡ r) → Fits nodes sections own q v → Every (Fits nodes sections own r) xs → Every (Fits nodes sections own r) (keep b v xs)
+  keep-fits : (b : Bool) (q r : Role) (v : ℕ) (xs : List ℕ) → (b ≡ true → q ≡ r) → Fits nodes sections own q v → Every (Fits nodes sections own r) xs
+      → Every (Fits nodes sections own r) (keep b v xs)
   keep-fits true q r v xs s h e = (rw (s refl) at h, e)
   keep-fits false q r v xs s h e = e
 
@@ -209,7 +287,10 @@ role-length aNumber v = refl
 
 body-length : (fs : List Field) → length (bodyBytes fs) ≡ sizes (roles fs)
 body-length [] = refl
-body-length (f ∷ fs) = length-append (bytesOf (f .role) (f .value)) (bodyBytes fs) ∙ ap (λ (k : ℕ). k + length (bodyBytes fs)) (role-length (f .role) (f .value)) ∙ ap (λ (k : ℕ). size (f .role) + k) (body-length fs)
+body-length (f ∷ fs) =
+    length-append (bytesOf (f .role) (f .value)) (bodyBytes fs)
+    ∙ ap (λ (k : ℕ). k + length (bodyBytes fs)) (role-length (f .role) (f .value))
+    ∙ ap (λ (k : ℕ). size (f .role) + k) (body-length fs)
 
 pub written-length : (n : Node) → length (written n) ≡ width n
 unfolding written width
@@ -250,7 +331,8 @@ module _ (n : Node) (l : List ℕ) where
   pub node-written : (left : ℕ) → readNodes (suc left) (written n ++ l) ≡ mapResult (λ ns. n ∷ ns) (readNodes left l)
   unfolding written readNodes orRefuse unless
   node-written left =
-      let d : drop (bodyWidth (built n .form)) (bodyBytes (row n .body) ++ l) ≡ l = drop-at (bodyBytes (row n .body)) l (bodyWidth (built n .form)) (sym body-width) in
+      let d : drop (bodyWidth (built n .form)) (bodyBytes (row n .body) ++ l) ≡ l =
+      drop-at (bodyBytes (row n .body)) l (bodyWidth (built n .form)) (sym body-width) in
       rw (built n .known, le-leb _ _ body-whole, body-made, d)
 
 abbrev pub allWritten : List Node → List ℕ
@@ -289,7 +371,8 @@ role-bytes aNumber v h = (div-lt-iff-lt-mul {k = 256} {x = v} {y = 256} (omega a
 
 body-bytes : (fs : List Field) → Small fs → Every (λ b. b < 256) (bodyBytes fs)
 body-bytes [] h = tt
-body-bytes (f ∷ fs) h = every-append (λ b. b < 256) (bytesOf (f .role) (f .value)) (bodyBytes fs) (role-bytes (f .role) (f .value) (h .0)) (body-bytes fs (h .1))
+body-bytes (f ∷ fs) h =
+    every-append (λ b. b < 256) (bytesOf (f .role) (f .value)) (bodyBytes fs) (role-bytes (f .role) (f .value) (h .0)) (body-bytes fs (h .1))
 
 none-some : {f : Form} → _≡_ {A = Option Form} none (some f) → ⊥
 none-some e = let z : _≡_ {A = ℕ} 0 1 = cc in omega arith
@@ -324,14 +407,16 @@ unfolding written readRecords ifSection mapResult
 no-section n zero l ns e = let q : eqb (row n .kind) 0x20 ≡ false = ne-eqb (row n .kind) 0x20 (λ z. omega (arith, kind-near n .1)) in rw (q, e)
 no-section n (suc left) l ns e = let q : eqb (row n .kind) 0x20 ≡ false = ne-eqb (row n .kind) 0x20 (λ z. omega (arith, kind-near n .1)) in rw (q, e)
 
-records-written : (rs : List ℕ) (n : Node) (ns : List Node) (left : ℕ) → length rs ≤ left → length (n ∷ ns) ≤ 200 → readRecords left (rootsWritten rs (allWritten (n ∷ ns))) ≡ ok (rs, n ∷ ns)
+records-written : (rs : List ℕ) (n : Node) (ns : List Node) (left : ℕ) → length rs ≤ left → length (n ∷ ns) ≤ 200
+    → readRecords left (rootsWritten rs (allWritten (n ∷ ns))) ≡ ok (rs, n ∷ ns)
 unfolding readRecords ifSection oneSection mapResult
 records-written [] n ns left h few = no-section n left (allWritten ns) (n ∷ ns) (nodes-written (n ∷ ns) 200 few)
 records-written (r ∷ rs) n ns zero h few = absurd (omega arith)
 records-written (r ∷ rs) n ns (suc left) h few = ap (mapResult (λ (x : Records). (r ∷ x .0, x .1))) (records-written rs n ns left (omega arith) few)
 
 -- a sheet in range, written and read, is the sheet
-pub sheet-written : (sh : Sheet) → 1 ≤ length (sh .nodes) → length (sh .nodes) ≤ 200 → length (sh .sections) ≤ 8 → inRange sh ≡ true → readSheet (sheetWritten sh) ≡ ok sh
+pub sheet-written : (sh : Sheet) → 1 ≤ length (sh .nodes) → length (sh .nodes) ≤ 200 → length (sh .sections) ≤ 8 → inRange sh ≡ true
+    → readSheet (sheetWritten sh) ≡ ok sh
 unfolding readSheet readHeader readBody andThen withNodes sheetWritten unless
 sheet-written sh one few secs r = go (sh .nodes) refl
   where
