@@ -149,7 +149,8 @@ module _ (φ ψ : ℕ → ℕ) where
     abbrev Sent : List Field → Type 0
     Sent = Named (λ c. Child nodes′ own′ (φ c)) (λ s. ψ s < sections′)
 
-    role-anew : (r : Role) (v : ℕ) (fs : List Field) → Fits nodes sections own r v → Sent ((r of v) ∷ fs) → Fits nodes′ sections′ own′ r (anew φ ψ r v) × Sent fs
+    role-anew : (r : Role) (v : ℕ) (fs : List Field) → Fits nodes sections own r v → Sent ((r of v) ∷ fs)
+        → Fits nodes′ sections′ own′ r (anew φ ψ r v) × Sent fs
     role-anew aNode v fs h s = (s .0 .0, (s .0 .1, s .1))
     role-anew aSection v fs h s = (s .1 .0, (s .0, s .1 .1))
     role-anew aVariable v fs h s = (tt, s)

@@ -16,7 +16,7 @@ use Rattle.sheet.specs.Sheet.{Sheet, Records, readNodes, oneSection, ifS
 use Rattle.sheet.specs.Table.{nodeOf}
 use Rattle.sheet.specs.Forms.{listing, fieldsOf, form-told, row-made, length-values, wide-form, node-whole}
 use Rattle.sheet.specs.Reading.{Made, Fine, fine, refused, fine-or, fine-unless, fine-map, fine-then, fine-ok}
-use Rattle.sheet.specs.Rows.{Every, allWritten, rootsWritten, sheetWritten}
+use Rattle.sheet.specs.Rows.{Every, limit, Small, allWritten, rootsWritten, sheetWritten}
 use Rattle.sheet.specs.declared.Node.{Node}
 
 -- BYTES
@@ -94,6 +94,28 @@ written-there {s} {p} {n} m small =
     let g : ℕ → ℕ = λ i. getD s (p + suc i) 0 in
     let w : width n ≡ suc (bodyWidth (m .form)) = ap width (m .node) ∙ wide-form (getD s (p + 0) 0) (m .known) g in
     ap written (m .node) ∙ written-made (m .known) g (λ i. byte-small s small (p + suc i)) ∙ ap (λ (k : ℕ). listing k (λ i. getD s (p + i) 0)) (sym w)
+
+-- and the numbers of its fields are as small as so many bytes can say
+module _ (g : ℕ → ℕ) (small : (i : ℕ) → g i < 256) where
+  role-small : (r : Role) → valueOf r g < limit r
+  role-small aNode = small 0
+  role-small aSection = small 0
+  role-small aVariable = small 0
+  role-small aTest = small 0
+  role-small aNumber = omega (arith, small 0, small 1)
+
+fields-small : (rs : List Role) (g : ℕ → ℕ) → ((i : ℕ) → g i < 256) → Small (fieldsOf rs (valuesOf rs g))
+fields-small [] g small = tt
+fields-small (r ∷ rs) g small = (role-small g small r, fields-small rs (λ i. g (size r + i)) (λ i. small (size r + i)))
+
+pub read-small : {s : List ℕ} {p : ℕ} {n : Node} → Made s p n → Bytes s → Small (row n .body)
+unfolding make
+read-small {s} {p} m small =
+    let g : ℕ → ℕ = λ i. getD s (p + suc i) 0 in
+    let t = form-told (getD s (p + 0) 0) (m .known) in
+    let rs : List Role = rolesOf (m .form) in
+    let e = ap row (m .node) ∙ row-made t (valuesOf rs g) (length-values rs g ∙ t .many) in
+    rw e (fields-small rs g (λ i. byte-small s small (p + suc i)))
 
 -- A SHEET
 
