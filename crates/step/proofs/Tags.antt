@@ -1,23 +1,41 @@
--- What the last arm of a match on a shape tells: it is of none of the variants before.
-use mathlib.Core.Path.{_≡_, subst}
+-- What the last arm of a match tells: the value is of none of the variants before.
+use mathlib.Core.Path.{_≡_, refl}
+use mathlib.Core.Bool.{true}
 use mathlib.Core.List.{[], _∷_}
 use Prim.Native.Nat.{ℕ}
 use types.Run.{OneOf, miss}
 use denote.Enum.Declared.{tagOf}
-use Rattle.value.proofs.Shape.{the-type}
+use Rattle.value.proofs.Shape as shape
 use Rattle.value.specs.declared.Shape.{Shape}
-use Rattle.value.specs.declared.Shape.the-variants.{False, True, Empty, Front}
+use Rattle.value.specs.declared.Shape.the-variants.{False, True, Empty, Front, Number, Pair, Malformed}
+use Rattle.step.proofs.Branch as branch
+use Rattle.step.specs.declared.Branch.{Branch}
+use Rattle.step.specs.declared.Branch.the-variants.{Plain, Parts, Switch, Refused}
+use Rattle.step.specs.StepLaws.{neither, whole, unfitting}
 
--- no list
-pub not-empty : (q : Shape) → OneOf (0 ∷ 1 ∷ 4 ∷ 5 ∷ 6 ∷ []) (tagOf the-type q) → q ≡ Empty → ⊥
-not-empty q h e = miss (0 ∷ 1 ∷ 4 ∷ 5 ∷ 6 ∷ []) 2 tt (subst (λ (x : Shape). OneOf (0 ∷ 1 ∷ 4 ∷ 5 ∷ 6 ∷ []) (tagOf the-type x)) e h)
+pub fits-neither : (q : Shape) → OneOf (4 ∷ 6 ∷ []) (tagOf shape.the-type q) → neither q ≡ true
+unfolding neither
+fits-neither False h = absurd (miss (4 ∷ 6 ∷ []) 0 tt h)
+fits-neither True h = absurd (miss (4 ∷ 6 ∷ []) 1 tt h)
+fits-neither Empty h = absurd (miss (4 ∷ 6 ∷ []) 2 tt h)
+fits-neither (Front m) h = absurd (miss (4 ∷ 6 ∷ []) 3 tt h)
+fits-neither (Number n) h = refl
+fits-neither (Pair m) h = absurd (miss (4 ∷ 6 ∷ []) 5 tt h)
+fits-neither Malformed h = refl
 
-pub not-front : (q : Shape) → OneOf (0 ∷ 1 ∷ 4 ∷ 5 ∷ 6 ∷ []) (tagOf the-type q) → (mid : ℕ) → q ≡ Front mid → ⊥
-not-front q h mid e = miss (0 ∷ 1 ∷ 4 ∷ 5 ∷ 6 ∷ []) 3 tt (subst (λ (x : Shape). OneOf (0 ∷ 1 ∷ 4 ∷ 5 ∷ 6 ∷ []) (tagOf the-type x)) e h)
+pub is-whole : (q : Shape) → OneOf (0 ∷ 1 ∷ 2 ∷ 4 ∷ 6 ∷ []) (tagOf shape.the-type q) → whole q ≡ true
+unfolding whole
+is-whole False h = refl
+is-whole True h = refl
+is-whole Empty h = refl
+is-whole (Front m) h = absurd (miss (0 ∷ 1 ∷ 2 ∷ 4 ∷ 6 ∷ []) 3 tt h)
+is-whole (Number n) h = refl
+is-whole (Pair m) h = absurd (miss (0 ∷ 1 ∷ 2 ∷ 4 ∷ 6 ∷ []) 5 tt h)
+is-whole Malformed h = refl
 
--- no truth value
-pub not-false : (q : Shape) → OneOf (2 ∷ 3 ∷ 4 ∷ 5 ∷ 6 ∷ []) (tagOf the-type q) → q ≡ False → ⊥
-not-false q h e = miss (2 ∷ 3 ∷ 4 ∷ 5 ∷ 6 ∷ []) 0 tt (subst (λ (x : Shape). OneOf (2 ∷ 3 ∷ 4 ∷ 5 ∷ 6 ∷ []) (tagOf the-type x)) e h)
-
-pub not-true : (q : Shape) → OneOf (2 ∷ 3 ∷ 4 ∷ 5 ∷ 6 ∷ []) (tagOf the-type q) → q ≡ True → ⊥
-not-true q h e = miss (2 ∷ 3 ∷ 4 ∷ 5 ∷ 6 ∷ []) 1 tt (subst (λ (x : Shape). OneOf (2 ∷ 3 ∷ 4 ∷ 5 ∷ 6 ∷ []) (tagOf the-type x)) e h)
+pub is-unfitting : (b : Branch) → OneOf (2 ∷ 3 ∷ []) (tagOf branch.the-type b) → unfitting b ≡ true
+unfolding unfitting
+is-unfitting (Plain i b) h = absurd (miss (2 ∷ 3 ∷ []) 0 tt h)
+is-unfitting (Parts i m) h = absurd (miss (2 ∷ 3 ∷ []) 1 tt h)
+is-unfitting Switch h = refl
+is-unfitting (Refused c) h = refl

@@ -6,10 +6,12 @@ use Prim.Native.Nat.{ℕ, zero, suc, _+_, _*_}
 use lib.Dec.{eqb, ltb}
 use lib.ListN.{getD, set}
 use Rattle.step.specs.declared.Scope.{Scope}
-use Rattle.step.specs.declared.Cells.{Cells}
 use Rattle.step.specs.declared.Span.{Span}
-use Rattle.step.specs.declared.ListBranch.{ListBranch}
-use Rattle.step.specs.declared.ListBranch.the-variants as is
+use Rattle.step.specs.declared.Branch.{Branch}
+use Rattle.step.specs.declared.Branch.the-variants.{Plain, Parts, Switch, Refused}
+use Rattle.step.specs.declared.Apart.{Apart}
+use Rattle.step.specs.declared.Apart.the-variants.{At, Other}
+use Rattle.answer.specs.Answer.{doneAs}
 use Rattle.value.specs.declared.Shape.{Shape}
 use Rattle.value.specs.declared.Shape.the-variants.{False, True, Empty, Front, Number, Pair, Malformed}
 
@@ -24,10 +26,6 @@ entryRefusal zero left = 40
 entryRefusal (suc l) zero = 41
 entryRefusal (suc l) (suc n) = 0
 
--- the answer of a get as one number: below 256 it is a refusal; otherwise the length, the start and the steps stand above the low byte
-unfoldable pub packed : (start len steps : ℕ) → ℕ
-packed start len steps = 256 * len + 16777216 * start + 1099511627776 * steps
-
 -- entries x and y of a list, at its front
 abbrev pub pickedTwo : List ℕ → ℕ → ℕ → List ℕ
 pickedTwo l x y = set (set l 0 (getD l x 0)) 1 (getD l y 0)
@@ -40,14 +38,6 @@ addedTwo l n a b = set (set l n a) (n + 1) b
 abbrev pub picked : Scope → ℕ → ℕ → Scope
 picked s x y = record { count = 2; starts = pickedTwo (s .starts) x y; lens = pickedTwo (s .lens) x y }
 
--- the cells of the two variables x and y alone
-abbrev pub pickedCells : Cells → ℕ → ℕ → Cells
-pickedCells c x y = record { count = c .count; of = pickedTwo (c .of) x y }
-
--- two cells more, for the variables n and n + 1
-abbrev pub moreCells : Cells → ℕ → Cells
-moreCells c n = record { count = c .count + 2; of = addedTwo (c .of) n (c .count) (c .count + 1) }
-
 -- where a variable's value stands: in the slot of its cell where it was written, or else where it stood
 unfoldable pub placeOf : (written cell start len : ℕ) → Span
 placeOf zero cell start len = record { start = start; len = len }
@@ -57,56 +47,65 @@ placeOf (suc w) cell start len = record { start = 4096 + 256 * cell; len = suc w
 abbrev pub nowhere : Span
 nowhere = record { start = 0; len = 0 }
 
--- 46 where a test says no
-unfoldable pub testRefusal : Bool → ℕ
-testRefusal true = 0
-testRefusal false = 46
+-- one thing where a test says yes, another where it says no
+unfoldable pub where-so : {A : Type 0} → Bool → A → A → A
+where-so true a b = a
+where-so false a b = b
 
--- the branch for a view, 0 or 1: the one that the old subject fits is kept where its test says yes; otherwise the other is taken where its
--- test says yes; otherwise refusal 53
-unfoldable pub chosen : (fits-second first-says second-says : Bool) → ℕ
-chosen true p true = 1
-chosen true true false = 0
-chosen true false false = 53
-chosen false true q = 0
-chosen false false true = 1
-chosen false false false = 53
+-- THE BRANCHES OF A CASE
 
--- of a truth case, by the old subject's shape
-unfoldable pub truthBranch : Shape → (no-says yes-says : Bool) → ℕ
-truthBranch False p q = chosen false p q
-truthBranch True p q = chosen true p q
-truthBranch Empty p q = 43
-truthBranch (Front mid) p q = 43
-truthBranch (Number n) p q = 43
-truthBranch (Pair mid) p q = 43
-truthBranch Malformed p q = 43
+-- a branch, where the case is of the kind that has it
+unfoldable pub fitsKind : (kind is : ℕ) → Branch → Branch
+fitsKind kind is b = where-so (eqb kind is) (b) (Refused 43)
 
--- of a list case whose old subject is the empty list: the second branch is taken by a switch
-unfoldable pub fromEmpty : ℕ → ListBranch
-fromEmpty zero = is.Empty
-fromEmpty (suc zero) = is.Switch
-fromEmpty (suc (suc c)) = is.Refused (suc (suc c))
+-- the branch that a subject fits, by its shape
+unfoldable pub fitOf : ℕ → Shape → Branch
+fitOf kind Empty = fitsKind kind 0x17 (Plain 2 2)
+fitOf kind (Front mid) = fitsKind kind 0x17 (Parts 4 mid)
+fitOf kind False = fitsKind kind 0x18 (Plain 2 0)
+fitOf kind True = fitsKind kind 0x18 (Plain 4 1)
+fitOf kind (Pair mid) = fitsKind kind 0x19 (Parts 2 mid)
+fitOf kind (Number n) = Refused 43
+fitOf kind Malformed = Refused 43
 
--- whose old subject has members: the second branch keeps its parts
-unfoldable pub fromFront : (mid : ℕ) → ℕ → ListBranch
-fromFront mid zero = is.Empty
-fromFront mid (suc zero) = is.Front mid
-fromFront mid (suc (suc c)) = is.Refused (suc (suc c))
+-- the second branch, where the subject fits the first: of a list case it is switched to, of a truth case it is True's
+unfoldable pub otherOf : ℕ → Branch
+otherOf kind = where-so (eqb kind 0x17) (Switch) (Plain 4 1)
 
--- of a list case, by the old subject's shape
-unfoldable pub listBranch : Shape → (empty-says front-says : Bool) → ListBranch
-listBranch Empty p q = fromEmpty (chosen false p q)
-listBranch (Front mid) p q = fromFront mid (chosen true p q)
-listBranch False p q = is.Refused 43
-listBranch True p q = is.Refused 43
-listBranch (Number n) p q = is.Refused 43
-listBranch (Pair mid) p q = is.Refused 43
-listBranch Malformed p q = is.Refused 43
+-- the branch that is kept where its test says yes, or else the other where its test does, or else refusal 53
+unfoldable pub choice : (kept-says other-says : Bool) → Branch → Branch → Branch
+choice true q kept other = kept
+choice false true kept other = other
+choice false false kept other = Refused 53
 
--- one step taken, as a put answers it, or a refusal
+-- from the branch that the old subject fits
+unfoldable pub takenFrom : (kind : ℕ) (fit : Branch) (first-says second-says : Bool) → Branch
+takenFrom kind (Plain i byte) p q = where-so (eqb i 2) (choice p q (Plain i byte) (otherOf kind)) (choice q p (Plain i byte) (Plain 2 0))
+takenFrom kind (Parts i mid) p q = where-so (eqb i 2) (Parts i mid) (choice q p (Parts i mid) (Plain 2 2))
+takenFrom kind Switch p q = Refused 43
+takenFrom kind (Refused c) p q = Refused 43
+
+-- the branch that a view takes, by the shape of the old subject and what the two tests say to the view
+unfoldable pub takeOf : (kind : ℕ) (subject : Shape) (first-says second-says : Bool) → Branch
+takeOf kind s p q = takenFrom kind (fitOf kind s) p q
+
+-- a view taken apart for a front (15) or a pair
+unfoldable pub apartOf : ℕ → Shape → Apart
+apartOf kind (Front mid) = where-so (eqb kind 0x15) (At mid) (Other)
+apartOf kind (Pair mid) = where-so (eqb kind 0x15) (Other) (At mid)
+apartOf kind False = Other
+apartOf kind True = Other
+apartOf kind Empty = Other
+apartOf kind (Number n) = Other
+apartOf kind Malformed = Other
+
+-- the kind of the value that a front (15), a pair, a list case (17) or a split makes of two
+unfoldable pub madeOf : ℕ → ℕ
+madeOf kind = where-so (eqb kind 0x15) (3) (where-so (eqb kind 0x17) (3) (5))
+
+-- nothing got and no step of its own, or a refusal
 unfoldable pub judged : ℕ → Bool → ℕ
-judged c true = 256
+judged c true = doneAs 0 0 0
 judged c false = c
 
 -- the rest of a list (kind 3) is no list

@@ -1,16 +1,18 @@
 -- Laws of those definitions, for the code here and for callers.
-use mathlib.Core.Path.{_≡_, refl, sym}
+use mathlib.Core.Path.{_≡_, refl, sym, ap, _∙_}
 use mathlib.Core.Bool.{Bool, true, false, _&&_, false≢true}
 use Prim.Native.Nat.{ℕ, zero, suc, _+_, _*_, _≤_, _<_}
 use native.Mathlib.Omega.{arith}
-use lib.Dec.{ltb}
-use borrow.Author.Tests.{ne-eqb, eq-eqb, lt-ltb, le-ltb}
-use Rattle.value.specs.PartsLaws.{which, unlike}
+use lib.Dec.{eqb, ltb}
+use borrow.Author.Tests.{eqb-true, ne-eqb, eq-eqb, lt-ltb, le-ltb}
 use Rattle.value.specs.declared.Shape.{Shape}
 use Rattle.value.specs.declared.Shape.the-variants.{False, True, Empty, Front, Number, Pair, Malformed}
-use Rattle.step.specs.declared.ListBranch.{ListBranch}
-use Rattle.step.specs.declared.ListBranch.the-variants as is
-use Rattle.step.specs.Step.{When, placeOf, entryRefusal, testRefusal, chosen, truthBranch, fromEmpty, fromFront, listBranch, judged, unfitRest}
+use Rattle.step.specs.declared.Branch.{Branch}
+use Rattle.step.specs.declared.Branch.the-variants.{Plain, Parts, Switch, Refused}
+use Rattle.step.specs.declared.Apart.{Apart}
+use Rattle.step.specs.declared.Apart.the-variants.{At, Other}
+use Rattle.answer.specs.Answer.{doneAs}
+use Rattle.step.specs.Step.{When, where-so, placeOf, entryRefusal, fitsKind, fitOf, otherOf, choice, takenFrom, takeOf, apartOf, madeOf, judged, unfitRest}
 
 pub when-in : {A P : Type 0} {r x y : A} → P → r ≡ x → When P r x y
 when-in p e = record { inside = λ _. e; outside = λ n. absurd (n p) }
@@ -40,7 +42,7 @@ entered zero left e z = absurd (omega (arith, e, z))
 entered (suc l) zero e z = absurd (omega (arith, e, z))
 entered (suc l) (suc k) e z = (λ q. omega (arith, q), λ q. omega (arith, q))
 
-pub judged-yes : (c : ℕ) {p q : Bool} → p ≡ q → p ≡ true → 256 ≡ judged c q
+pub judged-yes : (c : ℕ) {p q : Bool} → p ≡ q → p ≡ true → doneAs 0 0 0 ≡ judged c q
 unfolding judged
 judged-yes c e t = rw (← e, t)
 
@@ -69,177 +71,262 @@ pub by-height : (kind rest : ℕ) → kind ≡ 3 → 2 ≤ rest → ltb 3 rest �
 unfolding unfitRest
 by-height kind rest e h = rw (eq-eqb kind 3 e, le-ltb rest 2 h)
 
-pub tested-yes : {r : ℕ} (b : Bool) → r ≡ testRefusal b → r ≡ 0 → b ≡ true
-unfolding testRefusal
-tested-yes true e z = refl
-tested-yes false e z = absurd (omega (arith, e, z))
+-- where a number is that one, and where it is not
+module _ {A : Type 0} {n m : ℕ} (x y : A) where
+  pub where-is : n ≡ m → where-so (eqb n m) x y ≡ x
+  unfolding where-so
+  where-is e = ap (λ (b : Bool). where-so b x y) (eq-eqb n m e)
 
-pub tested-no : {r : ℕ} (b : Bool) → r ≡ testRefusal b → (r ≡ 0 → ⊥) → (b ≡ false) × (r ≡ 46)
-unfolding testRefusal
-tested-no true e n = absurd (n e)
-tested-no false e n = (refl, e)
+  pub where-not : (n ≡ m → ⊥) → where-so (eqb n m) x y ≡ y
+  unfolding where-so
+  where-not e = ap (λ (b : Bool). where-so b x y) (ne-eqb n m e)
 
-pub says-yes : {p q : Bool} → p ≡ q → p ≡ true → 0 ≡ testRefusal q
-unfolding testRefusal
-says-yes e t = rw (← e, t)
+-- THE BRANCHES OF A CASE, as the code tells them
 
-pub says-no : {p q : Bool} → p ≡ q → p ≡ false → 46 ≡ testRefusal q
-unfolding testRefusal
-says-no e t = rw (← e, t)
+pub on-kind : {kind is : ℕ} (b : Branch) → kind ≡ is → b ≡ fitsKind kind is b
+unfolding fitsKind
+on-kind b e = sym (where-is _ _ e)
 
--- THE CHOICE, as it is made
+pub on-other : {kind is : ℕ} (b : Branch) → (kind ≡ is → ⊥) → Refused 43 ≡ fitsKind kind is b
+unfolding fitsKind
+on-other b n = sym (where-not _ _ n)
 
-pub keeps-second : (b p q : Bool) → (b && q) ≡ true → 1 ≡ chosen b p q
-unfolding chosen
-keeps-second true p true e = refl
-keeps-second true p false e = absurd (false≢true e)
-keeps-second false p q e = absurd (false≢true e)
+pub second-list : {kind : ℕ} → kind ≡ 0x17 → Switch ≡ otherOf kind
+unfolding otherOf
+second-list e = sym (where-is _ _ e)
 
-pub takes-first : (b p q : Bool) → (b && q) ≡ false → p ≡ true → 0 ≡ chosen b p q
-unfolding chosen
-takes-first true true true e t = absurd (false≢true (sym e))
-takes-first true true false e t = refl
-takes-first false true q e t = refl
-takes-first true false q e t = absurd (false≢true t)
-takes-first false false q e t = absurd (false≢true t)
+pub second-truth : {kind : ℕ} → (kind ≡ 0x17 → ⊥) → Plain 4 1 ≡ otherOf kind
+unfolding otherOf
+second-truth n = sym (where-not _ _ n)
 
-pub takes-second : (b p q : Bool) → (b && q) ≡ false → p ≡ false → q ≡ true → 1 ≡ chosen b p q
-unfolding chosen
-takes-second true p true e f t = absurd (false≢true (sym e))
-takes-second false p true e f t = rw f
-takes-second true p false e f t = absurd (false≢true t)
-takes-second false p false e f t = absurd (false≢true t)
+-- a subject of each shape, and of none that fits
+module _ (kind : ℕ) {q : Shape} {r : Branch} where
+  pub fits-empty : q ≡ Empty → r ≡ fitsKind kind 0x17 (Plain 2 2) → r ≡ fitOf kind q
+  unfolding fitOf
+  fits-empty e h = rw e h
 
-pub takes-neither : (b p q : Bool) → p ≡ false → q ≡ false → 53 ≡ chosen b p q
-unfolding chosen
-takes-neither true p q f g = rw (f, g)
-takes-neither false p q f g = rw (f, g)
+  pub fits-false : q ≡ False → r ≡ fitsKind kind 0x18 (Plain 2 0) → r ≡ fitOf kind q
+  unfolding fitOf
+  fits-false e h = rw e h
 
--- what it says of the two tests
-pub data Says (p q : Bool) : (fits-second : Bool) (branch : ℕ) → Type 0 where
-  first-kept : p ≡ true → Says p q false 0
-  first-left : p ≡ false → q ≡ true → Says p q false 1
-  second-kept : q ≡ true → Says p q true 1
-  second-left : q ≡ false → p ≡ true → Says p q true 0
-  neither : {b : Bool} → p ≡ false → q ≡ false → Says p q b 53
+  pub fits-true : q ≡ True → r ≡ fitsKind kind 0x18 (Plain 4 1) → r ≡ fitOf kind q
+  unfolding fitOf
+  fits-true e h = rw e h
 
-pub says : (b p q : Bool) → Says p q b (chosen b p q)
-unfolding chosen
-says true true true = second-kept refl
-says true false true = second-kept refl
-says true true false = second-left refl refl
-says true false false = neither refl refl
-says false true q = first-kept refl
-says false false true = first-left refl refl
-says false false false = neither refl refl
+  pub fits-front : {mid : ℕ} → q ≡ Front mid → r ≡ fitsKind kind 0x17 (Parts 4 mid) → r ≡ fitOf kind q
+  unfolding fitOf
+  fits-front e h = rw e h
 
--- THE BRANCH of a truth case
-pub data TruthSays (s : Shape) (p q : Bool) : ℕ → Type 0 where
-  of-false : {c : ℕ} → s ≡ False → Says p q false c → TruthSays s p q c
-  of-true : {c : ℕ} → s ≡ True → Says p q true c → TruthSays s p q c
-  of-none : (s ≡ False → ⊥) → (s ≡ True → ⊥) → TruthSays s p q 43
+  pub fits-pair : {mid : ℕ} → q ≡ Pair mid → r ≡ fitsKind kind 0x19 (Parts 2 mid) → r ≡ fitOf kind q
+  unfolding fitOf
+  fits-pair e h = rw e h
 
-truths : (s : Shape) (p q : Bool) → TruthSays s p q (truthBranch s p q)
-unfolding truthBranch which
-truths False p q = of-false refl (says false p q)
-truths True p q = of-true refl (says true p q)
-truths Empty p q = of-none (unlike λ e. omega arith) (unlike λ e. omega arith)
-truths (Front mid) p q = of-none (unlike λ e. omega arith) (unlike λ e. omega arith)
-truths (Number n) p q = of-none (unlike λ e. omega arith) (unlike λ e. omega arith)
-truths (Pair mid) p q = of-none (unlike λ e. omega arith) (unlike λ e. omega arith)
-truths Malformed p q = of-none (unlike λ e. omega arith) (unlike λ e. omega arith)
+-- WHAT A BRANCH TELLS of the case and of its subject
+pub data Fits (k : ℕ) : Shape → Branch → Type 0 where
+  empty : k ≡ 0x17 → Fits k Empty (Plain 2 2)
+  front : {mid : ℕ} → k ≡ 0x17 → Fits k (Front mid) (Parts 4 mid)
+  untrue : k ≡ 0x18 → Fits k False (Plain 2 0)
+  so : k ≡ 0x18 → Fits k True (Plain 4 1)
+  pair : {mid : ℕ} → k ≡ 0x19 → Fits k (Pair mid) (Parts 2 mid)
+  misfit : {q : Shape} → fitOf k q ≡ Refused 43 → Fits k q (Refused 43)
 
-pub truth-says : {r : ℕ} (s : Shape) (p q : Bool) → r ≡ truthBranch s p q → TruthSays s p q r
-truth-says s p q e = rw e (truths s p q)
+by-kind : (k x : ℕ) (q : Shape) (b : Branch) → fitOf k q ≡ fitsKind k x b → (k ≡ x → Fits k q b) → Fits k q (fitOf k q)
+unfolding fitsKind where-so
+by-kind k x q b e f = go (eqb k x) refl
+  where
+    go : (p : Bool) → eqb k x ≡ p → Fits k q (fitOf k q)
+    go true h = let z : fitOf k q ≡ b = e ∙ ap (λ (p : Bool). where-so p b (Refused 43)) h in rw z (f (eqb-true k x h))
+    go false h = let z : fitOf k q ≡ Refused 43 = e ∙ ap (λ (p : Bool). where-so p b (Refused 43)) h in rw z (misfit z)
 
-pub false-branch : {r : ℕ} {s : Shape} (p q : Bool) → s ≡ False → r ≡ chosen false p q → r ≡ truthBranch s p q
-unfolding truthBranch
-false-branch p q e f = rw e f
+pub fits-told : (k : ℕ) (q : Shape) → Fits k q (fitOf k q)
+unfolding fitOf
+fits-told k Empty = by-kind k 0x17 Empty (Plain 2 2) refl empty
+fits-told k (Front mid) = by-kind k 0x17 (Front mid) (Parts 4 mid) refl front
+fits-told k False = by-kind k 0x18 False (Plain 2 0) refl untrue
+fits-told k True = by-kind k 0x18 True (Plain 4 1) refl so
+fits-told k (Pair mid) = by-kind k 0x19 (Pair mid) (Parts 2 mid) refl pair
+fits-told k (Number n) = misfit refl
+fits-told k Malformed = misfit refl
 
-pub true-branch : {r : ℕ} {s : Shape} (p q : Bool) → s ≡ True → r ≡ chosen true p q → r ≡ truthBranch s p q
-unfolding truthBranch
-true-branch p q e f = rw e f
+-- as the code has it
+pub fits-as : {k : ℕ} {q : Shape} {d b : Branch} → d ≡ fitOf k q → d ≡ b → Fits k q b
+fits-as {k} {q} e f = rw (← f, e) (fits-told k q)
 
-pub no-truth-branch : (s : Shape) (p q : Bool) → (s ≡ False → ⊥) → (s ≡ True → ⊥) → 43 ≡ truthBranch s p q
-unfolding truthBranch
-no-truth-branch False p q n m = absurd (n refl)
-no-truth-branch True p q n m = absurd (m refl)
-no-truth-branch Empty p q n m = refl
-no-truth-branch (Front mid) p q n m = refl
-no-truth-branch (Number i) p q n m = refl
-no-truth-branch (Pair mid) p q n m = refl
-no-truth-branch Malformed p q n m = refl
+-- whether a shape is a number's or none at all
+unfoldable pub neither : Shape → Bool
+neither Empty = false
+neither (Front m) = false
+neither False = false
+neither True = false
+neither (Pair m) = false
+neither (Number i) = true
+neither Malformed = true
 
--- THE BRANCH of a list case
-pub data ListSays (s : Shape) (p q : Bool) : ListBranch → Type 0 where
-  empty-kept : s ≡ Empty → p ≡ true → ListSays s p q is.Empty
-  empty-left : s ≡ Empty → p ≡ false → q ≡ true → ListSays s p q is.Switch
-  empty-none : s ≡ Empty → p ≡ false → q ≡ false → ListSays s p q (is.Refused 53)
-  front-kept : {mid : ℕ} → s ≡ Front mid → q ≡ true → ListSays s p q (is.Front mid)
-  front-left : {mid : ℕ} → s ≡ Front mid → q ≡ false → p ≡ true → ListSays s p q is.Empty
-  front-none : {mid : ℕ} → s ≡ Front mid → p ≡ false → q ≡ false → ListSays s p q (is.Refused 53)
-  no-list : (s ≡ Empty → ⊥) → ((mid : ℕ) → s ≡ Front mid → ⊥) → ListSays s p q (is.Refused 43)
+pub fits-none : (kind : ℕ) (q : Shape) → neither q ≡ true → Refused 43 ≡ fitOf kind q
+unfolding fitOf neither
+fits-none kind Empty e = absurd (false≢true e)
+fits-none kind (Front m) e = absurd (false≢true e)
+fits-none kind False e = absurd (false≢true e)
+fits-none kind True e = absurd (false≢true e)
+fits-none kind (Pair m) e = absurd (false≢true e)
+fits-none kind (Number i) e = refl
+fits-none kind Malformed e = refl
 
-lists : (s : Shape) (p q : Bool) → ListSays s p q (listBranch s p q)
-unfolding listBranch fromEmpty fromFront chosen which
-lists Empty true q = empty-kept refl refl
-lists Empty false true = empty-left refl refl refl
-lists Empty false false = empty-none refl refl refl
-lists (Front mid) true true = front-kept refl refl
-lists (Front mid) false true = front-kept refl refl
-lists (Front mid) true false = front-left refl refl refl
-lists (Front mid) false false = front-none refl refl refl
-lists False p q = no-list (unlike λ e. omega arith) (λ mid. unlike λ e. omega arith)
-lists True p q = no-list (unlike λ e. omega arith) (λ mid. unlike λ e. omega arith)
-lists (Number n) p q = no-list (unlike λ e. omega arith) (λ mid. unlike λ e. omega arith)
-lists (Pair mid) p q = no-list (unlike λ e. omega arith) (λ mid. unlike λ e. omega arith)
-lists Malformed p q = no-list (unlike λ e. omega arith) (λ mid. unlike λ e. omega arith)
+pub kept-yes : (p q : Bool) (b c : Branch) → p ≡ true → b ≡ choice p q b c
+unfolding choice
+kept-yes p q b c e = rw e
 
-pub list-says : {r d : ListBranch} (s : Shape) (p q : Bool) → r ≡ listBranch s p q → r ≡ d → ListSays s p q d
-list-says s p q e f = rw (← f, e) (lists s p q)
+pub other-yes : (p q : Bool) (b c : Branch) → p ≡ false → q ≡ true → c ≡ choice p q b c
+unfolding choice
+other-yes p q b c e f = rw (e, f)
 
-pub empty-branch : {r : ListBranch} {s : Shape} {c : ℕ} (p q : Bool) → s ≡ Empty → c ≡ chosen false p q → r ≡ fromEmpty c → r ≡ listBranch s p q
-unfolding listBranch
-empty-branch p q e f g = rw (e, ← f) g
+pub neither-says : (p q : Bool) (b c : Branch) → p ≡ false → q ≡ false → Refused 53 ≡ choice p q b c
+unfolding choice
+neither-says p q b c e f = rw (e, f)
 
-pub front-branch : {r : ListBranch} {s : Shape} {mid c : ℕ} (p q : Bool) → s ≡ Front mid → c ≡ chosen true p q → r ≡ fromFront mid c → r ≡ listBranch s p q
-unfolding listBranch
-front-branch p q e f g = rw (e, ← f) g
+-- from the branch that the subject fits
+module _ (kind : ℕ) (s : Shape) (p q : Bool) {r : Branch} where
+  pub plain-first : {i byte : ℕ} {d o : Branch} → d ≡ fitOf kind s → d ≡ Plain i byte → i ≡ 2 → o ≡ otherOf kind → r ≡ choice p q (Plain i byte) o → r ≡ takeOf kind s p q
+  unfolding takeOf takenFrom
+  plain-first x e two f g = g ∙ rw (← x, e, f) (sym (where-is _ _ two))
 
-pub no-list-branch : (s : Shape) (p q : Bool) → (s ≡ Empty → ⊥) → ((mid : ℕ) → s ≡ Front mid → ⊥) → is.Refused 43 ≡ listBranch s p q
-unfolding listBranch
-no-list-branch False p q n m = refl
-no-list-branch True p q n m = refl
-no-list-branch Empty p q n m = absurd (n refl)
-no-list-branch (Front mid) p q n m = absurd (m mid refl)
-no-list-branch (Number i) p q n m = refl
-no-list-branch (Pair mid) p q n m = refl
-no-list-branch Malformed p q n m = refl
+  pub plain-second : {i byte : ℕ} {d : Branch} → d ≡ fitOf kind s → d ≡ Plain i byte → (i ≡ 2 → ⊥) → r ≡ choice q p (Plain i byte) (Plain 2 0) → r ≡ takeOf kind s p q
+  unfolding takeOf takenFrom
+  plain-second x e n g = g ∙ rw (← x, e) (sym (where-not _ _ n))
 
-pub from-empty-first : {c : ℕ} → c ≡ 0 → is.Empty ≡ fromEmpty c
-unfolding fromEmpty
-from-empty-first e = rw e
+  pub parts-split : {i mid : ℕ} {d : Branch} → d ≡ fitOf kind s → d ≡ Parts i mid → i ≡ 2 → r ≡ Parts i mid → r ≡ takeOf kind s p q
+  unfolding takeOf takenFrom
+  parts-split x e two g = g ∙ rw (← x, e) (sym (where-is _ _ two))
 
-pub from-empty-second : {c : ℕ} → c ≡ 1 → is.Switch ≡ fromEmpty c
-unfolding fromEmpty
-from-empty-second e = rw e
+  pub parts-list : {i mid : ℕ} {d : Branch} → d ≡ fitOf kind s → d ≡ Parts i mid → (i ≡ 2 → ⊥) → r ≡ choice q p (Parts i mid) (Plain 2 2) → r ≡ takeOf kind s p q
+  unfolding takeOf takenFrom
+  parts-list x e n g = g ∙ rw (← x, e) (sym (where-not _ _ n))
 
-pub from-empty-none : (c : ℕ) → (c ≡ 0 → ⊥) → (c ≡ 1 → ⊥) → is.Refused c ≡ fromEmpty c
-unfolding fromEmpty
-from-empty-none zero n m = absurd (n refl)
-from-empty-none (suc zero) n m = absurd (m refl)
-from-empty-none (suc (suc c)) n m = refl
+-- the byte of a branch's node, for the code's sums
+pub plain-low : {k i byte : ℕ} {q : Shape} → Fits k q (Plain i byte) → i ≤ 4
+plain-low (empty e) = omega arith
+plain-low (untrue e) = omega arith
+plain-low (so e) = omega arith
 
-pub from-front-first : {c : ℕ} (mid : ℕ) → c ≡ 0 → is.Empty ≡ fromFront mid c
-unfolding fromFront
-from-front-first mid e = rw e
+pub parts-low : {k i mid : ℕ} {q : Shape} → Fits k q (Parts i mid) → i ≤ 4
+parts-low (front e) = omega arith
+parts-low (pair e) = omega arith
 
-pub from-front-second : {c : ℕ} (mid : ℕ) → c ≡ 1 → is.Front mid ≡ fromFront mid c
-unfolding fromFront
-from-front-second mid e = rw e
+-- whether a branch is a switch or a refusal
+unfoldable pub unfitting : Branch → Bool
+unfitting (Plain i b) = false
+unfitting (Parts i m) = false
+unfitting Switch = true
+unfitting (Refused c) = true
 
-pub from-front-none : (c mid : ℕ) → (c ≡ 0 → ⊥) → (c ≡ 1 → ⊥) → is.Refused c ≡ fromFront mid c
-unfolding fromFront
-from-front-none zero mid n m = absurd (n refl)
-from-front-none (suc zero) mid n m = absurd (m refl)
-from-front-none (suc (suc c)) mid n m = refl
+none-fits : {k : ℕ} {q : Shape} {b : Branch} → Fits k q b → unfitting b ≡ true → Refused 43 ≡ b
+unfolding unfitting
+none-fits (empty e) n = absurd (false≢true n)
+none-fits (front e) n = absurd (false≢true n)
+none-fits (untrue e) n = absurd (false≢true n)
+none-fits (so e) n = absurd (false≢true n)
+none-fits (pair e) n = absurd (false≢true n)
+none-fits (misfit e) n = refl
+
+pub fits-refused : (k : ℕ) (q : Shape) {d : Branch} → d ≡ fitOf k q → unfitting d ≡ true → Refused 43 ≡ fitOf k q
+fits-refused k q e h = none-fits (fits-told k q) (ap unfitting (sym e) ∙ h)
+
+none-from : (kind : ℕ) (b : Branch) (p q : Bool) → unfitting b ≡ true → Refused 43 ≡ takenFrom kind b p q
+unfolding takenFrom unfitting
+none-from kind (Plain i b) p q e = absurd (false≢true e)
+none-from kind (Parts i k) p q e = absurd (false≢true e)
+none-from kind Switch p q e = refl
+none-from kind (Refused c) p q e = refl
+
+pub takes-none : (kind : ℕ) (s : Shape) (p q : Bool) {d : Branch} → d ≡ fitOf kind s → unfitting d ≡ true → Refused 43 ≡ takeOf kind s p q
+unfolding takeOf
+takes-none kind s p q {d} x h = rw (← x) (none-from kind d p q h)
+
+-- WHAT THE BRANCH THAT A VIEW TAKES TELLS of the case and of its old subject
+pub data Took (k : ℕ) (q : Shape) : Branch → Type 0 where
+  emptied : k ≡ 0x17 → Took k q (Plain 2 2)
+  denied : k ≡ 0x18 → Took k q (Plain 2 0)
+  affirmed : k ≡ 0x18 → Took k q (Plain 4 1)
+  parted : {i mid : ℕ} → Fits k q (Parts i mid) → Took k q (Parts i mid)
+  switched : k ≡ 0x17 → q ≡ Empty → Took k q Switch
+  unfitted : Took k q (Refused 43)
+  unsaid : Took k q (Refused 53)
+
+chosen : {k : ℕ} {s : Shape} (p q : Bool) (b c : Branch) → Took k s b → Took k s c → Took k s (choice p q b c)
+unfolding choice
+chosen true q b c x y = x
+chosen false true b c x y = y
+chosen false false b c x y = unsaid
+
+second-took : {k : ℕ} {s : Shape} → k ≡ 0x17 → s ≡ Empty → Took k s (otherOf k)
+second-took e f = rw (← second-list e) (switched e f)
+
+took-from : {k : ℕ} {s : Shape} {b : Branch} (p q : Bool) → Fits k s b → Took k s (takenFrom k b p q)
+unfolding takenFrom where-so
+took-from p q (empty e) = chosen p q _ _ (emptied e) (second-took e refl)
+took-from p q (front e) = chosen q p _ _ (parted (front e)) (emptied e)
+took-from {k} p q (untrue e) = chosen p q _ _ (denied e) (rw (← second-truth {kind = k} (λ z. omega (arith, e, z))) (affirmed e))
+took-from p q (so e) = chosen q p _ _ (affirmed e) (denied e)
+took-from p q (pair e) = parted (pair e)
+took-from p q (misfit e) = unfitted
+
+pub took : {k : ℕ} {s : Shape} {d b : Branch} (p q : Bool) → d ≡ takeOf k s p q → d ≡ b → Took k s b
+unfolding takeOf
+took {k} {s} p q e f = rw (← f, e) (took-from p q (fits-told k s))
+
+pub plain-near : {k i byte : ℕ} {q : Shape} → Took k q (Plain i byte) → i ≤ 4
+plain-near (emptied e) = omega arith
+plain-near (denied e) = omega arith
+plain-near (affirmed e) = omega arith
+
+-- A VIEW TAKEN APART
+
+module _ {kind : ℕ} {q : Shape} {mid : ℕ} where
+  pub apart-front : q ≡ Front mid → kind ≡ 0x15 → At mid ≡ apartOf kind q
+  unfolding apartOf
+  apart-front e h = rw e (sym (where-is _ _ h))
+
+  pub front-other : q ≡ Front mid → (kind ≡ 0x15 → ⊥) → Other ≡ apartOf kind q
+  unfolding apartOf
+  front-other e h = rw e (sym (where-not _ _ h))
+
+  pub pair-other : q ≡ Pair mid → kind ≡ 0x15 → Other ≡ apartOf kind q
+  unfolding apartOf
+  pair-other e h = rw e (sym (where-is _ _ h))
+
+  pub apart-pair : q ≡ Pair mid → (kind ≡ 0x15 → ⊥) → At mid ≡ apartOf kind q
+  unfolding apartOf
+  apart-pair e h = rw e (sym (where-not _ _ h))
+
+-- whether a shape has not two parts
+unfoldable pub whole : Shape → Bool
+whole (Front m) = false
+whole (Pair m) = false
+whole Empty = true
+whole False = true
+whole True = true
+whole (Number i) = true
+whole Malformed = true
+
+pub no-apart : (kind : ℕ) (q : Shape) → whole q ≡ true → Other ≡ apartOf kind q
+unfolding apartOf whole
+no-apart kind (Front m) e = absurd (false≢true e)
+no-apart kind (Pair m) e = absurd (false≢true e)
+no-apart kind Empty e = refl
+no-apart kind False e = refl
+no-apart kind True e = refl
+no-apart kind (Number i) e = refl
+no-apart kind Malformed e = refl
+
+-- the kind that is made
+pub made-front : {kind : ℕ} → kind ≡ 0x15 → 3 ≡ madeOf kind
+unfolding madeOf
+made-front e = sym (where-is _ _ e)
+
+pub made-list : {kind : ℕ} → (kind ≡ 0x15 → ⊥) → kind ≡ 0x17 → 3 ≡ madeOf kind
+unfolding madeOf
+made-list n e = sym (where-not _ _ n ∙ where-is _ _ e)
+
+pub made-pair : {kind : ℕ} → (kind ≡ 0x15 → ⊥) → (kind ≡ 0x17 → ⊥) → 5 ≡ madeOf kind
+unfolding madeOf
+made-pair n m = sym (where-not _ _ n ∙ where-not _ _ m)

@@ -1,25 +1,23 @@
-//! The small steps of a walk: whether a node may be entered, what a section's variables are, which cell a variable is and where its value
-//! stands, a view stored, a branch judged by its test, the branch that a view takes, and whether a constant or a written value takes it.
+//! The small steps of a walk: whether a node may be entered, the value of a variable, the branch of a case that its subject fits or that a view
+//! takes, a view taken apart, which cell a variable is and where its value stands, a view stored, and whether a constant or a written
+//! value takes it.
 ghost use mathlib.Core.Path.{_≡_};
 ghost use mathlib.Core.List.{[], _∷_};
 ghost use Prim.Native.Nat.{_+_, _*_, _/_, _%_, _≤_, _<_};
 ghost use lib.ListN.{length, getD};
 ghost use lib.Seq.{paste};
 ghost use Rattle.value.specs.Parts.{shapeOf, passesBytes, sameBytes};
-ghost use Rattle.step.specs.Step.{When, packed, pickedTwo, addedTwo, nowhere, placeOf, entryRefusal, testRefusal, chosen, truthBranch, listBranch, judged, unfitRest};
+ghost use Rattle.answer.specs.Answer.{doneAs};
+ghost use Rattle.step.specs.Step.{When, pickedTwo, addedTwo, nowhere, placeOf, entryRefusal, fitsKind, fitOf, otherOf, choice, takeOf, apartOf, madeOf, judged, unfitRest};
+use answer::done;
+use answer::refused;
 use value::Shape;
 
-/// The variables in scope, at most 110: where each one's bytes start and how many they are.
+/// The variables in scope, at most 110: where each one's bytes start, and how many they are less one.
 pub struct Scope {
-    pub count: usize,
+    pub count: u16,
     pub starts: [u16; 110],
-    pub lens: [u16; 110],
-}
-
-/// The cells so far, and the cell of each variable in scope.
-pub struct Cells {
-    pub count: usize,
-    pub of: [u8; 110],
+    pub lens: [u8; 110],
 }
 
 /// Where a value stands.
@@ -28,17 +26,24 @@ pub struct Span {
     pub len: usize,
 }
 
-/// What a view does to a list case: it goes into the empty branch; into the other, with the old subject's parts, of which the second starts
-/// at byte `mid`, or by a switch, with the defaults; or it is refused.
-pub enum ListBranch {
-    Empty,
-    Front(usize),
+/// A branch of a case: one without variables, by the byte of the case's record that has its node, and the one byte of the subject that it
+/// stands for; one with two variables, by that byte, and where the subject's second part starts; the one with variables, after a switch to it;
+/// or a refusal. The byte behind the node's has its test, but for a split.
+pub enum Branch {
+    Plain(u16, u8),
+    Parts(u16, usize),
     Switch,
-    Refused(usize),
+    Refused(u8),
+}
+
+/// A view of two parts: where the second starts; or another view.
+pub enum Apart {
+    At(usize),
+    Other,
 }
 
 /// What entering a node is refused with: 40 where no level is left, then 41 where no step is; 0 where it may be entered.
-pub fn entry(levels: usize, left: usize) -> usize
+pub fn entry(levels: usize, left: usize) -> u8
     ensures { λ r. ⌜ r ≡ entryRefusal levels left ⌝ }
 {
     if levels == 0 {
@@ -50,20 +55,145 @@ pub fn entry(levels: usize, left: usize) -> usize
     0
 }
 
-/// The numbers of the two variables x and y alone, a section's scope; the numbers themselves where x or y is over 109.
-pub fn pick_two(numbers: &[u16; 110], x: usize, y: usize) -> [u16; 110]
-    ensures { λ r. ⌜ When ((x < 110) × (y < 110)) r (pickedTwo (now (numbers .entry)) x y) (now (numbers .entry)) ⌝ }
+/// The length of a value, of which a scope stores one less.
+pub fn length_of(stored: u8) -> usize
+    ensures { λ r. ⌜ r ≡ stored + 1 ⌝ }
 {
-    let mut two = *numbers;
+    stored as usize + 1
+}
+
+/// The value of variable x, which costs no step of its own; refusal 42 where it is not in scope.
+pub fn variable(scope: Scope, x: usize) -> usize
+    ensures { λ r. ⌜ When ((x < scope .count) × (x < 110)) r (doneAs (getD (scope .starts) x 0) (getD (scope .lens) x 0 + 1) 0) 42 ⌝ }
+{
+    if scope.count as usize <= x {
+        return refused(42);
+    }
     if 110 <= x {
-        return two;
+        return refused(42);
     }
-    if 110 <= y {
-        return two;
+    done(scope.starts[x] as usize, length_of(scope.lens[x]), 0)
+}
+
+// The branch, where the case is of that kind.
+fn on(kind: u8, is: u8, branch: Branch) -> Branch
+    ensures { λ r. ⌜ r ≡ fitsKind kind is branch ⌝ }
+{
+    if kind == is {
+        return branch;
     }
-    two[0] = numbers[x];
-    two[1] = numbers[y];
-    two
+    Branch::Refused(43)
+}
+
+/// The branch of a case (17, 18 or 19) that its subject fits; 43 where it fits none.
+pub fn fits(kind: u8, subject: Shape) -> Branch
+    ensures { λ r. ⌜ r ≡ fitOf kind subject ⌝ }
+{
+    match subject {
+        Shape::Empty => on(kind, 0x17, Branch::Plain(2, 2)),
+        Shape::Front(mid) => on(kind, 0x17, Branch::Parts(4, mid)),
+        Shape::False => on(kind, 0x18, Branch::Plain(2, 0)),
+        Shape::True => on(kind, 0x18, Branch::Plain(4, 1)),
+        Shape::Pair(mid) => on(kind, 0x19, Branch::Parts(2, mid)),
+        _ => Branch::Refused(43),
+    }
+}
+
+// The second branch of a case whose subject fits the first.
+fn second(kind: u8) -> Branch
+    ensures { λ r. ⌜ r ≡ otherOf kind ⌝ }
+{
+    if kind == 0x17 {
+        return Branch::Switch;
+    }
+    Branch::Plain(4, 1)
+}
+
+// The branch that is kept where its test says yes to the view, or else the other where that one's does; 53 where neither says yes.
+fn choose(kept: Branch, other: Branch, kept_test: u8, other_test: u8, view: &[u8]) -> Branch
+    ensures { λ r. ⌜ r ≡ choice (passesBytes «kept_test» (now (view .entry))) (passesBytes «other_test» (now (view .entry))) kept other ⌝ }
+{
+    if value::passes(kept_test, view) {
+        return kept;
+    }
+    if value::passes(other_test, view) {
+        return other;
+    }
+    Branch::Refused(53)
+}
+
+/// The branch of a case that a view takes, where its old subject has that shape: the one that the subject fits where its test says yes, or else
+/// the other. A split has one branch and no test.
+pub fn takes(kind: u8, subject: Shape, first_test: u8, second_test: u8, view: &[u8]) -> Branch
+    ensures { λ r. ⌜ r ≡ takeOf kind subject (passesBytes «first_test» (now (view .entry))) (passesBytes «second_test» (now (view .entry))) ⌝ }
+{
+    match fits(kind, subject) {
+        Branch::Plain(i, byte) => {
+            if i == 2 {
+                return choose(
+                    Branch::Plain(i, byte),
+                    second(kind),
+                    first_test,
+                    second_test,
+                    view,
+                );
+            }
+            choose(
+                Branch::Plain(i, byte),
+                Branch::Plain(2, 0),
+                second_test,
+                first_test,
+                view,
+            )
+        }
+        Branch::Parts(i, mid) => {
+            if i == 2 {
+                return Branch::Parts(i, mid);
+            }
+            choose(
+                Branch::Parts(i, mid),
+                Branch::Plain(2, 2),
+                second_test,
+                first_test,
+                view,
+            )
+        }
+        _ => Branch::Refused(43),
+    }
+}
+
+/// A view taken apart for a front (15) or a pair (16).
+pub fn take_apart(kind: u8, view: Shape) -> Apart
+    ensures { λ r. ⌜ r ≡ apartOf kind view ⌝ }
+{
+    match view {
+        Shape::Front(mid) => {
+            if kind == 0x15 {
+                return Apart::At(mid);
+            }
+            Apart::Other
+        }
+        Shape::Pair(mid) => {
+            if kind == 0x15 {
+                return Apart::Other;
+            }
+            Apart::At(mid)
+        }
+        _ => Apart::Other,
+    }
+}
+
+/// The kind of the value that a node makes of two: 3, a list, for a front (15) and a list case (17); 5, a pair, for others.
+pub fn made(kind: u8) -> u8
+    ensures { λ r. ⌜ r ≡ madeOf kind ⌝ }
+{
+    if kind == 0x15 {
+        return 3;
+    }
+    if kind == 0x17 {
+        return 3;
+    }
+    5
 }
 
 /// The cells of the two variables x and y alone: a section's variables are its caller's.
@@ -140,101 +270,14 @@ pub fn store(arena: &mut [u8], at: usize, from: &[u8])
     }
 }
 
-/// The answer of a get of variable x, of `count` in scope: where its value starts (16 bits, from bit 24 on), its length (16 bits, from bit 8
-/// on), and one step (from bit 40 on); refusal 42 where it is not in scope.
-pub fn variable(starts: &[u16], lens: &[u16], count: usize, x: usize) -> usize
-    ensures { λ r. ⌜ When ((x < count) × (x < length (now (starts .entry))) × (x < length (now (lens .entry)))) r (packed (getD (now (starts .entry)) x 0) (getD (now (lens .entry)) x 0) 1) 42 ⌝ }
-{
-    if count <= x {
-        return 42;
-    }
-    if starts.len() <= x {
-        return 42;
-    }
-    if lens.len() <= x {
-        return 42;
-    }
-    256 * (lens[x] as usize) + 16777216 * (starts[x] as usize) + 1099511627776
-}
-
-/// What a branch is refused with that a test judges: 46 where it says no, 0 where it says yes.
-pub fn tested(test: u8, value: &[u8]) -> usize
-    ensures { λ r. ⌜ r ≡ testRefusal (passesBytes «test» (now (value .entry))) ⌝ }
-{
-    if value::passes(test, value) {
-        return 0;
-    }
-    46
-}
-
-// The branch for a view, 0 or 1: the one that the old subject fits where its test says yes, or else the other where that one's does; 53
-// where neither says yes.
-fn choose(fits_second: bool, first_test: u8, second_test: u8, view: &[u8]) -> usize
-    ensures { λ r. ⌜ r ≡ chosen «fits_second» (passesBytes «first_test» (now (view .entry))) (passesBytes «second_test» (now (view .entry))) ⌝ }
-{
-    let first_says = value::passes(first_test, view);
-    let second_says = value::passes(second_test, view);
-    if fits_second & second_says {
-        return 1;
-    }
-    if first_says {
-        return 0;
-    }
-    if second_says {
-        return 1;
-    }
-    53
-}
-
-/// The branch of a truth case for a view: 0 the one for False, 1 the one for True. 43 where the old subject is neither, 53 where neither
-/// test says yes.
-pub fn truth_branch(subject: &[u8], no_test: u8, yes_test: u8, view: &[u8]) -> usize
-    ensures { λ r. ⌜ r ≡ truthBranch (shapeOf (now (subject .entry))) (passesBytes «no_test» (now (view .entry))) (passesBytes «yes_test» (now (view .entry))) ⌝ }
-{
-    match value::shape_of(subject) {
-        Shape::False => choose(false, no_test, yes_test, view),
-        Shape::True => choose(true, no_test, yes_test, view),
-        _ => 43,
-    }
-}
-
-/// The branch of a list case for a view; refused with 43 where the old subject is no list, and with 53 where neither test says yes.
-pub fn list_branch(subject: &[u8], empty_test: u8, front_test: u8, view: &[u8]) -> ListBranch
-    ensures { λ r. ⌜ r ≡ listBranch (shapeOf (now (subject .entry))) (passesBytes «empty_test» (now (view .entry))) (passesBytes «front_test» (now (view .entry))) ⌝ }
-{
-    match value::shape_of(subject) {
-        Shape::Empty => {
-            let branch = choose(false, empty_test, front_test, view);
-            if branch == 0 {
-                return ListBranch::Empty;
-            }
-            if branch == 1 {
-                return ListBranch::Switch;
-            }
-            ListBranch::Refused(branch)
-        }
-        Shape::Front(mid) => {
-            let branch = choose(true, empty_test, front_test, view);
-            if branch == 0 {
-                return ListBranch::Empty;
-            }
-            if branch == 1 {
-                return ListBranch::Front(mid);
-            }
-            ListBranch::Refused(branch)
-        }
-        _ => ListBranch::Refused(43),
-    }
-}
-
-// One step, as a put answers it, where two values are the same; or else a refusal.
-fn judge(code: usize, a: &[u8], b: &[u8]) -> usize
+// No step of its own, where two values are the same; or else a refusal.
+fn judge(code: u8, a: &[u8], b: &[u8]) -> usize
     ensures { λ r. ⌜ r ≡ judged code (sameBytes (now (a .entry)) (now (b .entry))) ⌝ }
 {
     if value::same(a, b) {
-        return 256;
+        return done(0, 0, 0);
     }
-    code
+    refused(code)
 }
 
 /// A second view for a written variable must equal the first.

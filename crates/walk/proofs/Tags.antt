@@ -1,47 +1,24 @@
--- What the last arm of a match on a value's shape tells: the value is of another kind.
-use mathlib.Core.Path.{_≡_, refl}
-use mathlib.Core.Option.{none}
+-- What the last arm of a match tells: the value is of none of the variants before.
+use mathlib.Core.Path.{_≡_, refl, subst}
+use mathlib.Core.Bool.{true}
 use mathlib.Core.List.{[], _∷_}
+use Prim.Native.Nat.{ℕ}
 use types.Run.{OneOf, miss}
 use denote.Enum.Declared.{tagOf}
-use Rattle.value.proofs.Shape.{the-type}
-use Rattle.value.specs.Value.{Value}
-use Rattle.value.specs.Views.{asList, asTruth, asPair, asNumber}
+use Rattle.value.proofs.Shape as shape
 use Rattle.value.specs.declared.Shape.{Shape}
-use Rattle.walk.specs.Seen.{Shaped, isFalse, isTrue, isEmpty, isFront, isNumber, isPair}
+use Rattle.value.specs.declared.Shape.the-variants.{Number}
+use Rattle.step.proofs.Branch as branch
+use Rattle.step.specs.declared.Branch.{Branch}
+use Rattle.step.specs.declared.Branch.the-variants.{Plain, Parts, Switch, Refused}
+use Rattle.step.specs.StepLaws.{unfitting}
 
-pub no-list : {v : Value} {q : Shape} → Shaped v q → OneOf (0 ∷ 1 ∷ 4 ∷ 5 ∷ 6 ∷ []) (tagOf the-type q) → asList v ≡ none
-unfolding asList
-no-list isFalse h = refl
-no-list isTrue h = refl
-no-list isEmpty h = absurd (miss (0 ∷ 1 ∷ 4 ∷ 5 ∷ 6 ∷ []) 2 tt h)
-no-list (isFront e) h = absurd (miss (0 ∷ 1 ∷ 4 ∷ 5 ∷ 6 ∷ []) 3 tt h)
-no-list isNumber h = refl
-no-list (isPair e) h = refl
+pub not-number : (q : Shape) → OneOf (0 ∷ 1 ∷ 2 ∷ 3 ∷ 5 ∷ 6 ∷ []) (tagOf shape.the-type q) → (m : ℕ) → q ≡ Number m → ⊥
+not-number q h m e = miss (0 ∷ 1 ∷ 2 ∷ 3 ∷ 5 ∷ 6 ∷ []) 4 tt (subst (λ (x : Shape). OneOf (0 ∷ 1 ∷ 2 ∷ 3 ∷ 5 ∷ 6 ∷ []) (tagOf shape.the-type x)) e h)
 
-pub no-truth : {v : Value} {q : Shape} → Shaped v q → OneOf (2 ∷ 3 ∷ 4 ∷ 5 ∷ 6 ∷ []) (tagOf the-type q) → asTruth v ≡ none
-unfolding asTruth
-no-truth isFalse h = absurd (miss (2 ∷ 3 ∷ 4 ∷ 5 ∷ 6 ∷ []) 0 tt h)
-no-truth isTrue h = absurd (miss (2 ∷ 3 ∷ 4 ∷ 5 ∷ 6 ∷ []) 1 tt h)
-no-truth isEmpty h = refl
-no-truth (isFront e) h = refl
-no-truth isNumber h = refl
-no-truth (isPair e) h = refl
-
-pub no-pair : {v : Value} {q : Shape} → Shaped v q → OneOf (0 ∷ 1 ∷ 2 ∷ 3 ∷ 4 ∷ 6 ∷ []) (tagOf the-type q) → asPair v ≡ none
-unfolding asPair
-no-pair isFalse h = refl
-no-pair isTrue h = refl
-no-pair isEmpty h = refl
-no-pair (isFront e) h = refl
-no-pair isNumber h = refl
-no-pair (isPair e) h = absurd (miss (0 ∷ 1 ∷ 2 ∷ 3 ∷ 4 ∷ 6 ∷ []) 5 tt h)
-
-pub no-number : {v : Value} {q : Shape} → Shaped v q → OneOf (0 ∷ 1 ∷ 2 ∷ 3 ∷ 5 ∷ 6 ∷ []) (tagOf the-type q) → asNumber v ≡ none
-unfolding asNumber
-no-number isFalse h = refl
-no-number isTrue h = refl
-no-number isEmpty h = refl
-no-number (isFront e) h = refl
-no-number isNumber h = absurd (miss (0 ∷ 1 ∷ 2 ∷ 3 ∷ 5 ∷ 6 ∷ []) 4 tt h)
-no-number (isPair e) h = refl
+pub is-unfitting : (b : Branch) → OneOf (2 ∷ 3 ∷ []) (tagOf branch.the-type b) → unfitting b ≡ true
+unfolding unfitting
+is-unfitting (Plain i b) h = absurd (miss (2 ∷ 3 ∷ []) 0 tt h)
+is-unfitting (Parts i m) h = absurd (miss (2 ∷ 3 ∷ []) 1 tt h)
+is-unfitting Switch h = refl
+is-unfitting (Refused c) h = refl

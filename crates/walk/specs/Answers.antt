@@ -1,80 +1,108 @@
--- What a result says of an outcome under an allowance: rules that follow the definitions of get and put step by step.
-use mathlib.Core.Path.{_≡_}
+-- What an answer says of an outcome under an allowance: rules that follow the definitions of get and put step by step.
+use mathlib.Core.Path.{_≡_, refl, ap, _∙_}
 use mathlib.Core.Option.{Option, none, some}
 use Prim.Native.Nat.{ℕ, _+_, _-_, _<_}
 use native.Mathlib.Omega.{arith}
-use Rattle.rules.specs.Outcome.{Out, done, refused, plus, steps, when, _>>=_, given}
+use Rattle.answer.specs.Answer.{Said, Done, Refused, after}
+use Rattle.rules.specs.Outcome.{Out, done, refused, plus, steps, when, _>>=_, given, choose}
 use Rattle.rules.specs.Allowance.{within}
 use Rattle.rules.specs.AllowanceLaws.{within-yes, within-plus, within-none, within-bind, chain}
 
--- the result serves the outcome: S of what was done and of all steps, the `spent` ones before it counted; or D of the refusal
-pub data Told {A : Type 0} (S : A → ℕ → Type 0) (D : ℕ → Type 0) (spent : ℕ) : Out A → Type 0 where
-  serves : {v : A} {s : ℕ} (n : ℕ) → n ≡ spent + s → S v n → Told S D spent (done v s)
-  denies : {c s : ℕ} → D c → Told S D spent (refused c s)
+-- the answer r serves the outcome: with its steps, and P of what was done and of where the answer says that it stands; or it is its refusal
+pub data Told {A : Type 0} (P : (start len : ℕ) → A → Type 0) (r : Said) : Out A → Type 0 where
+  serves : {v : A} {start len n : ℕ} → r ≡ Done start len n → P start len v → Told P r (done v n)
+  denies : {c s : ℕ} → r ≡ Refused c → Told P r (refused c s)
 
-pub record Answers {A : Type 0} (S : A → ℕ → Type 0) (D : ℕ → Type 0) (spent left : ℕ) (o : Out A) : Type 0 where
-  pub told : Told S D spent (within left o)
+pub record Answers {A : Type 0} (P : (start len : ℕ) → A → Type 0) (r : Said) (left : ℕ) (o : Out A) : Type 0 where
+  pub told : Told P r (within left o)
 
-module _ {A : Type 0} {S : A → ℕ → Type 0} {D : ℕ → Type 0} {spent : ℕ} where
-  -- steps that were taken
-  told-plus : (s : ℕ) {o : Out A} → Told S D (spent + s) o → Told S D spent (plus s o)
-  unfolding plus
-  told-plus s (serves {s = t} n e p) = serves {s = s + t} n (omega arith) p
-  told-plus s (denies d) = denies d
+module _ {A : Type 0} {P : (start len : ℕ) → A → Type 0} where
+  -- steps that were taken before
+  told-after : (k : ℕ) {q r : Said} {o : Out A} → Told P q o → r ≡ after k q → Told P r (plus k o)
+  unfolding plus after
+  told-after k (serves e p) d = serves (d ∙ ap (after k) e) p
+  told-after k (denies e) d = denies (d ∙ ap (after k) e)
 
-  module _ {left : ℕ} where
-    pub answer-by : {o p : Out A} → Answers S D spent left o → p ≡ o → Answers S D spent left p
+  module _ {r : Said} {left : ℕ} where
+    pub answer-by : {o p : Out A} → Answers P r left o → p ≡ o → Answers P r left p
     answer-by t e = rw e t
 
     -- done at once, or refused at once
-    pub finish : {v : A} {n : ℕ} → n ≡ spent → S v n → Answers S D spent left (done v 0)
+    pub finish : {v : A} {start len : ℕ} → r ≡ Done start len 0 → P start len v → Answers P r left (done v 0)
     unfolding steps
-    finish {v} {n} e p = record { told = rw (within-yes left (done v 0) (omega arith)) (serves {s = 0} n (omega arith) p) }
+    finish {v} e p = record { told = rw (within-yes left (done v 0) (omega arith)) (serves e p) }
 
-    pub refuse : (c : ℕ) → D c → Answers S D spent left (refused c 0)
+    pub refuse : {c : ℕ} → r ≡ Refused c → Answers P r left (refused c 0)
     unfolding steps
-    refuse c d = let o : Out A = refused c 0 in record { told = rw (within-yes left o (omega arith)) (denies d) }
+    refuse {c} e = let o : Out A = refused c 0 in record { told = rw (within-yes left o (omega arith)) (denies e) }
 
-    -- the last call's answer is the answer
-    pub as-done : {o : Out A} {v : A} {m n : ℕ} → within left o ≡ done v m → n ≡ spent + m → S v n → Answers S D spent left o
-    as-done {n = n} e q p = record { told = rw e (serves n q p) }
+    -- a call's answer is the answer
+    pub as-done : {o : Out A} {v : A} {start len n : ℕ} → within left o ≡ done v n → r ≡ Done start len n → P start len v → Answers P r left o
+    as-done e q p = record { told = rw e (serves q p) }
 
-    pub as-refused : {o : Out A} {c s : ℕ} → within left o ≡ refused c s → D c → Answers S D spent left o
+    pub as-refused : {o : Out A} {c s : ℕ} → within left o ≡ refused c s → r ≡ Refused c → Answers P r left o
     as-refused e d = record { told = rw e (denies d) }
 
     module _ {B : Type 0} where
-      -- one call was done, and then the rest
-      pub then-done : (m : Out B) (f : B → Out A) {v : B} {n : ℕ} → within left m ≡ done v n → Answers S D (spent + n) (left - n) (f v)
-          → Answers S D spent left (m >>= f)
+      -- one call was done in k steps, and then the rest
+      pub then-done : (m : Out B) (f : B → Out A) {v : B} {k : ℕ} {q : Said} → within left m ≡ done v k → Answers P q (left - k) (f v) → r ≡ after k q
+          → Answers P r left (m >>= f)
       unfolding chain
-      then-done m f {v} {n} e t = record { told = rw (within-bind left m f, e) (told-plus n (t .told)) }
+      then-done m f {v} {k} e t d = record { told = rw (within-bind left m f, e) (told-after k (t .told) d) }
 
       -- it was refused
-      pub then-refused : (m : Out B) (f : B → Out A) {c s : ℕ} → within left m ≡ refused c s → D c → Answers S D spent left (m >>= f)
+      pub then-refused : (m : Out B) (f : B → Out A) {c s : ℕ} → within left m ≡ refused c s → r ≡ Refused c → Answers P r left (m >>= f)
       unfolding chain
       then-refused m f e d = record { told = rw (within-bind left m f, e) (denies d) }
 
-      pub give : (c : ℕ) (f : B → Out A) {o : Option B} {b : B} → o ≡ some b → Answers S D spent left (f b) → Answers S D spent left (given c o f)
+      pub give : (c : ℕ) (f : B → Out A) {o : Option B} {b : B} → o ≡ some b → Answers P r left (f b) → Answers P r left (given c o f)
       unfolding given
       give c f e t = rw e t
 
-      pub give-none : (c : ℕ) (f : B → Out A) {o : Option B} → o ≡ none → D c → Answers S D spent left (given c o f)
+      pub give-none : (c : ℕ) (f : B → Out A) {o : Option B} → o ≡ none → r ≡ Refused c → Answers P r left (given c o f)
       unfolding given
-      give-none c f e d = rw e (refuse c d)
+      give-none c f e d = rw e (refuse d)
 
-      pub give-yes : (c : ℕ) (p : Dec B) (f : B → Out A) → B → ((b : B) → Answers S D spent left (f b)) → Answers S D spent left (given c (when p) f)
+      pub give-yes : (c : ℕ) (p : Dec B) (f : B → Out A) → B → ((b : B) → Answers P r left (f b)) → Answers P r left (given c (when p) f)
       unfolding given when
       give-yes c (yes b) f _ k = k b
       give-yes c (no n) f b k = absurd (n b)
 
-      pub give-no : (c : ℕ) (p : Dec B) (f : B → Out A) → (B → ⊥) → D c → Answers S D spent left (given c (when p) f)
+      pub give-no : (c : ℕ) (p : Dec B) (f : B → Out A) → (B → ⊥) → r ≡ Refused c → Answers P r left (given c (when p) f)
       unfolding given when
       give-no c (yes b) f n d = absurd (n b)
-      give-no c (no n) f _ d = refuse c d
+      give-no c (no n) f _ d = refuse d
 
     -- a node is entered: its step is paid
-    pub step : (o : Out A) → 0 < left → Answers S D (spent + 1) (left - 1) o → Answers S D spent left (plus 1 o)
-    step o h t = record { told = rw (within-plus left 1 o h) (told-plus 1 (t .told)) }
+    pub step : (o : Out A) {q : Said} → 0 < left → Answers P q (left - 1) o → r ≡ after 1 q → Answers P r left (plus 1 o)
+    step o h t d = record { told = rw (within-plus left 1 o h) (told-after 1 (t .told) d) }
 
-    pub no-step : (o : Out A) → left ≡ 0 → D 41 → Answers S D spent left (plus 1 o)
+    pub no-step : (o : Out A) → left ≡ 0 → r ≡ Refused 41 → Answers P r left (plus 1 o)
     no-step o e d = record { told = rw (e, within-none o) (denies d) }
+
+-- A CALL'S ANSWER, TAKEN APART
+
+pub record Had {A : Type 0} (P : (start len : ℕ) → A → Type 0) (start len n : ℕ) (o : Out A) : Type 0 where
+  pub value : A
+  pub is : o ≡ done value n
+  pub that : P start len value
+
+module _ {A : Type 0} {P : (start len : ℕ) → A → Type 0} {r : Said} where
+  told-done : {o : Out A} {start len n : ℕ} → Told P r o → r ≡ Done start len n → Had P start len n o
+  told-done {start = start} {len = len} {n = n} (serves {v = v} {start = s} {len = l} {n = m} e p) d =
+      let x : s ≡ start = cc in
+      let y : l ≡ len = cc in
+      let z : m ≡ n = cc in
+      record { value = v; is = ap (done v) z; that = rw (x, y) at p }
+  told-done (denies e) d = absurd (let z : _≡_ {A = ℕ} 0 1 = cc in omega arith)
+
+  told-refused : {o : Out A} {c : ℕ} → Told P r o → r ≡ Refused c → (s : ℕ) × (o ≡ refused c s)
+  told-refused (serves e p) d = absurd (let z : _≡_ {A = ℕ} 0 1 = cc in omega arith)
+  told-refused {c = c} (denies {c = k} {s = s} e) d = let z : k ≡ c = cc in (s, ap (λ x. refused x s) z)
+
+  module _ {left : ℕ} {o : Out A} (a : Answers P r left o) where
+    pub had : {start len n : ℕ} → r ≡ Done start len n → Had P start len n (within left o)
+    had d = told-done (a .told) d
+
+    pub not-had : {c : ℕ} → r ≡ Refused c → (s : ℕ) × (within left o ≡ refused c s)
+    not-had d = told-refused (a .told) d

@@ -1,13 +1,14 @@
 -- Values that stand in the arena, the scope's variables among them, and what a change leaves alone of them.
 use mathlib.Core.Path.{_≡_, refl, sym, ap, _∙_}
 use mathlib.Core.List.{List, [], _∷_, _++_}
-use Prim.Native.Nat.{ℕ, zero, suc, _+_, _≤_, _<_}
+use Prim.Native.Nat.{ℕ, zero, suc, _+_, _-_, _≤_, _<_}
 use native.Mathlib.Nat.{le-trans}
 use native.Mathlib.Omega.{arith}
 use native.Mathlib.Decide.{decLt}
 use lib.ListN.{length, getD, set, length-append, length-set, List·getD-append}
 use lib.Seq.{getD-set-same, getD-set-other, getD-append-seam}
 use Rattle.value.specs.Value.{Value, vfalse, encode, size}
+use Rattle.value.specs.Encoding.{size-pos}
 use Rattle.value.specs.Laws.{Readable}
 use Rattle.step.specs.declared.Scope.{Scope}
 use Rattle.step.specs.Step.{picked}
@@ -27,11 +28,11 @@ pub record Held (a : List ℕ) (top start len : ℕ) (v : Value) : Type 0 where
   pub readable : Readable v
 
 -- the scope's variables stand for the values μ
-pub record Env (a : List ℕ) (s : Scope) (top : ℕ) (μ : List Value) : Type 0 where
+pub record Scoped (a : List ℕ) (s : Scope) (top : ℕ) (μ : List Value) : Type 0 where
   pub count : s .count ≡ length μ
   pub starts-long : length (s .starts) ≡ 110
   pub lens-long : length (s .lens) ≡ 110
-  pub each : (i : ℕ) → i < length μ → Held a top (getD (s .starts) i 0) (getD (s .lens) i 0) (getD μ i vfalse)
+  pub each : (i : ℕ) → i < length μ → Held a top (getD (s .starts) i 0) (getD (s .lens) i 0 + 1) (getD μ i vfalse)
 
 pub below-ends : {top start len : ℕ} → Below top start len → 32256 ≤ top → start + len ≤ top
 below-ends (inPlan h) b = omega arith
@@ -61,35 +62,38 @@ module _ {b a : List ℕ} {top : ℕ} (kept : Kept top b a) (base : 32256 ≤ to
     readable = h .readable;
   }
 
-  pub env-later : {s : Scope} {μ : List Value} → Env b s top μ → Env a s top′ μ
+  pub env-later : {s : Scope} {μ : List Value} → Scoped b s top μ → Scoped a s top′ μ
   env-later w = record { count = w .count; starts-long = w .starts-long; lens-long = w .lens-long; each = λ i h. held-later (w .each i h) }
 
 -- one variable more
-pub env-push : {a : List ℕ} {s : Scope} {top start len : ℕ} {μ : List Value} {v : Value} → Env a s top μ → Held a top start len v → s .count < 110
-    → Env a (pushed s start len) top (μ ++ (v ∷ []))
+pub env-push : {a : List ℕ} {s : Scope} {top start len : ℕ} {μ : List Value} {v : Value} → Scoped a s top μ → Held a top start len v → s .count < 110
+    → Scoped a (pushed s start len) top (μ ++ (v ∷ []))
 env-push {a} {s} {top} {start} {len} {μ} {v} w h lt = record {
   count = rw length-append (omega (arith, w .count));
   starts-long = length-set (s .starts) (s .count) start ∙ w .starts-long;
-  lens-long = length-set (s .lens) (s .count) len ∙ w .lens-long;
+  lens-long = length-set (s .lens) (s .count) (len - 1) ∙ w .lens-long;
   each = λ i k. go i (rw length-append at k) (decLt i (length μ));
 }
   where
     go : (i : ℕ) → i < length μ + length (v ∷ []) → Dec (i < length μ)
-        → Held a top (getD (set (s .starts) (s .count) start) i 0) (getD (set (s .lens) (s .count) len) i 0) (getD (μ ++ (v ∷ [])) i vfalse)
+        → Held a top (getD (set (s .starts) (s .count) start) i 0) (getD (set (s .lens) (s .count) (len - 1)) i 0 + 1) (getD (μ ++ (v ∷ [])) i vfalse)
     go i k (yes y) =
         let ne : i ≡ s .count → ⊥ = λ e. omega (arith, w .count) in
-        rw (getD-set-other (s .starts) (s .count) i start 0 ne, getD-set-other (s .lens) (s .count) i len 0 ne, List·getD-append μ (v ∷ []) vfalse i y) (w .each i y)
+        rw (getD-set-other (s .starts) (s .count) i start 0 ne, getD-set-other (s .lens) (s .count) i (len - 1) 0 ne, List·getD-append μ (v ∷ []) vfalse i y) (w .each i y)
     go i k (no n) =
         let e : i ≡ length μ = omega arith in
         let e′ : i ≡ s .count = e ∙ sym (w .count) in
         let p : getD (set (s .starts) (s .count) start) i 0 ≡ start = ap (λ (j : ℕ). getD (set (s .starts) (s .count) start) j 0) e′ ∙ getD-set-same (s .starts) (s .count) start 0 (omega (arith, w .starts-long)) in
-        let q : getD (set (s .lens) (s .count) len) i 0 ≡ len = ap (λ (j : ℕ). getD (set (s .lens) (s .count) len) j 0) e′ ∙ getD-set-same (s .lens) (s .count) len 0 (omega (arith, w .lens-long)) in
+        let some : 1 ≤ len = omega (arith, h .long, size-pos v) in
+        let q : getD (set (s .lens) (s .count) (len - 1)) i 0 ≡ len - 1
+        = ap (λ (j : ℕ). getD (set (s .lens) (s .count) (len - 1)) j 0) e′ ∙ getD-set-same (s .lens) (s .count) (len - 1) 0 (omega (arith, w .lens-long)) in
+        let q′ : len - 1 + 1 ≡ len = omega arith in
         let u : getD (μ ++ (v ∷ [])) i vfalse ≡ v = ap (λ (j : ℕ). getD (μ ++ (v ∷ [])) j vfalse) e ∙ getD-append-seam μ v [] vfalse in
-        rw (p, q, u) h
+        rw (p, q, q′, u) h
 
 -- two variables alone
-pub env-pick : {a : List ℕ} {s : Scope} {top x y : ℕ} {μ : List Value} → Env a s top μ → x < length μ → y < length μ
-    → Env a (picked s x y) top (getD μ x vfalse ∷ getD μ y vfalse ∷ [])
+pub env-pick : {a : List ℕ} {s : Scope} {top x y : ℕ} {μ : List Value} → Scoped a s top μ → x < length μ → y < length μ
+    → Scoped a (picked s x y) top (getD μ x vfalse ∷ getD μ y vfalse ∷ [])
 env-pick {a} {s} {top} {x} {y} {μ} w hx hy = record {
   count = refl;
   starts-long = simp length-set (w .starts-long);
@@ -103,7 +107,7 @@ env-pick {a} {s} {top} {x} {y} {μ} w hx hy = record {
     second : (l : List ℕ) (u v : ℕ) → length l ≡ 110 → getD (set (set l 0 u) 1 v) 1 0 ≡ v
     second l u v e = getD-set-same (set l 0 u) 1 v 0 (simp length-set (omega arith))
 
-    go : (i : ℕ) → i < 2 → Held a top (getD (picked s x y .starts) i 0) (getD (picked s x y .lens) i 0) (getD (getD μ x vfalse ∷ getD μ y vfalse ∷ []) i vfalse)
+    go : (i : ℕ) → i < 2 → Held a top (getD (picked s x y .starts) i 0) (getD (picked s x y .lens) i 0 + 1) (getD (getD μ x vfalse ∷ getD μ y vfalse ∷ []) i vfalse)
     go zero h = rw (first (s .starts) _ _ (w .starts-long), first (s .lens) _ _ (w .lens-long)) (w .each x hx)
     go (suc zero) h = rw (second (s .starts) _ _ (w .starts-long), second (s .lens) _ _ (w .lens-long)) (w .each y hy)
     go (suc (suc i)) h = absurd (omega arith)

@@ -51,25 +51,25 @@ either n i h = go (decLt i n) (decLt i (n + 1))
     go (no p) (no q) = second (omega arith)
 
 -- two blank cells more
-pub written-more : {a lens : List ℕ} {n : ℕ} {W : Cells} → Written a lens n W → n + 2 ≤ 110 → Written a (set (set lens n 0) (n + 1) 0) (n + 2) (W ++ two none none)
-written-more {a} {lens} {n} {W} w h = record {
+pub written-more : {a slots : List ℕ} {n : ℕ} {W : Cells} → Written a slots n W → n + 2 ≤ 110 → Written a (set (set slots n 0) (n + 1) 0) (n + 2) (W ++ two none none)
+written-more {a} {slots} {n} {W} w h = record {
   count = length-append W (two none none) ∙ omega (arith, w .count);
   few = h;
   long = simp length-set (w .long);
   each = λ i l. go i (either n i l);
 }
   where
-    go : (i : ℕ) → Either n i → Slot a (4096 + 256 * i) (getD (set (set lens n 0) (n + 1) 0) i 0) (getD (W ++ two none none) i none)
-    go i (before l) = rw (set-two-left lens n i 0 0 0 l, two-left W none none none i (omega (arith, w .count))) (w .each i l)
-    go i (first e) = rw (two-first W none none none i (omega (arith, w .count))) (blank (set-two-first lens n i 0 0 0 e (omega (arith, w .long))))
-    go i (second e) = rw (two-second W none none none i (omega (arith, w .count))) (blank (set-two-second lens n i 0 0 0 e (omega (arith, w .long))))
+    go : (i : ℕ) → Either n i → Slot a (4096 + 256 * i) (getD (set (set slots n 0) (n + 1) 0) i 0) (getD (W ++ two none none) i none)
+    go i (before l) = rw (set-two-left slots n i 0 0 0 l, two-left W none none none i (omega (arith, w .count))) (w .each i l)
+    go i (first e) = rw (two-first W none none none i (omega (arith, w .count))) (blank (set-two-first slots n i 0 0 0 e (omega (arith, w .long))))
+    go i (second e) = rw (two-second W none none none i (omega (arith, w .count))) (blank (set-two-second slots n i 0 0 0 e (omega (arith, w .long))))
 
-pub written-at : {a lens : List ℕ} {n m : ℕ} {W : Cells} → n ≡ m → Written a lens n W → Written a lens m W
+pub written-at : {a slots : List ℕ} {n m : ℕ} {W : Cells} → n ≡ m → Written a slots n W → Written a slots m W
 written-at e w = rw e at w
 
 -- the last two dropped
-pub written-less : {a lens : List ℕ} {n : ℕ} {X : Cells} → Written a lens (n + 2) X → Written a lens n (take n X)
-written-less {a} {lens} {n} {X} w = record {
+pub written-less : {a slots : List ℕ} {n : ℕ} {X : Cells} → Written a slots (n + 2) X → Written a slots n (take n X)
+written-less {a} {slots} {n} {X} w = record {
   count = length-take-le n X (omega (arith, w .count));
   few = omega (arith, w .few);
   long = w .long;
@@ -154,21 +154,21 @@ module _ {b a s : List ℕ} {n c : ℕ} (f : Filled (4096 + 256 * c) n s b a) (s
       go (no h) = full z (filled-above f (4096 + 256 * i) len (let k : c < i = omega arith in omega arith) ∙ p) r
 
   -- v was written to the cell c
-  pub written-set : {lens : List ℕ} {m : ℕ} {W : Cells} {v : Value} → Written b lens m W → c < m → n ≡ size v → s ≡ encode v → Readable v → Written a (set lens c n) m (set W c (some v))
-  written-set {lens} {m} {W} {v} w h z e r = record {
+  pub written-set : {slots : List ℕ} {m : ℕ} {W : Cells} {v : Value} → Written b slots m W → c < m → n ≡ size v → s ≡ encode v → Readable v → Written a (set slots c n) m (set W c (some v))
+  written-set {slots} {m} {W} {v} w h z e r = record {
     count = length-set W c (some v) ∙ w .count;
     few = w .few;
-    long = length-set lens c n ∙ w .long;
+    long = length-set slots c n ∙ w .long;
     each = λ i l. go i l (decLt i c) (decLt c i);
   }
     where
-      other : (i : ℕ) → i < m → (i ≡ c → ⊥) → Slot a (4096 + 256 * i) (getD (set lens c n) i 0) (getD (set W c (some v)) i none)
-      other i l ne = rw (getD-set-other lens c i n 0 ne, getD-set-other W c i (some v) none ne) (slot-other ne (w .each i l))
+      other : (i : ℕ) → i < m → (i ≡ c → ⊥) → Slot a (4096 + 256 * i) (getD (set slots c n) i 0) (getD (set W c (some v)) i none)
+      other i l ne = rw (getD-set-other slots c i n 0 ne, getD-set-other W c i (some v) none ne) (slot-other ne (w .each i l))
 
-      here : (i : ℕ) → i ≡ c → Slot a (4096 + 256 * i) (getD (set lens c n) i 0) (getD (set W c (some v)) i none)
-      here i q = rw (q, getD-set-same lens c n 0 (omega (arith, w .long, w .few)), getD-set-same W c (some v) none (omega (arith, w .count))) (full z (f .bytes ∙ e) r)
+      here : (i : ℕ) → i ≡ c → Slot a (4096 + 256 * i) (getD (set slots c n) i 0) (getD (set W c (some v)) i none)
+      here i q = rw (q, getD-set-same slots c n 0 (omega (arith, w .long, w .few)), getD-set-same W c (some v) none (omega (arith, w .count))) (full z (f .bytes ∙ e) r)
 
-      go : (i : ℕ) → i < m → Dec (i < c) → Dec (c < i) → Slot a (4096 + 256 * i) (getD (set lens c n) i 0) (getD (set W c (some v)) i none)
+      go : (i : ℕ) → i < m → Dec (i < c) → Dec (c < i) → Slot a (4096 + 256 * i) (getD (set slots c n) i 0) (getD (set W c (some v)) i none)
       go i l (yes p) q = other i l (λ k. omega arith)
       go i l (no p) (yes q) = other i l (λ k. omega arith)
       go i l (no p) (no q) = here i (omega arith)

@@ -22,11 +22,11 @@ pub data Slot (a : List ℕ) (start len : ℕ) : Option Value → Type 0 where
   full : {v : Value} → len ≡ size v → part a start len ≡ encode v → Readable v → Slot a start len (some v)
 
 -- the n cells hold W
-pub record Written (a lens : List ℕ) (n : ℕ) (W : Cells) : Type 0 where
+pub record Written (a slots : List ℕ) (n : ℕ) (W : Cells) : Type 0 where
   pub count : length W ≡ n
   pub few : n ≤ 110
-  pub long : length lens ≡ 110
-  pub each : (i : ℕ) → i < n → Slot a (4096 + 256 * i) (getD lens i 0) (getD W i none)
+  pub long : length slots ≡ 110
+  pub each : (i : ℕ) → i < n → Slot a (4096 + 256 * i) (getD slots i 0) (getD W i none)
 
 -- the cell of each variable, of n cells
 pub record Named (cells : List ℕ) (n : ℕ) (σ : List ℕ) : Type 0 where

@@ -1,13 +1,15 @@
 -- Walks on bytes: what an entry shows of its answer; and that get's is the rules' answer.
-use mathlib.Core.Path.{_≡_, refl, sym, ap, _∙_}
+use mathlib.Core.Path.{_≡_, refl, sym, ap, ap₂, _∙_}
+use mathlib.Core.Bool.{true, false}
 use mathlib.Core.List.{List, _++_, map}
 use Prim.Native.Nat.{ℕ, _+_, _≤_, _<_}
 use native.Mathlib.Omega.{arith}
 use lib.ListN.{length, take, drop, getD, length-append, length-drop}
 use lib.Seq.{length-take-le, drop-at, drop-append-le, take-append-le}
+use Rattle.answer.specs.Answer.{isRefusal, codeOf, lenOf, stepsOf, said-refused, said-done}
 use Rattle.value.specs.Result.{ok, refusal}
 use Rattle.value.specs.Value.{Value, vfalse, encode, size, flat}
-use Rattle.value.specs.Encoding.{size-encode}
+use Rattle.value.specs.Encoding.{size-encode, size-pos}
 use Rattle.value.specs.Laws.{ReadAs, readValues-sound}
 use Rattle.value.specs.Reading.{readPlan}
 use Rattle.value.specs.Spans.{places, starts, spansOf}
@@ -17,6 +19,7 @@ use Rattle.sheet.specs.Table.{tableOf}
 use Rattle.sheet.specs.declared.Table.{Table}
 use Rattle.sheet.specs.Laws.{sheet-ranges, table-ok, table-refused}
 use Rattle.rules.specs.Outcome.{Out, done, refused, mapOut, reading}
+use Rattle.rules.specs.Allowance.{within}
 use Rattle.rules.specs.Rules.{get}
 use Rattle.rules.specs.Answer.{getWalk, getBytes}
 use Rattle.step.specs.declared.Scope.{Scope}
@@ -25,12 +28,12 @@ use Rattle.walk.specs.declared.Walked.the-variants.{Done, Refused}
 use Rattle.walk.specs.Parts.{part, CopiedIn}
 use Rattle.walk.specs.Plan.{standing, flat-short, starts-length, sizes-at, sizes-length, placed, spans-refused, spread}
 use Rattle.walk.specs.Scope.{Spanned}
-use Rattle.walk.specs.Arena.{Held, inPlan, Env}
+use Rattle.walk.specs.Arena.{Held, inPlan, Scoped}
 use Rattle.walk.specs.Seen.{held-short}
-use Rattle.walk.specs.Answers.{Told, serves, denies}
-use Rattle.walk.specs.Found.{Found}
-use Rattle.walk.specs.Found as found
-use Rattle.walk.specs.Gets.{enter, run, Ready, Served, Denied, Gives, Exact}
+use Rattle.walk.specs.Answers.{had, not-had}
+use Rattle.walk.specs.Gets.{run, Here, Asks, ToldOf}
+use Rattle.walk.specs.GetReady.{Sized}
+use Rattle.walk.specs.GetAt.{Brought, AtTop, at-top}
 
 -- the result r and the arena a say the outcome: its bytes, at most `most`, stand at 32,256
 pub data Says (most : ℕ) (a : List ℕ) (r : Walked) : Out (List ℕ) → Type 0 where
@@ -60,17 +63,6 @@ pub record PlanWalked (most : ℕ) (w : Out (List ℕ)) (b a : List ℕ) (r : Wa
   pub long : length a ≡ length b
   pub says : Says most a r w
 
--- what was found, as the call says it
-pub record Same (f : Found) (r : Walked) : Type 0 where
-  pub done : {start len n : ℕ} → f ≡ found.Done start len n → r ≡ Done len n
-  pub refused : {c : ℕ} → f ≡ found.Refused c → r ≡ Refused c
-
-pub same-done : {f : Found} {start len n : ℕ} → f ≡ found.Done start len n → Same f (Done len n)
-same-done e = record { done = λ d. cc; refused = λ d. absurd (let z : _≡_ {A = ℕ} 0 1 = cc in omega arith) }
-
-pub same-refused : {f : Found} {c : ℕ} → f ≡ found.Refused c → Same f (Refused c)
-same-refused e = record { done = λ d. absurd (let z : _≡_ {A = ℕ} 0 1 = cc in omega arith); refused = λ d. cc }
-
 -- THE WALK FROM THE ROOT
 
 module _ {sheet plan : List ℕ} {table : Table} {sc : Scope} {allowance : ℕ} {b : List ℕ} (w : Planned sheet plan table sc allowance b) where
@@ -88,8 +80,16 @@ module _ {sheet plan : List ℕ} {table : Table} {sc : Scope} {allowance : ℕ} 
   pub plan-fits : length plan ≤ length b
   plan-fits = omega (arith, plan-small .1, w .long)
 
+  pub root-is : table .root ≡ w .sh .root
+  unfolding tableOf
+  root-is = ap (λ (t : Table). t .root) (w .is)
+
+  get-is : getBytes sheet plan allowance ≡ mapOut encode (within allowance (get 48 (w .sh) (table .root) (w .μ)))
+  unfolding getBytes getWalk reading
+  get-is = rw (w .read, w .values) (ap (λ (x : ℕ). mapOut encode (within allowance (get 48 (w .sh) x (w .μ)))) (sym root-is))
+
   module _ {m : List ℕ} (c : CopiedIn plan b m) where
-    pub plan-env : Env m sc 32256 (w .μ)
+    pub plan-env : Scoped m sc 32256 (w .μ)
     plan-env = record {
       count = w .spanned .count ∙ sym (plan-read .count);
       starts-long = w .spanned .starts-long;
@@ -97,48 +97,60 @@ module _ {sheet plan : List ℕ} {table : Table} {sc : Scope} {allowance : ℕ} 
       each = λ i h. go i h;
     }
       where
-        go : (i : ℕ) → i < length (w .μ) → Held m 32256 (getD (sc .starts) i 0) (getD (sc .lens) i 0) (getD (w .μ) i vfalse)
+        go : (i : ℕ) → i < length (w .μ) → Held m 32256 (getD (sc .starts) i 0) (getD (sc .lens) i 0 + 1) (getD (w .μ) i vfalse)
         go i h =
             let r = plan-read in
             let k : i < w .sh .k = omega (arith, r .count) in
             let p : part m 0 (length (flat (w .μ))) ≡ flat (w .μ) = rw (r .bytes) at (c .bytes) in
             let s = standing m 0 (r .readable) p i h in
-            let e : getD (sc .starts) i 0 ≡ getD (starts 0 (w .μ)) i 0 = w .spanned .start i k ∙ placed (starts 0 (w .μ)) i (omega (arith, starts-length 0 (w .μ))) in
-            let f : getD (sc .lens) i 0 ≡ size (getD (w .μ) i vfalse) = w .spanned .len i k ∙ placed (map size (w .μ)) i (omega (arith, sizes-length (w .μ))) ∙ sizes-at (w .μ) i h in
+            let e : getD (sc .starts) i 0 ≡ getD (starts 0 (w .μ)) i 0
+            = w .spanned .start i k ∙ placed (starts 0 (w .μ)) i (omega (arith, starts-length 0 (w .μ))) in
+            let d : getD (places (map size (w .μ))) i 0 ≡ size (getD (w .μ) i vfalse)
+            = placed (map size (w .μ)) i (omega (arith, sizes-length (w .μ))) ∙ sizes-at (w .μ) i h in
+            let f : getD (sc .lens) i 0 + 1 ≡ size (getD (w .μ) i vfalse)
+            = w .spanned .len i k (omega (arith, size-pos (getD (w .μ) i vfalse))) (omega (arith, s .readable .fits)) ∙ d in
             let z : length (flat (w .μ)) ≤ 4096 = omega (arith, plan-small .1, ap length (r .bytes)) in
             rw (e, f) (record { place = inPlan (omega (arith, s .inside)); long = refl; bytes = s .bytes; readable = s .readable })
 
-    pub plan-ready : Ready sheet (table .starts) m sc 32256 48 allowance (enter (table .root))
-    unfolding tableOf
-    plan-ready =
-        let z : table .root ≡ w .sh .root = ap (λ (t : Table). t .root) (w .is) in
-        record {
-          long = c .long ∙ w .long;
-          few = w .few;
-          base = omega arith;
-          room = omega arith;
-          slots = omega (arith, w .spanned .count, sheet-ranges sheet (w .read) .few-variables);
-          lent = record { sh = w .sh; read = w .read; table = ap (λ (t : Table). t .starts) (w .is) };
-          known = rw z (sheet-ranges sheet (w .read) .root);
-          env = w .μ;
-          scoped = plan-env;
-        }
+    -- the place of the walk
+    abbrev pub at-root : Here
+    at-root = record { sheet = sheet; table = table .starts; arena = m; scope = sc; top = 32256; left = allowance; levels = 48 }
 
-    pub plan-got : {a : List ℕ} {r : Walked} {f : Found} → Gives m a sheet sc 32256 32256 allowance 0 f 48 (enter (table .root)) → Exact 32256 f → Same f r → PlanWalked 256 (getBytes sheet plan allowance) b a r
-    unfolding tableOf getBytes getWalk reading mapOut run
-    plan-got {a} {r} {f} g x y =
-        let z : table .root ≡ w .sh .root = ap (λ (t : Table). t .root) (w .is) in
-        record {
-          long = g .kept .long ∙ c .long;
-          says = rw (w .read, w .values) (go (rw z at (g .told (w .sh) (w .read) (w .μ) plan-env .told)));
-        }
-      where
-        go : {o : Out Value} → Told (Served a 32256 f) (Denied f) 0 o → Says 256 a r (mapOut encode o)
-        go (serves {v = v} {s = s} n e p) =
-            let q : n ≡ s = omega arith in
-            let h = rw (x .at (p .is)) at (p .held) in
-            says-done (p .len) (y .done (p .is) ∙ ap (Done (p .len)) q) (h .long ∙ sym (size-encode v)) (held-short h) (h .bytes)
-        go (denies d) = says-refused (y .refused (d .is))
+    pub plan-ready : Asks at-root (table .root)
+    unfolding tableOf
+    plan-ready = record {
+      long = c .long ∙ w .long;
+      few = w .few;
+      base = omega arith;
+      room = omega arith;
+      variables = omega (arith, w .spanned .count, sheet-ranges sheet (w .read) .few-variables);
+      sheet = record { sh = w .sh; read = w .read; places = ap (λ (t : Table). t .starts) (w .is) };
+      known = rw root-is (sheet-ranges sheet (w .read) .root);
+      env = w .μ;
+      scoped = plan-env;
+    }
+
+    -- the root was got, and its value brought to the top
+    module _ {a a₂ : List ℕ} {g r : ℕ} (told : ToldOf at-root a g (table .root)) (sized : Sized 32256 allowance 48 g) (brought : Brought 32256 g a a₂ r) where
+      top : AtTop at-root a₂ r (table .root)
+      top = at-top plan-ready told sized brought
+
+      pub get-refused : {x : ℕ} → isRefusal r ≡ true → x ≡ codeOf r → PlanWalked 256 (getBytes sheet plan allowance) b a₂ (Refused x)
+      unfolding run mapOut
+      get-refused {x} e f =
+          let d = not-had (top .gives .told (w .sh) (w .read) (w .μ) plan-env) (said-refused r e) in
+          let z : getBytes sheet plan allowance ≡ refused (codeOf r) (d .0) = get-is ∙ ap (mapOut encode) (d .1) in
+          record { long = top .gives .kept .long ∙ c .long; says = rw z (says-refused (ap Refused f)) }
+
+      pub get-done : {len n : ℕ} → isRefusal r ≡ false → len ≡ lenOf r → n ≡ stepsOf r → PlanWalked 256 (getBytes sheet plan allowance) b a₂ (Done len n)
+      unfolding run mapOut
+      get-done {len} {n} e f q =
+          let d = had (top .gives .told (w .sh) (w .read) (w .μ) plan-env) (said-done r e) in
+          let h = d .that .held in
+          let z : getBytes sheet plan allowance ≡ done (encode (d .value)) n = get-is ∙ ap (mapOut encode) (d .is) ∙ ap (done (encode (d .value))) (sym q) in
+          let y : part a₂ 32256 len ≡ encode (d .value) = ap₂ (part a₂) (sym (top .there e)) f ∙ h .bytes in
+          let few : len ≤ 256 = omega (arith, f, held-short h) in
+          record { long = top .gives .kept .long ∙ c .long; says = rw z (says-done len refl (f ∙ h .long ∙ sym (size-encode (d .value))) few y) }
 
 -- THE RETURNS OF THE ENTRY
 
@@ -161,7 +173,8 @@ table-read sheet {table} is fine =
 spanned-as : {k k′ : ℕ} {ss ss′ ls ls′ : List ℕ} {sc : Scope} → k ≡ k′ → ss ≡ ss′ → ls ≡ ls′ → Spanned k ss ls sc → Spanned k′ ss′ ls′ sc
 spanned-as e f g s = rw (e, f, g) at s
 
-pub planned : {sheet plan : List ℕ} {allowance : ℕ} {table : Table} {sc : Scope} {sp : Spans} (b : List ℕ) → 65536 ≤ length b → allowance ≤ 1000000 → TableRead sheet table
+pub planned : {sheet plan : List ℕ} {allowance : ℕ} {table : Table} {sc : Scope} {sp : Spans} (b : List ℕ)
+    → 65536 ≤ length b → allowance ≤ 1000000 → TableRead sheet table
     → sp ≡ spansOf (table .k) plan → sp .refusal ≡ 0 → Spanned (table .k) (sp .starts) (sp .lens) sc → Planned sheet plan table sc allowance (take 65536 b)
 planned {plan = plan} {table = table} b room few t read z s =
     let w = spread (table .k) plan (t .few) read z in
@@ -179,7 +192,8 @@ planned {plan = plan} {table = table} b room few t read z s =
 -- what stands in the front stands in the whole
 says-whole : (x : List ℕ) {most : ℕ} {a : List ℕ} {r : Walked} {o : Out (List ℕ)} → most ≤ 4096 → length a ≡ 65536 → Says most a r o → Says most (a ++ x) r o
 says-whole x {a = a} t l (says-done {bs = bs} len e q h p) =
-    let z : part (a ++ x) 32256 len ≡ part a 32256 len = rw (drop-append-le 32256 a x (omega arith)) (take-append-le len (drop 32256 a) x (rw length-drop (omega arith))) in
+    let z : part (a ++ x) 32256 len ≡ part a 32256 len
+    = rw (drop-append-le 32256 a x (omega arith)) (take-append-le len (drop 32256 a) x (rw length-drop (omega arith))) in
     says-done len e q h (z ∙ p)
 says-whole x t l (says-refused e) = says-refused e
 
@@ -209,11 +223,15 @@ sheet-refusal sheet {table} is n =
     let z : table .refusal ≡ tableOf (readSheet sheet) .refusal = ap (λ (t : Table). t .refusal) is in
     table-refused sheet (λ y. n (z ∙ y)) ∙ ap refusal (sym z)
 
-pub plan-refusal : {sheet : List ℕ} {table : Table} {sp : Spans} (plan : List ℕ) (t : TableRead sheet table) → sp ≡ spansOf (table .k) plan → (sp .refusal ≡ 0 → ⊥) → readPlan (t .sh .k) plan ≡ refusal (sp .refusal)
+pub plan-refusal : {sheet : List ℕ} {table : Table} {sp : Spans} (plan : List ℕ) (t : TableRead sheet table)
+    → sp ≡ spansOf (table .k) plan → (sp .refusal ≡ 0 → ⊥) → readPlan (t .sh .k) plan ≡ refusal (sp .refusal)
 plan-refusal {table = table} plan t read n = rw (t .k-is) at (spans-refused (table .k) plan (t .few) read n)
 
-pub plan-values : {sheet : List ℕ} {table : Table} {sp : Spans} (plan : List ℕ) (t : TableRead sheet table) → sp ≡ spansOf (table .k) plan → sp .refusal ≡ 0 → (μ : List Value) × (readPlan (t .sh .k) plan ≡ ok μ)
-plan-values {table = table} plan t read z = let w = spread (table .k) plan (t .few) read z in (w .μ, ap (λ (k : ℕ). readPlan k plan) (sym (t .k-is)) ∙ w .values)
+pub plan-values : {sheet : List ℕ} {table : Table} {sp : Spans} (plan : List ℕ) (t : TableRead sheet table)
+    → sp ≡ spansOf (table .k) plan → sp .refusal ≡ 0 → (μ : List Value) × (readPlan (t .sh .k) plan ≡ ok μ)
+plan-values {table = table} plan t read z =
+    let w = spread (table .k) plan (t .few) read z in
+    (w .μ, ap (λ (k : ℕ). readPlan k plan) (sym (t .k-is)) ∙ w .values)
 
 module _ (sheet plan : List ℕ) (allowance : ℕ) where
   pub get-sheet-refused : {c : ℕ} → readSheet sheet ≡ refusal c → getBytes sheet plan allowance ≡ refused c 0

@@ -8,12 +8,12 @@ use native.Mathlib.Omega.{arith}
 use lib.ListN.{take, drop}
 use lib.Seq.{take-take, drop-drop}
 use Rattle.value.specs.Value.{Value}
-use Rattle.rules.specs.Rules.{Env as Values, Cells}
+use Rattle.rules.specs.Rules.{Env, Cells}
 use Rattle.step.specs.declared.Scope.{Scope}
 use Rattle.walk.specs.Parts.{part, Kept, part-kept, kept-below, take-drop}
-use Rattle.walk.specs.Arena.{Below, inPlan, onStack, Held, Env, below-later}
+use Rattle.walk.specs.Arena.{Below, inPlan, onStack, Held, Scoped, below-later}
 use Rattle.walk.specs.Cells.{Frame, Slot, blank, full, Written}
-use Rattle.walk.specs.Puts.{Spans}
+use Rattle.walk.specs.Puts.{PartsAt}
 
 -- a part of a part
 part-part : (l : List ℕ) (i n j m : ℕ) → j + m ≤ n → part (part l i n) j m ≡ part l (i + j) m
@@ -45,16 +45,16 @@ module _ {b a : List ℕ} {top : ℕ} (f : Frame top b a) (top′ : ℕ) (p : to
   pub held-framed : {start len : ℕ} {v : Value} → Held b top start len v → Held a top′ start len v
   held-framed h = record { place = below-later top′ p (h .place); long = h .long; bytes = frame-part f (h .place) ∙ h .bytes; readable = h .readable }
 
-  pub env-framed : {s : Scope} {μ : Values} → Env b s top μ → Env a s top′ μ
+  pub env-framed : {s : Scope} {μ : Env} → Scoped b s top μ → Scoped a s top′ μ
   env-framed w = record { count = w .count; starts-long = w .starts-long; lens-long = w .lens-long; each = λ i h. held-framed (w .each i h) }
 
-  pub spans-framed : {start first second : ℕ} {x y : Value} → Spans b top start first second x y → Spans a top′ start first second x y
-  spans-framed s = record { one = held-framed (s .one); two = held-framed (s .two) }
+  pub parts-framed : {start first second : ℕ} {x y : Value} → PartsAt b top start first second x y → PartsAt a top′ start first second x y
+  parts-framed s = record { one = held-framed (s .one); two = held-framed (s .two) }
 
 -- the slots of the cells lie below the stack: a get leaves them alone
 slot-kept : {b a : List ℕ} {k start len : ℕ} {o : Option Value} → Kept k b a → start + 256 ≤ k → Slot b start len o → Slot a start len o
 slot-kept e h (blank z) = blank z
 slot-kept {start = start} {len = len} e h (full z p r) = full z (part-kept e start len (omega (arith, r .fits)) ∙ p) r
 
-pub written-kept : {b a lens : List ℕ} {k n : ℕ} {W : Cells} → Kept k b a → 32256 ≤ k → Written b lens n W → Written a lens n W
+pub written-kept : {b a slots : List ℕ} {k n : ℕ} {W : Cells} → Kept k b a → 32256 ≤ k → Written b slots n W → Written a slots n W
 written-kept e h w = record { count = w .count; few = w .few; long = w .long; each = λ i l. slot-kept e (omega (arith, w .few)) (w .each i l) }

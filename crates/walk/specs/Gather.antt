@@ -4,16 +4,15 @@ use mathlib.Core.List.{List, [], _∷_, _++_, append-assoc, append-nil}
 use Prim.Native.Nat.{ℕ, _+_, _*_, _≤_, _<_}
 use native.Mathlib.Nat.{le-refl}
 use native.Mathlib.Numerals.{add-one}
-use native.Mathlib.Decide.{decLt}
 use native.Mathlib.Omega.{arith}
-use lib.ListN.{length, take, getD, set, replicate, length-set}
-use lib.Seq.{take-suc, getD-set-same, getD-set-other}
+use lib.ListN.{length, take, getD}
+use lib.Seq.{take-suc}
 use Rattle.value.specs.Value.{Value, vfalse, encode, flat}
 use Rattle.step.specs.declared.Scope.{Scope}
 use Rattle.step.specs.declared.Span.{Span}
-use Rattle.step.specs.declared.Cells.{Cells as Owners}
+use Rattle.step.specs.Step.{When, placeOf, nowhere}
 use Rattle.walk.specs.Parts.{part, Kept, Copied, part-kept, part-join, kept-refl, kept-then}
-use Rattle.step.specs.Step.{placeOf}
+use Rattle.walk.specs.Scope.{Spanning}
 
 -- the bytes of v, below the stack
 pub record Rests (a : List ℕ) (p : Span) (v : Value) : Type 0 where
@@ -22,23 +21,23 @@ pub record Rests (a : List ℕ) (p : Span) (v : Value) : Type 0 where
   pub inside : p .start + p .len ≤ 32256
 
 -- the variables now stand for ws
-pub record Placed (a lens : List ℕ) (sc : Scope) (ws : List Value) : Type 0 where
+pub record Placed (a slots : List ℕ) (sc : Scope) (ws : List Value) : Type 0 where
   pub count : sc .count ≡ length ws
   pub few : length ws ≤ 16
   pub long : length a ≡ 65536
-  pub each : (i : ℕ) → i < length ws → Rests a (placeOf (getD lens i 0) i (getD (sc .starts) i 0) (getD (sc .lens) i 0)) (getD ws i vfalse)
+  pub each : (i : ℕ) → i < length ws → Rests a (placeOf (getD slots i 0) i (getD (sc .starts) i 0) (getD (sc .lens) i 0 + 1)) (getD ws i vfalse)
 
-pub record SomePlaced (a lens : List ℕ) (sc : Scope) : Type 0 where
+pub record SomePlaced (a slots : List ℕ) (sc : Scope) : Type 0 where
   pub values : List Value
-  pub placed : Placed a lens sc values
+  pub placed : Placed a slots sc values
 
 -- i of them are gathered, in `len` bytes
-pub record Gathered (i : ℕ) (lens : List ℕ) (sc : Scope) (b a : List ℕ) (len : ℕ) : Type 0 where
+pub record Gathered (i : ℕ) (slots : List ℕ) (sc : Scope) (b a : List ℕ) (len : ℕ) : Type 0 where
   pub kept : Kept 32256 b a
   pub short : len ≤ 256 * i
-  pub told : {ws : List Value} → Placed b lens sc ws → part a 32256 len ≡ flat (take i ws)
+  pub told : {ws : List Value} → Placed b slots sc ws → part a 32256 len ≡ flat (take i ws)
 
-pub gathered-none : {lens : List ℕ} {sc : Scope} (b : List ℕ) → Gathered 0 lens sc b b 0
+pub gathered-none : {slots : List ℕ} {sc : Scope} (b : List ℕ) → Gathered 0 slots sc b b 0
 unfolding flat
 gathered-none b = record { kept = kept-refl 32256 b; short = omega arith; told = λ _. refl }
 
@@ -47,10 +46,12 @@ unfolding flat
 flat-snoc [] v = append-nil (encode v)
 flat-snoc (w ∷ ws) v = ap (λ (l : List ℕ). encode w ++ l) (flat-snoc ws v) ∙ sym (append-assoc (encode w) (flat ws) (encode v))
 
-module _ {i : ℕ} {lens : List ℕ} {sc : Scope} {b a : List ℕ} {len : ℕ} (g : Gathered i lens sc b a len) (s : SomePlaced b lens sc) (h : i < sc .count)
-    {p : Span} (is : p ≡ placeOf (getD lens i 0) i (getD (sc .starts) i 0) (getD (sc .lens) i 0)) where
-  rests : {ws : List Value} → Placed b lens sc ws → Rests b p (getD ws i vfalse)
-  rests w = rw is (w .each i (omega (arith, w .count)))
+module _ {i : ℕ} {slots : List ℕ} {sc : Scope} {b a : List ℕ} {len : ℕ} (g : Gathered i slots sc b a len) (s : SomePlaced b slots sc) (h : i < sc .count)
+    {p : Span} {l : ℕ} (stood : l ≡ getD (sc .lens) i 0 + 1) (place : When (i < 110) p (placeOf (getD slots i 0) i (getD (sc .starts) i 0) l) nowhere) where
+  rests : {ws : List Value} → Placed b slots sc ws → Rests b p (getD ws i vfalse)
+  rests w =
+      let is = place .inside (omega (arith, w .count, w .few)) ∙ ap (placeOf (getD slots i 0) i (getD (sc .starts) i 0)) stood in
+      rw is (w .each i (omega (arith, w .count)))
 
   -- what the copy of the next one asks
   pub gather-fits : (p .start + p .len ≤ length a) × (32256 + len + p .len ≤ length a)
@@ -59,42 +60,26 @@ module _ {i : ℕ} {lens : List ℕ} {sc : Scope} {b a : List ℕ} {len : ℕ} (
       let r = rests w in
       (omega (arith, r .inside, g .kept .long, w .long), omega (arith, r .short, g .short, g .kept .long, w .long, w .few, w .count))
 
-  pub gathered-more : {a′ : List ℕ} → Copied (p .start) (32256 + len) (p .len) a a′ → Gathered (i + 1) lens sc b a′ (len + p .len)
+  pub gathered-more : {a′ : List ℕ} → Copied (p .start) (32256 + len) (p .len) a a′ → Gathered (i + 1) slots sc b a′ (len + p .len)
   gathered-more {a′} c = record {
     kept = kept-then (g .kept) (c .kept) (omega arith);
     short = omega (arith, g .short, rests (s .placed) .short);
     told = go;
   }
     where
-      go : {ws : List Value} → Placed b lens sc ws → part a′ 32256 (len + p .len) ≡ flat (take (i + 1) ws)
+      go : {ws : List Value} → Placed b slots sc ws → part a′ 32256 (len + p .len) ≡ flat (take (i + 1) ws)
       go {ws} w =
           let r = rests w in
           let x : part a′ 32256 len ≡ flat (take i ws) = part-kept (c .kept) 32256 len (le-refl _) ∙ g .told w in
           let y : part a′ (32256 + len) (p .len) ≡ encode (getD ws i vfalse) = c .bytes ∙ part-kept (g .kept) (p .start) (p .len) (r .inside) ∙ r .bytes in
-          let z : take (i + 1) ws ≡ take i ws ++ (getD ws i vfalse ∷ []) = ap (λ (j : ℕ). take j ws) (add-one i) ∙ take-suc ws i vfalse (omega (arith, w .count)) in
+          let z : take (i + 1) ws ≡ take i ws ++ (getD ws i vfalse ∷ [])
+          = ap (λ (j : ℕ). take j ws) (add-one i) ∙ take-suc ws i vfalse (omega (arith, w .count)) in
           part-join a′ 32256 len (p .len) ∙ ap₂ _++_ x y ∙ sym (flat-snoc (take i ws) (getD ws i vfalse)) ∙ sym (ap flat z)
 
-pub gathered-all : {i k : ℕ} {lens : List ℕ} {sc : Scope} {b a : List ℕ} {len : ℕ} → Gathered i lens sc b a len → i ≡ k → Gathered k lens sc b a len
+pub gathered-all : {i k : ℕ} {slots : List ℕ} {sc : Scope} {b a : List ℕ} {len : ℕ} → Gathered i slots sc b a len → i ≡ k → Gathered k slots sc b a len
 gathered-all g e = rw e at g
 
--- THE FIRST CELLS
+-- THE FIRST CELLS: cell i for variable i
 
--- cell i for variable i
-pub record Counted (k : ℕ) (cells : Owners) : Type 0 where
-  pub count : cells .count ≡ k
-  pub long : length (cells .of) ≡ 110
-  pub each : (i : ℕ) → i < k → getD (cells .of) i 0 ≡ i
-
-pub record Counting (i : ℕ) (xs : List ℕ) : Type 0 where
-  pub long : length xs ≡ 110
-  pub same : (j : ℕ) → j < i → getD xs j 0 ≡ j
-
-pub counting-none : Counting 0 (replicate 110 0)
-counting-none = record { long = refl; same = λ j h. absurd (omega arith) }
-
-pub counting-more : {i : ℕ} {xs : List ℕ} → i < 110 → Counting i xs → Counting (i + 1) (set xs i i)
-counting-more {i} {xs} h m = record { long = length-set xs i i ∙ m .long; same = λ j lt. go j lt (decLt j i) }
-  where
-    go : (j : ℕ) → j < i + 1 → Dec (j < i) → getD (set xs i i) j 0 ≡ j
-    go j lt (yes y) = getD-set-other xs i j i 0 (λ e. omega arith) ∙ m .same j y
-    go j lt (no n) = let e : j ≡ i = omega arith in rw e (getD-set-same xs i i 0 (omega (arith, m .long)))
+abbrev pub Counted : ℕ → List ℕ → Type 0
+Counted k cells = Spanning k (λ (i x : ℕ). x ≡ i) cells

@@ -1,109 +1,109 @@
--- Additions: what get shows at each return.
-use mathlib.Core.Path.{_≡_, refl, ap}
-use mathlib.Core.Option.{none, some}
+-- Add: what get shows of an amount added.
+use mathlib.Core.Path.{_≡_, refl, sym, ap, _∙_}
+use mathlib.Core.Bool.{true, false}
 use mathlib.Core.List.{List}
-use Prim.Native.Nat.{ℕ, _+_, _*_, _-_, _/_, _%_, _≤_, _<_}
+use Prim.Native.Nat.{ℕ, suc, _+_, _-_, _*_, _/_, _%_, _≤_, _<_}
 use native.Mathlib.Nat.{le-refl}
-use native.Mathlib.Decide.{decLe}
 use native.Mathlib.Omega.{arith}
-use lib.ListN.{length, set}
-use Rattle.value.specs.Value.{Value, number, encode, size, Encodable, eNumber}
-use Rattle.value.specs.Views.{asNumber, ifSmall}
+use lib.ListN.{length, getD, set}
+use Rattle.answer.specs.Answer.{Done, Refused, said, after, isRefusal, lenOf, startOf, stepsOf, said-refused, said-done, refused-said}
+use Rattle.value.specs.Value.{Value, number, encode, size}
 use Rattle.value.specs.Parts.{shapeOf}
-use Rattle.value.specs.declared.Shape.{Shape}
 use Rattle.value.specs.declared.Shape.the-variants as shapes
-use Rattle.sheet.specs.declared.Node.the-variants.{Add}
 use Rattle.rules.specs.Text
-use Rattle.rules.specs.Rules.{getNode, get}
+use Rattle.rules.specs.Rules.{getNode}
 use Rattle.rules.specs.Readable.{number-readable}
-use Rattle.step.specs.declared.Scope.{Scope}
-use Rattle.walk.specs.Found.{Found, Done, Refused}
 use Rattle.walk.specs.Parts.{part, kept-then, kept-set}
 use Rattle.walk.specs.Arena.{Held, onStack}
-use Rattle.walk.specs.Seen.{Shaped, isNumber, shaped-as, held-head, held-shape}
-use Rattle.walk.specs.Answers.{finish, then-done, then-refused, give, give-none, give-yes, give-no}
-use Rattle.walk.specs.Gets.{enter, body, run, Ready, Gives, GotDone, got, not-got}
+use Rattle.walk.specs.Seen.{held-head, held-shape}
+use Rattle.walk.specs.Shapes.{NumberOf, number-of, no-number}
+use Rattle.walk.specs.Answers.{finish, then-done, then-refused, give, give-none, give-yes, give-no, had, not-had}
+use Rattle.walk.specs.Gets.{own, run, Here, Asked, Asks, Tells}
+use Rattle.walk.specs.GetReady.{first-asks}
+use Rattle.walk.specs.GetAt.{AtTop}
 use Rattle.walk.specs.GetLeaf.{number-bytes}
 
-number-seen : {v : Value} {m : ℕ} → Shaped v (shapes.Number m) → v ≡ number m
-number-seen isNumber = refl
+-- the amount of the record
+abbrev pub amountAt : List ℕ → ℕ → ℕ
+amountAt s n = 256 * getD s (n + 2) 0 + getD s (n + 3) 0
 
--- the view of a number that two bytes hold
-record Small (m : ℕ) : Type 0 where
-  seen : (n : ℕ) × (number m ≡ number n) × (n ≤ 65535)
-  is : asNumber (number m) ≡ some seen
-  same : seen .0 ≡ m
+-- WHAT `added` ASKS AND GIVES: the number that was got stands at the top
 
-small : (m : ℕ) → m ≤ 65535 → Small m
-unfolding asNumber ifSmall
-small m h = go (decLe m 65535) refl
-  where
-    go : (d : Dec (m ≤ 65535)) → decLe m 65535 ≡ d → Small m
-    go (yes k) e = record { seen = (m, refl, k); is = ap (ifSmall m) e; same = refl }
-    go (no k) e = absurd (k h)
+pub record Addable (a : List ℕ) (got top : ℕ) : Type 0 where
+  pub there : startOf got ≡ top
+  pub inside : startOf got + lenOf got ≤ length a
+  pub small : (m : ℕ) → shapes.Number m ≡ shapeOf (part a (startOf got) (lenOf got)) → (m ≤ 65535) × (lenOf got ≡ 3)
 
-fits : {m : ℕ} → Encodable (number m) → m ≤ 65535
-fits (eNumber h) = h
+pub data Added (amount got top : ℕ) (b a : List ℕ) (r : ℕ) : Type 0 where
+  passed-on : isRefusal got ≡ true → r ≡ got → a ≡ b → Added amount got top b a r
+  other : isRefusal got ≡ false → ((m : ℕ) → shapes.Number m ≡ shapeOf (part b (startOf got) (lenOf got)) → ⊥) → r ≡ 43 → a ≡ b → Added amount got top b a r
+  over : {m : ℕ} → isRefusal got ≡ false → shapes.Number m ≡ shapeOf (part b (startOf got) (lenOf got)) → 65535 < m + amount → r ≡ 45 → a ≡ b → Added amount got top b a r
+  sums : {m : ℕ} → isRefusal got ≡ false → shapes.Number m ≡ shapeOf (part b (startOf got) (lenOf got)) → m + amount ≤ 65535 → r ≡ got
+      → a ≡ set (set b (top + 1) ((m + amount) / 256)) (top + 2) ((m + amount) % 256) → Added amount got top b a r
 
--- an amount by its two bytes
-pub sum-as : {n a b x y : ℕ} → n ≡ 256 * a + b → a ≡ x → b ≡ y → n ≡ 256 * x + y
-sum-as e f g = rw (← f, ← g) e
+module _ {h : Here} {k n : ℕ} (w : Asked h k n) (add : k ≡ 0x1B) where
+  pub add-asks : Asks h (getD (h .sheet) (n + 1) 0)
+  add-asks = first-asks w (rw add at (w .known .1) .0 .inside)
 
-module _ {b a s : List ℕ} {sc : Scope} {top left : ℕ} {r : Found} {l x : ℕ} (g : Gives b a s sc top top left 0 r l (enter x)) where
-  pub add-refused : {k c : ℕ} → r ≡ Refused c → Gives b a s sc top top left 1 (Refused c) l (body (Add x k))
-  unfolding run Text.getNode
-  add-refused q = record { kept = g .kept; told = λ sh es μ w. then-refused _ _ (not-got g sh es μ w q .1) (record { is = refl }) }
+  module _ {a : List ℕ} {g : ℕ} (t : AtTop h a g (getD (h .sheet) (n + 1) 0)) where
+    -- the number that was got
+    the-number : {m len start : ℕ} {v : Value} → shapes.Number m ≡ shapeOf (part a start len) → {top : ℕ} → Held a top start len v → NumberOf v m
+    the-number {v = v} e d = number-of v (held-shape d e) (d .readable)
 
-  module _ {len n : ℕ} (e : r ≡ Done top len n) {q : Shape} (qs : q ≡ shapeOf (part a top (top + len - top))) where
-    pub add-43 : {k : ℕ} → ((v : Value) → Shaped v q → asNumber v ≡ none) → Gives b a s sc top top left 1 (Refused 43) l (body (Add x k))
-    unfolding run Text.getNode
-    add-43 other = record {
-      kept = g .kept;
-      told = λ sh es μ w. let d = got g sh es μ w e in then-done _ _ (d .is) (give-none _ _ (other (d .value) (held-shape (d .held) qs)) (record { is = refl }));
-    }
+    pub addable : isRefusal g ≡ false → Addable a g (h .top)
+    unfolding size
+    addable e =
+        let d = had (t .gives .told (w .sheet .sh) (w .sheet .read) (w .env) (w .scoped)) (said-done g e) in
+        let s = t .sized .at e in
+        let z : h .top + 257 * suc (h .levels) ≤ 65536 = w .room in
+        record {
+          there = t .there e;
+          inside = omega (arith, t .gives .kept .long, w .long);
+          small = λ m f.
+              let v = d .that .held in
+              let x = the-number f v in
+              (x .small, v .long ∙ ap size (x .whole));
+        }
 
-    module _ {m : ℕ} (p : q ≡ shapes.Number m) where
-      held-number : {o : _} (d : GotDone a top top len n o) → (d .value ≡ number m) × Held a (top + len) top len (number m)
-      held-number d = let z = number-seen (shaped-as (held-shape (d .held) qs) p) in (z, rw z at (d .held))
-
-      -- a number's bytes are three
-      pub add-long : {starts : List ℕ} → Ready s starts b sc top l left (enter x) → (len ≡ 3) × (m ≤ 65535)
-      unfolding size
-      add-long w = let h = held-number (got g (w .lent .sh) (w .lent .read) (w .env) (w .scoped) e) .1 in (h .long, fits (h .readable .encodable))
-
-      pub add-45 : {k : ℕ} → 65535 < m + k → Gives b a s sc top top left 1 (Refused 45) l (body (Add x k))
-      unfolding run Text.getNode
-      add-45 lt = record {
-        kept = g .kept;
-        told = λ sh es μ w.
-            let d = got g sh es μ w e in
-            let h = held-number d in
-            let z = small m (fits (h .1 .readable .encodable)) in
-            let y : z .seen .0 ≡ m = z .same in
-            then-done _ _ (d .is) (rw (h .0) (give _ _ (z .is) (give-no _ _ _ (λ le. omega arith) (record { is = refl }))));
-      }
-
-      pub add-done : {k : ℕ} {a₂ : List ℕ} → 32256 ≤ top → top + 3 ≤ length a → m + k ≤ 65535 → a₂ ≡ set (set a (top + 1) ((m + k) / 256)) (top + 2) ((m + k) % 256)
-          → Gives b a₂ s sc top top left 1 (Done top 3 (1 + n)) l (body (Add x k))
-      unfolding run Text.getNode encode size
-      add-done {k} {a₂} base room le is = record {
-        kept = rw is (kept-then (kept-then (g .kept) (kept-set top a (top + 1) ((m + k) / 256) (omega arith)) (le-refl top))
-            (kept-set top (set a (top + 1) ((m + k) / 256)) (top + 2) ((m + k) % 256) (omega arith)) (le-refl top));
-        told = λ sh es μ w.
-            let d = got g sh es μ w e in
-            let h = held-number d in
-            let z = small m (fits (h .1 .readable .encodable)) in
-            let y : z .seen .0 ≡ m = z .same in
-            then-done _ _ (d .is) (rw (h .0) (give _ _ (z .is) (give-yes _ _ _ (omega arith) (λ _. rw y (finish refl (record {
-              start = top;
-              len = 3;
-              is = refl;
-              low = le-refl top;
-              held = record {
-                place = onStack base (le-refl _);
-                long = refl;
-                bytes = rw is (number-bytes a top (m + k) room (held-head (h .1)));
-                readable = number-readable le;
-              };
-            }))))));
-      }
+    pub add-told : {a₂ : List ℕ} {r : ℕ} → Added (amountAt (h .sheet) n) g (h .top) a a₂ r → Tells h a₂ r k n
+    unfolding run Text.getNode encode size after
+    add-told (passed-on e is f) = rw (is, f, add) (record {
+      kept = t .gives .kept;
+      told = λ sh es μ m. let x = said-refused g e in then-refused _ _ (not-had (t .gives .told sh es μ m) x .1) x;
+    })
+    add-told {r = r} (other e not is f) = rw (f, add) (record {
+      kept = t .gives .kept;
+      told = λ sh es μ m.
+          let d = had (t .gives .told sh es μ m) (said-done g e) in
+          let x : said r ≡ Refused 43 = ap said is ∙ refused-said (omega arith) (omega arith) in
+          then-done _ _ {q = Refused 43} (d .is) (give-none _ _ (no-number (d .value) (λ i q. not i (q ∙ sym (held-shape (d .that .held) refl)))) refl) x;
+    })
+    add-told {r = r} (over {m = i} e num lt is f) = rw (f, add) (record {
+      kept = t .gives .kept;
+      told = λ sh es μ m.
+          let d = had (t .gives .told sh es μ m) (said-done g e) in
+          let v = the-number num (d .that .held) in
+          let x : said r ≡ Refused 45 = ap said is ∙ refused-said (omega arith) (omega arith) in
+          then-done _ _ {q = Refused 45} (d .is) (give _ _ (v .seen) (give-no _ _ _ (λ le. omega arith) refl)) x;
+    })
+    add-told {a₂} {r} (sums {m = i} e num le is f) =
+        let top = h .top in
+        let sum = i + amountAt (h .sheet) n in
+        let z : top + 257 * suc (h .levels) ≤ 65536 = w .room in
+        let long : length a ≡ 65536 = t .gives .kept .long ∙ w .long in
+        let p = t .there e in
+        rw (is, add) (record {
+          kept = rw f (kept-then (kept-then (t .gives .kept) (kept-set top a (top + 1) (sum / 256) (omega arith)) (le-refl top))
+              (kept-set top (set a (top + 1) (sum / 256)) (top + 2) (sum % 256) (omega arith)) (le-refl top));
+          told = λ sh es μ m.
+              let d = had (t .gives .told sh es μ m) (said-done g e) in
+              let v = the-number num (d .that .held) in
+              let three : lenOf g ≡ 3 = d .that .held .long ∙ ap size (v .whole) in
+              let head : getD a top 0 ≡ 4 = ap (λ (j : ℕ). getD a j 0) (sym p) ∙ held-head (d .that .held) ∙ ap (λ (y : Value). getD (encode y) 0 0) (v .whole) in
+              let y : stepsOf g + 0 ≡ stepsOf g = omega arith in
+              let x : said g ≡ Done top 3 (stepsOf g + 0) = said-done g e ∙ rw (p, three, y) in
+              then-done _ _ {q = Done top 3 0} (d .is) (give _ _ (v .seen) (give-yes _ _ _ le (λ _. finish refl (record {
+                low = le-refl top;
+                held = record { place = onStack (w .base) (le-refl _); long = refl; bytes = rw f (number-bytes a top sum (omega arith) head); readable = number-readable le };
+              })))) x;
+        })

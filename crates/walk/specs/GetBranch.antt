@@ -1,109 +1,101 @@
 -- A branch that was got, judged by its test and moved down.
-use mathlib.Core.Path.{_≡_, refl, sym, _∙_}
+use mathlib.Core.Path.{_≡_, refl, sym, ap, _∙_}
 use mathlib.Core.Bool.{Bool, true, false}
 use mathlib.Core.List.{List}
 use lib.ListN.{length}
 use Prim.Native.Nat.{ℕ, _+_, _-_, _*_, _≤_, _<_}
 use native.Mathlib.Nat.{le-refl}
 use native.Mathlib.Omega.{arith}
+use Rattle.answer.specs.Answer.{Done, Refused, said, after, isRefusal, doneAs, lenOf, startOf, stepsOf, len-small, start-small, steps-small, said-refused, said-done, done-said, refused-said}
+use Rattle.value.specs.Value.{Value}
 use Rattle.value.specs.Tests.{passes, holds}
 use Rattle.value.specs.Parts.{passesBytes}
 use Rattle.rules.specs.Text
 use Rattle.rules.specs.Rules.{tested}
 use Rattle.step.specs.declared.Scope.{Scope}
-use Rattle.step.specs.Step.{packed}
-use Rattle.walk.specs.Found.{Found, Done, Refused, found, lenOf, startOf, stepsOf, len-small, start-small, found-refused, found-done, packed-done}
-use Rattle.walk.specs.Parts.{part, kept-below, kept-then, Copied}
+use Rattle.walk.specs.Parts.{part, Kept, kept-refl, kept-below, kept-then, Copied}
 use Rattle.walk.specs.Arena.{onStack, below-within}
 use Rattle.walk.specs.Seen.{held-passes}
-use Rattle.walk.specs.Answers.{finish, then-done, then-refused, give-yes, give-no}
-use Rattle.walk.specs.Gets.{enter, branch, run, Gives, got, not-got, as-found, Here, Asks, Told′}
+use Rattle.walk.specs.Answers.{finish, then-done, then-refused, give-yes, give-no, had, not-had}
+use Rattle.walk.specs.Gets.{enter, branch, run, Stands, Gives, Here, Asks, ToldOf}
 use Rattle.walk.specs.GetReady.{Sized}
 
--- the value that the answer g tells of is in the arena, and so many steps can be told
-pub record Judgeable (a : List ℕ) (g spent : ℕ) : Type 0 where
+-- the value that the answer g tells of is in the arena
+pub record Judgeable (a : List ℕ) (g : ℕ) : Type 0 where
   pub inside : startOf g + lenOf g ≤ length a
-  pub some : 1 ≤ lenOf g
-  pub few : spent + stepsOf g ≤ 1000001
 
 -- whether a test says yes to it
 abbrev pub saysOf : (test g : ℕ) → List ℕ → Bool
-saysOf test g a = passesBytes test (part a (startOf g) (startOf g + lenOf g - startOf g))
+saysOf test g a = passesBytes test (part a (startOf g) (lenOf g))
+
+-- as the code asks the test, of the bytes from its start to its end
+pub says-part : (test g : ℕ) (b : List ℕ) {start len : ℕ} {p q : Bool} → start ≡ startOf g → len ≡ lenOf g → p ≡ passesBytes test (part b start (start + len - start)) → p ≡ q → saysOf test g b ≡ q
+says-part test g b {start} {len} e f is h =
+    let z : start + len - start ≡ len = omega arith in
+    rw (← e, ← f) (ap (λ (n : ℕ). passesBytes test (part b start n)) (sym z) ∙ sym is ∙ h)
 
 -- the answer g of a branch, judged: refused already; refused by the test; let stand where it is; or moved down to `top`
-pub data Judged (test spent top g : ℕ) (b a : List ℕ) (r : ℕ) : Type 0 where
-  passed-on : g < 256 → r ≡ g → a ≡ b → Judged test spent top g b a r
-  fails : 256 ≤ g → saysOf test g b ≡ false → r ≡ 46 → a ≡ b → Judged test spent top g b a r
-  stays : 256 ≤ g → saysOf test g b ≡ true → startOf g ≤ top → 1 ≤ lenOf g → r ≡ packed (startOf g) (lenOf g) (spent + stepsOf g) → a ≡ b → Judged test spent top g b a r
-  moves : 256 ≤ g → saysOf test g b ≡ true → top < startOf g → 1 ≤ lenOf g → r ≡ packed top (lenOf g) (spent + stepsOf g) → Copied (startOf g) top (lenOf g) b a → Judged test spent top g b a r
+pub data Judged (test top g : ℕ) (b a : List ℕ) (r : ℕ) : Type 0 where
+  passed-on : isRefusal g ≡ true → r ≡ g → a ≡ b → Judged test top g b a r
+  fails : isRefusal g ≡ false → saysOf test g b ≡ false → r ≡ 46 → a ≡ b → Judged test top g b a r
+  stays : isRefusal g ≡ false → saysOf test g b ≡ true → startOf g ≤ top → r ≡ g → a ≡ b → Judged test top g b a r
+  moves : isRefusal g ≡ false → saysOf test g b ≡ true → top < startOf g → r ≡ doneAs top (lenOf g) (stepsOf g) → Copied (startOf g) top (lenOf g) b a → Judged test top g b a r
 
-module _ {b a s : List ℕ} {sc : Scope} {from top left spent test x l : ℕ} {r : Found} (base : 32256 ≤ top) (down : top ≤ from) (g : Gives b a s sc from from left 0 r l (enter x)) where
-  branch-refused : {c : ℕ} → r ≡ Refused c → Gives b a s sc from top left spent (Refused c) l (branch test x)
+module _ {b a s : List ℕ} {sc : Scope} {from top left test x l g : ℕ} (base : 32256 ≤ top) (down : top ≤ from) (h : Gives b a s sc from from left g l (enter x)) where
+  branch-refused : isRefusal g ≡ true → Gives b a s sc from top left g l (branch test x)
   unfolding run Text.tested
-  branch-refused e = record { kept = kept-below (g .kept) top down; told = λ sh es μ w. then-refused _ _ (not-got g sh es μ w e .1) (record { is = refl }) }
+  branch-refused n = let e = said-refused g n in
+      record { kept = kept-below (h .kept) top down; told = λ sh es μ w. then-refused _ _ (not-had (h .told sh es μ w) e .1) e }
 
-  module _ {start len n : ℕ} (e : r ≡ Done start len n) {p : Bool} (q : p ≡ passesBytes test (part a start (start + len - start))) where
-    branch-46 : p ≡ false → Gives b a s sc from top left spent (Refused 46) l (branch test x)
-    unfolding run Text.tested passes
-    branch-46 f = record {
-      kept = kept-below (g .kept) top down;
+  module _ (n : isRefusal g ≡ false) where
+    branch-46 : {r : ℕ} → said r ≡ Refused 46 → saysOf test g a ≡ false → Gives b a s sc from top left r l (branch test x)
+    unfolding run Text.tested passes after
+    branch-46 e f = record {
+      kept = kept-below (h .kept) top down;
       told = λ sh es μ w.
-          let d = got g sh es μ w e in
-          let h : p ≡ holds test (d .value) = held-passes (d .held) test q in
-          then-done _ _ (d .is) (give-no _ _ _ (λ t. let z : true ≡ false = cc in let y : _≡_ {A = ℕ} 0 1 = cc in omega arith) (record { is = refl }));
+          let d = had (h .told sh es μ w) (said-done g n) in
+          let q = held-passes (d .that .held) test in
+          then-done _ _ {q = Refused 46} (d .is) (give-no _ _ _ (λ t. let z : true ≡ false = cc in let y : _≡_ {A = ℕ} 0 1 = cc in omega arith) refl) e;
     }
 
-    -- it stands where it is, or is moved down
-    branch-kept : p ≡ true → start ≤ top → Gives b a s sc from top left spent (Done start len (spent + n)) l (branch test x)
-    unfolding run Text.tested passes
-    branch-kept f low = record {
-      kept = kept-below (g .kept) top down;
+    -- it says yes: the value stands where it was, or was moved down to the top
+    branch-yes : {a₂ : List ℕ} {start r : ℕ} → saysOf test g a ≡ true → Kept top a a₂ → said r ≡ Done start (lenOf g) (stepsOf g)
+        → ((v : Value) → Stands a from (startOf g) (lenOf g) v → Stands a₂ top start (lenOf g) v) → Gives b a₂ s sc from top left r l (branch test x)
+    unfolding run Text.tested passes after
+    branch-yes {start = start} f k e stands = record {
+      kept = kept-then (kept-below (h .kept) top down) k (le-refl top);
       told = λ sh es μ w.
-          let d = got g sh es μ w e in
-          let h : p ≡ holds test (d .value) = held-passes (d .held) test q in
-          then-done _ _ (d .is) (give-yes _ _ _ (sym h ∙ f) (λ _. finish refl (record {
-            start = start;
-            len = len;
-            is = refl;
-            low = low;
-            held = record { place = below-within (top + len) (omega arith) (d .held .place); long = d .held .long; bytes = d .held .bytes; readable = d .held .readable };
-          })));
+          let d = had (h .told sh es μ w) (said-done g n) in
+          let z : stepsOf g + 0 ≡ stepsOf g = omega arith in
+          then-done _ _ {q = Done start (lenOf g) 0} (d .is) (give-yes _ _ _ (sym (held-passes (d .that .held) test) ∙ f) (λ _. finish refl (stands _ (d .that))))
+          (e ∙ ap (Done start (lenOf g)) (sym z));
     }
 
-    branch-done : {a₂ : List ℕ} → p ≡ true → Copied start top len a a₂ → Gives b a₂ s sc from top left spent (Done top len (spent + n)) l (branch test x)
-    unfolding run Text.tested passes
-    branch-done f m = record {
-      kept = kept-then (kept-below (g .kept) top down) (m .kept) (le-refl top);
-      told = λ sh es μ w.
-          let d = got g sh es μ w e in
-          let h : p ≡ holds test (d .value) = held-passes (d .held) test q in
-          then-done _ _ (d .is) (give-yes _ _ _ (sym h ∙ f) (λ _. finish refl (record {
-            start = top;
-            len = len;
-            is = refl;
-            low = le-refl top;
-            held = record { place = onStack base (le-refl _); long = d .held .long; bytes = m .bytes ∙ d .held .bytes; readable = d .held .readable };
-          })));
-    }
+stands-lower : {a : List ℕ} {from top start len : ℕ} (v : Value) → start ≤ top → Stands a from start len v → Stands a top start len v
+stands-lower {top = top} {len = len} v low s =
+    let w = s .held in
+    record { low = low; held = record { place = below-within (top + len) (omega arith) (w .place); long = w .long; bytes = w .bytes; readable = w .readable } }
 
--- what `judge_branch` asks
-pub judgeable : {a : List ℕ} {top left levels spent g : ℕ} → Sized top left levels (found g) → length a ≡ 65536 → top + 257 * levels ≤ 65536 → spent + left ≤ 1000001 → 256 ≤ g → Judgeable a g spent
-judgeable w long room few n =
-    let z = w .at (found-done n) in
-    record {
-      inside = omega (arith, z .short, z .low, z .deep);
-      some = z .some;
-      few = omega (arith, z .steps);
-    }
+stands-moved : {a a₂ : List ℕ} {from top start len : ℕ} (v : Value) → 32256 ≤ top → Copied start top len a a₂ → Stands a from start len v → Stands a₂ top top len v
+stands-moved {top = top} v base m s =
+    let w = s .held in
+    record { low = le-refl top; held = record { place = onStack base (le-refl _); long = w .long; bytes = m .bytes ∙ w .bytes; readable = w .readable } }
 
-pub judge-asks : {h : Here} {a : List ℕ} {x g spent : ℕ} → Asks h x → Told′ h a (found g) x → Sized (h .top) (h .left) (h .levels) (found g) → spent + h .left ≤ 1000001
-    → 256 ≤ g → Judgeable a g spent
-judge-asks w g z few = judgeable z (g .kept .long ∙ w .long) (w .room) few
+-- what `judge` asks
+pub judgeable : {h : Here} {a : List ℕ} {x g : ℕ} → Asks h x → ToldOf h a g x → Sized (h .top) (h .left) (h .levels) g → isRefusal g ≡ false → Judgeable a g
+judgeable {g = g} w t s n =
+    let z = s .at n in
+    record { inside = omega (arith, t .kept .long, w .long, w .room) }
 
 -- and what it gives
-pub judge-gives : {b a a₂ s : List ℕ} {sc : Scope} {from top left spent test x l g r : ℕ} → 32256 ≤ top → top ≤ from → Gives b a s sc from from left 0 (found g) l (enter x) → Judged test spent top g a a₂ r
-    → Gives b a₂ s sc from top left spent (found r) l (branch test x)
-judge-gives {g = g} base down h (passed-on n e f) = rw (e, f) (as-found (found-refused n) (branch-refused base down h (found-refused n)))
-judge-gives {g = g} base down h (fails n p e f) = rw (e, f) (as-found (found-refused (omega arith)) (branch-46 base down h (found-done n) refl p))
-judge-gives {g = g} base down h (stays n p low some e f) = rw f (as-found (packed-done e (start-small g) some (len-small g)) (branch-kept base down h (found-done n) refl p low))
-judge-gives {g = g} base down h (moves n p high some e m) = as-found (packed-done e (omega (arith, start-small g)) some (len-small g)) (branch-done base down h (found-done n) refl p m)
+pub judge-gives : {b a a₂ s : List ℕ} {sc : Scope} {from top left test x l g r : ℕ} → 32256 ≤ top → top ≤ from → Gives b a s sc from from left g l (enter x) → Judged test top g a a₂ r
+    → Gives b a₂ s sc from top left r l (branch test x)
+judge-gives base down h (passed-on n e f) = rw (e, f) (branch-refused base down h n)
+judge-gives base down h (fails n p e f) = rw f (branch-46 base down h n (ap said e ∙ refused-said (omega arith) (omega arith)) p)
+judge-gives {g = g} base down h (stays n p low e f) = rw (e, f) (branch-yes base down h n p (kept-refl _ _) (said-done g n) (λ v. stands-lower v low))
+judge-gives {g = g} base down h (moves n p high e m) =
+    branch-yes base down h n p (m .kept) (ap said e ∙ done-said _ _ _ (omega (arith, start-small g)) (len-small g) (steps-small g)) (λ v. stands-moved v base m)
+
+-- by another test
+pub judged-as : {test test′ top g r : ℕ} {b a : List ℕ} → test ≡ test′ → Judged test top g b a r → Judged test′ top g b a r
+judged-as e j = rw e at j

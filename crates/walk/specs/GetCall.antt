@@ -1,95 +1,82 @@
--- Calls of a section: what get shows at each return, and what its call asks.
-use mathlib.Core.Path.{_≡_, refl, ap, _∙_}
+-- Calls: what get shows at each return, and what the section's root asks.
+use mathlib.Core.Path.{_≡_, refl, sym, ap, _∙_}
 use mathlib.Core.List.{List}
-use Prim.Native.Nat.{ℕ, _+_, _≤_, _<_}
+use Prim.Native.Nat.{ℕ, suc, _+_, _*_, _≤_, _<_}
 use native.Mathlib.Nat.{le-refl}
-use native.Mathlib.Decide.{decLt}
 use native.Mathlib.Omega.{arith}
-use lib.ListN.{getD}
+use lib.ListN.{length, getD}
+use Rattle.answer.specs.Answer.{Refused, said, refused-said}
 use Rattle.value.specs.Result.{ok}
 use Rattle.value.specs.Value.{vfalse}
 use Rattle.sheet.specs.Sheet.{Sheet, readSheet}
 use Rattle.sheet.specs.Table.{sectionAt}
 use Rattle.sheet.specs.Laws.{sheet-ranges, section-read}
 use Rattle.rules.specs.Text
-use Rattle.rules.specs.Rules.{Env as Values, two, getNode, get}
+use Rattle.rules.specs.Rules.{Env, two, getNode}
 use Rattle.step.specs.declared.Scope.{Scope}
-use Rattle.walk.specs.Found.{found, More, Later, found-refused, found-done}
-use Rattle.walk.specs.Parts.{kept-refl}
 use Rattle.step.specs.Step.{picked}
-use Rattle.walk.specs.Arena.{Env, env-pick}
+use Rattle.walk.specs.Parts.{kept-refl}
+use Rattle.walk.specs.Arena.{Scoped, env-pick}
 use Rattle.walk.specs.Seen.{elem-at, elem-none}
-use Rattle.walk.specs.Answers.{give, give-none, as-done, as-refused}
-use Rattle.walk.specs.Gets.{run, got, not-got, as-found, Here, h-in, Asked, Asks, Tells, Told′, callAt}
+use Rattle.walk.specs.Answers.{give, give-none}
+use Rattle.walk.specs.Gets.{Tabled, Known, own, run, Here, within-scope, Asked, Asks, Tells, ToldOf}
 use Rattle.walk.specs.GetReady.{ready-in}
 use Rattle.walk.specs.GetEnter.{same-sheet}
 
--- a variable of the two is not in scope
-module _ (h : Here) (n : ℕ) where
-  pub call-42₁ : h .scope .count ≤ getD (h .sheet) (n + 2) 0 → Tells h (h .arena) (found 42) (callAt (h .sheet) n)
+-- the section's root, and its node
+module _ {s table : List ℕ} (t : Tabled s table) (n : ℕ) {k root : ℕ} (call : k ≡ 0x1A) (known : Known (t .sh) (own k s n)) (is : root ≡ sectionAt s (getD s (n + 1) 0)) where
+  pub root-read : {sh : Sheet} → readSheet s ≡ ok sh → root ≡ getD (sh .sections) (getD s (n + 1) 0) 0
+  root-read e = is ∙ section-read s (t .read) (getD s (n + 1) 0) (rw call at (known .1) .0) ∙ ap (λ (y : Sheet). getD (y .sections) (getD s (n + 1) 0) 0) (same-sheet t e)
+
+  pub root-known : root < length (t .sh .nodes)
+  root-known = rw (root-read (t .read)) (sheet-ranges s (t .read) .section (getD s (n + 1) 0) (rw call at (known .1) .0))
+
+module _ {h : Here} {k n : ℕ} (_ : Asked h k n) (call : k ≡ 0x1A) where
+  -- a variable of the two is not in scope
+  pub call-42₁ : {r : ℕ} → h .scope .count ≤ getD (h .sheet) (n + 2) 0 → r ≡ 42 → Tells h (h .arena) r k n
   unfolding run Text.getNode
-  call-42₁ g = as-found (found-refused (omega arith)) (record {
+  call-42₁ g e = rw call (record {
     kept = kept-refl (h .top) (h .arena);
-    told = λ sh es μ w. give-none _ _ (elem-none μ _ (omega (arith, w .count))) (record { is = refl });
+    told = λ sh es μ w. give-none _ _ (elem-none μ _ (omega (arith, w .count))) (ap said e ∙ refused-said (omega arith) (omega arith));
   })
 
-  pub call-42₂ : getD (h .sheet) (n + 2) 0 < h .scope .count → h .scope .count ≤ getD (h .sheet) (n + 3) 0 → Tells h (h .arena) (found 42) (callAt (h .sheet) n)
+  pub call-42₂ : {r : ℕ} → getD (h .sheet) (n + 2) 0 < h .scope .count → h .scope .count ≤ getD (h .sheet) (n + 3) 0 → r ≡ 42 → Tells h (h .arena) r k n
   unfolding run Text.getNode
-  call-42₂ f g = as-found (found-refused (omega arith)) (record {
+  call-42₂ f g e = rw call (record {
     kept = kept-refl (h .top) (h .arena);
-    told = λ sh es μ w. give _ _ (elem-at μ _ vfalse (omega (arith, w .count))) (give-none _ _ (elem-none μ _ (omega (arith, w .count))) (record { is = refl }));
+    told = λ sh es μ w. give _ _ (elem-at μ _ vfalse (omega (arith, w .count)))
+        (give-none _ _ (elem-none μ _ (omega (arith, w .count))) (ap said e ∙ refused-said (omega arith) (omega arith)));
   })
 
--- what is known where the call is made: both variables are in scope, `root` is the section's, and `few` has the two
-pub record Looked (h : Here) (n root : ℕ) (few : Scope) : Type 0 where
-  pub asked : Asked h (callAt (h .sheet) n)
+-- AT A STAGE: both variables are in scope, and `root` is the section's
+pub record Looked (h : Here) (k n root : ℕ) : Type 0 where
+  pub asked : Asked h k n
+  pub call : k ≡ 0x1A
   pub first-in : getD (h .sheet) (n + 2) 0 < h .scope .count
   pub second-in : getD (h .sheet) (n + 3) 0 < h .scope .count
   pub root-is : root ≡ sectionAt (h .sheet) (getD (h .sheet) (n + 1) 0)
-  pub few-is : few ≡ picked (h .scope) (getD (h .sheet) (n + 2) 0) (getD (h .sheet) (n + 3) 0)
 
-pub section-as : (s : List ℕ) {root x y : ℕ} → root ≡ sectionAt s x → x ≡ y → root ≡ sectionAt s y
-section-as s e f = e ∙ ap (sectionAt s) f
+module _ {h : Here} {k n root : ℕ} (w : Looked h k n root) where
+  -- the section's scope
+  abbrev pub section-here : Here
+  section-here = within-scope h (picked (h .scope) (getD (h .sheet) (n + 2) 0) (getD (h .sheet) (n + 3) 0))
 
-module _ {h : Here} {n root : ℕ} {few : Scope} (k : Looked h n root few) where
-  root-read : {sh : Sheet} → readSheet (h .sheet) ≡ ok sh → root ≡ getD (sh .sections) (getD (h .sheet) (n + 1) 0) 0
-  root-read e = k .root-is ∙ section-read (h .sheet) (k .asked .lent .read) _ (k .asked .known .1 .0) ∙ ap (λ (y : Sheet). getD (y .sections) _ 0) (same-sheet (k .asked .lent) e)
+  env-few : {μ : Env} → Scoped (h .arena) (h .scope) (h .top) μ
+      → Scoped (h .arena) (section-here .scope) (h .top) (two (getD μ (getD (h .sheet) (n + 2) 0) vfalse) (getD μ (getD (h .sheet) (n + 3) 0) vfalse))
+  env-few e = env-pick e (omega (arith, e .count, w .first-in)) (omega (arith, e .count, w .second-in))
 
-  env-few : {μ : Values} → Env (h .arena) (h .scope) (h .top) μ
-      → Env (h .arena) few (h .top) (two (getD μ (getD (h .sheet) (n + 2) 0) vfalse) (getD μ (getD (h .sheet) (n + 3) 0) vfalse))
-  env-few e = rw (k .few-is) (env-pick e (omega (arith, e .count, k .first-in)) (omega (arith, e .count, k .second-in)))
+  pub call-asks : Asks section-here root
+  call-asks =
+      let a = w .asked in
+      let y : h .scope .count + 2 * suc (h .levels) ≤ 112 = a .variables in
+      let z : h .top + 257 * suc (h .levels) ≤ 65536 = a .room in
+      ready-in a (kept-refl _ _) (h .top) (h .levels) (h .left) (le-refl _) (omega (arith, a .few)) (omega arith) (omega (arith, w .first-in))
+      (root-known (a .sheet) n (w .call) (a .known) (w .root-is)) _ (env-few (a .scoped))
 
-  -- what the call asks
-  pub call-ready : Asks (h-in h few) root
-  call-ready =
-      let w = k .asked in
-      let c : few .count ≡ 2 = ap (λ (m : Scope). m .count) (k .few-is) in
-      ready-in w (kept-refl _ _) (h .top) (h .levels) (h .left) (le-refl _) (omega (arith, w .few)) (omega (arith, w .room)) (omega (arith, w .slots, c))
-      (rw (root-read (w .lent .read)) (sheet-ranges (h .sheet) (w .lent .read) .section _ (w .known .1 .0))) _ (env-few (w .scoped))
-
-  -- what is told when the call has answered
-  module _ {a : List ℕ} {r : ℕ} (g : Told′ (h-in h few) a (found r) root) where
-    call-refused : r < 256 → Tells h a (found r) (callAt (h .sheet) n)
-    unfolding run Text.getNode
-    call-refused q = as-found (found-refused q) (record {
-      kept = g .kept;
-      told = λ sh es μ e. give _ _ (elem-at μ _ vfalse (omega (arith, e .count, k .first-in))) (give _ _ (elem-at μ _ vfalse (omega (arith, e .count, k .second-in)))
-          (rw (← root-read es) (as-refused (not-got g sh es _ (env-few e) (found-refused q) .1) (record { is = refl }))));
-    })
-
-    call-done : {q : ℕ} → 256 ≤ r → More r 1 q → Tells h a (found q) (callAt (h .sheet) n)
-    unfolding run Text.getNode
-    call-done q m = as-found (m .is) (record {
-      kept = g .kept;
-      told = λ sh es μ e.
-          let d = got g sh es _ (env-few e) (found-done q) in
-          give _ _ (elem-at μ _ vfalse (omega (arith, e .count, k .first-in))) (give _ _ (elem-at μ _ vfalse (omega (arith, e .count, k .second-in)))
-          (rw (← root-read es) (as-done (d .is) refl (record { start = _; len = _; is = refl; low = d .low; held = d .held }))));
-    })
-
-    pub call-told : {q : ℕ} → Later r 1 q → Tells h a (found q) (callAt (h .sheet) n)
-    call-told {q} m = go (decLt r 256)
-      where
-        go : Dec (r < 256) → Tells h a (found q) (callAt (h .sheet) n)
-        go (yes y) = rw (m .refused y) (call-refused y)
-        go (no b) = let y : 256 ≤ r = omega arith in call-done y (m .done y)
+  pub call-told : {a : List ℕ} {r : ℕ} → ToldOf section-here a r root → Tells h a r k n
+  unfolding run Text.getNode
+  call-told g = rw (w .call) (record {
+    kept = g .kept;
+    told = λ sh es μ e. give _ _ (elem-at μ _ vfalse (omega (arith, e .count, w .first-in))) (give _ _ (elem-at μ _ vfalse (omega (arith, e .count, w .second-in)))
+        (rw (← root-read (w .asked .sheet) n (w .call) (w .asked .known) (w .root-is) es) (g .told sh es _ (env-few e))));
+  })

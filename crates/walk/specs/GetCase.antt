@@ -1,33 +1,83 @@
 -- List cases, truth cases and splits: what get shows at each return, and what its calls ask.
 use mathlib.Core.Path.{_≡_, refl, sym, ap, _∙_}
-use mathlib.Core.Bool.{true}
-use mathlib.Core.Option.{none, some}
+use mathlib.Core.Bool.{Bool, true, false}
 use mathlib.Core.List.{List, [], _∷_, _++_, append-assoc}
-use Prim.Native.Nat.{ℕ, suc, _+_, _-_, _≤_, _<_}
+use Prim.Native.Nat.{ℕ, suc, _+_, _-_, _*_, _≤_, _<_}
 use native.Mathlib.Nat.{le-refl, add-zero}
+use native.Mathlib.Decide.{decLt}
 use native.Mathlib.Omega.{arith}
+use lib.Dec.{eqb}
 use lib.ListN.{length, getD}
-use Rattle.value.specs.Value.{Value, Values as Rest, vfalse, vtrue, list, number, pair, nil, cons, size}
+use Rattle.answer.specs.Answer.{Said, Done, Refused as Denied, said, after, isRefusal, laterAs, lenOf, startOf, stepsOf, start-small, said-refused, said-done, later-said, refused-said}
+use Rattle.value.specs.Value.{Value, Values, vfalse, vtrue, list, number, pair, nil, cons, size}
 use Rattle.value.specs.Views.{asList, asPair, asTruth}
 use Rattle.value.specs.Tests.{passes, holds, table, class}
 use Rattle.value.specs.Parts.{shapeOf}
+use Rattle.value.specs.PartsLaws.{shape}
 use Rattle.value.specs.declared.Shape.{Shape}
 use Rattle.value.specs.declared.Shape.the-variants as shapes
-use Rattle.sheet.specs.declared.Node.{Node}
-use Rattle.sheet.specs.declared.Node.the-variants.{ListCase, TruthCase, Split}
+use Rattle.sheet.specs.Sheet.{Sheet}
 use Rattle.rules.specs.Outcome.{Out, done, refused, plus, when, _>>=_, given}
+use Rattle.rules.specs.Allowance.{within}
 use Rattle.rules.specs.Text
-use Rattle.rules.specs.Rules.{Env as Values, two, getNode, get, tested, onList}
+use Rattle.rules.specs.Rules.{Env, Getter, two, getNode, get, tested, onList}
 use Rattle.step.specs.declared.Scope.{Scope}
-use Rattle.walk.specs.Found.{Found, Done, Refused, found, startOf, lenOf, stepsOf, found-refused, found-done}
+use Rattle.step.specs.declared.Branch.{Branch}
+use Rattle.step.specs.declared.Branch.the-variants.{Plain, Parts, Switch, Refused}
+use Rattle.step.specs.Step.{where-so, fitsKind, fitOf}
+use Rattle.step.specs.StepLaws.{where-is, where-not, Fits, empty, front, untrue, so, pair as aPair, misfit, fits-told}
 use Rattle.walk.specs.Parts.{part, kept-then}
-use Rattle.walk.specs.Scope.{pushed}
-use Rattle.walk.specs.Arena.{below-within, Held, Env, env-later, env-push}
-use Rattle.walk.specs.Seen.{Shaped, isFalse, isTrue, isEmpty, isFront, isPair, shaped-as, held-shape, TwoHeld, held-front, held-pair}
-use Rattle.walk.specs.Answers.{answer-by, then-done, then-refused, give, give-none}
-use Rattle.walk.specs.Gets.{Task, enter, body, branch, run, Ready, Gives, GotDone, got, not-got, as-found, as-branch, Here, h-in, later, Asked, Asks, Tells, Told′, listCaseAt, truthCaseAt, splitAt}
-use Rattle.walk.specs.GetReady.{ready-in, ready-later, sizes}
+use Rattle.walk.specs.Places.{Above, topAfter, above}
+use Rattle.walk.specs.Scope.{withTwo, two-pushed, Stored}
+use Rattle.walk.specs.Arena.{below-within, Held, Scoped, env-later, env-push}
+use Rattle.walk.specs.Seen.{held-shape, held-some, held-short, TwoHeld, held-front, held-pair}
+use Rattle.walk.specs.Shapes.{front-of, pair-of}
+use Rattle.walk.specs.Answers.{Answers, answer-by, refuse, then-done, then-refused, Had, had, not-had}
+use Rattle.walk.specs.Gets.{enter, own, branch, run, Known, Stands, Gives, Here, within-scope, further, Asked, Asks, Tells, ToldOf}
+use Rattle.walk.specs.GetReady.{ready-in, ready-later, few-steps, first-asks, Sized}
 use Rattle.walk.specs.GetBranch.{Judged, judge-gives}
+
+pub data Case (k : ℕ) : Type 0 where
+  lists : k ≡ 0x17 → Case k
+  truths : k ≡ 0x18 → Case k
+  splits : k ≡ 0x19 → Case k
+
+pub case-kind : {k : ℕ} → 0x17 ≤ k → k < 0x1A → Case k
+case-kind {k} lo hi = go (decLt k 0x18) (decLt k 0x19)
+  where
+    go : Dec (k < 0x18) → Dec (k < 0x19) → Case k
+    go (yes h) q = lists (omega arith)
+    go (no h) (yes q) = truths (omega arith)
+    go (no h) (no q) = splits (omega arith)
+
+-- THE RULE, by the branch that the subject fits
+
+-- the test of the branch whose node is byte i of the record; a split has none
+unfoldable pub testOf : (kind : ℕ) (s : List ℕ) (n i : ℕ) → ℕ
+testOf kind s n i = where-so (eqb kind 0x19) 0 (getD s (n + (i + 1)) 0)
+
+pub test-none : (kind : ℕ) (s : List ℕ) (n i : ℕ) → kind ≡ 0x19 → 0 ≡ testOf kind s n i
+unfolding testOf
+test-none kind s n i e = sym (where-is _ _ e)
+
+pub test-there : (kind : ℕ) (s : List ℕ) (n i : ℕ) → (kind ≡ 0x19 → ⊥) → getD s (n + (i + 1)) 0 ≡ testOf kind s n i
+unfolding testOf
+test-there kind s n i e = sym (where-not _ _ e)
+
+-- the two parts of a value that has two
+unfoldable pub partsOf : Value → Env
+partsOf vfalse = []
+partsOf vtrue = []
+partsOf (list nil) = []
+partsOf (list (cons f r)) = two f (list r)
+partsOf (number n) = []
+partsOf (pair a b) = two a b
+
+unfoldable pub getBranch : Getter → List ℕ → (n kind : ℕ) → Env → Value → Branch → Out Value
+getBranch g s n k μ o (Plain i byte) = tested (testOf k s n i) (g (getD s (n + i) 0) μ)
+getBranch g s n k μ o (Parts i mid) = tested (testOf k s n i) (g (getD s (n + i) 0) (μ ++ partsOf o))
+getBranch g s n k μ o Switch = refused 43 0
+getBranch g s n k μ o (Refused c) = refused c 0
 
 -- a test that says yes to anything changes nothing
 any-holds : (v : Value) → holds 0 v ≡ true
@@ -49,280 +99,215 @@ untested (done v s) = ap (plus s) (go (passes 0 v)) ∙ ap (done v) (add-zero s)
     go (no n) = absurd (n (any-holds v))
 untested (refused c s) = refl
 
--- a value by its shape
-empty-seen : {v : Value} → Shaped v shapes.Empty → v ≡ list nil
-empty-seen isEmpty = refl
+module _ (g : Getter) (s : List ℕ) (n : ℕ) (μ : Env) where
+  list-rule : (o : Value)
+      → (given 43 (asList o) λ l. onList (l .0) (tested (getD s (n + 3) 0) (g (getD s (n + 2) 0) μ)) λ f r. tested (getD s (n + 5) 0) (g (getD s (n + 4) 0) (μ ++ two f (list r))))
+      ≡ getBranch g s n 0x17 μ o (fitOf 0x17 (shape o))
+  unfolding getBranch testOf partsOf fitOf fitsKind where-so shape given asList onList
+  list-rule vfalse = refl
+  list-rule vtrue = refl
+  list-rule (list nil) = refl
+  list-rule (list (cons f r)) = refl
+  list-rule (number i) = refl
+  list-rule (pair a b) = refl
 
-false-seen : {v : Value} → Shaped v shapes.False → v ≡ vfalse
-false-seen isFalse = refl
+  truth-rule : (o : Value)
+      → (given 43 (asTruth o) λ b. tested (Text.pick (b .0) (getD s (n + 3) 0) (getD s (n + 5) 0)) (g (Text.pick (b .0) (getD s (n + 2) 0) (getD s (n + 4) 0)) μ))
+      ≡ getBranch g s n 0x18 μ o (fitOf 0x18 (shape o))
+  unfolding getBranch testOf fitOf fitsKind where-so shape given asTruth
+  truth-rule vfalse = refl
+  truth-rule vtrue = refl
+  truth-rule (list nil) = refl
+  truth-rule (list (cons f r)) = refl
+  truth-rule (number i) = refl
+  truth-rule (pair a b) = refl
 
-true-seen : {v : Value} → Shaped v shapes.True → v ≡ vtrue
-true-seen isTrue = refl
+  split-rule : (o : Value) → (given 43 (asPair o) λ p. g (getD s (n + 2) 0) (μ ++ two (p .0) (p .1))) ≡ getBranch g s n 0x19 μ o (fitOf 0x19 (shape o))
+  unfolding getBranch testOf partsOf fitOf fitsKind where-so shape given asPair
+  split-rule vfalse = refl
+  split-rule vtrue = refl
+  split-rule (list nil) = refl
+  split-rule (list (cons f r)) = refl
+  split-rule (number i) = refl
+  split-rule (pair a b) = sym (untested _)
 
-front-seen : {v : Value} {mid : ℕ} → Shaped v (shapes.Front mid) → (f : Value) × (r : Rest) × (v ≡ list (cons f r)) × (mid ≡ 1 + size f)
-front-seen (isFront {f} {r} e) = (f, r, refl, e)
+-- once the subject is got
+module _ {P : (start len : ℕ) → Value → Type 0} {r : Said} {left k : ℕ} (case : Case k) (n l : ℕ) (s : List ℕ) (sh : Sheet) (μ : Env) where
+  case-done : {o : Value} {i : ℕ} {q : Said} → within left (get l sh (getD s (n + 1) 0) μ) ≡ done o i → Answers P q (left - i) (getBranch (get l sh) s n k μ o (fitOf k (shape o)))
+      → r ≡ after i q → Answers P r left (run l sh (own k s n) μ)
+  unfolding run Text.getNode
+  case-done {o} e t d = go case
+    where
+      go : Case k → Answers P r left (run l sh (own k s n) μ)
+      go (lists x) = rw x (then-done _ _ e (answer-by (rw x at t) (list-rule (get l sh) s n μ o)) d)
+      go (truths x) = rw x (then-done _ _ e (answer-by (rw x at t) (truth-rule (get l sh) s n μ o)) d)
+      go (splits x) = rw x (then-done _ _ e (answer-by (rw x at t) (split-rule (get l sh) s n μ o)) d)
 
-pair-seen : {v : Value} {mid : ℕ} → Shaped v (shapes.Pair mid) → (x : Value) × (y : Value) × (v ≡ pair x y) × (mid ≡ 1 + size x)
-pair-seen (isPair {x} {y} e) = (x, y, refl, e)
+  case-none : {c i : ℕ} → within left (get l sh (getD s (n + 1) 0) μ) ≡ refused c i → r ≡ Denied c → Answers P r left (run l sh (own k s n) μ)
+  unfolding run Text.getNode
+  case-none e d = go case
+    where
+      go : Case k → Answers P r left (run l sh (own k s n) μ)
+      go (lists x) = rw x (then-refused _ _ e d)
+      go (truths x) = rw x (then-refused _ _ e d)
+      go (splits x) = rw x (then-refused _ _ e d)
 
--- a value that was got at `top` ends by top′, which is no further up than its length
-pub record Above (top start len top′ : ℕ) : Type 0 where
-  pub over : top ≤ top′
-  pub clear : start + len ≤ top′
-  pub near : top′ ≤ top + len
+-- THE SUBJECT
+
+-- a value of two parts, which stand in it
+pub record PartsHeld (a : List ℕ) (top start len mid : ℕ) (o : Value) : Type 0 where
+  pub f : Value
+  pub r : Value
+  pub are : partsOf o ≡ two f r
+  pub held : TwoHeld a top start len mid f r
+
+pub parts-held : {a : List ℕ} {top start len k i mid : ℕ} {q : Shape} (o : Value) → Fits k q (Parts i mid) → q ≡ shape o → Held a top start len o → PartsHeld a top start len mid o
+unfolding partsOf
+parts-held o (front x) e h =
+    let z = front-of o e in
+    record { f = z .first; r = list (z .rest); are = ap partsOf (z .whole); held = held-front (z .at) (rw (z .whole) at h) }
+parts-held o (aPair x) e h =
+    let z = pair-of o e in
+    record { f = z .first; r = z .second; are = ap partsOf (z .whole); held = held-pair (z .at) (rw (z .whole) at h) }
 
 pub held-above : {a : List ℕ} {top start len top′ : ℕ} {v : Value} → Above top start len top′ → Held a (top + len) start len v → Held a top′ start len v
 held-above {top′ = top′} up h = record { place = below-within top′ (up .clear) (h .place); long = h .long; bytes = h .bytes; readable = h .readable }
 
--- the subject of a case is asked for as the case is, a level below
-pub subject-ready : {s starts b : List ℕ} {sc : Scope} {top l left : ℕ} {t : Task} {x : ℕ} (w : Ready s starts b sc top (suc l) (suc left) t) → x < length (w .lent .sh .nodes)
-    → Ready s starts b sc top l left (enter x)
-subject-ready {l = l} {left = left} w h = record {
-  long = w .long;
-  few = omega (arith, w .few);
-  base = w .base;
-  room = omega (arith, w .room);
-  slots = omega (arith, w .slots);
-  lent = w .lent;
-  known = h;
-  env = w .env;
-  scoped = w .scoped;
-}
+-- the stack goes on behind the subject
+abbrev pub behind-here : Here → List ℕ → ℕ → Here
+behind-here h a g = further h a (topAfter (h .top) (startOf g) (lenOf g)) (h .left - stepsOf g)
 
--- the subject x is got
-module _ {b a₁ s : List ℕ} {sc : Scope} {top left : ℕ} {r₁ : Found} {l x : ℕ} (g₁ : Gives b a₁ s sc top top left 0 r₁ l (enter x)) where
-  pub list-refused : {e te n tn df dr c : ℕ} → r₁ ≡ Refused c → Gives b a₁ s sc top top left 1 (Refused c) l (body (ListCase x e te n tn df dr))
-  unfolding run Text.getNode
-  list-refused q = record { kept = g₁ .kept; told = λ sh es μ w. then-refused _ _ (not-got g₁ sh es μ w q .1) (record { is = refl }) }
+module _ {h : Here} {k n : ℕ} (w : Asked h k n) (case : Case k) where
+  pub subject-asks : Asks h (getD (h .sheet) (n + 1) 0)
+  subject-asks = first-asks w (go case)
+    where
+      go : Case k → getD (h .sheet) (n + 1) 0 < length (w .sheet .sh .nodes)
+      go (lists e) = rw e at (w .known .1) .0 .inside
+      go (truths e) = rw e at (w .known .1) .0 .inside
+      go (splits e) = rw e at (w .known .1) .0 .inside
 
-  pub truth-refused : {f tf t tt′ c : ℕ} → r₁ ≡ Refused c → Gives b a₁ s sc top top left 1 (Refused c) l (body (TruthCase x f tf t tt′))
-  unfolding run Text.getNode
-  truth-refused q = record { kept = g₁ .kept; told = λ sh es μ w. then-refused _ _ (not-got g₁ sh es μ w q .1) (record { is = refl }) }
+  pub subject-refused : {a : List ℕ} {g : ℕ} → ToldOf h a g (getD (h .sheet) (n + 1) 0) → isRefusal g ≡ true → Tells h a g k n
+  unfolding run
+  subject-refused {g = g} t e = let x = said-refused g e in
+      record { kept = t .kept; told = λ sh es μ m. case-none case n (h .levels) (h .sheet) sh μ (not-had (t .told sh es μ m) x .1) x }
 
-  pub split-refused : {i c : ℕ} → r₁ ≡ Refused c → Gives b a₁ s sc top top left 1 (Refused c) l (body (Split x i))
-  unfolding run Text.getNode
-  split-refused q = record { kept = g₁ .kept; told = λ sh es μ w. then-refused _ _ (not-got g₁ sh es μ w q .1) (record { is = refl }) }
+-- AT A STAGE: the subject was got, as the answer g, and is a value of the shape q
+pub record Subject (h : Here) (k n g : ℕ) (a : List ℕ) (q : Shape) : Type 0 where
+  pub asked : Asked h k n
+  pub case : Case k
+  pub gives : ToldOf h a g (getD (h .sheet) (n + 1) 0)
+  pub sized : Sized (h .top) (h .left) (h .levels) g
+  pub done : isRefusal g ≡ false
+  pub shape : q ≡ shapeOf (part a (startOf g) (lenOf g))
 
-  module _ {start len n : ℕ} (e₁ : r₁ ≡ Done start len n) {q : Shape} (qs : q ≡ shapeOf (part a₁ start (start + len - start))) where
-    -- it is of another shape
-    pub list-43 : {e te m tm df dr : ℕ} → ((v : Value) → Shaped v q → asList v ≡ none) → Gives b a₁ s sc top top left 1 (Refused 43) l (body (ListCase x e te m tm df dr))
-    unfolding run Text.getNode
-    list-43 other = record {
-      kept = g₁ .kept;
-      told = λ sh es μ w. let d = got g₁ sh es μ w e₁ in then-done _ _ (d .is) (give-none _ _ (other (d .value) (held-shape (d .held) qs)) (record { is = refl }));
-    }
+-- the nodes of its branches
+module _ (s : List ℕ) (sh : Sheet) (n : ℕ) where
+  pub plain-known : {k j byte : ℕ} {q : Shape} → Fits k q (Plain j byte) → Known sh (own k s n) → getD s (n + j) 0 < length (sh .nodes)
+  plain-known (empty e) r = rw e at (r .1) .1 .0 .inside
+  plain-known (untrue e) r = rw e at (r .1) .1 .0 .inside
+  plain-known (so e) r = rw e at (r .1) .1 .1 .1 .0 .inside
 
-    pub truth-43 : {f tf t tt′ : ℕ} → ((v : Value) → Shaped v q → asTruth v ≡ none) → Gives b a₁ s sc top top left 1 (Refused 43) l (body (TruthCase x f tf t tt′))
-    unfolding run Text.getNode
-    truth-43 other = record {
-      kept = g₁ .kept;
-      told = λ sh es μ w. let d = got g₁ sh es μ w e₁ in then-done _ _ (d .is) (give-none _ _ (other (d .value) (held-shape (d .held) qs)) (record { is = refl }));
-    }
+  pub parts-known : {k j mid : ℕ} {q : Shape} → Fits k q (Parts j mid) → Known sh (own k s n) → getD s (n + j) 0 < length (sh .nodes)
+  parts-known (front e) r = rw e at (r .1) .1 .1 .1 .0 .inside
+  parts-known (aPair e) r = rw e at (r .1) .1 .0 .inside
 
-    pub split-43 : {i : ℕ} → ((v : Value) → Shaped v q → asPair v ≡ none) → Gives b a₁ s sc top top left 1 (Refused 43) l (body (Split x i))
-    unfolding run Text.getNode
-    split-43 other = record {
-      kept = g₁ .kept;
-      told = λ sh es μ w. let d = got g₁ sh es μ w e₁ in then-done _ _ (d .is) (give-none _ _ (other (d .value) (held-shape (d .held) qs)) (record { is = refl }));
-    }
+module _ {h : Here} {k n g : ℕ} {a : List ℕ} {q : Shape} (w : Subject h k n g a q) where
+  abbrev top′ : ℕ
+  top′ = topAfter (h .top) (startOf g) (lenOf g)
 
-    -- it is an empty list, False or True: the branch is got in the same scope
-    module _ (base : 32256 ≤ top) {top′ : ℕ} (up : Above top start len top′) where
-      env₂ : {μ : Values} → Env b sc top μ → Env a₁ sc top′ μ
-      env₂ w = env-later (g₁ .kept) base top′ (up .over) w
+  up : Above (h .top) (startOf g) (lenOf g) top′
+  up = above _ _ _ (w .sized .at (w .done) .low)
 
-      pub list-empty : {a₂ : List ℕ} {r₂ : Found} {e te m tm df dr : ℕ} → q ≡ shapes.Empty → Gives a₁ a₂ s sc top′ top (left - n) (1 + n) r₂ l (branch te e)
-          → Gives b a₂ s sc top top left 1 r₂ l (body (ListCase x e te m tm df dr))
-      unfolding run Text.getNode asList onList
-      list-empty p g₂ = record {
-        kept = kept-then (g₁ .kept) (g₂ .kept) (le-refl top);
-        told = λ sh es μ w.
-            let d = got g₁ sh es μ w e₁ in
-            let z : d .value ≡ list nil = empty-seen (shaped-as (held-shape (d .held) qs) p) in
-            then-done _ _ (d .is) (rw z (give _ _ refl (g₂ .told sh es μ (env₂ w))));
+  env₂ : {μ : Env} → Scoped (h .arena) (h .scope) (h .top) μ → Scoped a (h .scope) top′ μ
+  env₂ m = env-later (w .gives .kept) (w .asked .base) top′ (up .over) m
+
+  -- the branch that it fits
+  subject-is : {b : Branch} {o : Value} {top : ℕ} → b ≡ fitOf k q → Held a top (startOf g) (lenOf g) o → fitOf k (shape o) ≡ b
+  subject-is e v = ap (fitOf k) (sym (held-shape v (w .shape))) ∙ sym e
+
+  -- A BRANCH WITHOUT VARIABLES
+  pub plain-asks : {i byte : ℕ} → Fits k q (Plain i byte) → Asks (behind-here h a g) (getD (h .sheet) (n + i) 0)
+  plain-asks f =
+      let z : h .top + 257 * suc (h .levels) ≤ 65536 = w .asked .room in
+      let s = w .sized .at (w .done) in
+      let u = up in
+      ready-later (w .asked) (w .gives .kept) top′ (h .levels) (h .left - stepsOf g) (up .over) (omega (arith, w .asked .few)) (omega arith) (omega arith) (plain-known (h .sheet) (w .asked .sheet .sh) n f (w .asked .known))
+
+  -- the answer of a judged branch, after the subject's steps
+  later-told : {a₂ : List ℕ} {x t j r : ℕ} {sc : Scope} → Asks (within-scope (behind-here h a g) sc) x → Gives a a₂ (h .sheet) sc top′ (h .top) (h .left - stepsOf g) j (h .levels) (branch t x)
+      → r ≡ laterAs j (stepsOf g) → said r ≡ after (stepsOf g) (said j)
+  later-told {j = j} asks b e =
+      let s = w .sized .at (w .done) in
+      ap said e ∙ later-said j (stepsOf g) (λ f. let z = few-steps asks b f in omega (arith, w .asked .few))
+
+  pub plain-told : {i byte g₂ j r : ℕ} {a₂ a₃ : List ℕ} → Fits k q (Plain i byte) → Plain i byte ≡ fitOf k q → ToldOf (behind-here h a g) a₂ g₂ (getD (h .sheet) (n + i) 0)
+      → Judged (testOf k (h .sheet) n i) (h .top) g₂ a₂ a₃ j → r ≡ laterAs j (stepsOf g) → Tells h a₃ r k n
+  unfolding run getBranch
+  plain-told f e t v d =
+      let b = judge-gives (w .asked .base) (up .over) t v in
+      record {
+        kept = kept-then (w .gives .kept) (b .kept) (le-refl _);
+        told = λ sh es μ m.
+            let o = had (w .gives .told sh es μ m) (said-done g (w .done)) in
+            case-done (w .case) n (h .levels) (h .sheet) sh μ (o .is) (rw (subject-is e (o .that .held)) (b .told sh es μ (env₂ m))) (later-told (plain-asks f) b d);
       }
 
-      pub truth-no : {a₂ : List ℕ} {r₂ : Found} {f tf t tt′ : ℕ} → q ≡ shapes.False → Gives a₁ a₂ s sc top′ top (left - n) (1 + n) r₂ l (branch tf f)
-          → Gives b a₂ s sc top top left 1 r₂ l (body (TruthCase x f tf t tt′))
-      unfolding run Text.getNode asTruth
-      truth-no p g₂ = record {
-        kept = kept-then (g₁ .kept) (g₂ .kept) (le-refl top);
-        told = λ sh es μ w.
-            let d = got g₁ sh es μ w e₁ in
-            let z : d .value ≡ vfalse = false-seen (shaped-as (held-shape (d .held) qs) p) in
-            then-done _ _ (d .is) (rw z (give _ _ refl (g₂ .told sh es μ (env₂ w))));
-      }
+  -- A BRANCH WITH TWO VARIABLES, the subject's parts
+  module _ {i mid : ℕ} (f : Fits k q (Parts i mid)) where
+    the-parts : {o : Value} → Held a (h .top + lenOf g) (startOf g) (lenOf g) o → PartsHeld a top′ (startOf g) (lenOf g) mid o
+    the-parts {o} v = parts-held o f (held-shape v (w .shape)) (held-above up v)
 
-      pub truth-yes : {a₂ : List ℕ} {r₂ : Found} {f tf t tt′ : ℕ} → q ≡ shapes.True → Gives a₁ a₂ s sc top′ top (left - n) (1 + n) r₂ l (branch tt′ t)
-          → Gives b a₂ s sc top top left 1 r₂ l (body (TruthCase x f tf t tt′))
-      unfolding run Text.getNode asTruth
-      truth-yes p g₂ = record {
-        kept = kept-then (g₁ .kept) (g₂ .kept) (le-refl top);
-        told = λ sh es μ w.
-            let d = got g₁ sh es μ w e₁ in
-            let z : d .value ≡ vtrue = true-seen (shaped-as (held-shape (d .held) qs) p) in
-            then-done _ _ (d .is) (rw z (give _ _ refl (g₂ .told sh es μ (env₂ w))));
-      }
+    -- there is room for them
+    pub parts-stored : (h .scope .count + 2 ≤ 110) × Stored (startOf g + 1) (mid - 1) (lenOf g - mid) × (1 ≤ mid) × (mid ≤ lenOf g)
+    parts-stored =
+        let d = had (w .gives .told (w .asked .sheet .sh) (w .asked .sheet .read) (w .asked .env) (w .asked .scoped)) (said-done g (w .done)) in
+        let p = the-parts (d .that .held) .held in
+        let s = w .sized .at (w .done) in
+        let z : h .top + 257 * suc (h .levels) ≤ 65536 = w .asked .room in
+        let y : h .scope .count + 2 * suc (h .levels) ≤ 112 = w .asked .variables in
+        let one = held-some (p .first) in
+        let two = held-some (p .second) in
+        (omega arith, record { inside = omega arith; some = one; short = held-short (p .first); some′ = two; short′ = held-short (p .second) }, p .some, p .inside)
 
-    -- what the branch in the same scope asks
-    pub case-ready : {starts : List ℕ} {t : Task} {e top′ : ℕ} (up : Above top start len top′) (w : Ready s starts b sc top (suc l) (suc left) t) → x < length (w .lent .sh .nodes) → e < length (w .lent .sh .nodes)
-        → Ready s starts a₁ sc top′ l (left - n) (enter e)
-    case-ready {top′ = top′} up w h k =
-        let z = sizes (subject-ready w h) g₁ e₁ in
-        ready-later w (g₁ .kept) top′ l (left - n) (up .over) (omega (arith, w .few, z .steps)) (omega (arith, w .room, z .short, up .near)) (omega arith) k
+    abbrev pub inner : Scope
+    inner = withTwo (h .scope) (startOf g + 1) (mid - 1) (lenOf g - mid)
 
-    -- it has two parts, which the branch's scope has besides
-    module _ {mid top′ : ℕ} {more : Scope} (up : Above top start len top′) (is : more ≡ pushed (pushed sc (start + 1) (mid - 1)) (start + mid) (len - mid)) where
-      env-inner : {μ : Values} {u v : Value} → 32256 ≤ top → sc .count + 2 ≤ 110 → Env b sc top μ → TwoHeld a₁ top′ start len mid u v → Env a₁ more top′ (μ ++ two u v)
-      env-inner {μ} {u} {v} base c w p =
-          rw (is, ← append-assoc μ (u ∷ []) (v ∷ [])) (env-push (env-push (env-later (g₁ .kept) base top′ (up .over) w) (p .first) (omega arith)) (p .second) (omega arith))
+    env-inner : {μ : Env} {o : Value} → Scoped (h .arena) (h .scope) (h .top) μ → (p : PartsHeld a top′ (startOf g) (lenOf g) mid o) → Scoped a inner top′ (μ ++ partsOf o)
+    env-inner {μ} m p =
+        let z : startOf g + 1 + (mid - 1) ≡ startOf g + mid = omega (arith, p .held .some) in
+        let c = parts-stored .0 in
+        rw (two-pushed (h .scope) (startOf g + 1) (mid - 1) (lenOf g - mid), p .are, ← append-assoc μ (p .f ∷ []) (p .r ∷ []), z)
+        (env-push (env-push (env₂ m) (p .held .first) (omega arith)) (p .held .second) (omega arith))
 
-      inner-ready : {starts : List ℕ} {t : Task} {e : ℕ} {u v : Value} (w : Ready s starts b sc top (suc l) (suc left) t) → x < length (w .lent .sh .nodes)
-          → e < length (w .lent .sh .nodes) → TwoHeld a₁ top′ start len mid u v → Ready s starts a₁ more top′ l (left - n) (enter e)
-      inner-ready {u = u} {v = v} w h k p =
-          let z = sizes (subject-ready w h) g₁ e₁ in
-          let c : more .count ≡ sc .count + 1 + 1 = ap (λ (m : Scope). m .count) is in
-          ready-in w (g₁ .kept) top′ l (left - n) (up .over) (omega (arith, w .few, z .steps)) (omega (arith, w .room, z .short, up .near))
-          (omega (arith, w .slots, c)) k (w .env ++ two u v) (env-inner (w .base) (omega (arith, w .slots, z .deep)) (w .scoped) p)
+    pub parts-asks : Asks (within-scope (behind-here h a g) inner) (getD (h .sheet) (n + i) 0)
+    parts-asks =
+        let z : h .top + 257 * suc (h .levels) ≤ 65536 = w .asked .room in
+        let y : h .scope .count + 2 * suc (h .levels) ≤ 112 = w .asked .variables in
+        let s = w .sized .at (w .done) in
+        let u = up in
+        let d = had (w .gives .told (w .asked .sheet .sh) (w .asked .sheet .read) (w .asked .env) (w .asked .scoped)) (said-done g (w .done)) in
+        ready-in (w .asked) (w .gives .kept) top′ (h .levels) (h .left - stepsOf g) (up .over) (omega (arith, w .asked .few)) (omega arith) (omega arith) (parts-known (h .sheet) (w .asked .sheet .sh) n f (w .asked .known)) _
+        (env-inner (w .asked .scoped) (the-parts (d .that .held)))
 
-    module _ {mid : ℕ} (p : q ≡ shapes.Front mid) where
-      front-parts : {top′ : ℕ} → Above top start len top′ → {o : Out Value} (d : GotDone a₁ top start len n o) → (f : Value) × (r : Rest) × (d .value ≡ list (cons f r)) × TwoHeld a₁ top′ start len mid f (list r)
-      front-parts up d =
-          let (f, r, z, e) = front-seen (shaped-as (held-shape (d .held) qs) p) in
-          (f, r, z, held-front e (held-above up (rw z at (d .held))))
-
-      -- where the second part starts
-      pub front-mid : {starts : List ℕ} {top′ : ℕ} → Above top start len top′ → Ready s starts b sc top l left (enter x) → (1 ≤ mid) × (mid ≤ len)
-      front-mid up w =
-          let h = front-parts up (got g₁ (w .lent .sh) (w .lent .read) (w .env) (w .scoped) e₁) .3 in
-          (h .some, h .inside)
-
-      module _ {top′ : ℕ} {more : Scope} (up : Above top start len top′) (is : more ≡ pushed (pushed sc (start + 1) (mid - 1)) (start + mid) (len - mid)) where
-        pub front-ready : {starts : List ℕ} {t : Task} {e : ℕ} (w : Ready s starts b sc top (suc l) (suc left) t) → x < length (w .lent .sh .nodes) → e < length (w .lent .sh .nodes)
-            → Ready s starts a₁ more top′ l (left - n) (enter e)
-        front-ready w h k = inner-ready up is w h k (front-parts up (got g₁ (w .lent .sh) (w .lent .read) (w .env) (w .scoped) e₁) .3)
-
-        pub list-front : 32256 ≤ top → sc .count + 2 ≤ 110 → {a₂ : List ℕ} {r₂ : Found} {e te m tm df dr : ℕ} → Gives a₁ a₂ s more top′ top (left - n) (1 + n) r₂ l (branch tm m)
-            → Gives b a₂ s sc top top left 1 r₂ l (body (ListCase x e te m tm df dr))
-        unfolding run Text.getNode asList onList
-        list-front base c g₂ = record {
-          kept = kept-then (g₁ .kept) (g₂ .kept) (le-refl top);
-          told = λ sh es μ w.
-              let d = got g₁ sh es μ w e₁ in
-              let (f, r, z, h) = front-parts up d in
-              then-done _ _ (d .is) (rw z (give _ _ refl (g₂ .told sh es (μ ++ two f (list r)) (env-inner up is base c w h))));
+    pub parts-told : {g₂ j r : ℕ} {a₂ a₃ : List ℕ} → Parts i mid ≡ fitOf k q → ToldOf (within-scope (behind-here h a g) inner) a₂ g₂ (getD (h .sheet) (n + i) 0)
+        → Judged (testOf k (h .sheet) n i) (h .top) g₂ a₂ a₃ j → r ≡ laterAs j (stepsOf g) → Tells h a₃ r k n
+    unfolding run getBranch
+    parts-told e t v d =
+        let b = judge-gives (w .asked .base) (up .over) t v in
+        record {
+          kept = kept-then (w .gives .kept) (b .kept) (le-refl _);
+          told = λ sh es μ m.
+              let o = had (w .gives .told sh es μ m) (said-done g (w .done)) in
+              case-done (w .case) n (h .levels) (h .sheet) sh μ (o .is) (rw (subject-is e (o .that .held)) (b .told sh es _ (env-inner m (the-parts (o .that .held))))) (later-told parts-asks b d);
         }
 
-    module _ {mid : ℕ} (p : q ≡ shapes.Pair mid) where
-      pair-parts : {top′ : ℕ} → Above top start len top′ → {o : Out Value} (d : GotDone a₁ top start len n o) → (u : Value) × (v : Value) × (d .value ≡ pair u v) × TwoHeld a₁ top′ start len mid u v
-      pair-parts up d =
-          let (u, v, z, e) = pair-seen (shaped-as (held-shape (d .held) qs) p) in
-          (u, v, z, held-pair e (held-above up (rw z at (d .held))))
-
-      pub pair-mid : {starts : List ℕ} {top′ : ℕ} → Above top start len top′ → Ready s starts b sc top l left (enter x) → (1 ≤ mid) × (mid ≤ len)
-      pair-mid up w =
-          let h = pair-parts up (got g₁ (w .lent .sh) (w .lent .read) (w .env) (w .scoped) e₁) .3 in
-          (h .some, h .inside)
-
-      module _ {top′ : ℕ} {more : Scope} (up : Above top start len top′) (is : more ≡ pushed (pushed sc (start + 1) (mid - 1)) (start + mid) (len - mid)) where
-        pub pair-ready : {starts : List ℕ} {t : Task} {e : ℕ} (w : Ready s starts b sc top (suc l) (suc left) t) → x < length (w .lent .sh .nodes) → e < length (w .lent .sh .nodes)
-            → Ready s starts a₁ more top′ l (left - n) (enter e)
-        pair-ready w h k = inner-ready up is w h k (pair-parts up (got g₁ (w .lent .sh) (w .lent .read) (w .env) (w .scoped) e₁) .3)
-
-        pub split-done : 32256 ≤ top → sc .count + 2 ≤ 110 → {a₂ : List ℕ} {r₂ : Found} {i : ℕ} → Gives a₁ a₂ s more top′ top (left - n) (1 + n) r₂ l (branch 0 i)
-            → Gives b a₂ s sc top top left 1 r₂ l (body (Split x i))
-        unfolding run Text.getNode asPair
-        split-done base c g₂ = record {
-          kept = kept-then (g₁ .kept) (g₂ .kept) (le-refl top);
-          told = λ sh es μ w.
-              let d = got g₁ sh es μ w e₁ in
-              let (u, v, z, h) = pair-parts up d in
-              then-done _ _ (d .is) (rw z (give _ _ refl (answer-by (g₂ .told sh es (μ ++ two u v) (env-inner up is base c w h)) (sym (untested _)))));
-        }
-
--- CASES, AT A STAGE: the subject was got, as the answer g. It is a value of the shape q; the stack goes on behind it, at top′, with left′ steps
-pub record Subject (h : Here) (kind : List ℕ → ℕ → Node) (n g : ℕ) (a : List ℕ) (q : Shape) (top′ left′ : ℕ) : Type 0 where
-  pub asked : Asked h (kind (h .sheet) n)
-  pub known : getD (h .sheet) (n + 1) 0 < length (asked .lent .sh .nodes)
-  pub gives : Told′ h a (found g) (getD (h .sheet) (n + 1) 0)
-  pub done : 256 ≤ g
-  pub shape : q ≡ shapeOf (part a (startOf g) (startOf g + lenOf g - startOf g))
-  pub up : Above (h .top) (startOf g) (lenOf g) top′
-  pub left : left′ ≡ h .left - stepsOf g
-
--- it has two parts, and there is room for them as variables
-pub record Sides (h : Here) (g mid : ℕ) : Type 0 where
-  pub inside : startOf g + lenOf g < 65536
-  pub slots : h .scope .count + 2 ≤ 110
-  pub first : 1 ≤ mid
-  pub second : mid ≤ lenOf g
-
--- the scope `more` has them
-pub record Parted (h : Here) (q : Shape) (make : ℕ → Shape) (g mid : ℕ) (more : Scope) : Type 0 where
-  pub is : q ≡ make mid
-  pub scope : more ≡ pushed (pushed (h .scope) (startOf g + 1) (mid - 1)) (startOf g + mid) (lenOf g - mid)
-
-module _ {h : Here} {kind : List ℕ → ℕ → Node} {n g top′ left′ : ℕ} {a : List ℕ} {q : Shape} (k : Subject h kind n g a q top′ left′) where
-  -- a branch in the same scope
-  pub case-asks : {e : ℕ} → e < length (k .asked .lent .sh .nodes) → Asks (later h a top′ left′) e
-  case-asks i = rw (k .left) (case-ready (k .gives) (found-done (k .done)) (k .shape) (k .up) (k .asked) (k .known) i)
-
-  -- and with two variables more
-  pub front-sides : {mid : ℕ} → q ≡ shapes.Front mid → Sides h g mid
-  front-sides p =
-      let z = sizes (subject-ready (k .asked) (k .known)) (k .gives) (found-done (k .done)) in
-      let m = front-mid (k .gives) (found-done (k .done)) (k .shape) p (k .up) (subject-ready (k .asked) (k .known)) in
-      let w = k .asked in
-      record { inside = omega arith; slots = omega arith; first = m .0; second = m .1 }
-
-  pub front-asks : {e mid : ℕ} {more : Scope} → Parted h q shapes.Front g mid more → e < length (k .asked .lent .sh .nodes) → Asks (h-in (later h a top′ left′) more) e
-  front-asks m i = rw (k .left) (front-ready (k .gives) (found-done (k .done)) (k .shape) (m .is) (k .up) (m .scope) (k .asked) (k .known) i)
-
-  pub pair-sides : {mid : ℕ} → q ≡ shapes.Pair mid → Sides h g mid
-  pair-sides p =
-      let z = sizes (subject-ready (k .asked) (k .known)) (k .gives) (found-done (k .done)) in
-      let m = pair-mid (k .gives) (found-done (k .done)) (k .shape) p (k .up) (subject-ready (k .asked) (k .known)) in
-      let w = k .asked in
-      record { inside = omega arith; slots = omega arith; first = m .0; second = m .1 }
-
-  pub pair-asks : {e mid : ℕ} {more : Scope} → Parted h q shapes.Pair g mid more → e < length (k .asked .lent .sh .nodes) → Asks (h-in (later h a top′ left′) more) e
-  pair-asks m i = rw (k .left) (pair-ready (k .gives) (found-done (k .done)) (k .shape) (m .is) (k .up) (m .scope) (k .asked) (k .known) i)
-
-module _ {h : Here} {n g top′ left′ : ℕ} {a : List ℕ} {q : Shape} (k : Subject h listCaseAt n g a q top′ left′) where
-  pub list-other : ((v : Value) → Shaped v q → asList v ≡ none) → Tells h a (found 43) (listCaseAt (h .sheet) n)
-  list-other other = as-found (found-refused (omega arith)) (list-43 (k .gives) (found-done (k .done)) (k .shape) other)
-
-  module _ {e t g₂ r : ℕ} {a₂ a₃ : List ℕ} (j : Judged t (1 + stepsOf g) (h .top) g₂ a₂ a₃ r) where
-    pub list-none : q ≡ shapes.Empty → e ≡ getD (h .sheet) (n + 2) 0 → t ≡ getD (h .sheet) (n + 3) 0 → Told′ (later h a top′ left′) a₂ (found g₂) e
-        → Tells h a₃ (found r) (listCaseAt (h .sheet) n)
-    list-none p f u b = list-empty (k .gives) (found-done (k .done)) (k .shape) (k .asked .base) (k .up) p
-        (as-branch u f (judge-gives (k .asked .base) (k .up .over) (rw (k .left) at b) j))
-
-    pub list-some : {mid : ℕ} {more : Scope} → Parted h q shapes.Front g mid more → e ≡ getD (h .sheet) (n + 4) 0 → t ≡ getD (h .sheet) (n + 5) 0
-        → Told′ (h-in (later h a top′ left′) more) a₂ (found g₂) e → Tells h a₃ (found r) (listCaseAt (h .sheet) n)
-    list-some m f u b = list-front (k .gives) (found-done (k .done)) (k .shape) (m .is) (k .up) (m .scope) (k .asked .base) (front-sides k (m .is) .slots)
-        (as-branch u f (judge-gives (k .asked .base) (k .up .over) (rw (k .left) at b) j))
-
-module _ {h : Here} {n g top′ left′ : ℕ} {a : List ℕ} {q : Shape} (k : Subject h truthCaseAt n g a q top′ left′) where
-  pub truth-other : ((v : Value) → Shaped v q → asTruth v ≡ none) → Tells h a (found 43) (truthCaseAt (h .sheet) n)
-  truth-other other = as-found (found-refused (omega arith)) (truth-43 (k .gives) (found-done (k .done)) (k .shape) other)
-
-  module _ {e t g₂ r : ℕ} {a₂ a₃ : List ℕ} (j : Judged t (1 + stepsOf g) (h .top) g₂ a₂ a₃ r) where
-    pub truth-false : q ≡ shapes.False → e ≡ getD (h .sheet) (n + 2) 0 → t ≡ getD (h .sheet) (n + 3) 0 → Told′ (later h a top′ left′) a₂ (found g₂) e
-        → Tells h a₃ (found r) (truthCaseAt (h .sheet) n)
-    truth-false p f u b = truth-no (k .gives) (found-done (k .done)) (k .shape) (k .asked .base) (k .up) p
-        (as-branch u f (judge-gives (k .asked .base) (k .up .over) (rw (k .left) at b) j))
-
-    pub truth-true : q ≡ shapes.True → e ≡ getD (h .sheet) (n + 4) 0 → t ≡ getD (h .sheet) (n + 5) 0 → Told′ (later h a top′ left′) a₂ (found g₂) e
-        → Tells h a₃ (found r) (truthCaseAt (h .sheet) n)
-    truth-true p f u b = truth-yes (k .gives) (found-done (k .done)) (k .shape) (k .asked .base) (k .up) p
-        (as-branch u f (judge-gives (k .asked .base) (k .up .over) (rw (k .left) at b) j))
-
-module _ {h : Here} {n g top′ left′ : ℕ} {a : List ℕ} {q : Shape} (k : Subject h splitAt n g a q top′ left′) where
-  pub split-other : ((v : Value) → Shaped v q → asPair v ≡ none) → Tells h a (found 43) (splitAt (h .sheet) n)
-  split-other other = as-found (found-refused (omega arith)) (split-43 (k .gives) (found-done (k .done)) (k .shape) other)
-
-  pub split-told : {e g₂ r mid : ℕ} {more : Scope} {a₂ a₃ : List ℕ} → Judged 0 (1 + stepsOf g) (h .top) g₂ a₂ a₃ r → Parted h q shapes.Pair g mid more
-      → e ≡ getD (h .sheet) (n + 2) 0 → Told′ (h-in (later h a top′ left′) more) a₂ (found g₂) e → Tells h a₃ (found r) (splitAt (h .sheet) n)
-  split-told j m f b = split-done (k .gives) (found-done (k .done)) (k .shape) (m .is) (k .up) (m .scope) (k .asked .base) (pair-sides k (m .is) .slots)
-      (as-branch refl f (judge-gives (k .asked .base) (k .up .over) (rw (k .left) at b) j))
+  -- NO BRANCH
+  pub none-told : {r : ℕ} → Fits k q (Refused 43) → Refused 43 ≡ fitOf k q → r ≡ 43 → Tells h a r k n
+  unfolding run getBranch after
+  none-told {r} f e d = record {
+    kept = w .gives .kept;
+    told = λ sh es μ m.
+        let o = had (w .gives .told sh es μ m) (said-done g (w .done)) in
+        let x : said r ≡ Denied 43 = ap said d ∙ refused-said (omega arith) (omega arith) in
+        case-done (w .case) n (h .levels) (h .sheet) sh μ {q = Denied 43} (o .is) (rw (subject-is e (o .that .held)) (refuse refl)) x;
+  }

@@ -1,108 +1,125 @@
--- Variables, constants and numbers: what get shows at each return, and what it asks.
-use mathlib.Core.Path.{_≡_, refl, ap, _∙_}
+-- Variables, constants and numbers: what get shows of them.
+use mathlib.Core.Path.{_≡_, refl, sym, ap, _∙_}
 use mathlib.Core.Bool.{true, false}
 use mathlib.Core.List.{List, [], _∷_}
-use Prim.Native.Nat.{ℕ, suc, _+_, _/_, _%_, _≤_, _<_}
+use Prim.Native.Nat.{ℕ, zero, suc, _+_, _-_, _*_, _/_, _%_, _≤_, _<_}
 use native.Mathlib.Nat.{le-refl}
+use native.Mathlib.Decide.{decLt}
 use native.Mathlib.Omega.{arith}
 use lib.ListN.{length, getD, set, length-set}
 use lib.Seq.{getD-set-same, getD-set-other}
-use Rattle.value.specs.Value.{Value, vfalse, number, encode, encodes, size, sizes}
+use Rattle.answer.specs.Answer.{said, doneAs, done-said, refused-said}
+use Rattle.value.specs.Value.{Value, vfalse, vtrue, list, nil, number, encode, encodes, size, sizes}
 use Rattle.value.specs.Laws.{Readable}
-use Rattle.sheet.specs.declared.Node.the-variants.{Var, False, True, Empty, Number}
+use Rattle.sheet.specs.declared.Node.{Node}
+use Rattle.sheet.specs.declared.Node.the-variants.{Number}
+use Rattle.sheet.specs.Records.{recordAt}
+use Rattle.rules.specs.Outcome.{done}
 use Rattle.rules.specs.Text
-use Rattle.rules.specs.Rules.{getNode}
+use Rattle.rules.specs.Rules.{Env, getNode, get}
 use Rattle.rules.specs.Readable.{nil-readable, truth-readable, number-readable}
 use Rattle.step.specs.declared.Scope.{Scope}
-use Rattle.walk.specs.Found.{Found, Done, Refused, found, packed-done, found-refused}
-use Rattle.step.specs.Step.{When, packed}
-use native.Mathlib.Decide.{decLt}
+use Rattle.step.specs.Step.{When}
 use Rattle.walk.specs.Parts.{part, kept-refl, kept-then, kept-set, part-one, part-cons, Marked, marked, marked-kept, marked-part}
 use Rattle.walk.specs.Arena.{onStack, below-ends, below-later}
 use Rattle.walk.specs.Seen.{elem-at, elem-none, held-some, held-short}
-use Rattle.walk.specs.Answers.{finish, give, give-none}
-use Rattle.walk.specs.Gets.{Task, body, run, Ready, Served, Gives, as-found}
+use Rattle.walk.specs.Answers.{answer-by, finish, give, give-none}
+use Rattle.walk.specs.Gets.{Task, own, run, Ready, Stands, Gives, Here, Asked, Tells}
+
+-- the kinds without children
+pub record Childless (kind : ℕ) : Type 0 where
+  pub low : 0x10 ≤ kind
+  pub high : kind ≤ 0x14
 
 -- VARIABLES
 
-module _ {b s : List ℕ} {sc : Scope} {top left l x : ℕ} where
-  pub var-42 : sc .count ≤ x → Gives b b s sc top top left 1 (Refused 42) l (body (Var x))
-  unfolding run Text.getNode
-  var-42 h = record {
-    kept = kept-refl top b;
-    told = λ sh es μ w. give-none _ _ (elem-none μ x (omega (arith, w .count))) (record { is = refl });
-  }
-
-  pub var-done : x < sc .count → 32256 ≤ top → Gives b b s sc top top left 1 (Done (getD (sc .starts) x 0) (getD (sc .lens) x 0) 1) l (body (Var x))
-  unfolding run Text.getNode
-  var-done h base = record {
-    kept = kept-refl top b;
-    told = λ sh es μ w.
-        let lt : x < length μ = omega (arith, w .count) in
-        let v = w .each x lt in
-        give _ _ (elem-at μ x vfalse lt) (finish refl (record {
-          start = getD (sc .starts) x 0;
-          len = getD (sc .lens) x 0;
-          is = refl;
-          low = omega (arith, below-ends (v .place) base);
-          held = record { place = below-later (top + getD (sc .lens) x 0) (omega arith) (v .place); long = v .long; bytes = v .bytes; readable = v .readable };
-        }));
-  }
-
 -- where a variable stands
-pub record Stands (sc : Scope) (x : ℕ) : Type 0 where
-  pub slot : x < 110
-  pub start-small : getD (sc .starts) x 0 < 65536
-  pub some : 1 ≤ getD (sc .lens) x 0
-  pub short : getD (sc .lens) x 0 ≤ 256
+record Place (sc : Scope) (x : ℕ) : Type 0 where
+  few : x < 110
+  start-small : getD (sc .starts) x 0 < 65536
+  short : getD (sc .lens) x 0 + 1 ≤ 256
 
-pub stands : {s starts b : List ℕ} {sc : Scope} {top levels left x : ℕ} {t : Task} → Ready s starts b sc top (suc levels) left t → x < sc .count → Stands sc x
-stands {sc = sc} {x = x} w h =
+place : {s table b : List ℕ} {sc : Scope} {top levels left x : ℕ} {t : Task} → Ready s table b sc top (suc levels) left t → x < sc .count → Place sc x
+place {sc = sc} {x = x} w h =
     let e = w .scoped in
     let v = e .each x (omega (arith, e .count)) in
-    record {
-      slot = omega (arith, w .slots);
-      start-small = omega (arith, below-ends (v .place) (w .base), w .room, held-some v);
-      some = held-some v;
-      short = held-short v;
-    }
+    record { few = omega (arith, w .variables); start-small = omega (arith, below-ends (v .place) (w .base), w .room, held-some v); short = held-short v }
 
 -- what the code's answer says
-pub var-gives : {b s starts : List ℕ} {sc : Scope} {top left l x r : ℕ} {t : Task} → Ready s starts b sc top (suc l) (suc left) t
-    → When ((x < sc .count) × (x < length (sc .starts)) × (x < length (sc .lens))) r (packed (getD (sc .starts) x 0) (getD (sc .lens) x 0) 1) 42 → Gives b b s sc top top left 1 (found r) l (body (Var x))
-var-gives {b} {s} {sc = sc} {top = top} {left = left} {l = l} {x = x} {r = r} w e = go (decLt x (sc .count))
+pub var-told : {h : Here} {n r kind : ℕ} → kind ≡ 0x10 → (w : Asked h kind n)
+    → When ((getD (h .sheet) (n + 1) 0 < h .scope .count) × (getD (h .sheet) (n + 1) 0 < 110)) r
+    (doneAs (getD (h .scope .starts) (getD (h .sheet) (n + 1) 0) 0) (getD (h .scope .lens) (getD (h .sheet) (n + 1) 0) 0 + 1) 0) 42
+    → Tells h (h .arena) r kind n
+unfolding run Text.getNode
+var-told {h} {n} {r} var w e = rw var (go (decLt (getD (h .sheet) (n + 1) 0) (h .scope .count)))
   where
-    go : Dec (x < sc .count) → Gives b b s sc top top left 1 (found r) l (body (Var x))
-    go (yes h) =
-        let z = stands w h in
-        let q = e .inside (h, omega (arith, z .slot, w .scoped .starts-long), omega (arith, z .slot, w .scoped .lens-long)) in
-        as-found (packed-done q (z .start-small) (z .some) (omega (arith, z .short))) (var-done h (w .base))
-    go (no n) = let q : r ≡ 42 = e .outside (λ p. n (p .0)) in as-found (found-refused (omega arith) ∙ ap Refused q) (var-42 (omega arith))
+    x : ℕ
+    x = getD (h .sheet) (n + 1) 0
 
--- CONSTANTS
+    go : Dec (getD (h .sheet) (n + 1) 0 < h .scope .count) → Tells h (h .arena) r 0x10 n
+    go (yes lt) =
+        let z = place w lt in
+        let q = e .inside (lt, z .few) in
+        let d = ap said q ∙ done-said _ _ _ (z .start-small) (omega (arith, z .short)) (omega arith) in
+        record {
+          kept = kept-refl (h .top) (h .arena);
+          told = λ sh es μ m.
+              let i : getD (h .sheet) (n + 1) 0 < length μ = omega (arith, m .count, lt) in
+              let v = m .each (getD (h .sheet) (n + 1) 0) i in
+              give _ _ (elem-at μ (getD (h .sheet) (n + 1) 0) vfalse i) (finish d (record {
+                low = omega (arith, below-ends (v .place) (w .base));
+                held = record {
+                  place = below-later (h .top + (getD (h .scope .lens) (getD (h .sheet) (n + 1) 0) 0 + 1)) (omega arith) (v .place);
+                  long = v .long;
+                  bytes = v .bytes;
+                  readable = v .readable;
+                };
+              }));
+        }
+    go (no n′) =
+        let d = ap said (e .outside (λ p. n′ (p .0))) ∙ refused-said (omega arith) (omega arith) in
+        record {
+          kept = kept-refl (h .top) (h .arena);
+          told = λ sh es μ m. give-none _ _ (elem-none μ (getD (h .sheet) (n + 1) 0) (omega (arith, m .count, n′))) d;
+        }
 
-pub marked-as : {k top : ℕ} {b a : List ℕ} → a ≡ set b top k → top < length b → Marked k top b a
-marked-as {k} {top} {b} e h = rw e (marked k top b h)
+-- CONSTANTS: one byte was written, the bytes of the value v
 
--- one byte was written, the bytes of the value v
-module _ {k : ℕ} {b a : List ℕ} {top : ℕ} {r : Found} (base : 32256 ≤ top) (m : Marked k top b a) (e : r ≡ Done top 1 1) where
-  constant-done : {v : Value} → k ∷ [] ≡ encode v → 1 ≡ size v → Readable v → Served a top r v 1
-  constant-done n z g = record { start = top; len = 1; is = e; low = le-refl top; held = record { place = onStack base (le-refl _); long = z; bytes = marked-part m ∙ n; readable = g } }
+-- the value of each kind, and its byte
+pub record Constant (kind : ℕ) (s : List ℕ) (n : ℕ) : Type 0 where
+  pub value : Value
+  pub bytes : (kind - 0x11) ∷ [] ≡ encode value
+  pub long : 1 ≡ size value
+  pub readable : Readable value
+  pub is : (l : ℕ) (sh : _) (μ : Env) → run l sh (own kind s n) μ ≡ done value 0
 
-  module _ {s : List ℕ} {sc : Scope} {left l : ℕ} where
-    pub false-done : k ≡ 0 → Gives b a s sc top top left 1 r l (body False)
-    unfolding run Text.getNode encode size
-    false-done q = record { kept = marked-kept m; told = λ sh es μ w. finish refl (constant-done (ap (λ (i : ℕ). i ∷ []) q) refl (truth-readable false)) }
+constants : (kind : ℕ) (s : List ℕ) (n i : ℕ) → kind ≡ 0x11 + i → i ≤ 2 → Constant kind s n
+unfolding run Text.getNode encode encodes size sizes
+constants kind s n zero e h = rw e (record { value = vfalse; bytes = refl; long = refl; readable = truth-readable false; is = λ l sh μ. refl })
+constants kind s n (suc zero) e h = rw e (record { value = vtrue; bytes = refl; long = refl; readable = truth-readable true; is = λ l sh μ. refl })
+constants kind s n (suc (suc zero)) e h = rw e (record { value = list nil; bytes = refl; long = refl; readable = nil-readable; is = λ l sh μ. refl })
+constants kind s n (suc (suc (suc i))) e h = absurd (omega arith)
 
-    pub true-done : k ≡ 1 → Gives b a s sc top top left 1 r l (body True)
-    unfolding run Text.getNode encode size
-    true-done q = record { kept = marked-kept m; told = λ sh es μ w. finish refl (constant-done (ap (λ (i : ℕ). i ∷ []) q) refl (truth-readable true)) }
-
-    pub empty-done : k ≡ 2 → Gives b a s sc top top left 1 r l (body Empty)
-    unfolding run Text.getNode encode encodes size sizes
-    empty-done q = record { kept = marked-kept m; told = λ sh es μ w. finish refl (constant-done (ap (λ (i : ℕ). i ∷ []) q) refl nil-readable) }
+pub constant-told : {h : Here} {n r kind : ℕ} {a : List ℕ} → Childless kind → (kind ≡ 0x10 → ⊥) → (kind ≡ 0x14 → ⊥) → Asked h kind n
+    → a ≡ set (h .arena) (h .top) (kind - 0x11) → r ≡ doneAs (h .top) 1 0 → Tells h a r kind n
+constant-told {h} {n} {kind = kind} c v m w e f =
+    let k = constants kind (h .sheet) n (kind - 0x11) (omega (arith, c .low)) (omega (arith, c .high)) in
+    let d = ap said f ∙ done-said (h .top) 1 0 (omega (arith, w .room)) (omega arith) (omega arith) in
+    let mark = marked (kind - 0x11) (h .top) (h .arena) (omega (arith, w .long, w .room)) in
+    rw e (record {
+      kept = marked-kept mark;
+      told = λ sh es μ _.
+          answer-by (finish d (record {
+            low = le-refl (h .top);
+            held = record { place = onStack (w .base) (le-refl _); long = k .long; bytes = marked-part mark ∙ k .bytes; readable = k .readable };
+          })) (k .is (h .levels) sh μ);
+    })
 
 -- NUMBERS
+
+-- a number by its two bytes
+pub sum-as : {n a b x y : ℕ} → n ≡ 256 * a + b → a ≡ x → b ≡ y → n ≡ 256 * x + y
+sum-as e f g = rw (← f, ← g) e
 
 -- a number's three bytes are written
 abbrev pub numbered : List ℕ → ℕ → ℕ → List ℕ
@@ -122,24 +139,27 @@ number-bytes b top n h k =
     let z : top + 1 + 1 ≡ top + 2 = omega arith in
     part-cons a top 2 (omega arith) ∙ rw (part-cons a (top + 1) 1 (omega arith), z, part-one a (top + 2) (omega arith), e₀, e₁, e₂)
 
-pub number-done : {b a s : List ℕ} {sc : Scope} {top left l n : ℕ} {r : Found} → 32256 ≤ top → top + 3 ≤ length b → n ≤ 65535
-    → a ≡ numbered b top n → r ≡ Done top 3 1 → Gives b a s sc top top left 1 r l (body (Number n))
+pub number-told : {h : Here} {n r kind : ℕ} {a : List ℕ} → kind ≡ 0x14 → Asked h kind n
+    → a ≡ numbered (h .arena) (h .top) (256 * getD (h .sheet) (n + 1) 0 + getD (h .sheet) (n + 2) 0) → r ≡ doneAs (h .top) 3 0 → Tells h a r kind n
 unfolding run Text.getNode size
-number-done {b} {top = top} {n = n} base h le e f =
+number-told {h} {n} num w e f =
+    let d = ap said f ∙ done-said (h .top) 3 0 (omega (arith, w .room)) (omega arith) (omega arith) in
+    let top = h .top in
+    let b = h .arena in
+    let m = 256 * getD (h .sheet) (n + 1) 0 + getD (h .sheet) (n + 2) 0 in
     let c : List ℕ = set b top 4 in
     let lc : length c ≡ length b = length-set b top 4 in
-    record {
-      kept = rw e (kept-then (kept-then (kept-set top b top 4 (le-refl top)) (kept-set top c (top + 1) (n / 256) (omega arith)) (le-refl top)) (kept-set top (set c (top + 1) (n / 256)) (top + 2) (n % 256) (omega arith)) (le-refl top));
-      told = λ sh es μ w. finish refl (record {
-        start = top;
-        len = 3;
-        is = f;
+    let le : m ≤ 65535 = rw num at (w .known .1) .0 in
+    rw num (record {
+      kept = rw e (kept-then (kept-then (kept-set top b top 4 (le-refl top)) (kept-set top c (top + 1) (m / 256) (omega arith)) (le-refl top))
+          (kept-set top (set c (top + 1) (m / 256)) (top + 2) (m % 256) (omega arith)) (le-refl top));
+      told = λ sh es μ _. finish d (record {
         low = le-refl top;
         held = record {
-          place = onStack base (le-refl _);
+          place = onStack (w .base) (le-refl _);
           long = refl;
-          bytes = rw e (number-bytes c top n (omega arith) (getD-set-same b top 4 0 (omega arith)));
+          bytes = rw e (number-bytes c top m (omega (arith, w .long, w .room)) (getD-set-same b top 4 0 (omega (arith, w .long, w .room))));
           readable = number-readable le;
         };
       });
-    }
+    })

@@ -1,40 +1,52 @@
 -- What a call of get asks, handed on from call to call, and what a call that was done tells of its sizes.
 use mathlib.Core.Path.{_≡_, _∙_}
+use mathlib.Core.Bool.{false}
 use mathlib.Core.List.{List}
-use Prim.Native.Nat.{ℕ, zero, suc, _+_, _*_, _≤_}
+use Prim.Native.Nat.{ℕ, zero, suc, _+_, _*_, _≤_, _<_}
+use native.Mathlib.Nat.{le-refl}
 use native.Mathlib.Omega.{arith}
+use lib.ListN.{length}
+use Rattle.answer.specs.Answer.{isRefusal, lenOf, startOf, stepsOf, said-done}
 use Rattle.value.specs.Value.{Value}
 use Rattle.sheet.specs.Sheet.{Sheet}
 use Rattle.rules.specs.Outcome.{done, refused}
 use Rattle.rules.specs.AllowanceLaws.{within-done}
 use Rattle.rules.specs.Text
-use Rattle.rules.specs.Rules.{Env as Values, get}
+use Rattle.rules.specs.Rules.{Env, get}
 use Rattle.step.specs.declared.Scope.{Scope}
-use Rattle.walk.specs.Found.{Found, Done}
-use Rattle.walk.specs.Parts.{Kept}
-use Rattle.walk.specs.Arena.{Env, env-later}
+use Rattle.walk.specs.declared.at.At.{At}
+use Rattle.walk.specs.Parts.{Kept, kept-refl}
+use Rattle.walk.specs.Arena.{Scoped, env-later}
 use Rattle.walk.specs.Seen.{held-some, held-short}
-use Rattle.walk.specs.Gets.{Task, enter, run, Known, Ready, Gives, got}
+use Rattle.walk.specs.Answers.{had}
+use Rattle.walk.specs.Gets.{Task, enter, run, Known, Ready, Gives, Here, further, within-scope, Asked, Asks}
 
-module _ {s starts b : List ℕ} {sc : Scope} {top levels left : ℕ} {t : Task} (w : Ready s starts b sc top levels left t) where
+-- a call further on: the arena is kept below the top, and the top is raised
+module _ {s table b : List ℕ} {sc : Scope} {top levels left : ℕ} {t : Task} (w : Ready s table b sc top levels left t) where
   module _ {a : List ℕ} (kept : Kept top b a) (top′ levels′ left′ : ℕ) (p : top ≤ top′) (few : left′ ≤ 1000000) (room : top′ + 257 * levels′ ≤ 65536) where
-    -- a call in another scope
-    pub ready-in : {sc′ : Scope} {t′ : Task} → sc′ .count + 2 * levels′ ≤ 112 → Known (w .lent .sh) t′ → (μ : Values) → Env a sc′ top′ μ → Ready s starts a sc′ top′ levels′ left′ t′
-    ready-in slots known μ e = record {
+    -- in another scope
+    pub ready-in : {sc′ : Scope} {t′ : Task} → sc′ .count + 2 * levels′ ≤ 112 → Known (w .sheet .sh) t′ → (μ : Env) → Scoped a sc′ top′ μ → Ready s table a sc′ top′ levels′ left′ t′
+    ready-in variables known μ e = record {
       long = kept .long ∙ w .long;
       few = few;
       base = omega (arith, w .base);
       room = room;
-      slots = slots;
-      lent = w .lent;
+      variables = variables;
+      sheet = w .sheet;
       known = known;
       env = μ;
       scoped = e;
     }
 
-    -- a call in the same scope
-    pub ready-later : {t′ : Task} → levels′ ≤ levels → Known (w .lent .sh) t′ → Ready s starts a sc top′ levels′ left′ t′
-    ready-later h known = ready-in (omega (arith, w .slots)) known (w .env) (env-later kept (w .base) top′ p (w .scoped))
+    -- in the same scope
+    pub ready-later : {t′ : Task} → levels′ ≤ levels → Known (w .sheet .sh) t′ → Ready s table a sc top′ levels′ left′ t′
+    ready-later h known = ready-in (omega (arith, w .variables)) known (w .env) (env-later kept (w .base) top′ p (w .scoped))
+
+-- the first call of a kind's function: as it was asked, in the level below
+pub first-asks : {h : Here} {k n x : ℕ} (w : Asked h k n) → x < length (w .sheet .sh .nodes) → Asks h x
+first-asks {h} w i =
+    let z : h .top + 257 * suc (h .levels) ≤ 65536 = w .room in
+    ready-later w (kept-refl _ _) (h .top) (h .levels) (h .left) (le-refl _) (omega (arith, w .few)) (omega arith) (omega arith) i
 
 -- a call was done: a value's bytes, and no more steps than were left
 pub record Sizes (top start len n left levels : ℕ) : Type 0 where
@@ -44,22 +56,28 @@ pub record Sizes (top start len n left levels : ℕ) : Type 0 where
   pub steps : n ≤ left
   pub deep : 1 ≤ levels
 
+-- no more steps were taken than were left
+pub few-steps : {s table b a : List ℕ} {sc : Scope} {levels left from low left′ q l : ℕ} {t t′ : Task} → Ready s table b sc from levels left t
+    → Gives b a s sc from low left′ q l t′ → isRefusal q ≡ false → stepsOf q ≤ left′
+few-steps {left′ = left′} {q = q} w g e = within-done left′ _ (had (g .told (w .sheet .sh) (w .sheet .read) (w .env) (w .scoped)) (said-done q e) .is) .1
+
 -- with no level left a node is refused
-deep : {l : ℕ} (sh : Sheet) (x : ℕ) (μ : Values) {v : Value} {n : ℕ} → run l sh (enter x) μ ≡ done v n → 1 ≤ l
+deep : {l : ℕ} (sh : Sheet) (x : ℕ) (μ : Env) {v : Value} {n : ℕ} → run l sh (enter x) μ ≡ done v n → 1 ≤ l
 unfolding run Text.get
 deep {l = zero} sh x μ e = absurd (let z : _≡_ {A = ℕ} 0 1 = cc in omega arith)
 deep {l = suc l} sh x μ e = omega arith
 
-pub sizes : {s starts b a : List ℕ} {sc : Scope} {top levels left x start len n : ℕ} {r : Found} → Ready s starts b sc top levels left (enter x)
-    → Gives b a s sc top top left 0 r levels (enter x) → r ≡ Done start len n → Sizes top start len n left levels
-sizes {left = left} w g e =
-    let d = got g (w .lent .sh) (w .lent .read) (w .env) (w .scoped) e in
-    let q = within-done left _ (d .is) in
-    record { low = d .low; some = held-some (d .held); short = held-short (d .held); steps = q .1; deep = deep (w .lent .sh) _ (w .env) (q .0) }
+-- whatever was answered
+pub record Sized (top left levels r : ℕ) : Type 0 where
+  pub at : isRefusal r ≡ false → Sizes top (startOf r) (lenOf r) (stepsOf r) left levels
 
--- the same, whatever was found
-pub record Sized (top left levels : ℕ) (r : Found) : Type 0 where
-  pub at : {start len n : ℕ} → r ≡ Done start len n → Sizes top start len n left levels
+pub sized : {s table b a : List ℕ} {sc : Scope} {top levels left x r : ℕ} → Ready s table b sc top levels left (enter x) → Gives b a s sc top top left r levels (enter x) → Sized top left levels r
+sized {left = left} {r = r} w g = record {
+  at = λ e.
+      let d = had (g .told (w .sheet .sh) (w .sheet .read) (w .env) (w .scoped)) (said-done r e) in
+      let q = within-done left _ (d .is) in
+      record { low = d .that .low; some = held-some (d .that .held); short = held-short (d .that .held); steps = q .1; deep = deep (w .sheet .sh) _ (w .env) (q .0) };
+}
 
-pub sized : {s starts b a : List ℕ} {sc : Scope} {top levels left x : ℕ} {r : Found} → Ready s starts b sc top levels left (enter x) → Gives b a s sc top top left 0 r levels (enter x) → Sized top left levels r
-sized w g = record { at = λ e. sizes w g e }
+pub sized-as : {at at′ : At} {r : ℕ} → at ≡ at′ → Sized (at .top) (at .left) (at .levels) r → Sized (at′ .top) (at′ .left) (at′ .levels) r
+sized-as e z = rw e at z

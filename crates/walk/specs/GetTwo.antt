@@ -1,31 +1,86 @@
 -- Front and pair: what get shows at each return, and what its calls ask.
 use mathlib.Core.Path.{_≡_, refl, sym, ap, _∙_}
-use mathlib.Core.Bool.{Bool, true, false, false≢true}
+use mathlib.Core.Bool.{Bool, true, false}
 use mathlib.Core.List.{List, [], _∷_, _++_}
-use Prim.Native.Nat.{ℕ, suc, _+_, _-_, _≤_, _<_}
+use Prim.Native.Nat.{ℕ, suc, _+_, _-_, _*_, _≤_, _<_}
 use native.Mathlib.Nat.{le-refl}
-use native.Mathlib.Omega.{arith}
 use native.Mathlib.Decide.{decLt}
-use borrow.Author.Tests.{lt-ltb, le-ltb}
-use Rattle.step.specs.Step.{unfitRest}
-use Rattle.step.specs.StepLaws.{too-low, by-height}
+use native.Mathlib.Omega.{arith}
 use lib.ListN.{length, getD}
+use Rattle.answer.specs.Answer.{Said, Done, Refused, said, after, isRefusal, doneAs, lenOf, startOf, stepsOf, steps-small, said-refused, said-done, done-said, refused-said}
 use Rattle.value.specs.Result.{ok}
-use Rattle.value.specs.Value.{Value, list, pair, encode, encodes, size, sizes as rest-sizes, ePair}
-use Rattle.value.specs.Laws.{encodable-front}
-use Rattle.sheet.specs.declared.Node.the-variants.{Front, Pair}
+use Rattle.value.specs.Value.{Value, encode, size}
 use Rattle.sheet.specs.Sheet.{Sheet, readSheet}
+use Rattle.rules.specs.Outcome.{Out, done, refused, given}
 use Rattle.rules.specs.Allowance.{within}
 use Rattle.rules.specs.Text
-use Rattle.rules.specs.Rules.{Env as Values, getNode, get, bounded}
-use Rattle.step.specs.declared.Scope.{Scope}
-use Rattle.walk.specs.Found.{Found, Done, Refused}
+use Rattle.rules.specs.Rules.{Env, getNode, get, bounded}
+use Rattle.step.specs.Step.{unfitRest, madeOf}
+use Rattle.step.specs.StepLaws.{made-front, made-pair}
 use Rattle.walk.specs.Parts.{part, Kept, part-kept, kept-then, part-join, Marked, marked-kept, marked-part}
-use Rattle.walk.specs.Arena.{onStack, Env, env-later}
-use Rattle.walk.specs.Seen.{no-list, a-list}
-use Rattle.walk.specs.Answers.{finish, then-done, then-refused, give, give-none, give-yes, give-no}
-use Rattle.walk.specs.Gets.{Task, enter, body, run, Ready, Gives, GotDone, got, not-got}
-use Rattle.walk.specs.GetReady.{ready-later, sizes}
+use Rattle.walk.specs.Arena.{onStack, Scoped, env-later}
+use Rattle.walk.specs.Seen.{held-head}
+use Rattle.walk.specs.Wholes.{Made, aList, aPair, maker, Whole, whole, no-whole, given-list, given-pair}
+use Rattle.walk.specs.Answers.{Answers, answer-by, finish, then-done, then-refused, give, give-none, give-yes, give-no, had, not-had}
+use Rattle.walk.specs.Gets.{own, run, Stands, Gives, Here, further, Asked, Asks, Tells}
+use Rattle.walk.specs.GetReady.{ready-later}
+use Rattle.walk.specs.GetAt.{AtTop}
+
+pub data Two (k : ℕ) : Type 0 where
+  aFront : k ≡ 0x15 → Two k
+  aTwo : k ≡ 0x16 → Two k
+
+pub two-kind : {k : ℕ} → 0x15 ≤ k → k < 0x17 → Two k
+two-kind {k} lo hi = go (decLt k 0x16)
+  where
+    go : Dec (k < 0x16) → Two k
+    go (yes h) = aFront (omega arith)
+    go (no h) = aTwo (omega arith)
+
+pub two-made : {k : ℕ} → Two k → Made (madeOf k)
+two-made (aFront e) = aList (sym (made-front e))
+two-made (aTwo e) = aPair (sym (made-pair (λ y. omega (arith, e, y)) (λ y. omega (arith, e, y))))
+
+-- the rule, once both nodes are got
+module _ {P : (start len : ℕ) → Value → Type 0} {r : Said} {left k : ℕ} (two : Two k) (n l : ℕ) (s : List ℕ) (sh : Sheet) (μ : Env) where
+  two-done : {u v : Value} {i j : ℕ} {q : Said} → within left (get l sh (getD s (n + 1) 0) μ) ≡ done u i → within (left - i) (get l sh (getD s (n + 2) 0) μ) ≡ done v j
+      → Answers P q (left - i - j) (given 43 (maker (madeOf k) u v) bounded) → r ≡ after i (after j q) → Answers P r left (run l sh (own k s n) μ)
+  unfolding run Text.getNode
+  two-done {u} {v} e f t d = go two
+    where
+      go : Two k → Answers P r left (run l sh (own k s n) μ)
+      go (aFront x) = rw x (then-done _ _ e (then-done _ _ f (answer-by (rw (← made-front x) at t) (given-list u v bounded)) refl) d)
+      go (aTwo x) = rw x (then-done _ _ e (then-done _ _ f (answer-by (rw (← made-pair {kind = k} (λ y. omega (arith, x, y)) (λ y. omega (arith, x, y))) at t) (given-pair u v bounded)) refl) d)
+
+  two-none₁ : {c i : ℕ} → within left (get l sh (getD s (n + 1) 0) μ) ≡ refused c i → r ≡ Refused c → Answers P r left (run l sh (own k s n) μ)
+  unfolding run Text.getNode
+  two-none₁ e d = go two
+    where
+      go : Two k → Answers P r left (run l sh (own k s n) μ)
+      go (aFront x) = rw x (then-refused _ _ e d)
+      go (aTwo x) = rw x (then-refused _ _ e d)
+
+  two-none₂ : {u : Value} {c i j : ℕ} → within left (get l sh (getD s (n + 1) 0) μ) ≡ done u i → within (left - i) (get l sh (getD s (n + 2) 0) μ) ≡ refused c j → r ≡ Refused c
+      → Answers P r left (run l sh (own k s n) μ)
+  unfolding run Text.getNode after
+  two-none₂ {c = c} e f d = go two
+    where
+      go : Two k → Answers P r left (run l sh (own k s n) μ)
+      go (aFront x) = rw x (then-done _ _ {q = Refused c} e (then-refused _ _ f refl) d)
+      go (aTwo x) = rw x (then-done _ _ {q = Refused c} e (then-refused _ _ f refl) d)
+
+-- WHAT `joined` ASKS AND GIVES
+
+pub record Joinable (a : List ℕ) (top first : ℕ) : Type 0 where
+  pub inside : top + 1 + lenOf first < length a
+  pub few : top < 65536
+
+pub data Joined (a : List ℕ) (kind top first second r : ℕ) : Type 0 where
+  passed-on : isRefusal second ≡ true → r ≡ second → Joined a kind top first second r
+  unfit : isRefusal second ≡ false → unfitRest kind (getD a (top + 1 + lenOf first) 0) ≡ true → r ≡ 43 → Joined a kind top first second r
+  long : isRefusal second ≡ false → unfitRest kind (getD a (top + 1 + lenOf first) 0) ≡ false → 256 < 1 + lenOf first + lenOf second → r ≡ 44 → Joined a kind top first second r
+  fits : isRefusal second ≡ false → unfitRest kind (getD a (top + 1 + lenOf first) 0) ≡ false → 1 + lenOf first + lenOf second ≤ 256
+      → r ≡ doneAs top (1 + lenOf first + lenOf second) (stepsOf first + stepsOf second) → Joined a kind top first second r
 
 -- two values that stand one after the other behind a kind byte
 together : (a : List ℕ) (k top f r : ℕ) (u v : List ℕ) → part a top 1 ≡ k ∷ [] → part a (top + 1) f ≡ u → part a (top + 1 + f) r ≡ v → part a top (1 + f + r) ≡ k ∷ (u ++ v)
@@ -33,163 +88,156 @@ together a k top f r u v e p q =
     let z : top + (1 + f) ≡ top + 1 + f = omega arith in
     part-join a top (1 + f) r ∙ rw (part-join a top 1 f, z, e, p, q)
 
--- whether a rest is a list, as the code judges it
-pub unfit-no : (k : ℕ) {p : Bool} → p ≡ unfitRest 3 k → p ≡ true → 2 ≤ k → k ≤ 3 → ⊥
-unfit-no k e t lo hi = false≢true (sym (le-ltb 3 k hi) ∙ by-height 3 k refl lo ∙ sym e ∙ t)
+-- AT A STAGE: the kind byte is written at the top
+pub record TwoAsked (h : Here) (k n : ℕ) (m : List ℕ) : Type 0 where
+  pub asked : Asked h k n
+  pub two : Two k
+  pub marked : Marked (madeOf k) (h .top) (h .arena) m
 
-pub fit-low : (k : ℕ) {p : Bool} → p ≡ unfitRest 3 k → p ≡ false → 2 ≤ k
-fit-low k {p} e f = go (decLt k 2)
-  where
-    go : Dec (k < 2) → 2 ≤ k
-    go (yes h) = absurd (false≢true (sym f ∙ e ∙ sym (too-low 3 k refl h)))
-    go (no n) = omega arith
+module _ {h : Here} {k n : ℕ} {m : List ℕ} (w : TwoAsked h k n m) where
+  -- where the first node is got, and where the second
+  abbrev pub one-here : Here
+  one-here = further h m (h .top + 1) (h .left)
 
-pub fit-high : (k : ℕ) {p : Bool} → p ≡ unfitRest 3 k → p ≡ false → k ≤ 3
-fit-high k {p} e f = go (decLt 3 k)
-  where
-    go : Dec (3 < k) → k ≤ 3
-    go (yes h) = absurd (false≢true (sym f ∙ e ∙ sym (by-height 3 k refl (fit-low k e f)) ∙ lt-ltb 3 k h))
-    go (no n) = omega arith
+  abbrev pub two-here : List ℕ → ℕ → Here
+  two-here a f = further h a (h .top + 1 + lenOf f) (h .left - stepsOf f)
 
--- what the two calls ask
-module _ {k : ℕ} {b m s starts : List ℕ} {sc : Scope} {top l left x : ℕ} {t : Task} (w : Ready s starts b sc top (suc l) (suc left) t) (mk : Marked k top b m)
-    (hx : x < length (w .lent .sh .nodes)) where
-  pub two-ready₁ : Ready s starts m sc (top + 1) l left (enter x)
-  two-ready₁ = ready-later w (marked-kept mk) (top + 1) l left (omega arith) (omega (arith, w .few)) (omega (arith, w .room)) (omega arith) hx
+  children : (getD (h .sheet) (n + 1) 0 < length (w .asked .sheet .sh .nodes)) × (getD (h .sheet) (n + 2) 0 < length (w .asked .sheet .sh .nodes))
+  children = go (w .two)
+    where
+      go : Two k → (getD (h .sheet) (n + 1) 0 < length (w .asked .sheet .sh .nodes)) × (getD (h .sheet) (n + 2) 0 < length (w .asked .sheet .sh .nodes))
+      go (aFront e) = let r = rw e at (w .asked .known .1) in (r .0 .inside, r .1 .0 .inside)
+      go (aTwo e) = let r = rw e at (w .asked .known .1) in (r .0 .inside, r .1 .0 .inside)
 
-  pub two-ready₂ : {a₁ : List ℕ} {r₁ : Found} {f n y : ℕ} → Gives m a₁ s sc (top + 1) (top + 1) left 0 r₁ l (enter x) → r₁ ≡ Done (top + 1) f n → y < length (w .lent .sh .nodes)
-      → Ready s starts a₁ sc (top + 1 + f) l (left - n) (enter y)
-  two-ready₂ {f = f} {n = n} g e hy =
-      let z = sizes two-ready₁ g e in
-      ready-later w (kept-then (marked-kept mk) (g .kept) (omega arith)) (top + 1 + f) l (left - n) (omega arith) (omega (arith, w .few)) (omega (arith, w .room, z .short)) (omega arith) hy
+  pub one-asks : Asks one-here (getD (h .sheet) (n + 1) 0)
+  one-asks =
+      let z : h .top + 257 * suc (h .levels) ≤ 65536 = w .asked .room in
+      ready-later (w .asked) (marked-kept (w .marked)) (h .top + 1) (h .levels) (h .left) (omega arith) (omega (arith, w .asked .few)) (omega arith) (omega arith) (children .0)
 
--- a and b are got behind the kind byte, one after the other
-module _ {k : ℕ} {b m a₁ s : List ℕ} {sc : Scope} {top left : ℕ} {r₁ : Found} {l x : ℕ}
-    (base : 32256 ≤ top) (mk : Marked k top b m) (g₁ : Gives m a₁ s sc (top + 1) (top + 1) left 0 r₁ l (enter x)) where
-  kept₁ : Kept top b a₁
-  kept₁ = kept-then (marked-kept mk) (g₁ .kept) (omega arith)
+  env₁ : {μ : Env} → Scoped (h .arena) (h .scope) (h .top) μ → Scoped m (h .scope) (h .top + 1) μ
+  env₁ e = env-later (marked-kept (w .marked)) (w .asked .base) (h .top + 1) (omega arith) e
 
-  env₁ : {μ : Values} → Env b sc top μ → Env m sc (top + 1) μ
-  env₁ w = env-later (marked-kept mk) base (top + 1) (omega arith) w
+  module _ {a₁ : List ℕ} {f : ℕ} (t₁ : AtTop one-here a₁ f (getD (h .sheet) (n + 1) 0)) where
+    kept₁ : Kept (h .top) (h .arena) a₁
+    kept₁ = kept-then (marked-kept (w .marked)) (t₁ .gives .kept) (omega arith)
 
-  pub pair-refused₁ : {y c : ℕ} → r₁ ≡ Refused c → Gives b a₁ s sc top top left 1 (Refused c) l (body (Pair x y))
-  unfolding run Text.getNode
-  pair-refused₁ e = record { kept = kept₁; told = λ sh es μ w. then-refused _ _ (not-got g₁ sh es μ (env₁ w) e .1) (record { is = refl }) }
-
-  pub front-refused₁ : {y c : ℕ} → r₁ ≡ Refused c → Gives b a₁ s sc top top left 1 (Refused c) l (body (Front x y))
-  unfolding run Text.getNode
-  front-refused₁ e = record { kept = kept₁; told = λ sh es μ w. then-refused _ _ (not-got g₁ sh es μ (env₁ w) e .1) (record { is = refl }) }
-
-  module _ {f n : ℕ} (e₁ : r₁ ≡ Done (top + 1) f n) {a₂ : List ℕ} {r₂ : Found} {y : ℕ} (g₂ : Gives a₁ a₂ s sc (top + 1 + f) (top + 1 + f) (left - n) 0 r₂ l (enter y)) where
-    kept₂ : Kept top b a₂
-    kept₂ = kept-then kept₁ (g₂ .kept) (omega arith)
-
-    env₂ : {μ : Values} → Env b sc top μ → Env a₁ sc (top + 1 + f) μ
-    env₂ w = env-later kept₁ base (top + 1 + f) (omega arith) w
-
-    pub pair-refused₂ : {c : ℕ} → r₂ ≡ Refused c → Gives b a₂ s sc top top left 1 (Refused c) l (body (Pair x y))
-    unfolding run Text.getNode
-    pair-refused₂ e = record {
-      kept = kept₂;
-      told = λ sh es μ w. then-done _ _ (got g₁ sh es μ (env₁ w) e₁ .is) (then-refused _ _ (not-got g₂ sh es μ (env₂ w) e .1) (record { is = refl }));
+    pub one-refused : isRefusal f ≡ true → Tells h a₁ f k n
+    unfolding run
+    one-refused e = record {
+      kept = kept₁;
+      told = λ sh es μ m. let x = said-refused f e in two-none₁ (w .two) n (h .levels) (h .sheet) sh μ (not-had (t₁ .gives .told sh es μ (env₁ m)) x .1) x;
     }
 
-    pub front-refused₂ : {c : ℕ} → r₂ ≡ Refused c → Gives b a₂ s sc top top left 1 (Refused c) l (body (Front x y))
-    unfolding run Text.getNode
-    front-refused₂ e = record {
-      kept = kept₂;
-      told = λ sh es μ w. then-done _ _ (got g₁ sh es μ (env₁ w) e₁ .is) (then-refused _ _ (not-got g₂ sh es μ (env₂ w) e .1) (record { is = refl }));
-    }
+    module _ (e₁ : isRefusal f ≡ false) where
+      pub two-asks : Asks (two-here a₁ f) (getD (h .sheet) (n + 2) 0)
+      two-asks =
+          let z : h .top + 257 * suc (h .levels) ≤ 65536 = w .asked .room in
+          let s = t₁ .sized .at e₁ in
+          ready-later (w .asked) kept₁ (h .top + 1 + lenOf f) (h .levels) (h .left - stepsOf f) (omega arith) (omega (arith, w .asked .few)) (omega arith) (omega arith) (children .1)
 
-    module _ {r t : ℕ} (e₂ : r₂ ≡ Done (top + 1 + f) r t) where
-      -- both are got
-      record Both (μ : Values) (sh : Sheet) : Type 0 where
-        first : GotDone a₁ (top + 1) (top + 1) f n (within left (get l sh x μ))
-        second : GotDone a₂ (top + 1 + f) (top + 1 + f) r t (within (left - n) (get l sh y μ))
-        bytes : part a₂ top (1 + f + r) ≡ k ∷ (encode (first .value) ++ encode (second .value))
+      -- what `joined` asks
+      pub joinable : {a₂ : List ℕ} {g : ℕ} → AtTop (two-here a₁ f) a₂ g (getD (h .sheet) (n + 2) 0) → isRefusal g ≡ false → Joinable a₂ (h .top) f
+      joinable t₂ e₂ =
+          let z : h .top + 257 * suc (h .levels) ≤ 65536 = w .asked .room in
+          let s = t₁ .sized .at e₁ in
+          let x = t₂ .gives .kept .long in
+          let y = kept₁ .long in
+          record { inside = omega (arith, w .asked .long); few = omega arith }
 
-      both : (sh : Sheet) → readSheet s ≡ ok sh → (μ : Values) → Env b sc top μ → Both μ sh
-      unfolding run
-      both sh es μ w =
-          let d = got g₁ sh es μ (env₁ w) e₁ in
-          let d′ = got g₂ sh es μ (env₂ w) e₂ in
-          record {
-            first = d;
-            second = d′;
-            bytes = together a₂ k top f r _ _ (part-kept (kept-then (g₁ .kept) (g₂ .kept) (omega arith)) top 1 (omega arith) ∙ marked-part mk)
-                (part-kept (g₂ .kept) (top + 1) f (le-refl _) ∙ d .held .bytes) (d′ .held .bytes);
-          }
+      env₂ : {μ : Env} → Scoped (h .arena) (h .scope) (h .top) μ → Scoped a₁ (h .scope) (h .top + 1 + lenOf f) μ
+      env₂ e = env-later kept₁ (w .asked .base) (h .top + 1 + lenOf f) (omega arith) e
 
-      pub pair-44 : 256 < 1 + f + r → Gives b a₂ s sc top top left 1 (Refused 44) l (body (Pair x y))
-      unfolding run Text.getNode Text.bounded size
-      pair-44 lt = record {
-        kept = kept₂;
-        told = λ sh es μ w. let d = both sh es μ w in
-            then-done _ _ (d .first .is) (then-done _ _ (d .second .is) (give-no _ _ _ (λ le. omega (arith, d .first .held .long, d .second .held .long)) (record { is = refl })));
-      }
+      module _ {a₂ : List ℕ} {g : ℕ} (t₂ : AtTop (two-here a₁ f) a₂ g (getD (h .sheet) (n + 2) 0)) where
+        kept₂ : Kept (h .top) (h .arena) a₂
+        kept₂ = kept-then kept₁ (t₂ .gives .kept) (omega arith)
 
-      pub pair-done : k ≡ 5 → 1 + f + r ≤ 256 → Gives b a₂ s sc top top left 1 (Done top (1 + f + r) (1 + n + t)) l (body (Pair x y))
-      unfolding run Text.getNode Text.bounded size encode
-      pair-done five le = record {
-        kept = kept₂;
-        told = λ sh es μ w.
-            let d = both sh es μ w in
-            let p : f ≡ size (d .first .value) = d .first .held .long in
-            let q : r ≡ size (d .second .value) = d .second .held .long in
-            then-done _ _ (d .first .is) (then-done _ _ (d .second .is) (give-yes _ _ _ (omega arith) (λ z. finish refl (record {
-              start = top;
-              len = 1 + f + r;
-              is = refl;
-              low = le-refl top;
-              held = record {
-                place = onStack base (omega arith);
-                long = omega arith;
-                bytes = d .bytes ∙ ap (λ (i : ℕ). i ∷ (encode (d .first .value) ++ encode (d .second .value))) five;
-                readable = record { fits = z; encodable = ePair (d .first .held .readable .encodable) (d .second .held .readable .encodable) };
-              };
-            }))));
-      }
+        -- both are got: the first stands behind the kind byte, the second behind it
+        record Both (sh : Sheet) (μ : Env) : Type 0 where
+          u : Value
+          v : Value
+          first : within (h .left) (get (h .levels) sh (getD (h .sheet) (n + 1) 0) μ) ≡ done u (stepsOf f)
+          second : within (h .left - stepsOf f) (get (h .levels) sh (getD (h .sheet) (n + 2) 0) μ) ≡ done v (stepsOf g)
+          one : Stands a₁ (h .top + 1) (startOf f) (lenOf f) u
+          two : Stands a₂ (h .top + 1 + lenOf f) (startOf g) (lenOf g) v
+          bytes : part a₂ (h .top) (1 + lenOf f + lenOf g) ≡ madeOf k ∷ (encode u ++ encode v)
+          head : getD a₂ (h .top + 1 + lenOf f) 0 ≡ getD (encode v) 0 0
 
-      pub front-43 : (2 ≤ getD a₂ (top + 1 + f) 0 → getD a₂ (top + 1 + f) 0 ≤ 3 → ⊥) → Gives b a₂ s sc top top left 1 (Refused 43) l (body (Front x y))
-      unfolding run Text.getNode
-      front-43 other = record {
-        kept = kept₂;
-        told = λ sh es μ w. let d = both sh es μ w in
-            then-done _ _ (d .first .is) (then-done _ _ (d .second .is) (give-none _ _ (no-list (d .second .held) other) (record { is = refl })));
-      }
+        both : isRefusal g ≡ false → (sh : Sheet) → readSheet (h .sheet) ≡ ok sh → (μ : Env) → Scoped (h .arena) (h .scope) (h .top) μ → Both sh μ
+        unfolding run
+        both e₂ sh es μ m =
+            let d = had (t₁ .gives .told sh es μ (env₁ m)) (said-done f e₁) in
+            let d′ = had (t₂ .gives .told sh es μ (env₂ m)) (said-done g e₂) in
+            let p = t₁ .there e₁ in
+            let q = t₂ .there e₂ in
+            let x : part a₁ (h .top + 1) (lenOf f) ≡ encode (d .value) = ap (λ (i : ℕ). part a₁ i (lenOf f)) (sym p) ∙ d .that .held .bytes in
+            let y : part a₂ (h .top + 1 + lenOf f) (lenOf g) ≡ encode (d′ .value) = ap (λ (i : ℕ). part a₂ i (lenOf g)) (sym q) ∙ d′ .that .held .bytes in
+            record {
+              u = d .value;
+              v = d′ .value;
+              first = d .is;
+              second = d′ .is;
+              one = d .that;
+              two = d′ .that;
+              bytes = together a₂ (madeOf k) (h .top) (lenOf f) (lenOf g) _ _
+                  (part-kept (kept-then (t₁ .gives .kept) (t₂ .gives .kept) (omega arith)) (h .top) 1 (omega arith) ∙ marked-part (w .marked))
+                  (part-kept (t₂ .gives .kept) (h .top + 1) (lenOf f) (le-refl _) ∙ x) y;
+              head = ap (λ (i : ℕ). getD a₂ i 0) (sym q) ∙ held-head (d′ .that .held);
+            }
 
-      module _ (above : 2 ≤ getD a₂ (top + 1 + f) 0) (below : getD a₂ (top + 1 + f) 0 ≤ 3) where
-        pub front-44 : 256 < 1 + f + r → Gives b a₂ s sc top top left 1 (Refused 44) l (body (Front x y))
-        unfolding run Text.getNode Text.bounded size rest-sizes
-        front-44 lt = record {
+        made : Made (madeOf k)
+        made = two-made (w .two)
+
+        whole-of : {sh : Sheet} {μ : Env} (d : Both sh μ) → unfitRest (madeOf k) (getD a₂ (h .top + 1 + lenOf f) 0) ≡ false → Whole (madeOf k) (d .u) (d .v)
+        whole-of d fit = whole _ _ made (ap (unfitRest (madeOf k)) (sym (d .head)) ∙ fit) (d .one .held .readable .encodable) (d .two .held .readable .encodable)
+
+        -- what is told
+        pub two-told : {r : ℕ} → Joined a₂ (madeOf k) (h .top) f g r → Tells h a₂ r k n
+        unfolding run Text.bounded after
+        two-told (passed-on e₂ is) = rw is (record {
           kept = kept₂;
-          told = λ sh es μ w.
-              let d = both sh es μ w in
-              let m = a-list (d .second .held) above below in
-              let p : f ≡ size (d .first .value) = d .first .held .long in
-              let q : r ≡ size (list (m .seen .0)) = d .second .held .long ∙ ap size (m .seen .1) in
-              then-done _ _ (d .first .is) (then-done _ _ (d .second .is) (give _ _ (m .is) (give-no _ _ _ (λ le. omega arith) (record { is = refl }))));
+          told = λ sh es μ m.
+              let x = said-refused g e₂ in
+              two-none₂ (w .two) n (h .levels) (h .sheet) sh μ (had (t₁ .gives .told sh es μ (env₁ m)) (said-done f e₁) .is) (not-had (t₂ .gives .told sh es μ (env₂ m)) x .1) x;
+        })
+        two-told {r} (unfit e₂ bad is) = record {
+          kept = kept₂;
+          told = λ sh es μ m.
+              let d = both e₂ sh es μ m in
+              let x : said r ≡ Refused 43 = ap said is ∙ refused-said (omega arith) (omega arith) in
+              two-done (w .two) n (h .levels) (h .sheet) sh μ {q = Refused 43} (d .first) (d .second)
+              (give-none _ _ (no-whole _ _ made (ap (unfitRest (madeOf k)) (sym (d .head)) ∙ bad)) refl) x;
         }
-
-        pub front-done : k ≡ 3 → 1 + f + r ≤ 256 → Gives b a₂ s sc top top left 1 (Done top (1 + f + r) (1 + n + t)) l (body (Front x y))
-        unfolding run Text.getNode Text.bounded size rest-sizes encode encodes
-        front-done three le = record {
+        two-told {r} (long e₂ fit lt is) = record {
           kept = kept₂;
-          told = λ sh es μ w.
-              let d = both sh es μ w in
-              let m = a-list (d .second .held) above below in
-              let p : f ≡ size (d .first .value) = d .first .held .long in
-              let q : r ≡ size (list (m .seen .0)) = d .second .held .long ∙ ap size (m .seen .1) in
-              then-done _ _ (d .first .is) (then-done _ _ (d .second .is) (give _ _ (m .is) (give-yes _ _ _ (omega arith) (λ z. finish refl (record {
-                start = top;
-                len = 1 + f + r;
-                is = refl;
-                low = le-refl top;
+          told = λ sh es μ m.
+              let d = both e₂ sh es μ m in
+              let b = whole-of d fit in
+              let x : said r ≡ Refused 44 = ap said is ∙ refused-said (omega arith) (omega arith) in
+              two-done (w .two) n (h .levels) (h .sheet) sh μ {q = Refused 44} (d .first) (d .second)
+              (give _ _ (b .is) (give-no _ _ _ (λ le. omega (arith, b .long, d .one .held .long, d .two .held .long)) refl)) x;
+        }
+        two-told {r} (fits e₂ fit le is) = record {
+          kept = kept₂;
+          told = λ sh es μ m.
+              let d = both e₂ sh es μ m in
+              let b = whole-of d fit in
+              let z : stepsOf f + stepsOf g ≡ stepsOf f + (stepsOf g + 0) = omega arith in
+              let room : h .top + 257 * suc (h .levels) ≤ 65536 = w .asked .room in
+              let s₁ = t₁ .sized .at e₁ in
+              let s₂ = t₂ .sized .at e₂ in
+              let x : said r ≡ Done (h .top) (1 + lenOf f + lenOf g) (stepsOf f + stepsOf g)
+              = ap said is ∙ done-said _ _ _ (omega arith) (omega arith) (omega (arith, w .asked .few)) in
+              two-done (w .two) n (h .levels) (h .sheet) sh μ {q = Done (h .top) (1 + lenOf f + lenOf g) 0} (d .first) (d .second)
+              (give _ _ (b .is) (give-yes _ _ _ (omega (arith, b .long, d .one .held .long, d .two .held .long)) (λ small. finish refl (record {
+                low = le-refl _;
                 held = record {
-                  place = onStack base (omega arith);
-                  long = omega arith;
-                  bytes = d .bytes ∙ ap (λ (v : Value). k ∷ (encode (d .first .value) ++ encode v)) (m .seen .1) ∙ ap (λ (i : ℕ). i ∷ (encode (d .first .value) ++ encode (list (m .seen .0)))) three;
-                  readable = record { fits = z; encodable = encodable-front (d .first .held .readable .encodable) (rw (m .seen .1) at (d .second .held .readable .encodable)) };
+                  place = onStack (w .asked .base) (omega arith);
+                  long = omega (arith, b .long, d .one .held .long, d .two .held .long);
+                  bytes = d .bytes ∙ sym (b .bytes);
+                  readable = record { fits = small; encodable = b .encodable };
                 };
-              })))));
+              })))) (x ∙ ap (Done (h .top) (1 + lenOf f + lenOf g)) z);
         }
+
+pub joined-as : {a : List ℕ} {kind kind′ top first second r : ℕ} → kind ≡ kind′ → Joined a kind top first second r → Joined a kind′ top first second r
+joined-as e j = rw e at j

@@ -2,95 +2,70 @@
 use mathlib.Core.Path.{_≡_, ap}
 use mathlib.Core.List.{List}
 use Prim.Native.Nat.{ℕ, suc, _+_, _*_, _≤_, _<_}
-use native.Mathlib.Omega.{arith}
-use lib.ListN.{length, getD}
+use lib.ListN.{length}
+use Rattle.answer.specs.Answer.{said}
 use Rattle.value.specs.Result.{ok}
 use Rattle.value.specs.Value.{Value}
-use Rattle.sheet.specs.declared.Node.{Node}
-use Rattle.sheet.specs.declared.Node.the-variants.{Var, Number, Front, Pair, ListCase, TruthCase, Split, Call, Add}
+use Rattle.sheet.specs.Records.{recordAt}
 use Rattle.sheet.specs.Sheet.{Sheet, readSheet}
 use Rattle.sheet.specs.Table.{tableOf}
 use Rattle.sheet.specs.Laws.{Ranged}
-use Rattle.rules.specs.Outcome.{Out, done, refused}
-use Rattle.rules.specs.Allowance.{within}
-use Rattle.rules.specs.Rules.{Env as Values, getNode, get, tested}
+use Rattle.rules.specs.Outcome.{Out}
+use Rattle.rules.specs.Rules.{Env, getNode, get, tested}
 use Rattle.step.specs.declared.Scope.{Scope}
-use Rattle.walk.specs.Found.{Found, Done, Refused}
+use Rattle.walk.specs.declared.at.At.{At}
 use Rattle.walk.specs.Parts.{Kept}
-use Rattle.step.specs.Step.{addedTwo, pickedTwo, picked}
-use Rattle.walk.specs.Scope.{pushed}
-use Rattle.walk.specs.Arena.{Held, Env}
-use Rattle.walk.specs.Answers.{Told, serves, denies, Answers}
+use Rattle.walk.specs.Arena.{Held, Scoped}
+use Rattle.walk.specs.Answers.{Answers, Had, had, not-had}
 
--- what a function of get does: enter a node by its number, get a node's own value, or get a branch and judge it by its test
+-- what a function of get does: enter a node by its number, get the value of the node whose record
+-- of that kind starts at byte n of the sheet s, or get a branch and judge it by its test
 pub data Task : Type 0 where
   enter : ℕ → Task
-  body : Node → Task
+  own : (kind : ℕ) (s : List ℕ) (n : ℕ) → Task
   branch : (test node : ℕ) → Task
 
-unfoldable pub run : ℕ → Sheet → Task → Values → Out Value
+unfoldable pub run : ℕ → Sheet → Task → Env → Out Value
 run l sh (enter n) μ = get l sh n μ
-run l sh (body nd) μ = getNode (get l sh) sh nd μ
+run l sh (own k s n) μ = getNode (get l sh) sh (recordAt k s n) μ
 run l sh (branch t n) μ = tested t (get l sh n μ)
 
--- the scope whose arrays are lent
-abbrev pub scope : (count : ℕ) (starts lens : List ℕ) → Scope
-scope c s l = record { count = c; starts = s; lens = l }
-
--- the node of each kind whose record starts at byte n of the sheet s
-module _ (s : List ℕ) (n : ℕ) where
-  abbrev pub varAt : Node
-  varAt = Var (getD s (n + 1) 0)
-
-  abbrev pub numberAt : Node
-  numberAt = Number (256 * getD s (n + 1) 0 + getD s (n + 2) 0)
-
-  abbrev pub frontAt : Node
-  frontAt = Front (getD s (n + 1) 0) (getD s (n + 2) 0)
-
-  abbrev pub pairAt : Node
-  pairAt = Pair (getD s (n + 1) 0) (getD s (n + 2) 0)
-
-  abbrev pub listCaseAt : Node
-  listCaseAt = ListCase (getD s (n + 1) 0) (getD s (n + 2) 0) (getD s (n + 3) 0) (getD s (n + 4) 0) (getD s (n + 5) 0) (getD s (n + 6) 0) (getD s (n + 7) 0)
-
-  abbrev pub truthCaseAt : Node
-  truthCaseAt = TruthCase (getD s (n + 1) 0) (getD s (n + 2) 0) (getD s (n + 3) 0) (getD s (n + 4) 0) (getD s (n + 5) 0)
-
-  abbrev pub splitAt : Node
-  splitAt = Split (getD s (n + 1) 0) (getD s (n + 2) 0)
-
-  abbrev pub callAt : Node
-  callAt = Call (getD s (n + 1) 0) (getD s (n + 2) 0) (getD s (n + 3) 0)
-
-  abbrev pub addAt : Node
-  addAt = Add (getD s (n + 1) 0) (256 * getD s (n + 2) 0 + getD s (n + 3) 0)
-
--- the sheet and the table of its nodes' places, as they are lent
-pub record Lent (s starts : List ℕ) : Type 0 where
+-- the sheet that is lent was read, and the table has its nodes' places
+pub record Tabled (s table : List ℕ) : Type 0 where
   pub sh : Sheet
   pub read : readSheet s ≡ ok sh
-  pub table : starts ≡ tableOf (ok sh) .starts
+  pub places : table ≡ tableOf (ok sh) .starts
 
 -- the node numbers of a task are in range
 abbrev pub Known : Sheet → Task → Type 0
 Known sh (enter n) = n < length (sh .nodes)
-Known sh (body nd) = (own : ℕ) × Ranged (length (sh .nodes)) (length (sh .sections)) own nd
+Known sh (own k s n) = (i : ℕ) × Ranged (length (sh .nodes)) (length (sh .sections)) i (recordAt k s n)
 Known sh (branch t n) = n < length (sh .nodes)
 
 -- a level takes at most 257 bytes of the stack, and adds at most two variables
-pub record Ready (s starts a : List ℕ) (sc : Scope) (top levels left : ℕ) (t : Task) : Type 0 where
+pub record Ready (s table a : List ℕ) (sc : Scope) (top levels left : ℕ) (t : Task) : Type 0 where
   pub long : length a ≡ 65536
   pub few : left ≤ 1000000
   pub base : 32256 ≤ top
   pub room : top + 257 * levels ≤ 65536
-  pub slots : sc .count + 2 * levels ≤ 112
-  pub lent : Lent s starts
-  pub known : Known (lent .sh) t
-  pub env : Values
-  pub scoped : Env a sc top env
+  pub variables : sc .count + 2 * levels ≤ 112
+  pub sheet : Tabled s table
+  pub known : Known (sheet .sh) t
+  pub env : Env
+  pub scoped : Scoped a sc top env
 
--- where a function of a kind is: what it is lent, and its `At`
+-- the value v that was got starts no higher than the top
+pub record Stands (a : List ℕ) (top start len : ℕ) (v : Value) : Type 0 where
+  pub low : start ≤ top
+  pub held : Held a (top + len) start len v
+
+-- the bytes below `top` are kept, and the answer is the task's, for whatever values the scope's variables stand for
+pub record Gives (b a s : List ℕ) (sc : Scope) (from top left r l : ℕ) (t : Task) : Type 0 where
+  pub kept : Kept top b a
+  pub told : (sh : Sheet) → readSheet s ≡ ok sh → (μ : Env) → Scoped b sc from μ → Answers (Stands a top) (said r) left (run l sh t μ)
+
+-- WHERE A FUNCTION OF A KIND IS: what it is lent, and its place
+
 pub record Here : Type 0 where
   pub sheet : List ℕ
   pub table : List ℕ
@@ -101,95 +76,52 @@ pub record Here : Type 0 where
   pub levels : ℕ
 
 -- where the function is that was asked so
-abbrev pub here : {s starts a : List ℕ} {sc : Scope} {top l left : ℕ} {nd : Node} → Ready s starts a sc top (suc l) (suc left) (body nd) → Here
-here {s} {starts} {a} {sc} {top} {l} {left} w = record { sheet = s; table = starts; arena = a; scope = sc; top = top; left = left; levels = l }
+abbrev pub here : {s table a : List ℕ} {sc : Scope} {top l left k n : ℕ} → Ready s table a sc top (suc l) (suc left) (own k s n) → Here
+here {s} {table} {a} {sc} {top} {l} {left} w = record { sheet = s; table = table; arena = a; scope = sc; top = top; left = left; levels = l }
 
 -- the same in another scope
-abbrev pub h-in : Here → Scope → Here
-h-in h sc = record { sheet = h .sheet; table = h .table; arena = h .arena; scope = sc; top = h .top; left = h .left; levels = h .levels }
+abbrev pub within-scope : Here → Scope → Here
+within-scope h sc = record { sheet = h .sheet; table = h .table; arena = h .arena; scope = sc; top = h .top; left = h .left; levels = h .levels }
 
 -- and with another arena, top and allowance
-abbrev pub later : Here → (arena : List ℕ) (top left : ℕ) → Here
-later h a top left = record { sheet = h .sheet; table = h .table; arena = a; scope = h .scope; top = top; left = left; levels = h .levels }
+abbrev pub further : Here → (arena : List ℕ) (top left : ℕ) → Here
+further h a top left = record { sheet = h .sheet; table = h .table; arena = a; scope = h .scope; top = top; left = left; levels = h .levels }
 
 -- what such a function is asked, and what a call of a node asks there
-abbrev pub Asked : Here → Node → Type 0
-Asked h nd = Ready (h .sheet) (h .table) (h .arena) (h .scope) (h .top) (suc (h .levels)) (suc (h .left)) (body nd)
+abbrev pub Asked : Here → (kind n : ℕ) → Type 0
+Asked h k n = Ready (h .sheet) (h .table) (h .arena) (h .scope) (h .top) (suc (h .levels)) (suc (h .left)) (own k (h .sheet) n)
 
 abbrev pub Asks : Here → ℕ → Type 0
 Asks h x = Ready (h .sheet) (h .table) (h .arena) (h .scope) (h .top) (h .levels) (h .left) (enter x)
 
--- the value v stands at the top or starts below it, and r says where, how long it is and how many steps were taken
-pub record Served (a : List ℕ) (top : ℕ) (r : Found) (v : Value) (n : ℕ) : Type 0 where
-  pub start : ℕ
-  pub len : ℕ
-  pub is : r ≡ Done start len n
-  pub low : start ≤ top
-  pub held : Held a (top + len) start len v
-
-pub record Denied (r : Found) (c : ℕ) : Type 0 where
-  pub is : r ≡ Refused c
-
--- the bytes below `top` are kept, and the answer is the task's, for whatever values the scope's variables stand for
-pub record Gives (b a s : List ℕ) (sc : Scope) (from top left spent : ℕ) (r : Found) (l : ℕ) (t : Task) : Type 0 where
-  pub kept : Kept top b a
-  pub told : (sh : Sheet) → readSheet s ≡ ok sh → (μ : Values) → Env b sc from μ → Answers (Served a top r) (Denied r) spent left (run l sh t μ)
-
 -- what the function of a kind tells, and what a node told, each with the arena as it leaves it
-abbrev pub Tells : Here → List ℕ → Found → Node → Type 0
-Tells h a r nd = Gives (h .arena) a (h .sheet) (h .scope) (h .top) (h .top) (h .left) 1 r (h .levels) (body nd)
+abbrev pub Tells : Here → List ℕ → (r kind n : ℕ) → Type 0
+Tells h a r k n = Gives (h .arena) a (h .sheet) (h .scope) (h .top) (h .top) (h .left) r (h .levels) (own k (h .sheet) n)
 
-abbrev pub Told′ : Here → List ℕ → Found → ℕ → Type 0
-Told′ h a r x = Gives (h .arena) a (h .sheet) (h .scope) (h .top) (h .top) (h .left) 0 r (h .levels) (enter x)
+abbrev pub ToldOf : Here → List ℕ → (r x : ℕ) → Type 0
+ToldOf h a r x = Gives (h .arena) a (h .sheet) (h .scope) (h .top) (h .top) (h .left) r (h .levels) (enter x)
 
--- A CALL'S RESULT, TAKEN APART
+-- THE SAME at a place, in a scope and for a node by other names
 
-pub record GotDone (a : List ℕ) (top start len n : ℕ) (o : Out Value) : Type 0 where
-  pub value : Value
-  pub is : o ≡ done value n
-  pub low : start ≤ top
-  pub held : Held a (top + len) start len value
+pub levels-as : {at at′ : At} → at ≡ at′ → at .levels ≡ at′ .levels
+levels-as e = ap (λ (x : At). x .levels) e
 
-told-done : {a : List ℕ} {top start len n : ℕ} {r : Found} {o : Out Value} → Told (Served a top r) (Denied r) 0 o → r ≡ Done start len n → GotDone a top start len n o
-told-done {a} {top} {start} {len} {n} (serves {v = v} {s = s} m e p) d =
-    let q : p .len ≡ len = let z = p .is in cc in
-    let j : p .start ≡ start = let z = p .is in cc in
-    let k : m ≡ n = let z = p .is in cc in
-    record { value = v; is = ap (done v) (omega arith); low = rw j at (p .low); held = rw (q, j) at (p .held) }
-told-done (denies p) d = absurd (let q = p .is in let z : _≡_ {A = ℕ} 0 1 = cc in omega arith)
+module _ {at at′ : At} {sc sc′ : Scope} {x x′ : ℕ} (e : at ≡ at′) (f : sc ≡ sc′) (g : x ≡ x′) where
+  pub ready-as : {s table a : List ℕ} → Ready s table a sc′ (at′ .top) (at′ .levels) (at′ .left) (enter x′) → Ready s table a sc (at .top) (at .levels) (at .left) (enter x)
+  ready-as w = rw (e, f, g) w
 
-told-refused : {a : List ℕ} {top spent c : ℕ} {r : Found} {o : Out Value} → Told (Served a top r) (Denied r) spent o → r ≡ Refused c → (s : ℕ) × (o ≡ refused c s)
-told-refused (serves m e p) d = absurd (let q = p .is in let z : _≡_ {A = ℕ} 0 1 = cc in omega arith)
-told-refused {c = c} (denies {c = k} {s = s} p) d = let q = p .is in let z : k ≡ c = cc in (s, ap (λ x. refused x s) z)
+  pub gives-as : {b a s : List ℕ} {r : ℕ} → Gives b a s sc (at .top) (at .top) (at .left) r (at .levels) (enter x) → Gives b a s sc′ (at′ .top) (at′ .top) (at′ .left) r (at′ .levels) (enter x′)
+  gives-as w = rw (e, f, g) at w
 
-module _ {b a s : List ℕ} {sc : Scope} {top left : ℕ} {r : Found} {l : ℕ} {t : Task} (g : Gives b a s sc top top left 0 r l t)
-    (sh : Sheet) (e : readSheet s ≡ ok sh) (μ : Values) (w : Env b sc top μ) where
-  pub got : {start len n : ℕ} → r ≡ Done start len n → GotDone a top start len n (within left (run l sh t μ))
-  got d = told-done (g .told sh e μ w .told) d
-
-  pub not-got : {c : ℕ} → r ≡ Refused c → (n : ℕ) × (within left (run l sh t μ) ≡ refused c n)
-  not-got d = told-refused (g .told sh e μ w .told) d
-
--- the same answer for a node by another name
-pub as-node : {b a s : List ℕ} {sc : Scope} {from top left spent : ℕ} {r : Found} {l x y : ℕ} → x ≡ y → Gives b a s sc from top left spent r l (enter x) → Gives b a s sc from top left spent r l (enter y)
+-- at the same place
+pub as-node : {b a s : List ℕ} {sc : Scope} {from top left r l x y : ℕ} → x ≡ y → Gives b a s sc from top left r l (enter x) → Gives b a s sc from top left r l (enter y)
 as-node e g = rw e at g
 
--- the same answer by another number
-pub as-found : {b a s : List ℕ} {sc : Scope} {from top left spent : ℕ} {r q : Found} {l : ℕ} {t : Task} → q ≡ r → Gives b a s sc from top left spent r l t → Gives b a s sc from top left spent q l t
-as-found e g = rw e g
+pub ready-node : {s table a : List ℕ} {sc : Scope} {top levels left x y : ℕ} → x ≡ y → Ready s table a sc top levels left (enter y) → Ready s table a sc top levels left (enter x)
+ready-node e w = rw e w
 
--- the value stands at the top
-pub record Exact (top : ℕ) (r : Found) : Type 0 where
-  pub at : {start len n : ℕ} → r ≡ Done start len n → start ≡ top
+pub as-scope : {b a s : List ℕ} {sc sc′ : Scope} {from top left r l : ℕ} {t : Task} → sc ≡ sc′ → Gives b a s sc from top left r l t → Gives b a s sc′ from top left r l t
+as-scope e g = rw e at g
 
-pub as-branch : {b a s : List ℕ} {sc : Scope} {from top left spent : ℕ} {r : Found} {l t u x y : ℕ} → t ≡ u → x ≡ y → Gives b a s sc from top left spent r l (branch t x)
-    → Gives b a s sc from top left spent r l (branch u y)
-as-branch e f g = rw (e, f) at g
-
--- A SCOPE whose arrays were copied and changed
-
-pub two-pushed : (c a b f g : ℕ) (ss ls : List ℕ) {ss′ ls′ : List ℕ} → ss′ ≡ addedTwo ss c a b → ls′ ≡ addedTwo ls c f g → scope (c + 2) ss′ ls′ ≡ pushed (pushed (scope c ss ls) a f) b g
-two-pushed c a b f g ss ls e h = let z : c + 2 ≡ c + 1 + 1 = omega arith in rw (e, h, z)
-
-pub two-picked : (c : ℕ) {x y x′ y′ : ℕ} (ss ls : List ℕ) {ss′ ls′ : List ℕ} → x ≡ x′ → y ≡ y′ → ss′ ≡ pickedTwo ss x y → ls′ ≡ pickedTwo ls x y → scope 2 ss′ ls′ ≡ picked (scope c ss ls) x′ y′
-two-picked c ss ls d h e f = rw (← d, ← h, e, f)
+pub ready-scope : {s table a : List ℕ} {sc sc′ : Scope} {top levels left : ℕ} {t : Task} → sc ≡ sc′ → Ready s table a sc′ top levels left t → Ready s table a sc top levels left t
+ready-scope e w = rw e w

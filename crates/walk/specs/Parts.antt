@@ -201,3 +201,6 @@ module _ {i : ℕ} {s b a : List ℕ} (m : CopyingIn i s b a) where
         bytes = ext-getD 0 (part a 0 (length s)) s l (λ j lt. getD-take (length s) a j 0 (omega arith) ∙ m .same j (omega arith));
         long = m .long;
       }
+
+pub marked-by : {k k′ top : ℕ} {b : List ℕ} → k ≡ k′ → top < length b → Marked k′ top b (set b top k)
+marked-by {k} {k′} {top} {b} e h = record { is = ap (λ (x : ℕ). set b top x) e; inside = h }

@@ -1,196 +1,352 @@
--- Cases and splits: the subject is got, and then the view is put into a branch. What each return shows, and what the calls ask.
-use mathlib.Core.Path.{_≡_, refl, sym, ap, subst, _∙_}
-use mathlib.Core.Bool.{Bool, true, false}
-use mathlib.Core.Option.{some}
+-- Cases and splits: the old subject is got, and then the view is put into the branch that it takes. What each return shows, and what the calls ask.
+use mathlib.Core.Path.{_≡_, refl, sym, ap, ap₂, _∙_}
+use mathlib.Core.Bool.{Bool, true, false, not}
 use mathlib.Core.List.{List, [], _∷_}
 use Prim.Native.Nat.{ℕ, zero, suc, _+_, _-_, _*_, _≤_, _<_}
+use native.Mathlib.Nat.{le-refl}
 use native.Mathlib.Omega.{arith}
-use lib.ListN.{length}
-use Rattle.value.specs.Value.{Value, Values as Rest, vfalse, vtrue, list, nil, encode, encodes, size, sizes, truth, eFalse, eTrue, eList, eNil}
-use Rattle.value.specs.Views.{asList, asTruth}
-use Rattle.value.specs.Tests.{holds}
+use lib.ListN.{length, getD}
+use Rattle.answer.specs.Answer.{Said, Refused as Denied, said, after, isRefusal, laterAs, lenOf, startOf, stepsOf, said-refused, said-done, later-said, refused-said}
+use Rattle.value.specs.Value.{Value, vfalse, vtrue, list, number, pair as aPairOf, nil, cons, encode, encodes, size, sizes, truth, eFalse, eTrue, eList, eNil}
+use Rattle.value.specs.Views.{asList, asPair, asTruth}
+use Rattle.value.specs.Tests.{passes, holds}
 use Rattle.value.specs.Parts.{shapeOf, passesBytes}
 use Rattle.value.specs.PartsLaws.{shape, passes-whole}
 use Rattle.value.specs.declared.Shape.{Shape}
-use Rattle.value.specs.declared.Shape.the-variants as is
-use Rattle.sheet.specs.declared.Node.{Node}
-use Rattle.sheet.specs.declared.Node.the-variants.{ListCase, TruthCase, Split}
+use Rattle.value.specs.declared.Shape.the-variants as shapes
 use Rattle.sheet.specs.Sheet.{Sheet}
-use Rattle.rules.specs.Outcome.{done}
+use Rattle.rules.specs.Outcome.{Out, done, refused, given, choose}
 use Rattle.rules.specs.Allowance.{within}
 use Rattle.rules.specs.Text
-use Rattle.rules.specs.Rules.{Env as Values, Cells, get, putNode}
-use Rattle.step.specs.declared.Scope.{Scope}
-use Rattle.walk.specs.Found.{Found}
-use Rattle.walk.specs.Found as walked
-use Rattle.walk.specs.Taken.{Done, Refused}
-use Rattle.step.specs.declared.Cells.{Cells as Owners}
+use Rattle.rules.specs.Rules.{Env, Cells, two, get, put, putNode, both, under, onList, mkList, mkPair}
+use Rattle.step.specs.declared.Branch.{Branch}
+use Rattle.step.specs.declared.Branch.the-variants.{Plain, Parts, Switch, Refused}
+use Rattle.step.specs.Step.{where-so, fitsKind, fitOf, otherOf, choice, takenFrom, takeOf, madeOf}
+use Rattle.step.specs.StepLaws.{Fits, front, pair as aPair, Took, emptied, denied, affirmed, parted, switched, unfitted, unsaid, made-list, made-pair}
 use Rattle.walk.specs.Parts.{part}
+use Rattle.walk.specs.Places.{Above, topAfter, above}
 use Rattle.walk.specs.Arena.{Held}
-use Rattle.walk.specs.Seen.{held-shape, held-short, held-some, TwoHeld, held-front, held-pair}
-use Rattle.walk.specs.Answers.{then-refused}
-use Rattle.walk.specs.Cells.{Shown, Frame}
-use Rattle.walk.specs.Frames.{kept-frame}
-use Rattle.walk.specs.Shapes.{FrontOf, PairOf, front-of, pair-of, empty-of, shape-is}
+use Rattle.walk.specs.Seen.{held-shape, held-some, held-short}
+use Rattle.walk.specs.Shapes.{empty-of}
+use Rattle.walk.specs.Answers.{Answers, answer-by, refuse, then-done, then-refused, Had, had, not-had}
+use Rattle.walk.specs.Cells.{Shown}
+use Rattle.walk.specs.Frames.{frame-then, kept-frame}
+use Rattle.walk.specs.Wholes.{maker, Made, aList, aPair as aPairMade}
 use Rattle.walk.specs.Gets as gets
-use Rattle.walk.specs.GetCase.{Above, held-above}
-use Rattle.walk.specs.PutRules.{got-few, got-levels, given-later}
-use Rattle.walk.specs.PutTwo.{ready-for}
-use Rattle.walk.specs.Puts.{Task, enter, body, switch, run, Known, Spans, SomeSpans, SomeView, Given, Ready, Gives, Inner}
+use Rattle.walk.specs.Gets.{Here, Stands, Asks, ToldOf}
+use Rattle.walk.specs.GetReady.{Sized}
+use Rattle.walk.specs.GetCase.{Case, lists, truths, splits, partsOf, PartsHeld, parts-held, held-above, parts-known}
+use Rattle.walk.specs.Puts.{Task, enter, own, pair, inside, switch, switchAt, withDefaults, run, Known, Wrote, PartsAt, SomeView, Given, Inner, PutHere, put-further, PutAsked, PutAsks, PutTold, PutTells}
+use Rattle.walk.specs.PutReady.{ready-for, get-ready, given-later, few}
+use Rattle.walk.specs.PutUnder.{Under}
+use Rattle.walk.specs.PutSwitch.{Switching}
 
--- THE VIEW AND THE TESTS
+-- THE RULE, by the branch that the view takes
 
-pub shown-yes : (t : ℕ) {view : List ℕ} {v : Value} {p : Bool} → Shown view v → p ≡ passesBytes t view → p ≡ true → holds t v ≡ true
-shown-yes t h e y = sym (e ∙ ap (passesBytes t) (h .bytes) ∙ passes-whole t (h .readable)) ∙ y
+-- the value of one byte that a branch without variables stands for
+unfoldable pub byteValue : ℕ → Value
+byteValue zero = vfalse
+byteValue (suc zero) = vtrue
+byteValue (suc (suc i)) = list nil
 
-pub shown-no : (t : ℕ) {view : List ℕ} {v : Value} {p : Bool} → Shown view v → p ≡ passesBytes t view → p ≡ false → holds t v ≡ true → ⊥
-shown-no t {p = p} h e n y =
-    let q : p ≡ true = e ∙ ap (passesBytes t) (h .bytes) ∙ passes-whole t (h .readable) ∙ y in
-    let z : _≡_ {A = ℕ} 0 1 = cc in
-    omega arith
+unfoldable pub onTwo : Env → (Value → Value → Out Cells) → Out Cells
+onTwo [] k = refused 43 0
+onTwo (f ∷ []) k = refused 43 0
+onTwo (f ∷ r ∷ μ) k = k f r
 
-pub shown-nil : Shown (2 ∷ []) (list nil)
-unfolding encode encodes size sizes
-shown-nil = record { bytes = refl; readable = record { fits = omega arith; encodable = eList eNil } }
+unfoldable pub putBranch : ℕ → Sheet → List ℕ → (n kind : ℕ) → Env → List ℕ → Value → Cells → Value → Branch → Out Cells
+putBranch l sh s n k μ σ v W o (Plain i byte) = both (put l sh) μ σ W (getD s (n + i) 0) v (getD s (n + 1) 0) (byteValue byte)
+putBranch l sh s n k μ σ v W o (Parts i mid) = onTwo (partsOf o) λ f r. under (put l sh) μ σ W (getD s (n + i) 0) v (getD s (n + 1) 0) (maker (madeOf k)) f r
+putBranch l sh s n k μ σ v W o Switch =
+    withDefaults l sh (getD s (n + 6) 0) (getD s (n + 7) 0) λ f r. under (put l sh) μ σ W (getD s (n + 4) 0) v (getD s (n + 1) 0) mkList f r
+putBranch l sh s n k μ σ v W o (Refused c) = refused c 0
 
-pub shown-false : Shown (0 ∷ []) vfalse
-unfolding encode size
-shown-false = record { bytes = refl; readable = record { fits = omega arith; encodable = eFalse } }
+-- a choice by what the two tests say
+unfoldable either : {A : Type 0} → Bool → Bool → Out A → Out A → Out A
+either true q x y = x
+either false true x y = y
+either false false x y = refused 53 0
 
-pub shown-true : Shown (1 ∷ []) vtrue
-unfolding encode size
-shown-true = record { bytes = refl; readable = record { fits = omega arith; encodable = eTrue } }
+choose-by : {A : Type 0} {p q : Bool} (d : Dec (p ≡ true)) (e : Dec (q ≡ true)) (x y : Out A) → choose d e x y ≡ either p q x y
+unfolding choose either
+choose-by {p = true} (yes d) e x y = refl
+choose-by {p = true} (no d) e x y = absurd (d refl)
+choose-by {p = false} (yes d) e x y = absurd (let z : _≡_ {A = ℕ} 0 1 = cc in omega arith)
+choose-by {p = false} {q = true} (no d) (yes e) x y = refl
+choose-by {p = false} {q = true} (no d) (no e) x y = absurd (e refl)
+choose-by {p = false} {q = false} (no d) (yes e) x y = absurd (let z : _≡_ {A = ℕ} 0 1 = cc in omega arith)
+choose-by {p = false} {q = false} (no d) (no e) x y = refl
 
-pub view-nil : SomeView (2 ∷ [])
-view-nil = record { value = list nil; shown = shown-nil }
+by-choice : (f : Branch → Out Cells) → ((c : ℕ) → f (Refused c) ≡ refused c 0) → (p q : Bool) (b c : Branch) → either p q (f b) (f c) ≡ f (choice p q b c)
+unfolding either choice
+by-choice f h true q b c = refl
+by-choice f h false true b c = refl
+by-choice f h false false b c = sym (h 53)
 
--- False or True
-pub view-truth : {c : ℕ} → c ≤ 1 → SomeView (c ∷ [])
-view-truth {c = zero} h = record { value = vfalse; shown = shown-false }
-view-truth {c = suc zero} h = record { value = vtrue; shown = shown-true }
-view-truth {c = suc (suc c)} h = absurd (omega arith)
+module _ (l : ℕ) (sh : Sheet) (s : List ℕ) (n : ℕ) (μ : Env) (σ : List ℕ) (v : Value) (W : Cells) where
+  chosen : (k : ℕ) (o : Value) (t u : ℕ) (b c : Branch) → choose (passes t v) (passes u v) (putBranch l sh s n k μ σ v W o b) (putBranch l sh s n k μ σ v W o c)
+      ≡ putBranch l sh s n k μ σ v W o (choice (holds t v) (holds u v) b c)
+  unfolding passes putBranch
+  chosen k o t u b c = choose-by (passes t v) (passes u v) _ _ ∙ by-choice (putBranch l sh s n k μ σ v W o) (λ c. refl) (holds t v) (holds u v) b c
 
-pub list-seen : {o : Value} (l : Rest) → o ≡ list l → (e : o ≡ list l) × (asList o ≡ some (l, e))
-unfolding asList
-list-seen l z = subst (λ (v : Value). (e : v ≡ list l) × (asList v ≡ some (l, e))) (sym z) (refl, refl)
+  list-rule : (o : Value)
+      → (given 43 (asList o) λ m.
+      onList (m .0)
+      (choose (passes (getD s (n + 3) 0) v) (passes (getD s (n + 5) 0) v) (both (put l sh) μ σ W (getD s (n + 2) 0) v (getD s (n + 1) 0) (list nil))
+      (withDefaults l sh (getD s (n + 6) 0) (getD s (n + 7) 0) λ f r. under (put l sh) μ σ W (getD s (n + 4) 0) v (getD s (n + 1) 0) mkList f r))
+      (λ f r. choose (passes (getD s (n + 5) 0) v) (passes (getD s (n + 3) 0) v) (under (put l sh) μ σ W (getD s (n + 4) 0) v (getD s (n + 1) 0) mkList f (list r))
+      (both (put l sh) μ σ W (getD s (n + 2) 0) v (getD s (n + 1) 0) (list nil))))
+      ≡ putBranch l sh s n 0x17 μ σ v W o (takeOf 0x17 (shape o) (holds (getD s (n + 3) 0) v) (holds (getD s (n + 5) 0) v))
+  unfolding putBranch byteValue onTwo partsOf maker madeOf takeOf takenFrom otherOf fitOf fitsKind where-so shape given asList onList
+  list-rule vfalse = refl
+  list-rule vtrue = refl
+  list-rule (list nil) = chosen 0x17 (list nil) (getD s (n + 3) 0) (getD s (n + 5) 0) (Plain 2 2) Switch
+  list-rule (list (cons f r)) = chosen 0x17 (list (cons f r)) (getD s (n + 5) 0) (getD s (n + 3) 0) (Parts 4 (1 + size f)) (Plain 2 2)
+  list-rule (number i) = refl
+  list-rule (aPairOf a b) = refl
 
-pub false-seen : {o : Value} → o ≡ vfalse → (e : o ≡ truth false) × (asTruth o ≡ some (false, e))
-unfolding asTruth
-false-seen z = subst (λ (v : Value). (e : v ≡ truth false) × (asTruth v ≡ some (false, e))) (sym z) (refl, refl)
+  truth-rule : (o : Value)
+      → (given 43 (asTruth o) λ b.
+      choose (passes (Text.pick (b .0) (getD s (n + 3) 0) (getD s (n + 5) 0)) v) (passes (Text.pick (not (b .0)) (getD s (n + 3) 0) (getD s (n + 5) 0)) v)
+      (both (put l sh) μ σ W (Text.pick (b .0) (getD s (n + 2) 0) (getD s (n + 4) 0)) v (getD s (n + 1) 0) (truth (b .0)))
+      (both (put l sh) μ σ W (Text.pick (not (b .0)) (getD s (n + 2) 0) (getD s (n + 4) 0)) v (getD s (n + 1) 0) (truth (not (b .0)))))
+      ≡ putBranch l sh s n 0x18 μ σ v W o (takeOf 0x18 (shape o) (holds (getD s (n + 3) 0) v) (holds (getD s (n + 5) 0) v))
+  unfolding putBranch byteValue takeOf takenFrom otherOf fitOf fitsKind where-so shape given asTruth
+  truth-rule vfalse = chosen 0x18 vfalse (getD s (n + 3) 0) (getD s (n + 5) 0) (Plain 2 0) (Plain 4 1)
+  truth-rule vtrue = chosen 0x18 vtrue (getD s (n + 5) 0) (getD s (n + 3) 0) (Plain 4 1) (Plain 2 0)
+  truth-rule (list nil) = refl
+  truth-rule (list (cons f r)) = refl
+  truth-rule (number i) = refl
+  truth-rule (aPairOf a b) = refl
 
-pub true-seen : {o : Value} → o ≡ vtrue → (e : o ≡ truth true) × (asTruth o ≡ some (true, e))
-unfolding asTruth
-true-seen z = subst (λ (v : Value). (e : v ≡ truth true) × (asTruth v ≡ some (true, e))) (sym z) (refl, refl)
+  split-rule : (o : Value) (p q : Bool) → (given 43 (asPair o) λ c. under (put l sh) μ σ W (getD s (n + 2) 0) v (getD s (n + 1) 0) mkPair (c .0) (c .1))
+      ≡ putBranch l sh s n 0x19 μ σ v W o (takeOf 0x19 (shape o) p q)
+  unfolding putBranch onTwo partsOf maker madeOf takeOf takenFrom fitOf fitsKind where-so shape given asPair
+  split-rule vfalse p q = refl
+  split-rule vtrue p q = refl
+  split-rule (list nil) p q = refl
+  split-rule (list (cons f r)) p q = refl
+  split-rule (number i) p q = refl
+  split-rule (aPairOf a b) p q = refl
+
+  -- once the subject is got
+  module _ {P : (start len : ℕ) → Cells → Type 0} {r : Said} {left k : ℕ} (case : Case k) (c : ℕ) where
+    case-done : {o : Value} {i : ℕ} {q : Said} → within left (get l sh (getD s (n + 1) 0) μ) ≡ done o i
+        → Answers P q (left - i) (putBranch l sh s n k μ σ v W o (takeOf k (shape o) (holds (getD s (n + 3) 0) v) (holds (getD s (n + 5) 0) v)))
+        → r ≡ after i q → Answers P r left (run l sh c (own k s n) μ σ v W)
+    unfolding run Text.putNode withDefaults
+    case-done {o} e t d = go case
+      where
+        go : Case k → Answers P r left (run l sh c (own k s n) μ σ v W)
+        go (lists x) = rw x (then-done _ _ e (answer-by (rw x at t) (list-rule o)) d)
+        go (truths x) = rw x (then-done _ _ e (answer-by (rw x at t) (truth-rule o)) d)
+        go (splits x) = rw x (then-done _ _ e (answer-by (rw x at t) (split-rule o _ _)) d)
+
+    case-none : {e i : ℕ} → within left (get l sh (getD s (n + 1) 0) μ) ≡ refused e i → r ≡ Denied e → Answers P r left (run l sh c (own k s n) μ σ v W)
+    unfolding run Text.putNode
+    case-none e d = go case
+      where
+        go : Case k → Answers P r left (run l sh c (own k s n) μ σ v W)
+        go (lists x) = rw x (then-refused _ _ e d)
+        go (truths x) = rw x (then-refused _ _ e d)
+        go (splits x) = rw x (then-refused _ _ e d)
 
 -- THE SUBJECT
 
--- what the subject's get asks
-pub subject-ready : {s starts b lens : List ℕ} {P : Value → Type 0} {sc : Scope} {cells : Owners} {m top l left x : ℕ} {N : Node} → (w : Ready s starts b lens P sc cells m top (suc l) (suc left) (body N))
-    → x < length (w .lent .sh .nodes) → gets.Ready s starts b sc top l left (gets.enter x)
-subject-ready {sc = sc} {top = top} {l = l} w k =
-    let z : top + 513 * suc l ≤ 65536 = w .room in
-    let y : sc .count + 2 * suc l ≤ 112 = w .slots in
-    record { long = w .long; few = omega (arith, w .few); base = w .base; room = omega arith; slots = omega arith; lent = w .lent; known = k; env = w .env; scoped = w .given .scoped }
+-- what the view and the tests say
+pub shown-says : {view : List ℕ} {v : Value} (t : ℕ) → Shown view v → passesBytes t view ≡ holds t v
+shown-says t h = ap (passesBytes t) (h .bytes) ∙ passes-whole t (h .readable)
 
-module _ {b a₁ s : List ℕ} {sc : Scope} {top left : ℕ} {r₀ : Found} {l x : ℕ} (base : 32256 ≤ top) (g₀ : gets.Gives b a₁ s sc top top left 0 r₀ l (gets.enter x)) where
-  pub frame₀ : Frame top b a₁
-  frame₀ = kept-frame (g₀ .kept) base
+-- the view of one byte
+byte-shown : {k i byte : ℕ} {q : Shape} → Took k q (Plain i byte) → Shown (byte ∷ []) (byteValue byte)
+unfolding byteValue encode encodes size sizes
+byte-shown (emptied e) = record { bytes = refl; readable = record { fits = omega arith; encodable = eList eNil } }
+byte-shown (denied e) = record { bytes = refl; readable = record { fits = omega arith; encodable = eFalse } }
+byte-shown (affirmed e) = record { bytes = refl; readable = record { fits = omega arith; encodable = eTrue } }
 
-  module _ {lens : List ℕ} {P : Value → Type 0} {cells : Owners} {m c : ℕ} (e : r₀ ≡ walked.Refused c) where
-    pub list-refused : {te tn n₁ n₂ df dr : ℕ} → Gives b a₁ lens lens s P sc cells m top left 1 (Refused c) l (body (ListCase x n₁ te n₂ tn df dr))
-    unfolding run gets.run Text.putNode
-    list-refused = record { frame = frame₀; long = refl; told = λ w. then-refused _ _ (gets.not-got g₀ _ (w .read) _ (w .scoped) e .1) (record { is = refl }) }
+made-of : {k i mid : ℕ} {q : Shape} → Fits k q (Parts i mid) → Made (madeOf k)
+made-of (front e) = aList (sym (made-list (λ y. omega (arith, e, y)) e))
+made-of (aPair e) = aPairMade (sym (made-pair (λ y. omega (arith, e, y)) (λ y. omega (arith, e, y))))
 
-    pub truth-refused : {te tn n₁ n₂ : ℕ} → Gives b a₁ lens lens s P sc cells m top left 1 (Refused c) l (body (TruthCase x n₁ te n₂ tn))
-    unfolding run gets.run Text.putNode
-    truth-refused = record { frame = frame₀; long = refl; told = λ w. then-refused _ _ (gets.not-got g₀ _ (w .read) _ (w .scoped) e .1) (record { is = refl }) }
+was-empty : {k : ℕ} {q : Shape} → Took k q Switch → q ≡ shapes.Empty
+was-empty (switched e f) = f
 
-    pub split-refused : {n : ℕ} → Gives b a₁ lens lens s P sc cells m top left 1 (Refused c) l (body (Split x n))
-    unfolding run gets.run Text.putNode
-    split-refused = record { frame = frame₀; long = refl; told = λ w. then-refused _ _ (gets.not-got g₀ _ (w .read) _ (w .scoped) e .1) (record { is = refl }) }
+code-said : {k c : ℕ} {q : Shape} → Took k q (Refused c) → said c ≡ Denied c
+code-said unfitted = refused-said (omega arith) (omega arith)
+code-said unsaid = refused-said (omega arith) (omega arith)
 
--- the subject is got
-pub record Had (a : List ℕ) (top start len k left l x : ℕ) (q : Shape) (sh : Sheet) (μ : Values) : Type 0 where
-  pub value : Value
-  pub is : within left (get l sh x μ) ≡ done value k
-  pub held : Held a top start len value
-  pub shaped : q ≡ shape value
+took-fits : {k i mid : ℕ} {q : Shape} → Took k q (Parts i mid) → Fits k q (Parts i mid)
+took-fits (parted f) = f
 
--- two values that stand in the subject
-spans-two : {a : List ℕ} {top start len mid : ℕ} {u v : Value} → TwoHeld a top start len mid u v → Spans a top (start + 1) (mid - 1) (len - mid) u v
-spans-two {start = start} {mid = mid} t = let z : start + 1 + (mid - 1) ≡ start + mid = omega (arith, t .some) in record { one = t .first; two = rw z (t .second) }
+-- a put's place, as a get has it
+abbrev pub get-here : PutHere → Here
+get-here h = record { sheet = h .sheet; table = h .table; arena = h .arena; scope = h .scope; top = h .top; left = h .left; levels = h .levels }
 
-pub spans-front : {a : List ℕ} {top start len mid : ℕ} {o : Value} → Held a top start len o → (f : FrontOf o mid) → Spans a top (start + 1) (mid - 1) (len - mid) (f .first) (list (f .rest))
-spans-front h f = spans-two (held-front (f .at) (rw (f .whole) at h))
+-- and behind the subject
+abbrev pub put-behind : PutHere → List ℕ → ℕ → PutHere
+put-behind h a g = put-further h a (h .slots) (topAfter (h .top) (startOf g) (lenOf g)) (h .left - stepsOf g)
 
-pub spans-pair : {a : List ℕ} {top start len mid : ℕ} {o : Value} → Held a top start len o → (f : PairOf o mid) → Spans a top (start + 1) (mid - 1) (len - mid) (f .first) (f .second)
-spans-pair h f = spans-two (held-pair (f .at) (rw (f .whole) at h))
+-- the nodes of a case
+module _ (s : List ℕ) (sh : Sheet) (n : ℕ) where
+  subject-known : {k : ℕ} → Case k → Known sh (own k s n) → getD s (n + 1) 0 < length (sh .nodes)
+  subject-known (lists e) r = rw e at (r .1) .0 .inside
+  subject-known (truths e) r = rw e at (r .1) .0 .inside
+  subject-known (splits e) r = rw e at (r .1) .0 .inside
 
-module _ {b a₁ s : List ℕ} {sc : Scope} {top left : ℕ} {r₀ : Found} {l x : ℕ} (base : 32256 ≤ top) (g₀ : gets.Gives b a₁ s sc top top left 0 r₀ l (gets.enter x))
-    {start len k : ℕ} (e₀ : r₀ ≡ walked.Done start len k) {top′ : ℕ} (up : Above top start len top′) where
-  -- the subject's length and steps, for the code's sums
-  pub subject-few : {starts lens : List ℕ} {P : Value → Type 0} {cells : Owners} {m levels total : ℕ} {T : Task} → Ready s starts b lens P sc cells m top levels total T
-      → (len ≤ 256) × (1 ≤ len) × (k ≤ left) × (length a₁ ≡ 65536)
-  subject-few w =
-      let d = gets.got g₀ _ (w .given .read) _ (w .given .scoped) e₀ in
-      (held-short (d .held), held-some (d .held), got-few g₀ (w .given .read) (w .given .scoped) e₀, g₀ .kept .long ∙ w .long)
+  plain-known : {k i byte : ℕ} {q : Shape} → Took k q (Plain i byte) → Known sh (own k s n) → getD s (n + i) 0 < length (sh .nodes)
+  plain-known (emptied e) r = rw e at (r .1) .1 .0 .inside
+  plain-known (denied e) r = rw e at (r .1) .1 .0 .inside
+  plain-known (affirmed e) r = rw e at (r .1) .1 .1 .1 .0 .inside
 
-  -- what is given after it
-  pub later : {lens : List ℕ} {P : Value → Type 0} {cells : Owners} {m : ℕ} {sh : Sheet} {μ : Values} {σ : List ℕ} {v : Value} {W : Cells} → Given b lens s P sc cells m top sh μ σ v W
-      → Given a₁ lens s P sc cells m top′ sh μ σ v W
-  later w = given-later w (g₀ .kept) base top′ (up .over)
+  switch-known : {k : ℕ} {q : Shape} → Took k q Switch → Known sh (own k s n) → Known sh (switchAt s n)
+  switch-known (switched e f) r = let z = rw e at (r .1) in ((z .1 .1 .1 .0 .inside, z .0 .inside), (z .1 .1 .1 .1 .1 .0 .inside, z .1 .1 .1 .1 .1 .1 .0 .inside))
 
-  -- what a call after it asks
-  pub after-subject : {starts lens : List ℕ} {P : Value → Type 0} {cells : Owners} {m rest : ℕ} {N : Node} {t : Task} (w : Ready s starts b lens P sc cells m top (suc l) (suc left) (body N))
-      → Known (w .lent .sh) t → rest ≤ suc left → Ready s starts a₁ lens P sc cells m top′ l rest t
-  after-subject w k h =
-      let z : top + 513 * suc l ≤ 65536 = w .room in
-      ready-for w k (later (w .given)) (g₀ .kept .long) h (omega arith) (up .over) (omega (arith, subject-few w .0, up .near))
+module _ {h : PutHere} {view : List ℕ} {k n : ℕ} (w : PutAsked h (Shown view) k n) (case : Case k) where
+  pub subject-asks : Asks (get-here h) (getD (h .sheet) (n + 1) 0)
+  subject-asks = get-ready w (subject-known (h .sheet) (w .sheet .sh) n case (w .known)) (omega arith) (omega arith)
 
-  pub inner : {starts lens : List ℕ} {P : Value → Type 0} {cells : Owners} {m : ℕ} {N : Node} (w : Ready s starts b lens P sc cells m top (suc l) (suc left) (body N)) → Inner sc cells l
-  inner {cells = cells} w =
-      let y : sc .count + 2 * suc l ≤ 112 = w .slots in
-      let z : cells .count + 2 * suc l ≤ 112 = w .more-cells in
-      record { some = got-levels g₀ (w .given .read) (w .given .scoped) e₀; slots = omega arith; more-cells = omega arith }
+  pub subject-refused : {a : List ℕ} {g : ℕ} → ToldOf (get-here h) a g (getD (h .sheet) (n + 1) 0) → isRefusal g ≡ true → PutTells h (Shown view) a (h .slots) g k n
+  unfolding gets.run
+  subject-refused {g = g} t e = let x = said-refused g e in record {
+    frame = kept-frame (t .kept) (w .base);
+    long = refl;
+    told = λ {sh} {μ} {σ} {v} {W} m. case-none (h .levels) sh (h .sheet) n μ σ v W case (h .count) (not-had (t .told sh (m .read) μ (m .scoped)) x .1) x;
+  }
 
-  module _ {q : Shape} (eq : q ≡ shapeOf (part a₁ start (start + len - start))) where
-    pub had : {sh : Sheet} {μ : Values} {lens : List ℕ} {P : Value → Type 0} {cells : Owners} {m : ℕ} {σ : List ℕ} {v : Value} {W : Cells} → Given b lens s P sc cells m top sh μ σ v W
-        → Had a₁ top′ start len k left l x q sh μ
-    unfolding gets.run
-    had w = let d = gets.got g₀ _ (w .read) _ (w .scoped) e₀ in record { value = d .value; is = d .is; held = held-above up (d .held); shaped = shape-is (held-shape (d .held) eq) }
+-- AT A STAGE: the subject was got, as the answer g, is a value of the shape q, and the view takes the branch d
+pub record PutSubject (h : PutHere) (view : List ℕ) (k n g : ℕ) (a : List ℕ) (q : Shape) (d : Branch) : Type 0 where
+  pub asked : PutAsked h (Shown view) k n
+  pub case : Case k
+  pub gives : ToldOf (get-here h) a g (getD (h .sheet) (n + 1) 0)
+  pub sized : Sized (h .top) (h .left) (h .levels) g
+  pub done : isRefusal g ≡ false
+  pub shape : q ≡ shapeOf (part a (startOf g) (lenOf g))
+  pub takes : d ≡ takeOf k q (passesBytes (getD (h .sheet) (n + 3) 0) view) (passesBytes (getD (h .sheet) (n + 5) 0) view)
+  pub took : Took k q d
 
-    -- the spans for the branch, and the room for a switch
-    pub front-spans : {starts lens : List ℕ} {P : Value → Type 0} {cells : Owners} {m levels total mid : ℕ} {T : Task} → Ready s starts b lens P sc cells m top levels total T → q ≡ is.Front mid
-        → SomeSpans a₁ top′ (start + 1) (mid - 1) (len - mid)
-    front-spans w j = let d = had (w .given) in record { f = _; r = _; spans = spans-front (d .held) (front-of (d .value) (sym j ∙ d .shaped)) }
+module _ {h : PutHere} {view : List ℕ} {k n g : ℕ} {a : List ℕ} {q : Shape} {d : Branch} (w : PutSubject h view k n g a q d) where
+  abbrev top′ : ℕ
+  top′ = topAfter (h .top) (startOf g) (lenOf g)
 
-    pub pair-spans : {starts lens : List ℕ} {P : Value → Type 0} {cells : Owners} {m levels total mid : ℕ} {T : Task} → Ready s starts b lens P sc cells m top levels total T → q ≡ is.Pair mid
-        → SomeSpans a₁ top′ (start + 1) (mid - 1) (len - mid)
-    pair-spans w j = let d = had (w .given) in record { f = _; r = _; spans = spans-pair (d .held) (pair-of (d .value) (sym j ∙ d .shaped)) }
+  up : Above (h .top) (startOf g) (lenOf g) top′
+  up = above _ _ _ (w .sized .at (w .done) .low)
 
-    pub front-inside : {starts lens : List ℕ} {P : Value → Type 0} {cells : Owners} {m levels total mid : ℕ} {T : Task} → Ready s starts b lens P sc cells m top levels total T → q ≡ is.Front mid
-        → (1 ≤ mid) × (mid ≤ len)
-    unfolding size sizes
-    front-inside w j =
-        let d = had (w .given) in
-        let o = front-of (d .value) (sym j ∙ d .shaped) in
-        let n = rw (o .whole) at (d .held .long) in
-        (omega (arith, o .at), omega (arith, o .at))
+  -- a task behind the subject
+  behind-asks : {t : Task} → Known (w .asked .sheet .sh) t → PutAsks (put-behind h a g) (Shown view) t
+  behind-asks known =
+      let z : h .top + 513 * suc (h .levels) ≤ 65536 = w .asked .room in
+      let s = w .sized .at (w .done) in
+      let u = up in
+      ready-for (w .asked) known (given-later (w .asked .given) (w .gives .kept) (w .asked .base) top′ (up .over)) (w .gives .kept .long) (omega arith) (omega arith) (up .over) (omega arith)
 
-    pub pair-inside : {starts lens : List ℕ} {P : Value → Type 0} {cells : Owners} {m levels total mid : ℕ} {T : Task} → Ready s starts b lens P sc cells m top levels total T → q ≡ is.Pair mid
-        → (1 ≤ mid) × (mid ≤ len)
-    unfolding size
-    pair-inside w j =
-        let d = had (w .given) in
-        let o = pair-of (d .value) (sym j ∙ d .shaped) in
-        let n = rw (o .whole) at (d .held .long) in
-        (omega (arith, o .at), omega (arith, o .at))
+  pub inner : Inner (h .scope) (h .count) (h .levels)
+  inner =
+      let y : h .scope .count + 2 * suc (h .levels) ≤ 112 = w .asked .variables in
+      let z : h .count + 2 * suc (h .levels) ≤ 112 = w .asked .more-cells in
+      record { some = w .sized .at (w .done) .deep; variables = omega arith; more-cells = omega arith }
 
-    pub switch-room : {starts lens : List ℕ} {P : Value → Type 0} {cells : Owners} {m total : ℕ} {T : Task} → Ready s starts b lens P sc cells m top (suc l) total T → q ≡ is.Empty
-        → top′ + 512 + 513 * l ≤ 65536
-    unfolding size sizes
-    switch-room w j =
-        let d = had (w .given) in
-        let z : top + 513 * suc l ≤ 65536 = w .room in
-        let n = rw (empty-of (d .value) (sym j ∙ d .shaped)) at (d .held .long) in
-        omega (arith, up .near)
+  takes-of : {o v : Value} {top : ℕ} → Held a top (startOf g) (lenOf g) o → Shown view v
+      → d ≡ takeOf k (shape o) (holds (getD (h .sheet) (n + 3) 0) v) (holds (getD (h .sheet) (n + 5) 0) v)
+  takes-of e m = w .takes ∙ ap (λ (y : Shape). takeOf k y (passesBytes (getD (h .sheet) (n + 3) 0) view) (passesBytes (getD (h .sheet) (n + 5) 0) view)) (held-shape e (w .shape))
+      ∙ ap₂ (takeOf k _) (shown-says _ m) (shown-says _ m)
+
+  -- what is told of the branch, with the task's answer p: the rule for the subject o
+  told-by : {a₂ slots : List ℕ} {p r : ℕ} {t : Task} → PutAsks (put-behind h a g) (Shown view) t → PutTold (put-behind h a g) (Shown view) a₂ slots p t → r ≡ laterAs p (stepsOf g)
+      → ((sh : Sheet) (μ : Env) (σ : List ℕ) (v : Value) (W : Cells) (o : Value) → Held a (h .top + lenOf g) (startOf g) (lenOf g) o
+      → Given a (h .slots) (h .sheet) (Shown view) (h .scope) (h .cells) (h .count) (h .count) top′ sh μ σ v W
+      → Answers (Wrote a₂ slots (h .count)) (said p) (h .left - stepsOf g) (putBranch (h .levels) sh (h .sheet) n k μ σ v W o d))
+      → PutTells h (Shown view) a₂ slots r k n
+  unfolding gets.run
+  told-by {p = p} {r = r} asks t is rule =
+      let s = w .sized .at (w .done) in
+      let x : said r ≡ after (stepsOf g) (said p) = ap said is ∙ later-said p (stepsOf g) (λ n. let z = few asks t .at n in omega (arith, w .asked .few)) in
+      record {
+        frame = frame-then (kept-frame (w .gives .kept) (w .asked .base)) (t .frame) (w .asked .base) (up .over);
+        long = t .long;
+        told = λ {sh} {μ} {σ} {v} {W} m.
+            let o = had (w .gives .told sh (m .read) μ (m .scoped)) (said-done g (w .done)) in
+            case-done (h .levels) sh (h .sheet) n μ σ v W (w .case) (h .count) (o .is)
+            (rw (← takes-of (o .that .held) (m .shown)) (rule sh μ σ v W (o .value) (o .that .held) (given-later m (w .gives .kept) (w .asked .base) top′ (up .over)))) x;
+      }
+
+-- A BRANCH WITHOUT VARIABLES
+module _ {h : PutHere} {view : List ℕ} {k n g i byte : ℕ} {a : List ℕ} {q : Shape} (w : PutSubject h view k n g a q (Plain i byte)) where
+  pub plain-asks : PutAsks (put-behind h a g) (Shown view) (pair (getD (h .sheet) (n + i) 0) (getD (h .sheet) (n + 1) 0) vfalse)
+  plain-asks = behind-asks w (plain-known (h .sheet) (w .asked .sheet .sh) n (w .took) (w .asked .known), subject-known (h .sheet) (w .asked .sheet .sh) n (w .case) (w .asked .known))
+
+  pub plain-view : SomeView (byte ∷ [])
+  plain-view = record { value = byteValue byte; shown = byte-shown (w .took) }
+
+  pub plain-told : {a₂ slots : List ℕ} {p r : ℕ}
+      → ((u : Value) → Shown (byte ∷ []) u → PutTold (put-behind h a g) (Shown view) a₂ slots p (pair (getD (h .sheet) (n + i) 0) (getD (h .sheet) (n + 1) 0) u))
+      → r ≡ laterAs p (stepsOf g) → PutTells h (Shown view) a₂ slots r k n
+  unfolding run putBranch
+  plain-told t is =
+      let z = t _ (byte-shown (w .took)) in
+      told-by w (behind-asks w (plain-known (h .sheet) (w .asked .sheet .sh) n (w .took) (w .asked .known), subject-known (h .sheet) (w .asked .sheet .sh) n (w .case) (w .asked .known))) z is
+      (λ sh μ σ v W o _ m. z .told m)
+
+-- A BRANCH WITH TWO VARIABLES, the subject's parts
+module _ {h : PutHere} {view : List ℕ} {k n g i mid : ℕ} {a : List ℕ} {q : Shape} (w : PutSubject h view k n g a q (Parts i mid)) where
+  the-parts : {o : Value} → Held a (h .top + lenOf g) (startOf g) (lenOf g) o → PartsHeld a (topAfter (h .top) (startOf g) (lenOf g)) (startOf g) (lenOf g) mid o
+  the-parts {o} e = parts-held o (took-fits (w .took)) (held-shape e (w .shape)) (held-above (up w) e)
+
+  parts-at : {o : Value} → (p : PartsHeld a (topAfter (h .top) (startOf g) (lenOf g)) (startOf g) (lenOf g) mid o)
+      → PartsAt a (topAfter (h .top) (startOf g) (lenOf g)) (startOf g + 1) (mid - 1) (lenOf g - mid) (p .f) (p .r)
+  parts-at p = let z : startOf g + 1 + (mid - 1) ≡ startOf g + mid = omega (arith, p .held .some) in record { one = p .held .first; two = rw z (p .held .second) }
+
+  old-subject : Had (Stands a (h .top)) (startOf g) (lenOf g) (stepsOf g) (within (h .left) (gets.run (h .levels) (w .asked .sheet .sh) (gets.enter (getD (h .sheet) (n + 1) 0)) (w .asked .env)))
+  old-subject = had (w .gives .told (w .asked .sheet .sh) (w .asked .sheet .read) (w .asked .env) (w .asked .given .scoped)) (said-done g (w .done))
+
+  old : PartsHeld a (topAfter (h .top) (startOf g) (lenOf g)) (startOf g) (lenOf g) mid (old-subject .value)
+  old = the-parts (old-subject .that .held)
+
+  -- where the second part starts, for the code's sums
+  pub parts-inside : (1 ≤ mid) × (mid ≤ lenOf g)
+  parts-inside = (old .held .some, old .held .inside)
+
+  parts-task : Known (w .asked .sheet .sh) (inside (madeOf k) (getD (h .sheet) (n + i) 0) (getD (h .sheet) (n + 1) 0) vfalse vfalse)
+  parts-task =
+      let f = took-fits (w .took) in
+      ((parts-known (h .sheet) (w .asked .sheet .sh) n f (w .asked .known), subject-known (h .sheet) (w .asked .sheet .sh) n (w .case) (w .asked .known)), made-of f)
+
+  pub parts-under : Under (put-behind h a g) (Shown view) (madeOf k) (getD (h .sheet) (n + i) 0) (getD (h .sheet) (n + 1) 0) (startOf g + 1) (mid - 1) (lenOf g - mid)
+  parts-under = record { asked = behind-asks w parts-task; inner = inner w; parts = record { f = _; r = _; parts = parts-at old } }
+
+  pub parts-told : {a₂ slots : List ℕ} {p r : ℕ}
+      → ((f u : Value) → PartsAt a (topAfter (h .top) (startOf g) (lenOf g)) (startOf g + 1) (mid - 1) (lenOf g - mid) f u
+      → PutTold (put-behind h a g) (Shown view) a₂ slots p (inside (madeOf k) (getD (h .sheet) (n + i) 0) (getD (h .sheet) (n + 1) 0) f u))
+      → r ≡ laterAs p (stepsOf g) → PutTells h (Shown view) a₂ slots r k n
+  unfolding run putBranch onTwo
+  parts-told t is =
+      told-by w (behind-asks w parts-task) (t _ _ (parts-at old)) is
+      (λ sh μ σ v W o e m. let p = the-parts e in rw (p .are) (t _ _ (parts-at p) .told m))
+
+-- A SWITCH to the branch with members
+module _ {h : PutHere} {view : List ℕ} {k n g : ℕ} {a : List ℕ} {q : Shape} (w : PutSubject h view k n g a q Switch) where
+  pub switch-asks : Switching (put-behind h a g) (Shown view) n
+  unfolding size sizes
+  switch-asks =
+      let d = had (w .gives .told (w .asked .sheet .sh) (w .asked .sheet .read) (w .asked .env) (w .asked .given .scoped)) (said-done g (w .done)) in
+      let z : h .top + 513 * suc (h .levels) ≤ 65536 = w .asked .room in
+      let e = empty-of (d .value) (sym (was-empty (w .took)) ∙ held-shape (d .that .held) (w .shape)) in
+      let one = rw e at (d .that .held .long) in
+      record { asked = behind-asks w (switch-known (h .sheet) (w .asked .sheet .sh) n (w .took) (w .asked .known)); inner = inner w; room = omega (arith, up w .near) }
+
+  pub switch-told : {a₂ slots : List ℕ} {p r : ℕ} → PutTold (put-behind h a g) (Shown view) a₂ slots p (switchAt (h .sheet) n) → r ≡ laterAs p (stepsOf g) → PutTells h (Shown view) a₂ slots r k n
+  unfolding run putBranch
+  switch-told t is = told-by w (behind-asks w (switch-known (h .sheet) (w .asked .sheet .sh) n (w .took) (w .asked .known))) t is (λ sh μ σ v W o _ m. t .told m)
+
+-- NO BRANCH
+module _ {h : PutHere} {view : List ℕ} {k n g c : ℕ} {a : List ℕ} {q : Shape} (w : PutSubject h view k n g a q (Refused c)) where
+  pub none-told : {r : ℕ} → r ≡ c → PutTells h (Shown view) a (h .slots) r k n
+  unfolding gets.run putBranch after
+  none-told {r} is =
+      let x : said r ≡ Denied c = ap said is ∙ code-said (w .took) in
+      record {
+        frame = kept-frame (w .gives .kept) (w .asked .base);
+        long = refl;
+        told = λ {sh} {μ} {σ} {v} {W} m.
+            let o = had (w .gives .told sh (m .read) μ (m .scoped)) (said-done g (w .done)) in
+            case-done (h .levels) sh (h .sheet) n μ σ v W (w .case) (h .count) {q = Denied c} (o .is) (rw (← takes-of w (o .that .held) (m .shown)) (refuse refl)) x;
+      }

@@ -1,5 +1,6 @@
 -- Put on bytes: what the walk from the root asks, and that the plan gathered behind it is the rules' answer.
 use mathlib.Core.Path.{_≡_, refl, sym, ap, _∙_}
+use mathlib.Core.Bool.{true, false}
 use mathlib.Core.Option.{Option, none}
 use mathlib.Core.List.{List, [], _∷_, append-nil}
 use Prim.Native.Nat.{ℕ, zero, suc, _+_, _*_, _≤_, _<_}
@@ -7,6 +8,7 @@ use native.Mathlib.Nat.{le-refl}
 use native.Mathlib.Omega.{arith}
 use lib.ListN.{length, take, getD, replicate, length-replicate, getD-replicate}
 use lib.Seq.{take-length}
+use Rattle.answer.specs.Answer.{isRefusal, codeOf, startOf, lenOf, stepsOf, said-refused, said-done}
 use Rattle.value.specs.Result.{ok, refusal}
 use Rattle.value.specs.All.{All, none, each}
 use Rattle.value.specs.Value.{Value, vfalse, encode, flat}
@@ -22,23 +24,21 @@ use Rattle.sheet.specs.Laws.{sheet-ranges}
 use Rattle.rules.specs.Outcome.{Out, done, refused, mapOut, reading}
 use Rattle.rules.specs.Allowance.{within}
 use Rattle.rules.specs.Text
-use Rattle.rules.specs.Rules.{Env as Values, Cells, orOld, put}
+use Rattle.rules.specs.Rules.{Env, Cells, orOld, put}
 use Rattle.rules.specs.Answer.{count, newPlan, putWalk, putBytes}
 use Rattle.step.specs.declared.Scope.{Scope}
-use Rattle.walk.specs.declared.Walked.the-variants as walked
-use Rattle.walk.specs.Taken.{Put, Done, Refused}
-use Rattle.step.specs.declared.Cells.{Cells as Owners}
-use Rattle.walk.specs.Parts.{part, part-length, CopiedIn}
-use Rattle.walk.specs.Arena.{Held, Env, below-ends}
-use Rattle.walk.specs.Seen.{held-short}
 use Rattle.step.specs.Step.{placeOf}
-use Rattle.walk.specs.Cells.{Slot, blank, full, Written, Named, Shown}
 use Rattle.step.specs.StepLaws.{was-written}
+use Rattle.walk.specs.declared.Walked.the-variants.{Done, Refused}
+use Rattle.walk.specs.Parts.{part, part-length, CopiedIn}
+use Rattle.walk.specs.Arena.{Held, Scoped, below-ends}
+use Rattle.walk.specs.Seen.{held-short}
+use Rattle.walk.specs.Answers.{Had, had, not-had}
+use Rattle.walk.specs.Cells.{Slot, blank, full, Written, Named, Shown}
 use Rattle.walk.specs.Frames.{env-framed}
-use Rattle.walk.specs.PutRules.{did, not-did}
-use Rattle.walk.specs.Puts.{enter, run, Given, Ready, Gives}
+use Rattle.walk.specs.Puts.{enter, run, Given, Wrote, PutHere, PutAsks, PutTold}
 use Rattle.walk.specs.Gather.{Rests, Placed, SomePlaced, Gathered, Counted}
-use Rattle.walk.specs.Entry.{says-done, says-refused, Planned, PlanWalked, plan-small, plan-env}
+use Rattle.walk.specs.Entry.{says-done, says-refused, Planned, PlanWalked, plan-small, plan-env, root-is}
 
 -- the view is read
 pub record Viewed (view : List ℕ) : Type 0 where
@@ -73,11 +73,11 @@ count-at from zero i h = absurd (omega arith)
 count-at from (suc n) zero h = omega arith
 count-at from (suc n) (suc i) h = omega (arith, count-at (suc from) n i (omega arith))
 
-first-named : {k n : ℕ} {cells : Owners} → Counted k cells → n ≡ k → Named (cells .of) (cells .count) (count 0 n)
-first-named {n = n} c e = record {
+first-named : {k n : ℕ} {cells : List ℕ} → Counted k cells → n ≡ k → Named cells k (count 0 n)
+first-named {k} {n} c e = record {
   long = c .long;
   each = λ i h. let l : i < n = omega (arith, count-length 0 n) in omega (arith, c .each i (omega arith), count-at 0 n i l);
-  inside = λ i h. let l : i < n = omega (arith, count-length 0 n) in omega (arith, c .count, count-at 0 n i l);
+  inside = λ i h. let l : i < n = omega (arith, count-length 0 n) in omega (arith, count-at 0 n i l);
 }
 
 none-written : (a : List ℕ) (m n : ℕ) → m ≡ n → m ≤ 16 → Written a (replicate 110 0) m (replicate n none)
@@ -90,29 +90,31 @@ none-written a m n e h = record {
 
 -- THE NEW PLAN
 
-new-count : (X : Cells) (μ : Values) → length X ≡ length μ → length (newPlan X μ) ≡ length μ
+new-count : (X : Cells) (μ : Env) → length X ≡ length μ → length (newPlan X μ) ≡ length μ
 unfolding newPlan
 new-count [] [] e = refl
 new-count [] (v ∷ μ) e = refl
 new-count (o ∷ X) [] e = refl
 new-count (o ∷ X) (v ∷ μ) e = ap suc (new-count X μ (omega arith))
 
-new-at : (X : Cells) (μ : Values) (i : ℕ) → length X ≡ length μ → i < length μ → getD (newPlan X μ) i vfalse ≡ orOld (getD X i none) (getD μ i vfalse)
+new-at : (X : Cells) (μ : Env) (i : ℕ) → length X ≡ length μ → i < length μ → getD (newPlan X μ) i vfalse ≡ orOld (getD X i none) (getD μ i vfalse)
 unfolding newPlan
 new-at X [] i e h = absurd (omega arith)
 new-at [] (v ∷ μ) i e h = absurd (omega arith)
 new-at (o ∷ X) (v ∷ μ) zero e h = refl
 new-at (o ∷ X) (v ∷ μ) (suc i) e h = new-at X μ i (omega arith) (omega arith)
 
-rests : {a : List ℕ} {start len c w : ℕ} {o : Option Value} {v : Value} → Slot a (4096 + 256 * c) w o → c < 110 → Held a 32256 start len v → Rests a (placeOf w c start len) (orOld o v)
+rests : {a : List ℕ} {start len c w : ℕ} {o : Option Value} {v : Value} → Slot a (4096 + 256 * c) w o → c < 110 → Held a 32256 start len v
+    → Rests a (placeOf w c start len) (orOld o v)
 unfolding placeOf Text.orOld
 rests (blank z) h k = rw z (record { bytes = k .bytes; short = held-short k; inside = below-ends (k .place) (le-refl 32256) })
 rests {start = start} {len = len} {c = c} {w = w} (full {v = u} z p r) h k =
     let n : w ≡ 0 → ⊥ = λ e. omega (arith, size-pos u) in
     rw (← was-written w c start len n) (record { bytes = p; short = omega (arith, r .fits); inside = omega (arith, r .fits) })
 
-new-placed : {a lens : List ℕ} {sc : Scope} {n : ℕ} {μ : Values} {X : Cells} → length a ≡ 65536 → length μ ≤ 16 → n ≡ length μ → Env a sc 32256 μ → Written a lens n X → Placed a lens sc (newPlan X μ)
-new-placed {a} {lens} {sc} {n} {μ} {X} long few e w x =
+new-placed : {a slots : List ℕ} {sc : Scope} {n : ℕ} {μ : Env} {X : Cells} → length a ≡ 65536 → length μ ≤ 16 → n ≡ length μ → Scoped a sc 32256 μ
+    → Written a slots n X → Placed a slots sc (newPlan X μ)
+new-placed {a} {slots} {sc} {n} {μ} {X} long few e w x =
     let l : length X ≡ length μ = x .count ∙ e in
     let k : length (newPlan X μ) ≡ length μ = new-count X μ l in
     record {
@@ -126,48 +128,59 @@ new-placed {a} {lens} {sc} {n} {μ} {X} long few e w x =
 
 -- THE WALK FROM THE ROOT
 
-module _ {sheet plan view : List ℕ} {table : Table} {sc : Scope} {allowance : ℕ} {b : List ℕ} (w : Planned sheet plan table sc allowance b) (s : Viewed view) where
+module _ {sheet plan view : List ℕ} {table : Table} {sc : Scope} {allowance : ℕ} {b : List ℕ}
+    (w : Planned sheet plan table sc allowance b) (s : Viewed view) where
   pub few-variables : sc .count ≤ 16
   few-variables = omega (arith, w .spanned .count, sheet-ranges sheet (w .read) .few-variables)
 
-  put-is : putBytes sheet plan view allowance ≡ mapOut (λ X. flat (newPlan X (w .μ))) (putWalk allowance (w .sh) (w .μ) (s .value))
-  unfolding putBytes reading
+  -- the walk, and the bytes of the plan that it gives
+  abbrev walk-put : Out Cells
+  walk-put = within allowance (put 48 (w .sh) (table .root) (w .μ) (count 0 (length (w .μ))) (s .value) (replicate (length (w .μ)) none))
+
+  put-is : putBytes sheet plan view allowance ≡ mapOut (λ X. flat (newPlan X (w .μ))) walk-put
+  unfolding putBytes putWalk reading
   put-is = rw (w .read, w .values, s .read)
+      (ap (λ (x : ℕ). mapOut (λ X. flat (newPlan X (w .μ)))
+      (within allowance (put 48 (w .sh) x (w .μ) (count 0 (length (w .μ))) (s .value) (replicate (length (w .μ)) none)))) (sym (root-is w)))
 
-  module _ {m : List ℕ} {cells : Owners} (c : CopiedIn plan b m) (n : Counted (sc .count) cells) where
-    same-count : cells .count ≡ length (w .μ)
-    same-count = n .count ∙ plan-env w c .count
-
-    put-given : Given m (replicate 110 0) sheet (Shown view) sc cells (cells .count) 32256 (w .sh) (w .μ) (count 0 (length (w .μ))) (s .value) (replicate (length (w .μ)) none)
+  module _ {m cells : List ℕ} (c : CopiedIn plan b m) (n : Counted (sc .count) cells) where
+    put-given : Given m (replicate 110 0) sheet (Shown view) sc cells (sc .count) (sc .count) 32256
+        (w .sh) (w .μ) (count 0 (length (w .μ))) (s .value) (replicate (length (w .μ)) none)
     put-given = record {
       read = w .read;
       scoped = plan-env w c;
       named = first-named n (sym (plan-env w c .count));
       as-many = count-length 0 (length (w .μ));
-      written = none-written m (cells .count) (length (w .μ)) same-count (omega (arith, n .count, few-variables));
+      written = none-written m (sc .count) (length (w .μ)) (plan-env w c .count) few-variables;
       shown = view-shown s;
     }
 
-    root-is : table .root ≡ w .sh .root
-    unfolding tableOf
-    root-is = ap (λ (t : Table). t .root) (w .is)
+    -- the place of the walk
+    abbrev pub put-root : PutHere
+    put-root = record {
+      sheet = sheet;
+      table = table .starts;
+      arena = m;
+      slots = replicate 110 0;
+      scope = sc;
+      cells = cells;
+      count = sc .count;
+      top = 32256;
+      left = allowance;
+      levels = 48;
+    }
 
-    from-root : {o : Out Cells} → within allowance (put 48 (w .sh) (table .root) (w .μ) (count 0 (length (w .μ))) (s .value) (replicate (length (w .μ)) none)) ≡ o
-        → putWalk allowance (w .sh) (w .μ) (s .value) ≡ o
-    unfolding putWalk
-    from-root e = ap (λ (x : ℕ). within allowance (put 48 (w .sh) x (w .μ) (count 0 (length (w .μ))) (s .value) (replicate (length (w .μ)) none))) (sym root-is) ∙ e
-
-    pub put-ready : Ready sheet (table .starts) m (replicate 110 0) (Shown view) sc cells (cells .count) 32256 48 allowance (enter (table .root))
+    pub put-ready : PutAsks put-root (Shown view) (enter (table .root))
     unfolding tableOf
     put-ready = record {
       long = c .long ∙ w .long;
       few = w .few;
       base = omega arith;
       room = omega arith;
-      slots = omega (arith, few-variables);
-      more-cells = omega (arith, n .count, few-variables);
-      lent = record { sh = w .sh; read = w .read; table = ap (λ (t : Table). t .starts) (w .is) };
-      known = rw root-is (sheet-ranges sheet (w .read) .root);
+      variables = omega (arith, few-variables);
+      more-cells = omega (arith, few-variables);
+      sheet = record { sh = w .sh; read = w .read; places = ap (λ (t : Table). t .starts) (w .is) };
+      known = rw (root-is w) (sheet-ranges sheet (w .read) .root);
       env = w .μ;
       names = count 0 (length (w .μ));
       value = s .value;
@@ -175,32 +188,36 @@ module _ {sheet plan view : List ℕ} {table : Table} {sc : Scope} {allowance : 
       given = put-given;
     }
 
-    module _ {a lens : List ℕ} {r : Put} (g : Gives m a (replicate 110 0) lens sheet (Shown view) sc cells (cells .count) 32256 allowance 0 r 48 (enter (table .root))) where
-      pub put-refused : {x : ℕ} → r ≡ Refused x → PlanWalked 4096 (putBytes sheet plan view allowance) b a (walked.Refused x)
+    module _ {a slots : List ℕ} {r : ℕ} (g : PutTold put-root (Shown view) a slots r (enter (table .root))) where
+      pub put-refused : {x : ℕ} → isRefusal r ≡ true → x ≡ codeOf r → PlanWalked 4096 (putBytes sheet plan view allowance) b a (Refused x)
       unfolding run mapOut
-      put-refused {x} d =
-          let q = not-did g put-given d in
-          let e : putWalk allowance (w .sh) (w .μ) (s .value) ≡ refused x (q .0) = from-root (q .1) in
-          let z : putBytes sheet plan view allowance ≡ refused x (q .0) = put-is ∙ ap (mapOut (λ X. flat (newPlan X (w .μ)))) e in
-          record { long = g .frame .long ∙ c .long; says = rw z (says-refused refl) }
+      put-refused {x} e f =
+          let d = not-had (g .told put-given) (said-refused r e) in
+          let z : putBytes sheet plan view allowance ≡ refused (codeOf r) (d .0) = put-is ∙ ap (mapOut (λ X. flat (newPlan X (w .μ)))) (d .1) in
+          record { long = g .frame .long ∙ c .long; says = rw z (says-refused (ap Refused f)) }
 
-      module _ {k : ℕ} (d : r ≡ Done k) where
-        placed-new : Placed a lens sc (newPlan (did g put-given d .cells) (w .μ))
-        placed-new = new-placed (g .frame .long ∙ c .long ∙ w .long) (plan-small w .0) same-count (env-framed (g .frame) 32256 (le-refl 32256) (plan-env w c)) (did g put-given d .written)
+      module _ (e : isRefusal r ≡ false) where
+        wrote : Had (Wrote a slots (sc .count)) (startOf r) (lenOf r) (stepsOf r) walk-put
+        unfolding run
+        wrote = had (g .told put-given) (said-done r e)
 
-        pub put-placed : SomePlaced a lens sc
-        put-placed = record { values = newPlan (did g put-given d .cells) (w .μ); placed = placed-new }
+        placed-new : Placed a slots sc (newPlan (wrote .value) (w .μ))
+        placed-new =
+            let v = env-framed (g .frame) 32256 (le-refl 32256) (plan-env w c) in
+            new-placed (g .frame .long ∙ c .long ∙ w .long) (plan-small w .0) (v .count) v (wrote .that .written)
 
-        pub put-done : {a′ : List ℕ} {len : ℕ} → Gathered (sc .count) lens sc a a′ len → PlanWalked 4096 (putBytes sheet plan view allowance) b a′ (walked.Done len k)
-        unfolding run mapOut
-        put-done {a′} {len} h =
-            let q = did g put-given d in
-            let X = q .cells in
-            let e : putWalk allowance (w .sh) (w .μ) (s .value) ≡ done X k = from-root (q .is) in
-            let z : putBytes sheet plan view allowance ≡ done (flat (newPlan X (w .μ))) k = put-is ∙ ap (mapOut (λ X. flat (newPlan X (w .μ)))) e in
+        pub put-placed : SomePlaced a slots sc
+        put-placed = record { values = newPlan (wrote .value) (w .μ); placed = placed-new }
+
+        pub put-done : {a′ : List ℕ} {len n : ℕ} → Gathered (sc .count) slots sc a a′ len → n ≡ stepsOf r
+            → PlanWalked 4096 (putBytes sheet plan view allowance) b a′ (Done len n)
+        unfolding mapOut
+        put-done {a′} {len} {n} h q =
+            let ws = newPlan (wrote .value) (w .μ) in
+            let z : putBytes sheet plan view allowance ≡ done (flat ws) n
+            = put-is ∙ ap (mapOut (λ X. flat (newPlan X (w .μ)))) (wrote .is) ∙ ap (done (flat ws)) (sym q) in
             let p = placed-new in
-            let y : part a′ 32256 len ≡ flat (newPlan X (w .μ))
-            = h .told p ∙ ap flat (ap (λ (i : ℕ). take i (newPlan X (w .μ))) (p .count) ∙ take-length (newPlan X (w .μ))) in
+            let y : part a′ 32256 len ≡ flat ws = h .told p ∙ ap flat (ap (λ (i : ℕ). take i ws) (p .count) ∙ take-length ws) in
             let few : len ≤ 4096 = omega (arith, h .short, few-variables) in
             let l : length (part a′ 32256 len) ≡ len = part-length a′ 32256 len (omega (arith, h .kept .long, p .long)) in
             record { long = h .kept .long ∙ g .frame .long ∙ c .long; says = rw z (says-done len refl (sym l ∙ ap length y) few y) }
@@ -216,6 +233,7 @@ module _ (sheet plan view : List ℕ) (allowance : ℕ) where
   unfolding putBytes reading
   put-plan-refused e f = rw (e, f)
 
-  pub put-view-refused : {sh : Sheet} {μ : Values} {c : ℕ} → readSheet sheet ≡ ok sh → readPlan (sh .k) plan ≡ ok μ → readView view ≡ refusal c → putBytes sheet plan view allowance ≡ refused c 0
+  pub put-view-refused : {sh : Sheet} {μ : Env} {c : ℕ} → readSheet sheet ≡ ok sh → readPlan (sh .k) plan ≡ ok μ → readView view ≡ refusal c
+      → putBytes sheet plan view allowance ≡ refused c 0
   unfolding putBytes reading
   put-view-refused e f g = rw (e, f, g)

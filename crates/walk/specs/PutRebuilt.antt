@@ -9,37 +9,34 @@ use native.Mathlib.Numerals.{add-one}
 use native.Mathlib.Omega.{arith}
 use lib.ListN.{length, take, drop, getD, set, length-append, length-drop, replicate, getElem?}
 use lib.Seq.{getD-take, getD-drop, paste, take-paste, length-paste}
-use Rattle.value.specs.Value.{Value, vfalse, vtrue, list, number, pair, nil, cons, encode, encodes, size, sizes, Encodable, ePair}
+use Rattle.answer.specs.Answer.{Refused, said, refused-said}
+use Rattle.value.specs.Value.{Value, vfalse, encode, size}
 use Rattle.value.specs.Encoding.{size-encode, size-pos}
-use Rattle.value.specs.Views.{asList}
-use Rattle.value.specs.Laws.{Readable, encodable-front}
+use Rattle.value.specs.Laws.{Readable}
 use Rattle.sheet.specs.Sheet.{Sheet}
 use Rattle.rules.specs.Text
-use Rattle.rules.specs.Rules.{Env as Values, Cells, orOld, mkList, mkPair}
-use Rattle.step.specs.declared.Scope.{Scope}
+use Rattle.rules.specs.Rules.{Env, Cells, orOld}
 use Rattle.step.specs.declared.Span.{Span}
-use Rattle.walk.specs.Taken.{Put, Done, Refused}
-use Rattle.step.specs.declared.Cells.{Cells as Owners}
+use Rattle.step.specs.Step.{placeOf, unfitRest}
+use Rattle.step.specs.StepLaws.{was-written}
 use Rattle.walk.specs.Parts.{part}
 use Rattle.walk.specs.Arena.{Held, below-ends}
 use Rattle.walk.specs.Seen.{elem-at}
-use Rattle.walk.specs.Answers.{Answers, give, give-none, give-yes, give-no}
-use Rattle.step.specs.Step.{placeOf, unfitRest}
+use Rattle.walk.specs.Answers.{give, give-none, give-yes, give-no}
 use Rattle.walk.specs.Cells.{Slot, blank, full, Written, Shown, rebuiltIn, rebuiltBytes}
 use Rattle.walk.specs.Frames.{frame-refl}
 use Rattle.walk.specs.CellLaws.{written-less}
-use Rattle.step.specs.StepLaws.{was-written}
-use Rattle.walk.specs.PutRules.{last-done, last-refused, did, not-did, given-after}
-use Rattle.walk.specs.PutTwo.{ready-for}
-use Rattle.walk.specs.Puts.{Task, enter, rebuilt, rebuild, maker, Made, aList, aPair, run, Any, Spans, SomeSpans, Given, Ready, Gives}
+use Rattle.walk.specs.Wholes.{Made, Whole, whole, no-whole}
+use Rattle.walk.specs.Puts.{enter, rebuilt, rebuild, run, Any, PartsAt, SomeParts, Given, Ready, Gives, PutHere, PutAsks, PutTold}
+use Rattle.walk.specs.PutReady.{ready-for, given-after}
 
 -- WHERE A VALUE STANDS
 
-pub record Stands (a : List ℕ) (p : Span) (v : Value) : Type 0 where
-  pub long : p .len ≡ size v
-  pub bytes : part a (p .start) (p .len) ≡ encode v
-  pub readable : Readable v
-  pub inside : p .start + p .len ≤ 65536
+record Stands (a : List ℕ) (p : Span) (v : Value) : Type 0 where
+  long : p .len ≡ size v
+  bytes : part a (p .start) (p .len) ≡ encode v
+  readable : Readable v
+  inside : p .start + p .len ≤ 65536
 
 stands : {a : List ℕ} {top start len c w : ℕ} {o : Option Value} {v : Value} → Slot a (4096 + 256 * c) w o → c < 110 → Held a top start len v → 32256 ≤ top → top ≤ 65536
     → Stands a (placeOf w c start len) (orOld o v)
@@ -59,45 +56,6 @@ stands-head {a} {p} {v} h =
 stands-some : {a : List ℕ} {p : Span} {v : Value} → Stands a p v → 1 ≤ p .len
 stands-some {v = v} h = omega (arith, h .long, size-pos v)
 
--- A VALUE MADE OF TWO
-
-record Whole (k : ℕ) (x y : Value) : Type 0 where
-  value : Value
-  is : maker k x y ≡ some value
-  bytes : encode value ≡ k ∷ (encode x ++ encode y)
-  long : size value ≡ 1 + size x + size y
-  encodable : Encodable value
-
-whole-list : (x y : Value) → unfitRest 3 (getD (encode y) 0 0) ≡ false → Encodable x → Encodable y → Whole 3 x y
-unfolding maker mkList asList encode encodes size sizes unfitRest
-whole-list x vfalse e f g = absurd (let z : _≡_ {A = ℕ} 0 1 = cc in omega arith)
-whole-list x vtrue e f g = absurd (let z : _≡_ {A = ℕ} 0 1 = cc in omega arith)
-whole-list x (list l) e f g = record { value = list (cons x l); is = refl; bytes = refl; long = omega arith; encodable = encodable-front f g }
-whole-list x (number n) e f g = absurd (let z : _≡_ {A = ℕ} 0 1 = cc in omega arith)
-whole-list x (pair a b) e f g = absurd (let z : _≡_ {A = ℕ} 0 1 = cc in omega arith)
-
-whole-pair : (x y : Value) → Encodable x → Encodable y → Whole 5 x y
-unfolding maker mkPair encode size
-whole-pair x y f g = record { value = pair x y; is = refl; bytes = refl; long = omega arith; encodable = ePair f g }
-
-whole : {k : ℕ} (x y : Value) → Made k → unfitRest k (getD (encode y) 0 0) ≡ false → Encodable x → Encodable y → Whole k x y
-whole x y (aList e) n f g = rw e (whole-list x y (rw e at n) f g)
-whole x y (aPair e) n f g = rw e (whole-pair x y f g)
-
-none-list : (x y : Value) → unfitRest 3 (getD (encode y) 0 0) ≡ true → maker 3 x y ≡ none
-unfolding maker mkList asList encode encodes unfitRest
-none-list x vfalse e = refl
-none-list x vtrue e = refl
-none-list x (list nil) e = absurd (let z : _≡_ {A = ℕ} 0 1 = cc in omega arith)
-none-list x (list (cons f r)) e = absurd (let z : _≡_ {A = ℕ} 0 1 = cc in omega arith)
-none-list x (number n) e = refl
-none-list x (pair a b) e = refl
-
-no-whole : {k : ℕ} (x y : Value) → Made k → unfitRest k (getD (encode y) 0 0) ≡ true → maker k x y ≡ none
-unfolding unfitRest
-no-whole x y (aList e) n = rw e (none-list x y (rw e at n))
-no-whole x y (aPair e) n = absurd (let q = rw e at n in let z : _≡_ {A = ℕ} 0 1 = cc in omega arith)
-
 -- the bytes that are built
 built-bytes : (a : List ℕ) (k : ℕ) (f r : Span) (x y : Value) → Stands a f x → Stands a r y → length a ≡ 65536 → 1 + f .len + r .len ≤ 256
     → take (1 + f .len + r .len) (rebuiltBytes a k (f .start) (f .len) (r .start) (r .len)) ≡ k ∷ (encode x ++ encode y)
@@ -111,124 +69,122 @@ built-bytes a k f r x y p q l h =
     take-paste (paste d 1 (drop (f .start) a) (f .len)) (1 + f .len) (drop (r .start) a) (r .len) (omega arith) lr
     ∙ ap₂ _++_ (take-paste d 1 (drop (f .start) a) (f .len) (omega arith) lf ∙ ap (λ (z : List ℕ). k ∷ z) (p .bytes)) (q .bytes)
 
-built-long : (a : List ℕ) (k : ℕ) (f r : Span) (x y : Value) → Stands a f x → Stands a r y → length a ≡ 65536 → 1 + f .len + r .len ≤ 256
-    → 1 + f .len + r .len ≡ length (take (1 + f .len + r .len) (rebuiltBytes a k (f .start) (f .len) (r .start) (r .len)))
-built-long a k f r x y p q l h =
-    let e = built-bytes a k f r x y p q l h in
-    let n : length (k ∷ (encode x ++ encode y)) ≡ 1 + f .len + r .len = omega (arith, length-append (encode x) (encode y), size-encode x, size-encode y, p .long, q .long) in
-    sym (ap length e ∙ n)
-
--- THE RETURNS
-
--- where the two variables' values stand
-pub record Placed (lens : List ℕ) (n start first second : ℕ) (f r : Span) : Type 0 where
-  pub one : f ≡ placeOf (getD lens n 0) n start first
-  pub two : r ≡ placeOf (getD lens (n + 1) 0) (n + 1) (start + first) second
-
-pub placed : (lens : List ℕ) (n start first second : ℕ) {f r : Span} → f ≡ placeOf (getD lens n 0) n start first → r ≡ placeOf (getD lens (n + 1) 0) (n + 1) (start + first) second
-    → Placed lens n start first second f r
-placed lens n start first second e e′ = record { one = e; two = e′ }
-
+-- the two cells behind the n of the scope, and where their values stand
 record Both (a : List ℕ) (n : ℕ) (X : Cells) (f r : Span) (x y : Value) : Type 0 where
   named : getElem? X n ≡ some (getD X n none)
   named′ : getElem? X (suc n) ≡ some (getD X (suc n) none)
   one : Stands a f (orOld (getD X n none) x)
   two : Stands a r (orOld (getD X (suc n) none) y)
 
-both : {a lens : List ℕ} {n top start first second : ℕ} {f r : Span} {X : Cells} {x y : Value} → Placed lens n start first second f r → 32256 ≤ top → top ≤ 65536
-    → Written a lens (n + 2) X → Spans a top start first second x y → Both a n X f r x y
-both {a} {lens} {n} {start = start} {first = first} {second = second} {X = X} p base most w t =
+both : {a slots : List ℕ} {n top start first second : ℕ} {f r : Span} {X : Cells} {x y : Value} → f ≡ placeOf (getD slots n 0) n start first
+    → r ≡ placeOf (getD slots (n + 1) 0) (n + 1) (start + first) second → 32256 ≤ top → top ≤ 65536 → Written a slots (n + 2) X → PartsAt a top start first second x y → Both a n X f r x y
+both {a} {slots} {n} {start = start} {first = first} {second = second} {X = X} p q base most w t =
     let m : n + 1 ≡ suc n = add-one n in
-    let s : Slot a (4096 + 256 * (n + 1)) (getD lens (n + 1) 0) (getD X (n + 1) none) = w .each (n + 1) (omega arith) in
+    let s : Slot a (4096 + 256 * (n + 1)) (getD slots (n + 1) 0) (getD X (n + 1) none) = w .each (n + 1) (omega arith) in
     record {
       named = elem-at X n none (omega (arith, w .count));
       named′ = elem-at X (suc n) none (omega (arith, w .count));
-      one = rw (p .one) (stands (w .each n (omega arith)) (omega (arith, w .few)) (t .one) base most);
-      two = rw (p .two, ← m) (stands s (omega (arith, w .few)) (t .two) base most);
+      one = rw p (stands (w .each n (omega arith)) (omega (arith, w .few)) (t .one) base most);
+      two = rw (q, ← m) (stands s (omega (arith, w .few)) (t .two) base most);
     }
 
-module _ {a lens s : List ℕ} {sc : Scope} {cells : Owners} {top start first second kind : ℕ} {f r : Span} (p : Placed lens (cells .count) start first second f r)
-    (made : Made kind) (base : 32256 ≤ top) (most : top ≤ 65536) {x₁ x₂ : Value} (t : Spans a top start first second x₁ x₂) where
-  pub rebuilt-43 : {left spent l y : ℕ} {q : Bool} → q ≡ unfitRest kind (getD a (r .start) 0) → q ≡ true → Gives a a lens lens s Any sc cells (cells .count + 2) top left spent (Refused 43) l (rebuilt kind y x₁ x₂)
+-- two values below the top end by it
+pub parts-end : {a : List ℕ} {top start first second : ℕ} → SomeParts a top start first second → 32256 ≤ top → top ≤ 65536 → start + first ≤ 65536
+parts-end p base most = omega (arith, below-ends (p .parts .two .place) base)
+
+-- AT A STAGE: it is known where the two values stand
+pub record Rebuilding (h : PutHere) (k y start first second : ℕ) (f r : Span) : Type 0 where
+  pub asked : Ready (h .sheet) (h .table) (h .arena) (h .slots) Any (h .scope) (h .cells) (h .count) (h .count + 2) (h .top) (h .levels) (h .left) (rebuilt k y vfalse vfalse)
+  pub parts : SomeParts (h .arena) (h .top) start first second
+  pub one : f ≡ placeOf (getD (h .slots) (h .count) 0) (h .count) start first
+  pub two : r ≡ placeOf (getD (h .slots) (h .count + 1) 0) (h .count + 1) (start + first) second
+
+-- what it tells
+abbrev pub RebuiltTold : (h : PutHere) (k y start first second : ℕ) (a slots : List ℕ) (r : ℕ) → Type 0
+RebuiltTold h k y start first second a slots r = (f u : Value) → PartsAt (h .arena) (h .top) start first second f u
+    → Gives (h .arena) a (h .slots) slots (h .sheet) Any (h .scope) (h .cells) (h .count) (h .count + 2) (h .top) (h .left) r (h .levels) (rebuilt k y f u)
+
+module _ {h : PutHere} {k y start first second : ℕ} {f r : Span} (w : Rebuilding h k y start first second f r) where
+  made : Made k
+  made = w .asked .known .1
+
+  both-of : {X : Cells} {x₁ x₂ : Value} → Written (h .arena) (h .slots) (h .count + 2) X → PartsAt (h .arena) (h .top) start first second x₁ x₂ → Both (h .arena) (h .count) X f r x₁ x₂
+  both-of g t = both (w .one) (w .two) (w .asked .base) (omega (arith, w .asked .room)) g t
+
+  -- where the values stand, for the code's indices
+  pub rebuilt-places : (f .start + f .len ≤ 65536) × (r .start + r .len ≤ 65536) × (f .len ≤ 256) × (r .len ≤ 256) × (1 ≤ r .len)
+  rebuilt-places =
+      let o = both-of (w .asked .given .written) (w .parts .parts) in
+      let a = o .one in
+      let b = o .two in
+      (a .inside, b .inside, omega (arith, a .long, a .readable .fits), omega (arith, b .long, b .readable .fits), stands-some b)
+
+  pub rebuilt-43 : {q : ℕ} → unfitRest k (getD (h .arena) (r .start) 0) ≡ true → q ≡ 43 → RebuiltTold h k y start first second (h .arena) (h .slots) q
   unfolding run rebuild
-  rebuilt-43 e n = record {
-    frame = frame-refl top a;
+  rebuilt-43 n e x₁ x₂ t = record {
+    frame = frame-refl _ _;
     long = refl;
-    told = λ w.
-        let o = both p base most (w .written) t in
-        give 42 _ (o .named) (give 42 _ (o .named′) (give-none 43 _ (no-whole _ _ made (ap (unfitRest kind) (sym (stands-head (o .two))) ∙ sym e ∙ n)) (record { is = refl })));
+    told = λ g.
+        let o = both-of (g .written) t in
+        give 42 _ (o .named) (give 42 _ (o .named′) (give-none 43 _ (no-whole _ _ made (ap (unfitRest k) (sym (stands-head (o .two))) ∙ n)) (ap said e ∙ refused-said (omega arith) (omega arith))));
   }
 
-  module _ {q : Bool} (e : q ≡ unfitRest kind (getD a (r .start) 0)) (n : q ≡ false) where
-    the-whole : {sh : Sheet} {μ : Values} {σ : List ℕ} {v : Value} {X : Cells} (w : Given a lens s Any sc cells (cells .count + 2) top sh μ σ v X)
-        → Whole kind (orOld (getD X (cells .count) none) x₁) (orOld (getD X (suc (cells .count)) none) x₂)
-    the-whole w =
-        let o = both p base most (w .written) t in
-        whole _ _ made (ap (unfitRest kind) (sym (stands-head (o .two))) ∙ sym e ∙ n) (o .one .readable .encodable) (o .two .readable .encodable)
+  module _ (n : unfitRest k (getD (h .arena) (r .start) 0) ≡ false) where
+    the-whole : {X : Cells} {x₁ x₂ : Value} → Written (h .arena) (h .slots) (h .count + 2) X → PartsAt (h .arena) (h .top) start first second x₁ x₂
+        → Whole k (orOld (getD X (h .count) none) x₁) (orOld (getD X (suc (h .count)) none) x₂)
+    the-whole g t =
+        let o = both-of g t in
+        whole _ _ made (ap (unfitRest k) (sym (stands-head (o .two))) ∙ n) (o .one .readable .encodable) (o .two .readable .encodable)
 
-    pub rebuilt-44 : {left spent l y : ℕ} → 256 < 1 + f .len + r .len → Gives a a lens lens s Any sc cells (cells .count + 2) top left spent (Refused 44) l (rebuilt kind y x₁ x₂)
+    pub rebuilt-44 : {q : ℕ} → 256 < 1 + f .len + r .len → q ≡ 44 → RebuiltTold h k y start first second (h .arena) (h .slots) q
     unfolding run rebuild
-    rebuilt-44 h = record {
-      frame = frame-refl top a;
+    rebuilt-44 l e x₁ x₂ t = record {
+      frame = frame-refl _ _;
       long = refl;
-      told = λ w.
-          let o = both p base most (w .written) t in
-          let b = the-whole w in
-          give 42 _ (o .named) (give 42 _ (o .named′) (give 43 _ (b .is) (give-no 44 _ _ (λ z. omega (arith, b .long, o .one .long, o .two .long)) (record { is = refl }))));
+      told = λ g.
+          let o = both-of (g .written) t in
+          let b = the-whole (g .written) t in
+          give 42 _ (o .named) (give 42 _ (o .named′) (give 43 _ (b .is) (give-no 44 _ _ (λ z. omega (arith, b .long, o .one .long, o .two .long))
+          (ap said e ∙ refused-said (omega arith) (omega arith)))));
     }
 
-    module _ (le : 1 + f .len + r .len ≤ 256) (long : length a ≡ 65536) {bytes : List ℕ} (eb : bytes ≡ rebuiltBytes a kind (f .start) (f .len) (r .start) (r .len)) where
-      given-whole : {sh : Sheet} {μ : Values} {σ : List ℕ} {v : Value} {X : Cells} (w : Given a lens s Any sc cells (cells .count + 2) top sh μ σ v X)
-          → Given a lens s (Shown (take (1 + f .len + r .len) bytes)) sc cells (cells .count) top sh μ σ (the-whole w .value) (take (cells .count) X)
-      given-whole w =
-          let o = both p base most (w .written) t in
-          let b = the-whole w in
-          given-after w (frame-refl top a) (written-less (w .written)) (record {
-            bytes = ap (take (1 + f .len + r .len)) eb ∙ built-bytes a kind f r _ _ (o .one) (o .two) long le ∙ sym (b .bytes);
+    module _ (le : 1 + f .len + r .len ≤ 256) {bytes : List ℕ} (eb : bytes ≡ rebuiltBytes (h .arena) k (f .start) (f .len) (r .start) (r .len)) where
+      abbrev pub rebuiltView : List ℕ
+      rebuiltView = take (1 + f .len + r .len) bytes
+
+      built : {X : Cells} {x₁ x₂ : Value} (g : Written (h .arena) (h .slots) (h .count + 2) X) (t : PartsAt (h .arena) (h .top) start first second x₁ x₂) → Shown rebuiltView (the-whole g t .value)
+      built g t =
+          let o = both-of g t in
+          let b = the-whole g t in
+          record {
+            bytes = ap (take (1 + f .len + r .len)) eb ∙ built-bytes (h .arena) k f r _ _ (o .one) (o .two) (w .asked .long) le ∙ sym (b .bytes);
             readable = record { fits = omega (arith, b .long, o .one .long, o .two .long); encodable = b .encodable };
-          })
+          }
 
-      pub rebuilt-ready : {starts : List ℕ} {l total left y : ℕ} {f₀ u₀ : Value} → Ready s starts a lens Any sc cells (cells .count + 2) top l total (rebuilt kind y f₀ u₀) → left ≤ total
-          → Ready s starts a lens (Shown (take (1 + f .len + r .len) bytes)) sc cells (cells .count) top l left (enter y)
-      rebuilt-ready w h = ready-for w (w .known .0) (given-whole (w .given)) refl h (le-refl _) (le-refl _) (w .room)
+      -- how long the view is
+      pub rebuilt-long : 1 + f .len + r .len ≡ length rebuiltView
+      rebuilt-long =
+          let g = w .asked .given .written in
+          let t = w .parts .parts in
+          let o = both-of g t in
+          let b = the-whole g t in
+          sym (ap length (built g t .bytes) ∙ size-encode (b .value) ∙ omega (arith, b .long, o .one .long, o .two .long))
 
-      module _ {a₂ lens₂ : List ℕ} {left l y : ℕ} {r₂ : Put} (g : Gives a a₂ lens lens₂ s (Shown (take (1 + f .len + r .len) bytes)) sc cells (cells .count) top left 0 r₂ l (enter y)) where
-        into : {S : Cells → ℕ → Type 0} {D : ℕ → Type 0} {spent : ℕ} {sh : Sheet} {μ : Values} {σ : List ℕ} {v : Value} {X : Cells} (w : Given a lens s Any sc cells (cells .count + 2) top sh μ σ v X)
-            → Answers S D spent left (run l sh (cells .count) (enter y) μ σ (the-whole w .value) (take (cells .count) X)) → Answers S D spent left (run l sh (cells .count) (rebuilt kind y x₁ x₂) μ σ v X)
-        unfolding run rebuild
-        into w k =
-            let o = both p base most (w .written) t in
-            let b = the-whole w in
-            give 42 _ (o .named) (give 42 _ (o .named′) (give 43 _ (b .is) (give-yes 44 _ _ (omega (arith, b .long, o .one .long, o .two .long)) λ _. k)))
+      given-whole : {sh : Sheet} {μ : Env} {σ : List ℕ} {v : Value} {X : Cells} {x₁ x₂ : Value} (g : Given (h .arena) (h .slots) (h .sheet) Any (h .scope) (h .cells) (h .count) (h .count + 2) (h .top) sh μ σ v X)
+          (t : PartsAt (h .arena) (h .top) start first second x₁ x₂)
+          → Given (h .arena) (h .slots) (h .sheet) (Shown rebuiltView) (h .scope) (h .cells) (h .count) (h .count) (h .top) sh μ σ (the-whole (g .written) t .value) (take (h .count) X)
+      given-whole g t = given-after g (frame-refl _ _) (written-less (g .written)) (built (g .written) t)
 
-        pub rebuilt-refused : {c spent : ℕ} → r₂ ≡ Refused c → Gives a a₂ lens lens₂ s Any sc cells (cells .count + 2) top left spent (Refused c) l (rebuilt kind y x₁ x₂)
-        rebuilt-refused d = record {
-          frame = g .frame;
-          long = g .long;
-          told = λ w. into w (last-refused (not-did g (given-whole w) d .1) (record { is = refl }));
-        }
+      pub rebuilt-asks : PutAsks h (Shown rebuiltView) (enter y)
+      rebuilt-asks = ready-for (w .asked) (w .asked .known .0) (given-whole (w .asked .given) (w .parts .parts)) refl (le-refl _) (le-refl _) (le-refl _) (w .asked .room)
 
-        pub rebuilt-done : {i spent : ℕ} → r₂ ≡ Done i → Gives a a₂ lens lens₂ s Any sc cells (cells .count + 2) top left spent (Done (spent + i)) l (rebuilt kind y x₁ x₂)
-        rebuilt-done {i} {spent} d = record {
-          frame = g .frame;
-          long = g .long;
-          told = λ w. let z = did g (given-whole w) d in into w (last-done (spent + i) (z .is) refl (record { is = refl; written = z .written }));
-        }
-
--- where the values stand, for the code's indices
-pub rebuilt-places : {s starts a lens : List ℕ} {sc : Scope} {cells : Owners} {top levels left start first second : ℕ} {T : Task} {f r : Span}
-    → Ready s starts a lens Any sc cells (cells .count + 2) top levels left T → SomeSpans a top start first second → Placed lens (cells .count) start first second f r
-    → (f .start + f .len ≤ 65536) × (r .start + r .len ≤ 65536) × (f .len ≤ 256) × (r .len ≤ 256) × (1 ≤ r .len)
-rebuilt-places w t p =
-    let o = both p (w .base) (omega (arith, w .room)) (w .given .written) (t .spans) in
-    let one = o .one in
-    let two = o .two in
-    (one .inside, two .inside, omega (arith, one .long, one .readable .fits), omega (arith, two .long, two .readable .fits), stands-some two)
-
--- how long the view is
-pub rebuilt-count : (kind : ℕ) {s starts a lens bytes : List ℕ} {sc : Scope} {cells : Owners} {top levels left start first second : ℕ} {T : Task} {f r : Span}
-    → Ready s starts a lens Any sc cells (cells .count + 2) top levels left T → SomeSpans a top start first second → Placed lens (cells .count) start first second f r → 1 + f .len + r .len ≤ 256
-    → bytes ≡ rebuiltBytes a kind (f .start) (f .len) (r .start) (r .len) → 1 + f .len + r .len ≡ length (take (1 + f .len + r .len) bytes)
-rebuilt-count kind {a = a} {f = f} {r = r} w t p le e =
-    let o = both p (w .base) (omega (arith, w .room)) (w .given .written) (t .spans) in
-    built-long a kind f r _ _ (o .one) (o .two) (w .long) le ∙ ap (λ (l : List ℕ). length (take (1 + f .len + r .len) l)) (sym e)
+      pub rebuilt-told : {a slots : List ℕ} {q : ℕ} → PutTold h (Shown rebuiltView) a slots q (enter y) → RebuiltTold h k y start first second a slots q
+      unfolding run rebuild
+      rebuilt-told p x₁ x₂ t = record {
+        frame = p .frame;
+        long = p .long;
+        told = λ g.
+            let o = both-of (g .written) t in
+            let b = the-whole (g .written) t in
+            give 42 _ (o .named) (give 42 _ (o .named′) (give 43 _ (b .is) (give-yes 44 _ _ (omega (arith, b .long, o .one .long, o .two .long)) λ _. p .told (given-whole g t))));
+      }

@@ -1,187 +1,215 @@
 -- Put into two nodes one after the other, and so into a front and a pair: what each return shows, and what the calls ask.
 use mathlib.Core.Path.{_≡_, refl, sym, ap, ap₂, _∙_}
+use mathlib.Core.Bool.{Bool, true, false, false≢true}
 use mathlib.Core.List.{List}
-use Prim.Native.Nat.{ℕ, suc, _+_, _-_, _*_, _≤_}
+use Prim.Native.Nat.{ℕ, suc, _+_, _-_, _*_, _≤_, _<_}
 use native.Mathlib.Nat.{le-refl}
 use native.Mathlib.Omega.{arith}
-use lib.ListN.{length}
-use Rattle.value.specs.Value.{Value, vfalse, list, pair, cons, encode}
+use lib.ListN.{length, getD}
+use Rattle.answer.specs.Answer.{Said, Refused, said, after, isRefusal, laterAs, stepsOf, said-refused, said-done, later-said, refused-said}
+use Rattle.value.specs.Value.{Value, vfalse, list, pair as aPairOf, cons, encode}
 use Rattle.value.specs.Laws.{Readable, readable-front, readable-pair}
 use Rattle.value.specs.Parts.{shapeOf, firstPart, secondPart}
 use Rattle.value.specs.PartsLaws.{shape, shape-whole, first-of-list, rest-of-list, first-of-pair, second-of-pair}
 use Rattle.value.specs.declared.Shape.{Shape}
-use Rattle.value.specs.declared.Shape.the-variants as is
-use Rattle.sheet.specs.declared.Node.the-variants.{Front, Pair}
+use Rattle.value.specs.declared.Shape.the-variants.{False, True, Empty, Front, Number, Pair, Malformed}
 use Rattle.sheet.specs.Sheet.{Sheet}
+use Rattle.rules.specs.Outcome.{Out, done, refused, given}
+use Rattle.rules.specs.Allowance.{within}
 use Rattle.rules.specs.Text
-use Rattle.rules.specs.Rules.{Env as Values, Cells, putNode, both}
+use Rattle.rules.specs.Rules.{Env, Cells, putNode, put, both}
+use Rattle.step.specs.declared.Apart.{Apart}
+use Rattle.step.specs.declared.Apart.the-variants.{At, Other}
+use Rattle.step.specs.Step.{where-so, apartOf}
 use Rattle.step.specs.declared.Scope.{Scope}
-use Rattle.walk.specs.Taken.{Put, Done, Refused}
-use Rattle.step.specs.declared.Cells.{Cells as Owners}
-use Rattle.walk.specs.Answers.{then-done, then-refused, give, give-none}
+use Rattle.walk.specs.declared.at.At.{At as Where}
+use Rattle.walk.specs.Answers.{then-done, then-refused, answer-by, give, give-none, had, not-had}
 use Rattle.walk.specs.Cells.{Shown}
 use Rattle.walk.specs.Frames.{frame-refl, frame-then}
-use Rattle.walk.specs.Shapes.{FrontOf, PairOf, front-of, no-front, pair-of, no-pair}
-use Rattle.walk.specs.PutRules.{last-done, last-refused, did, not-did, given-after}
-use Rattle.walk.specs.Puts.{Task, enter, body, pair as Two, run, Known, Given, Ready, Gives, SomeView}
-
--- the same things ready for another task
-pub ready-for : {s starts b a lens lens′ : List ℕ} {P Q : Value → Type 0} {sc : Scope} {cells : Owners} {m m′ top top′ levels levels′ left left′ : ℕ} {t t′ : Task}
-    {u : Value} {X : Cells} (w : Ready s starts b lens P sc cells m top levels left t) → Known (w .lent .sh) t′
-    → Given a lens′ s Q sc cells m′ top′ (w .lent .sh) (w .env) (w .names) u X → length a ≡ length b
-    → left′ ≤ left → levels′ ≤ levels → top ≤ top′ → top′ + 513 * levels′ ≤ 65536 → Ready s starts a lens′ Q sc cells m′ top′ levels′ left′ t′
-ready-for w k g l h p q z = record {
-  long = l ∙ w .long;
-  few = omega (arith, w .few);
-  base = omega (arith, w .base);
-  room = z;
-  slots = omega (arith, w .slots);
-  more-cells = omega (arith, w .more-cells);
-  lent = w .lent;
-  known = k;
-  env = w .env;
-  names = w .names;
-  value = _;
-  cells-now = _;
-  given = g;
-}
-
--- the same with another view
-pub given-shown : {b lens s : List ℕ} {P Q : Value → Type 0} {sc : Scope} {cells : Owners} {m top : ℕ} {sh : Sheet} {μ : Values} {σ : List ℕ} {v u : Value} {W : Cells}
-    → Given b lens s P sc cells m top sh μ σ v W → Q u → Given b lens s Q sc cells m top sh μ σ u W
-given-shown w q = record { read = w .read; scoped = w .scoped; named = w .named; as-many = w .as-many; written = w .written; shown = q }
+use Rattle.walk.specs.Shapes.{front-of, no-front, pair-of, no-pair}
+use Rattle.walk.specs.GetTwo.{Two, aFront, aTwo}
+use Rattle.walk.specs.Puts.{Task, enter, own, pair, run, Known, Given, Ready, Gives, Few, SomeView, PutHere, put-further, PutAsked, PutAsks, PutTold, PutTells}
+use Rattle.walk.specs.PutReady.{ready-for, given-after, given-shown}
 
 -- ONE AFTER THE OTHER
 
-pub both-ready₁ : {s starts b lens : List ℕ} {P : Value → Type 0} {sc : Scope} {cells : Owners} {m top levels left total x y : ℕ} {u : Value}
-    → Ready s starts b lens P sc cells m top levels total (Two x y u) → left ≤ total → Ready s starts b lens P sc cells m top levels left (enter x)
-both-ready₁ w h = ready-for w (w .known .0) (w .given) refl h (le-refl _) (le-refl _) (w .room)
+-- where the second put is made
+abbrev pub after-here : PutHere → (a slots : List ℕ) → ℕ → PutHere
+after-here h a slots r = put-further h a slots (h .top) (h .left - stepsOf r)
 
-module _ {b a₁ lens lens₁ s : List ℕ} {P : Value → Type 0} {sc : Scope} {cells : Owners} {top left : ℕ} {r₁ : Put} {l x : ℕ}
-    (g₁ : Gives b a₁ lens lens₁ s P sc cells (cells .count) top left 0 r₁ l (enter x)) where
-  pub both-refused₁ : {y c spent : ℕ} {u : Value} → r₁ ≡ Refused c → Gives b a₁ lens lens₁ s P sc cells (cells .count) top left spent (Refused c) l (Two x y u)
-  unfolding run Text.both
-  both-refused₁ e = record { frame = g₁ .frame; long = g₁ .long; told = λ w. then-refused _ _ (not-did g₁ w e .1) (record { is = refl }) }
+module _ {h : PutHere} {P : Value → Type 0} {x y : ℕ} {u₀ : Value} (w : PutAsks h P (pair x y u₀)) where
+  pub both-asks₁ : PutAsks h P (enter x)
+  both-asks₁ = ready-for w (w .known .0) (w .given) refl (le-refl _) (le-refl _) (le-refl _) (w .room)
 
-  module _ {k : ℕ} (e₁ : r₁ ≡ Done k) where
-    pub both-ready₂ : {starts other : List ℕ} {y total : ℕ} {u : Value} → Ready s starts b lens P sc cells (cells .count) top l total (Two x y u) → left ≤ total → SomeView other
-        → Ready s starts a₁ lens₁ (Shown other) sc cells (cells .count) top l (left - k) (enter y)
-    unfolding run
-    both-ready₂ w h q =
-        ready-for w (w .known .1) (given-after (w .given) (g₁ .frame) (did g₁ (w .given) e₁ .written) (q .shown)) (g₁ .frame .long) (omega arith) (le-refl _) (le-refl _) (w .room)
+  module _ {a₁ slots₁ : List ℕ} {r₁ : ℕ} (g₁ : PutTold h P a₁ slots₁ r₁ (enter x)) where
+    pub both-refused : isRefusal r₁ ≡ true → (u : Value) → PutTold h P a₁ slots₁ r₁ (pair x y u)
+    unfolding run Text.both
+    both-refused e u = let d = said-refused r₁ e in record { frame = g₁ .frame; long = g₁ .long; told = λ w. then-refused _ _ (not-had (g₁ .told w) d .1) d }
 
-    module _ (base : 32256 ≤ top) {a₂ lens₂ : List ℕ} {Q : Value → Type 0} {r₂ : Put} {y : ℕ}
-        (g₂ : Gives a₁ a₂ lens₁ lens₂ s Q sc cells (cells .count) top (left - k) 0 r₂ l (enter y)) {u : Value} (q : Q u) where
-      pub both-refused₂ : {c spent : ℕ} → r₂ ≡ Refused c → Gives b a₂ lens lens₂ s P sc cells (cells .count) top left spent (Refused c) l (Two x y u)
-      unfolding run Text.both
-      both-refused₂ e = record {
-        frame = frame-then (g₁ .frame) (g₂ .frame) base (le-refl top);
-        long = g₂ .long ∙ g₁ .long;
-        told = λ w. let d = did g₁ w e₁ in then-done _ _ (d .is) (last-refused (not-did g₂ (given-after w (g₁ .frame) (d .written) q) e .1) (record { is = refl }));
-      }
+    module _ (e₁ : isRefusal r₁ ≡ false) where
+      pub both-asks₂ : {other : List ℕ} → SomeView other → PutAsks (after-here h a₁ slots₁ r₁) (Shown other) (enter y)
+      both-asks₂ q =
+          ready-for w (w .known .1) (given-after (w .given) (g₁ .frame) (had (g₁ .told (w .given)) (said-done r₁ e₁) .that .written) (q .shown)) (g₁ .frame .long)
+          (omega arith) (le-refl _) (le-refl _) (w .room)
 
-      pub both-done : {j spent : ℕ} → r₂ ≡ Done j → Gives b a₂ lens lens₂ s P sc cells (cells .count) top left spent (Done (spent + k + j)) l (Two x y u)
-      unfolding run Text.both
-      both-done {j} {spent} e = record {
-        frame = frame-then (g₁ .frame) (g₂ .frame) base (le-refl top);
-        long = g₂ .long ∙ g₁ .long;
-        told = λ w.
-            let d = did g₁ w e₁ in
-            let d′ = did g₂ (given-after w (g₁ .frame) (d .written) q) e in
-            then-done _ _ (d .is) (last-done (spent + k + j) (d′ .is) refl (record { is = refl; written = d′ .written }));
-      }
+      module _ {Q : Value → Type 0} {a₂ slots₂ : List ℕ} {r₂ r : ℕ} (few₁ : Few (h .left) r₁) (few₂ : Few (h .left - stepsOf r₁) r₂) (g₂ : PutTold (after-here h a₁ slots₁ r₁) Q a₂ slots₂ r₂ (enter y)) where
+        later-is : r ≡ laterAs r₂ (stepsOf r₁) → said r ≡ after (stepsOf r₁) (said r₂)
+        later-is e = ap said e ∙ later-said r₂ (stepsOf r₁) (λ n. let y = few₂ .at n in let x = few₁ .at e₁ in omega (arith, w .few))
+
+        pub both-told : r ≡ laterAs r₂ (stepsOf r₁) → (u : Value) → Q u → PutTold h P a₂ slots₂ r (pair x y u)
+        unfolding run Text.both
+        both-told e u q = record {
+          frame = frame-then (g₁ .frame) (g₂ .frame) (w .base) (le-refl _);
+          long = g₂ .long ∙ g₁ .long;
+          told = λ w.
+              let d = had (g₁ .told w) (said-done r₁ e₁) in
+              then-done _ _ (d .is) (g₂ .told (given-after w (g₁ .frame) (d .that .written) q)) (later-is e);
+        }
+
+-- the same at a place and for nodes by other names
+module _ {at at′ : Where} {x x′ y y′ : ℕ} (e : at ≡ at′) (f : x ≡ x′) (g : y ≡ y′) where
+  pub pair-ready : {s table a slots cells : List ℕ} {P : Value → Type 0} {sc : Scope} {u : Value} → Ready s table a slots P sc cells (at′ .cells) (at′ .cells) (at′ .top) (at′ .levels) (at′ .left) (pair x′ y′ u)
+      → Ready s table a slots P sc cells (at .cells) (at .cells) (at .top) (at .levels) (at .left) (pair x y u)
+  pair-ready w = rw (e, f, g) w
+
+  pub pair-told : {b a slots slots′ s cells : List ℕ} {P Q : Value → Type 0} {sc : Scope} {r : ℕ}
+      → ((u : Value) → Q u → Gives b a slots slots′ s P sc cells (at .cells) (at .cells) (at .top) (at .left) r (at .levels) (pair x y u))
+      → (u : Value) → Q u → Gives b a slots slots′ s P sc cells (at′ .cells) (at′ .cells) (at′ .top) (at′ .left) r (at′ .levels) (pair x′ y′ u)
+  pair-told w = rw (e, f, g) at w
 
 -- A VIEW TAKEN APART
 
 pub shown-shape : {view : List ℕ} {v : Value} {q : Shape} → Shown view v → q ≡ shapeOf view → q ≡ shape v
 shown-shape h e = e ∙ ap shapeOf (h .bytes) ∙ shape-whole (h .readable)
 
--- the two parts of a view of the value v, which starts its second part at `mid`
-record Front2 (left right : List ℕ) (mid : ℕ) (v : Value) : Type 0 where
-  of : FrontOf v mid
-  one : Shown left (of .first)
-  two : Shown right (list (of .rest))
+unfoldable there : Apart → Bool
+there (At mid) = true
+there Other = false
 
-record Pair2 (left right : List ℕ) (mid : ℕ) (v : Value) : Type 0 where
-  of : PairOf v mid
-  one : Shown left (of .first)
-  two : Shown right (of .second)
+front-apart : (q : Shape) {mid : ℕ} → At mid ≡ apartOf 0x15 q → Front mid ≡ q
+unfolding apartOf where-so there
+front-apart (Front m) e = ap (λ (x : Apart). elim x [ At i ↦ Front i | Other ↦ False ]) e
+front-apart (Pair m) e = absurd (false≢true (sym (ap there e)))
+front-apart False e = absurd (false≢true (sym (ap there e)))
+front-apart True e = absurd (false≢true (sym (ap there e)))
+front-apart Empty e = absurd (false≢true (sym (ap there e)))
+front-apart (Number n) e = absurd (false≢true (sym (ap there e)))
+front-apart Malformed e = absurd (false≢true (sym (ap there e)))
 
-module _ {view p₁ p₂ : List ℕ} {q : Shape} {mid : ℕ} (e : q ≡ shapeOf view) (e₁ : p₁ ≡ firstPart view mid) (e₂ : p₂ ≡ secondPart view mid) where
-  front-parts : {v : Value} → q ≡ is.Front mid → Shown view v → Front2 p₁ p₂ mid v
-  front-parts {v} k h =
-      let o = front-of v (sym k ∙ shown-shape h e) in
+pair-apart : (q : Shape) {mid : ℕ} → At mid ≡ apartOf 0x16 q → Pair mid ≡ q
+unfolding apartOf where-so there
+pair-apart (Pair m) e = ap (λ (x : Apart). elim x [ At i ↦ Pair i | Other ↦ False ]) e
+pair-apart (Front m) e = absurd (false≢true (sym (ap there e)))
+pair-apart False e = absurd (false≢true (sym (ap there e)))
+pair-apart True e = absurd (false≢true (sym (ap there e)))
+pair-apart Empty e = absurd (false≢true (sym (ap there e)))
+pair-apart (Number n) e = absurd (false≢true (sym (ap there e)))
+pair-apart Malformed e = absurd (false≢true (sym (ap there e)))
+
+-- the two parts of a view of v, and the rule for them
+record ViewParts (k : ℕ) (s : List ℕ) (n : ℕ) (left right : List ℕ) (v : Value) : Type 0 where
+  f : Value
+  r : Value
+  one : Shown left f
+  two : Shown right r
+  rule : (l : ℕ) (sh : Sheet) (c : ℕ) (μ : Env) (σ : List ℕ) (W : Cells) → run l sh c (own k s n) μ σ v W ≡ both (put l sh) μ σ W (getD s (n + 1) 0) f (getD s (n + 2) 0) r
+
+module _ {n mid : ℕ} {s view left right : List ℕ} {q : Shape} {v : Value} (e : q ≡ shapeOf view) (e₁ : left ≡ firstPart view mid) (e₂ : right ≡ secondPart view mid) (h : Shown view v) where
+  front-parts : Front mid ≡ q → ViewParts 0x15 s n left right v
+  unfolding run Text.putNode given
+  front-parts i =
+      let o = front-of v (i ∙ shown-shape h e) in
       let z : view ≡ encode (list (cons (o .first) (o .rest))) = h .bytes ∙ ap encode (o .whole) in
       let r : Readable (list (cons (o .first) (o .rest))) = rw (o .whole) at (h .readable) in
       record {
-        of = o;
+        f = o .first;
+        r = list (o .rest);
         one = record { bytes = e₁ ∙ ap₂ firstPart z (o .at) ∙ first-of-list (o .first) (o .rest); readable = readable-front r .0 };
         two = record { bytes = e₂ ∙ ap₂ secondPart z (o .at) ∙ rest-of-list (o .first) (o .rest); readable = readable-front r .1 };
+        rule = λ l sh c μ σ W. rw (o .seen);
       }
 
-  pair-parts : {v : Value} → q ≡ is.Pair mid → Shown view v → Pair2 p₁ p₂ mid v
-  pair-parts {v} k h =
-      let o = pair-of v (sym k ∙ shown-shape h e) in
-      let z : view ≡ encode (pair (o .first) (o .second)) = h .bytes ∙ ap encode (o .whole) in
-      let r : Readable (pair (o .first) (o .second)) = rw (o .whole) at (h .readable) in
+  pair-parts : Pair mid ≡ q → ViewParts 0x16 s n left right v
+  unfolding run Text.putNode given
+  pair-parts i =
+      let o = pair-of v (i ∙ shown-shape h e) in
+      let z : view ≡ encode (aPairOf (o .first) (o .second)) = h .bytes ∙ ap encode (o .whole) in
+      let r : Readable (aPairOf (o .first) (o .second)) = rw (o .whole) at (h .readable) in
       record {
-        of = o;
+        f = o .first;
+        r = o .second;
         one = record { bytes = e₁ ∙ ap₂ firstPart z (o .at) ∙ first-of-pair (o .first) (o .second); readable = readable-pair r .0 };
         two = record { bytes = e₂ ∙ ap₂ secondPart z (o .at) ∙ second-of-pair (o .first) (o .second); readable = readable-pair r .1 };
+        rule = λ l sh c μ σ W. rw (o .seen);
       }
 
-module _ {b lens s view : List ℕ} {sc : Scope} {cells : Owners} {top left l x y : ℕ} {q : Shape} (e : q ≡ shapeOf view) where
-  pub front-51 : ((mid : ℕ) → q ≡ is.Front mid → ⊥) → Gives b b lens lens s (Shown view) sc cells (cells .count) top left 1 (Refused 51) l (body (Front x y))
-  unfolding run Text.putNode
-  front-51 n = record {
-    frame = frame-refl top b;
-    long = refl;
-    told = λ {v = v} w. give-none 51 _ (no-front v (λ mid k. n mid (shown-shape (w .shown) e ∙ sym k))) (record { is = refl });
-  }
+-- AT A STAGE: the view was taken apart
+pub record TakenApart (h : PutHere) (view : List ℕ) (k n mid : ℕ) (left right : List ℕ) : Type 0 where
+  pub asked : PutAsked h (Shown view) k n
+  pub two : Two k
+  pub apart : At mid ≡ apartOf k (shapeOf view)
+  pub first : left ≡ firstPart view mid
+  pub second : right ≡ secondPart view mid
 
-  pub pair-51 : ((mid : ℕ) → q ≡ is.Pair mid → ⊥) → Gives b b lens lens s (Shown view) sc cells (cells .count) top left 1 (Refused 51) l (body (Pair x y))
-  unfolding run Text.putNode
-  pair-51 n = record {
-    frame = frame-refl top b;
-    long = refl;
-    told = λ {v = v} w. give-none 51 _ (no-pair v (λ mid k. n mid (shown-shape (w .shown) e ∙ sym k))) (record { is = refl });
-  }
+module _ {h : PutHere} {view left right : List ℕ} {k n mid : ℕ} (w : TakenApart h view k n mid left right) where
+  parts : {v : Value} → Shown view v → ViewParts k (h .sheet) n left right v
+  parts {v} s = go (w .two)
+    where
+      go : Two k → ViewParts k (h .sheet) n left right v
+      go (aFront e) = rw e (front-parts refl (w .first) (w .second) s (front-apart _ (rw e at (w .apart))))
+      go (aTwo e) = rw e (pair-parts refl (w .first) (w .second) s (pair-apart _ (rw e at (w .apart))))
 
-module _ {starts b lens s view p₁ p₂ : List ℕ} {sc : Scope} {cells : Owners} {top levels left x y mid : ℕ} {q : Shape}
-    (e : q ≡ shapeOf view) (e₁ : p₁ ≡ firstPart view mid) (e₂ : p₂ ≡ secondPart view mid) where
-  pub front-ready : (w : Ready s starts b lens (Shown view) sc cells (cells .count) top (suc levels) (suc left) (body (Front x y))) → q ≡ is.Front mid
-      → Ready s starts b lens (Shown p₁) sc cells (cells .count) top levels (1 + left) (Two x y vfalse) × SomeView p₂
-  front-ready w k =
-      let o = front-parts e e₁ e₂ k (w .given .shown) in
-      let z : top + 513 * suc levels ≤ 65536 = w .room in
-      (ready-for w (w .known .1 .0 .inside, w .known .1 .1 .0 .inside) (given-shown (w .given) (o .one)) refl (omega arith) (omega arith) (le-refl _) (omega arith), record { value = _; shown = o .two })
+  children : (getD (h .sheet) (n + 1) 0 < length (w .asked .sheet .sh .nodes)) × (getD (h .sheet) (n + 2) 0 < length (w .asked .sheet .sh .nodes))
+  children = go (w .two)
+    where
+      go : Two k → (getD (h .sheet) (n + 1) 0 < length (w .asked .sheet .sh .nodes)) × (getD (h .sheet) (n + 2) 0 < length (w .asked .sheet .sh .nodes))
+      go (aFront e) = let r = rw e at (w .asked .known .1) in (r .0 .inside, r .1 .0 .inside)
+      go (aTwo e) = let r = rw e at (w .asked .known .1) in (r .0 .inside, r .1 .0 .inside)
 
-  pub pair-ready : (w : Ready s starts b lens (Shown view) sc cells (cells .count) top (suc levels) (suc left) (body (Pair x y))) → q ≡ is.Pair mid
-      → Ready s starts b lens (Shown p₁) sc cells (cells .count) top levels (1 + left) (Two x y vfalse) × SomeView p₂
-  pair-ready w k =
-      let o = pair-parts e e₁ e₂ k (w .given .shown) in
-      let z : top + 513 * suc levels ≤ 65536 = w .room in
-      (ready-for w (w .known .1 .0 .inside, w .known .1 .1 .0 .inside) (given-shown (w .given) (o .one)) refl (omega arith) (omega arith) (le-refl _) (omega arith), record { value = _; shown = o .two })
+  -- what is asked of its two parts, one after the other
+  pub two-asks : PutAsks h (Shown left) (pair (getD (h .sheet) (n + 1) 0) (getD (h .sheet) (n + 2) 0) vfalse)
+  two-asks =
+      let z : h .top + 513 * suc (h .levels) ≤ 65536 = w .asked .room in
+      ready-for (w .asked) children (given-shown (w .asked .given) (parts (w .asked .given .shown) .one)) refl (omega arith) (omega arith) (le-refl _) (omega arith)
 
-  module _ {a lens′ : List ℕ} {r : Put} (g : (u : Value) → Shown p₂ u → Gives b a lens lens′ s (Shown p₁) sc cells (cells .count) top left 1 r levels (Two x y u)) where
-    pub front-both : Ready s starts b lens (Shown view) sc cells (cells .count) top (suc levels) (suc left) (body (Front x y)) → q ≡ is.Front mid
-        → Gives b a lens lens′ s (Shown view) sc cells (cells .count) top left 1 r levels (body (Front x y))
-    unfolding run Text.putNode
-    front-both w₀ k =
-        let o₀ = front-parts e e₁ e₂ k (w₀ .given .shown) in
-        record {
-          frame = g _ (o₀ .two) .frame;
-          long = g _ (o₀ .two) .long;
-          told = λ w. let o = front-parts e e₁ e₂ k (w .shown) in give 51 _ (o .of .seen) (g _ (o .two) .told (given-shown w (o .one)));
-        }
+  pub right-view : SomeView right
+  right-view = record { value = _; shown = parts (w .asked .given .shown) .two }
 
-    pub pair-both : Ready s starts b lens (Shown view) sc cells (cells .count) top (suc levels) (suc left) (body (Pair x y)) → q ≡ is.Pair mid
-        → Gives b a lens lens′ s (Shown view) sc cells (cells .count) top left 1 r levels (body (Pair x y))
-    unfolding run Text.putNode
-    pair-both w₀ k =
-        let o₀ = pair-parts e e₁ e₂ k (w₀ .given .shown) in
-        record {
-          frame = g _ (o₀ .two) .frame;
-          long = g _ (o₀ .two) .long;
-          told = λ w. let o = pair-parts e e₁ e₂ k (w .shown) in give 51 _ (o .of .seen) (g _ (o .two) .told (given-shown w (o .one)));
-        }
+  pub two-told : {a slots : List ℕ} {r : ℕ} → ((u : Value) → Shown right u → PutTold h (Shown left) a slots r (pair (getD (h .sheet) (n + 1) 0) (getD (h .sheet) (n + 2) 0) u))
+      → PutTells h (Shown view) a slots r k n
+  unfolding run
+  two-told g =
+      let g₀ = g _ (parts (w .asked .given .shown) .two) in
+      record {
+        frame = g₀ .frame;
+        long = g₀ .long;
+        told = λ {sh} {μ} {σ} {v} {W} m.
+            let o = parts (m .shown) in
+            answer-by (g _ (o .two) .told (given-shown m (o .one))) (o .rule (h .levels) sh (h .count) μ σ W);
+      }
+
+-- it could not be
+pub two-51 : {h : PutHere} {view : List ℕ} {k n r : ℕ} → PutAsked h (Shown view) k n → Two k → Other ≡ apartOf k (shapeOf view) → r ≡ 51 → PutTells h (Shown view) (h .arena) (h .slots) r k n
+unfolding run Text.putNode apartOf where-so there
+two-51 {h} {view} {k} {n} {r} w two o is = go two
+  where
+    x : said r ≡ Refused 51
+    x = ap said is ∙ refused-said (omega arith) (omega arith)
+
+    go : Two k → PutTells h (Shown view) (h .arena) (h .slots) r k n
+    go (aFront e) = rw e (record {
+      frame = frame-refl _ _;
+      long = refl;
+      told = λ {v = v} m. give-none 51 _ (no-front v (λ mid i.
+          let q : apartOf 0x15 (shapeOf view) ≡ At mid = ap (apartOf 0x15) (shown-shape (m .shown) refl ∙ sym i) in
+          let z = rw e at o in
+          false≢true (ap there (z ∙ q)))) x;
+    })
+    go (aTwo e) = rw e (record {
+      frame = frame-refl _ _;
+      long = refl;
+      told = λ {v = v} m. give-none 51 _ (no-pair v (λ mid i.
+          let q : apartOf 0x16 (shapeOf view) ≡ At mid = ap (apartOf 0x16) (shown-shape (m .shown) refl ∙ sym i) in
+          let z = rw e at o in
+          false≢true (ap there (z ∙ q)))) x;
+    })

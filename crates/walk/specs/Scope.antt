@@ -1,7 +1,7 @@
--- The scope as the code has it.
+-- Scopes as the code has them: where each variable's value starts, and one less than its length.
 use mathlib.Core.Path.{_≡_, refl, _∙_}
 use mathlib.Core.List.{List}
-use Prim.Native.Nat.{ℕ, _+_, _<_}
+use Prim.Native.Nat.{ℕ, _+_, _-_, _≤_, _<_}
 use native.Mathlib.Decide.{decLt}
 use native.Mathlib.Omega.{arith}
 use lib.ListN.{length, getD, set, replicate, length-set}
@@ -13,7 +13,26 @@ noVariable = record { count = 0; starts = replicate 110 0; lens = replicate 110 
 
 -- one variable more
 abbrev pub pushed : Scope → ℕ → ℕ → Scope
-pushed s start len = record { count = s .count + 1; starts = set (s .starts) (s .count) start; lens = set (s .lens) (s .count) len }
+pushed s start len = record { count = s .count + 1; starts = set (s .starts) (s .count) start; lens = set (s .lens) (s .count) (len - 1) }
+
+-- two more, whose values stand one after the other
+abbrev pub withTwo : Scope → (start first second : ℕ) → Scope
+withTwo s start first second = record {
+  count = s .count + 2;
+  starts = set (set (s .starts) (s .count) start) (s .count + 1) (start + first);
+  lens = set (set (s .lens) (s .count) (first - 1)) (s .count + 1) (second - 1);
+}
+
+pub two-pushed : (s : Scope) (start first second : ℕ) → withTwo s start first second ≡ pushed (pushed s start first) (start + first) second
+two-pushed s start first second = let z : s .count + 2 ≡ s .count + 1 + 1 = omega arith in rw z
+
+-- two values that a scope can store
+pub record Stored (start first second : ℕ) : Type 0 where
+  pub inside : start + first < 65536
+  pub some : 1 ≤ first
+  pub short : first ≤ 256
+  pub some′ : 1 ≤ second
+  pub short′ : second ≤ 256
 
 -- the k variables of a plan
 pub record Spanned (k : ℕ) (ss ls : List ℕ) (s : Scope) : Type 0 where
@@ -21,19 +40,23 @@ pub record Spanned (k : ℕ) (ss ls : List ℕ) (s : Scope) : Type 0 where
   pub starts-long : length (s .starts) ≡ 110
   pub lens-long : length (s .lens) ≡ 110
   pub start : (i : ℕ) → i < k → getD (s .starts) i 0 ≡ getD ss i 0
-  pub len : (i : ℕ) → i < k → getD (s .lens) i 0 ≡ getD ls i 0
+  pub len : (i : ℕ) → i < k → 1 ≤ getD ls i 0 → getD ls i 0 ≤ 256 → getD (s .lens) i 0 + 1 ≡ getD ls i 0
 
 -- i of them are copied
-pub record Spanning (i : ℕ) (ss xs : List ℕ) : Type 0 where
+pub record Spanning (i : ℕ) (P : ℕ → ℕ → Type 0) (xs : List ℕ) : Type 0 where
   pub long : length xs ≡ 110
-  pub same : (j : ℕ) → j < i → getD xs j 0 ≡ getD ss j 0
+  pub each : (j : ℕ) → j < i → P j (getD xs j 0)
 
-pub spanning-none : (ss : List ℕ) → Spanning 0 ss (replicate 110 0)
-spanning-none ss = record { long = refl; same = λ j h. absurd (omega arith) }
+pub spanning-none : {P : ℕ → ℕ → Type 0} → Spanning 0 P (replicate 110 0)
+spanning-none = record { long = refl; each = λ j h. absurd (omega arith) }
 
-pub spanning-more : {i : ℕ} {ss xs : List ℕ} → i < 110 → Spanning i ss xs → Spanning (i + 1) ss (set xs i (getD ss i 0))
-spanning-more {i} {ss} {xs} h m = record { long = length-set xs i (getD ss i 0) ∙ m .long; same = λ j lt. go j lt (decLt j i) }
+pub spanning-more : {i x : ℕ} {P : ℕ → ℕ → Type 0} {xs : List ℕ} → i < 110 → Spanning i P xs → P i x → Spanning (i + 1) P (set xs i x)
+spanning-more {i} {x} {P} {xs} h m p = record { long = length-set xs i x ∙ m .long; each = λ j lt. go j lt (decLt j i) }
   where
-    go : (j : ℕ) → j < i + 1 → Dec (j < i) → getD (set xs i (getD ss i 0)) j 0 ≡ getD ss j 0
-    go j lt (yes y) = getD-set-other xs i j (getD ss i 0) 0 (λ e. omega arith) ∙ m .same j y
-    go j lt (no n) = let e : j ≡ i = omega arith in rw e (getD-set-same xs i (getD ss i 0) 0 (omega (arith, m .long)))
+    go : (j : ℕ) → j < i + 1 → Dec (j < i) → P j (getD (set xs i x) j 0)
+    go j lt (yes y) = rw (getD-set-other xs i j x 0 (λ e. omega arith)) (m .each j y)
+    go j lt (no n) = let e : j ≡ i = omega arith in rw (e, getD-set-same xs i x 0 (omega (arith, m .long))) p
+
+-- by another start and length
+pub stored-as : (mid : ℕ) {start start′ len len′ : ℕ} → start ≡ start′ → len ≡ len′ → Stored (start′ + 1) (mid - 1) (len′ - mid) → Stored (start + 1) (mid - 1) (len - mid)
+stored-as mid e f s = rw (e, f) s

@@ -1,6 +1,6 @@
 -- What the bytes of a value that stands in the arena tell of it: its kind byte, its shape, its two parts, the tests.
 use mathlib.Core.Path.{_≡_, refl, sym, ap, _∙_}
-use mathlib.Core.Bool.{Bool}
+use mathlib.Core.Bool.{true, false, false≢true}
 use mathlib.Core.Option.{Option, none, some}
 use mathlib.Core.List.{List, [], _∷_, _++_}
 use Prim.Native.Nat.{ℕ, zero, suc, _+_, _-_, _≤_, _<_}
@@ -15,7 +15,7 @@ use Rattle.value.specs.Laws.{Readable, readable-front, readable-pair}
 use Rattle.value.specs.Parts.{shapeOf, passesBytes}
 use Rattle.value.specs.PartsLaws.{shape, shape-whole, passes-whole}
 use Rattle.value.specs.declared.Shape.{Shape}
-use Rattle.value.specs.declared.Shape.the-variants as shapes
+use Rattle.step.specs.Step.{unfitRest}
 use Rattle.walk.specs.Parts.{part, part-split}
 use Rattle.walk.specs.Arena.{Below, below-part, Held}
 
@@ -29,27 +29,6 @@ module _ {A : Type 0} where
   elem-none [] i h = refl
   elem-none (a ∷ l) zero h = absurd (omega arith)
   elem-none (a ∷ l) (suc i) h = elem-none l i (omega arith)
-
--- a value and its shape; a second part starts behind the kind byte and the first part
-pub data Shaped : Value → Shape → Type 0 where
-  isFalse : Shaped vfalse shapes.False
-  isTrue : Shaped vtrue shapes.True
-  isEmpty : Shaped (list nil) shapes.Empty
-  isFront : {f : Value} {r : Values} {mid : ℕ} → mid ≡ 1 + size f → Shaped (list (cons f r)) (shapes.Front mid)
-  isNumber : {n : ℕ} → Shaped (number n) (shapes.Number n)
-  isPair : {x y : Value} {mid : ℕ} → mid ≡ 1 + size x → Shaped (pair x y) (shapes.Pair mid)
-
-shaped : (v : Value) {q : Shape} → q ≡ shape v → Shaped v q
-unfolding shape
-shaped vfalse e = rw e isFalse
-shaped vtrue e = rw e isTrue
-shaped (list nil) e = rw e isEmpty
-shaped (list (cons f r)) e = rw e (isFront refl)
-shaped (number n) e = rw e isNumber
-shaped (pair x y) e = rw e (isPair refl)
-
-pub shaped-as : {v : Value} {q q′ : Shape} → Shaped v q → q ≡ q′ → Shaped v q′
-shaped-as s e = rw e at s
 
 -- the value v, from `start`
 module _ {a : List ℕ} {top start len : ℕ} {v : Value} (h : Held a top start len v) where
@@ -66,15 +45,11 @@ module _ {a : List ℕ} {top start len : ℕ} {v : Value} (h : Held a top start 
       let z : start + 0 ≡ start = omega arith in
       ap (λ (i : ℕ). getD a i 0) (sym z) ∙ sym (getD-drop start a 0 0) ∙ sym (getD-take len (drop start a) 0 0 (omega arith)) ∙ ap (λ (l : List ℕ). getD l 0 0) (h .bytes)
 
-  -- what the bytes from `start` to `start + len` are taken for
-  same-part : part a start (start + len - start) ≡ encode v
-  same-part = let z : start + len - start ≡ len = omega arith in rw z (h .bytes)
+  pub held-shape : {q : Shape} → q ≡ shapeOf (part a start len) → q ≡ shape v
+  held-shape e = e ∙ ap shapeOf (h .bytes) ∙ shape-whole (h .readable)
 
-  pub held-shape : {q : Shape} → q ≡ shapeOf (part a start (start + len - start)) → Shaped v q
-  held-shape e = shaped v (e ∙ ap shapeOf same-part ∙ shape-whole (h .readable))
-
-  pub held-passes : (t : ℕ) {p : Bool} → p ≡ passesBytes t (part a start (start + len - start)) → p ≡ holds t v
-  held-passes t e = e ∙ ap (passesBytes t) same-part ∙ passes-whole t (h .readable)
+  pub held-passes : (t : ℕ) → passesBytes t (part a start len) ≡ holds t v
+  held-passes t = ap (passesBytes t) (h .bytes) ∙ passes-whole t (h .readable)
 
 module _ {A : Value → Type 0} where
   -- a view of a value that is there
@@ -82,28 +57,29 @@ module _ {A : Value → Type 0} where
     pub seen : A v
     pub is : o v ≡ some seen
 
-pub no-list : {a : List ℕ} {top start len : ℕ} {v : Value} → Held a top start len v → (2 ≤ getD a start 0 → getD a start 0 ≤ 3 → ⊥) → asList v ≡ none
-unfolding asList encode encodes
-no-list {a} {start = start} {v = v} h n = go v (held-head h)
+-- whether it is a list, as the code judges it by its kind byte
+pub unfit-no-list : {a : List ℕ} {top start len : ℕ} {v : Value} → Held a top start len v → unfitRest 3 (getD a start 0) ≡ true → asList v ≡ none
+unfolding asList encode encodes unfitRest
+unfit-no-list {v = v} h e = go v (ap (unfitRest 3) (sym (held-head h)) ∙ e)
   where
-    go : (v : Value) → getD a start 0 ≡ getD (encode v) 0 0 → asList v ≡ none
+    go : (v : Value) → unfitRest 3 (getD (encode v) 0 0) ≡ true → asList v ≡ none
     go vfalse e = refl
     go vtrue e = refl
-    go (list nil) e = absurd (n (omega arith) (omega arith))
-    go (list (cons f r)) e = absurd (n (omega arith) (omega arith))
+    go (list nil) e = absurd (false≢true e)
+    go (list (cons f r)) e = absurd (false≢true e)
     go (number k) e = refl
     go (pair x y) e = refl
 
-pub a-list : {a : List ℕ} {top start len : ℕ} {v : Value} → Held a top start len v → 2 ≤ getD a start 0 → getD a start 0 ≤ 3 → View asList v
-unfolding asList encode encodes
-a-list {a} {start = start} {v = v} h n m = go v (held-head h)
+pub fit-list : {a : List ℕ} {top start len : ℕ} {v : Value} → Held a top start len v → unfitRest 3 (getD a start 0) ≡ false → View asList v
+unfolding asList encode encodes unfitRest
+fit-list {v = v} h e = go v (ap (unfitRest 3) (sym (held-head h)) ∙ e)
   where
-    go : (v : Value) → getD a start 0 ≡ getD (encode v) 0 0 → View asList v
-    go vfalse e = absurd (omega arith)
-    go vtrue e = absurd (omega arith)
+    go : (v : Value) → unfitRest 3 (getD (encode v) 0 0) ≡ false → View asList v
+    go vfalse e = absurd (false≢true (sym e))
+    go vtrue e = absurd (false≢true (sym e))
     go (list l) e = record { seen = (l, refl); is = refl }
-    go (number k) e = absurd (omega arith)
-    go (pair x y) e = absurd (omega arith)
+    go (number k) e = absurd (false≢true (sym e))
+    go (pair x y) e = absurd (false≢true (sym e))
 
 parts : (a : List ℕ) (top len k n m : ℕ) (x y : List ℕ) → part a top len ≡ k ∷ (x ++ y) → length x ≡ n → len ≡ 1 + n + m → (part a (top + 1) n ≡ x) × (part a (top + 1 + n) m ≡ y)
 parts a top len k n m x y e l z =

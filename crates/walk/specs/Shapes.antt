@@ -1,16 +1,14 @@
 -- What a value's shape tells of the value: which view of it is there, and where its second part starts.
-use mathlib.Core.Path.{_≡_, refl, ap}
+use mathlib.Core.Path.{_≡_, refl}
 use mathlib.Core.Option.{none, some}
 use Prim.Native.Nat.{ℕ, _+_, _≤_}
 use native.Mathlib.Decide.{decLe}
 use native.Mathlib.Omega.{arith}
 use Rattle.value.specs.Value.{Value, Values, vfalse, vtrue, list, number, pair, nil, cons, size, Encodable, eNumber}
-use Rattle.value.specs.Views.{asList, asFront, asPair, asTruth, asNumber, ifSmall}
+use Rattle.value.specs.Views.{asFront, asPair, asNumber, ifSmall}
 use Rattle.value.specs.Laws.{Readable}
 use Rattle.value.specs.PartsLaws.{shape, which, unlike}
-use Rattle.value.specs.declared.Shape.{Shape}
 use Rattle.value.specs.declared.Shape.the-variants as is
-use Rattle.walk.specs.Seen.{Shaped, isFalse, isTrue, isEmpty, isFront, isNumber, isPair}
 
 -- a list with members
 pub record FrontOf (v : Value) (mid : ℕ) : Type 0 where
@@ -96,17 +94,6 @@ no-number (list l) n = refl
 no-number (number k) n = absurd (n _ refl)
 no-number (pair a b) n = refl
 
--- THE SUBJECT OF A CASE
-
-pub shape-is : {v : Value} {q : Shape} → Shaped v q → q ≡ shape v
-unfolding shape
-shape-is isFalse = refl
-shape-is isTrue = refl
-shape-is isEmpty = refl
-shape-is (isFront e) = ap is.Front e
-shape-is isNumber = refl
-shape-is (isPair e) = ap is.Pair e
-
 pub empty-of : (v : Value) → is.Empty ≡ shape v → v ≡ list nil
 unfolding shape which
 empty-of vfalse e = absurd (unlike (λ z. omega arith) e)
@@ -115,38 +102,3 @@ empty-of (list nil) e = refl
 empty-of (list (cons f r)) e = absurd (unlike (λ z. omega arith) e)
 empty-of (number n) e = absurd (unlike (λ z. omega arith) e)
 empty-of (pair a b) e = absurd (unlike (λ z. omega arith) e)
-
-pub false-of : (v : Value) → is.False ≡ shape v → v ≡ vfalse
-unfolding shape which
-false-of vfalse e = refl
-false-of vtrue e = absurd (unlike (λ z. omega arith) e)
-false-of (list nil) e = absurd (unlike (λ z. omega arith) e)
-false-of (list (cons f r)) e = absurd (unlike (λ z. omega arith) e)
-false-of (number n) e = absurd (unlike (λ z. omega arith) e)
-false-of (pair a b) e = absurd (unlike (λ z. omega arith) e)
-
-pub true-of : (v : Value) → is.True ≡ shape v → v ≡ vtrue
-unfolding shape which
-true-of vfalse e = absurd (unlike (λ z. omega arith) e)
-true-of vtrue e = refl
-true-of (list nil) e = absurd (unlike (λ z. omega arith) e)
-true-of (list (cons f r)) e = absurd (unlike (λ z. omega arith) e)
-true-of (number n) e = absurd (unlike (λ z. omega arith) e)
-true-of (pair a b) e = absurd (unlike (λ z. omega arith) e)
-
-pub no-list : (v : Value) → (is.Empty ≡ shape v → ⊥) → ((mid : ℕ) → is.Front mid ≡ shape v → ⊥) → asList v ≡ none
-unfolding shape asList
-no-list vfalse n m = refl
-no-list vtrue n m = refl
-no-list (list nil) n m = absurd (n refl)
-no-list (list (cons f r)) n m = absurd (m _ refl)
-no-list (number k) n m = refl
-no-list (pair a b) n m = refl
-
-pub no-truth : (v : Value) → (is.False ≡ shape v → ⊥) → (is.True ≡ shape v → ⊥) → asTruth v ≡ none
-unfolding shape asTruth
-no-truth vfalse n m = absurd (n refl)
-no-truth vtrue n m = absurd (m refl)
-no-truth (list l) n m = refl
-no-truth (number k) n m = refl
-no-truth (pair a b) n m = refl

@@ -7,23 +7,26 @@ ghost use Rattle.walk.specs.Entry.{Planned, PlanWalked, WalkCall};
 ghost use Rattle.walk.specs.Gather.{SomePlaced, Gathered};
 ghost use Rattle.walk.specs.PutEntry.{Viewed};
 
-mod answer;
+mod at;
 mod bytes;
+mod cells;
 mod getter;
+mod got;
 mod putter;
 mod scope;
 
-use crate::answer::len_of;
-use crate::answer::steps_of;
-use crate::answer::taken;
+use crate::at::At;
 use crate::bytes::copy;
 use crate::bytes::copy_in;
-use crate::getter::At;
-use crate::getter::bring;
+use crate::cells::first_cells;
 use crate::getter::get_node;
-use crate::putter::first_cells;
+use crate::got::bring;
 use crate::putter::put_node;
 use crate::scope::of_spans;
+use answer::code_of;
+use answer::is_refused;
+use answer::len_of;
+use answer::steps_of;
 use sheet::Table;
 use step::Scope;
 
@@ -47,19 +50,15 @@ fn get_plan(
 {
     copy_in(plan, arena);
     let at = At {
-        levels: 48,
+        levels: rules::LEVELS,
         left: allowance,
         top: 32256,
-        count: scope.count,
         cells: 0,
     };
-    let starts = scope.starts;
-    let lens = scope.lens;
-    let root = table.root;
-    let got = get_node(sheet, &table.starts, arena, &starts, &lens, root, at);
+    let got = get_node(sheet, &table.starts, arena, scope, table.root, at);
     let got = bring(arena, got, 32256);
-    if got < 256 {
-        return Walked::Refused(got as u8);
+    if is_refused(got) {
+        return Walked::Refused(code_of(got));
     }
     Walked::Done {
         len: len_of(got),
@@ -71,10 +70,10 @@ fn get_plan(
 pub fn get(sheet: &[u8], plan: &[u8], allowance: usize, arena: &mut [u8]) -> Walked
     ensures { λ r. ⌜ WalkCall 256 (getBytes (now (sheet .entry)) (now (plan .entry)) allowance) allowance (now (arena .entry)) (now (arena .exit)) r ⌝ }
 {
-    if arena.len() < 65536 {
+    if arena.len() < rules::SCRATCH {
         return Walked::Refused(2);
     }
-    if 1000000 < allowance {
+    if rules::ALLOWANCE < allowance {
         return Walked::Refused(3);
     }
     let table = sheet::read_sheet(sheet);
@@ -86,18 +85,26 @@ pub fn get(sheet: &[u8], plan: &[u8], allowance: usize, arena: &mut [u8]) -> Wal
         return Walked::Refused(spans.refusal);
     }
     let scope = of_spans(table.k, spans);
-    get_plan(sheet, plan, table, scope, allowance, &mut arena[..65536])
+    get_plan(
+        sheet,
+        plan,
+        table,
+        scope,
+        allowance,
+        &mut arena[..rules::SCRATCH],
+    )
 }
 
 // The new plan, from byte 32,256 on: each variable's value, from where it now stands.
-fn gather(arena: &mut [u8], lens: &[u16; 110], scope: Scope) -> usize
-    requires { ⌜ SomePlaced (now arena) (now lens) scope ⌝ }
-    ensures { λ r. ⌜ Gathered (scope .count) (now (lens .entry)) scope (now (arena .entry)) (now (arena .exit)) r ⌝ }
+fn gather(arena: &mut [u8], slots: &[u16; 110], scope: Scope) -> usize
+    requires { ⌜ SomePlaced (now arena) (now slots) scope ⌝ }
+    ensures { λ r. ⌜ Gathered (scope .count) (now (slots .entry)) scope (now (arena .entry)) (now (arena .exit)) r ⌝ }
 {
     let mut len = 0;
     let mut i = 0;
-    while i < scope.count {
-        let from = step::place_of(lens[i], i, scope.starts[i] as usize, scope.lens[i] as usize);
+    while i < scope.count as usize {
+        let stood = step::length_of(scope.lens[i]);
+        let from = step::place_of(slots[i], i, scope.starts[i] as usize, stood);
         copy(arena, from.start, 32256 + len, from.len);
         len += from.len;
         i += 1;
@@ -121,35 +128,32 @@ fn put_plan(
 {
     copy_in(plan, arena);
     let mut slots = [0u16; 110];
-    let starts = scope.starts;
-    let lens = scope.lens;
-    let cells = first_cells(scope.count);
+    let k = scope.count as usize;
+    let cells = first_cells(k);
     let at = At {
-        levels: 48,
+        levels: rules::LEVELS,
         left: allowance,
         top: 32256,
-        count: scope.count,
-        cells: cells.count,
+        cells: k,
     };
     let put = put_node(
         sheet,
         &table.starts,
         arena,
         &mut slots,
-        &starts,
-        &lens,
-        &cells.of,
+        scope,
+        &cells,
         table.root,
         view,
         at,
     );
-    if put < 256 {
-        return Walked::Refused(put as u8);
+    if is_refused(put) {
+        return Walked::Refused(code_of(put));
     }
     let len = gather(arena, &slots, scope);
     Walked::Done {
         len,
-        steps: taken(put),
+        steps: steps_of(put),
     }
 }
 
@@ -157,10 +161,10 @@ fn put_plan(
 pub fn put(sheet: &[u8], plan: &[u8], view: &[u8], allowance: usize, arena: &mut [u8]) -> Walked
     ensures { λ r. ⌜ WalkCall 4096 (putBytes (now (sheet .entry)) (now (plan .entry)) (now (view .entry)) allowance) allowance (now (arena .entry)) (now (arena .exit)) r ⌝ }
 {
-    if arena.len() < 65536 {
+    if arena.len() < rules::SCRATCH {
         return Walked::Refused(2);
     }
-    if 1000000 < allowance {
+    if rules::ALLOWANCE < allowance {
         return Walked::Refused(3);
     }
     let table = sheet::read_sheet(sheet);
@@ -183,6 +187,6 @@ pub fn put(sheet: &[u8], plan: &[u8], view: &[u8], allowance: usize, arena: &mut
         table,
         scope,
         allowance,
-        &mut arena[..65536],
+        &mut arena[..rules::SCRATCH],
     )
 }

@@ -1,19 +1,49 @@
-//! The scope: where the variables' values stand in the arena. A scope is a value of its own, a count and 110 starts and lengths; it is
-//! copied where variables are added, and lent to the functions of the nodes in it.
+//! Scopes, each made whole: the empty one, a plan's, a section's, and a scope with two variables more.
 ghost use mathlib.Core.Path.{_≡_};
-ghost use Prim.Native.Nat.{_+_, _<_, _≤_};
-ghost use Rattle.step.specs.Step.{addedTwo};
-ghost use Rattle.walk.specs.Scope.{Spanned};
+ghost use Prim.Native.Nat.{_+_, _-_, _<_, _≤_};
+ghost use Rattle.step.specs.Step.{picked};
+ghost use Rattle.walk.specs.Scope.{noVariable, withTwo, Stored, Spanned};
 use step::Scope;
 use value::Spans;
 
-/// Two numbers more, from number n on.
-pub fn add_two(numbers: &mut [u16; 110], n: usize, first: usize, second: usize)
-    requires { ⌜ (n + 2 ≤ 110) × (first < 65536) × (second < 65536) ⌝ }
-    ensures { λ _. ⌜ now (numbers .exit) ≡ addedTwo (now (numbers .entry)) n first second ⌝ }
+/// No variable.
+pub fn none() -> Scope
+    ensures { λ r. ⌜ r ≡ noVariable ⌝ }
 {
-    numbers[n] = first as u16;
-    numbers[n + 1] = second as u16;
+    Scope {
+        count: 0,
+        starts: [0u16; 110],
+        lens: [0u8; 110],
+    }
+}
+
+/// The variables x and y alone, a section's.
+pub fn section(scope: Scope, x: usize, y: usize) -> Scope
+    requires { ⌜ (x < 110) × (y < 110) ⌝ }
+    ensures { λ r. ⌜ r ≡ picked scope x y ⌝ }
+{
+    let mut two = scope;
+    two.count = 2;
+    two.starts[0] = scope.starts[x];
+    two.starts[1] = scope.starts[y];
+    two.lens[0] = scope.lens[x];
+    two.lens[1] = scope.lens[y];
+    two
+}
+
+/// Two variables more, whose values stand one after the other.
+pub fn with_two(scope: Scope, start: usize, first: usize, second: usize) -> Scope
+    requires { ⌜ (scope .count + 2 ≤ 110) × Stored start first second ⌝ }
+    ensures { λ r. ⌜ r ≡ withTwo scope start first second ⌝ }
+{
+    let n = scope.count as usize;
+    let mut more = scope;
+    more.count = scope.count + 2;
+    more.starts[n] = start as u16;
+    more.starts[n + 1] = (start + first) as u16;
+    more.lens[n] = (first - 1) as u8;
+    more.lens[n + 1] = (second - 1) as u8;
+    more
 }
 
 /// The k variables of a plan, whose values stand at its spans.
@@ -22,16 +52,26 @@ pub fn of_spans(k: usize, spans: Spans) -> Scope
     ensures { λ r. ⌜ Spanned k (spans .starts) (spans .lens) r ⌝ }
 {
     let mut starts = [0u16; 110];
-    let mut lens = [0u16; 110];
+    let mut lens = [0u8; 110];
     let mut i = 0;
     while i < k {
         starts[i] = spans.starts[i];
-        lens[i] = spans.lens[i];
+        lens[i] = stored(spans.lens[i]);
         i += 1;
     }
     Scope {
-        count: k,
+        count: k as u16,
         starts,
         lens,
     }
+}
+
+// A length as a scope stores it: one less.
+fn stored(len: u16) -> u8
+    ensures { λ r. ⌜ ((1 ≤ len) × (len ≤ 256) → r ≡ len - 1) ⌝ }
+{
+    if len == 0 {
+        return 0;
+    }
+    ((len - 1) % 256) as u8
 }

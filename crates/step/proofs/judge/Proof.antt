@@ -1,17 +1,17 @@
 -- `judge` meets its contract.
+-- Assumes nothing.
+use mathlib.Core.Path.{_∙_}
 use Rattle.step.specs.StepLaws.{judged-yes, judged-no}
 use borrow.Author.Needs.{needs}
 use Rattle.step.proofs.judge.Statement.{statement}
 use Rattle.step.proofs.judge.Tie as tie
 
-same-requires : tie.Need-same-requires
-same-requires c κs = search needs
-
 returns : tie.Need-returns
-returns c = judged-yes _ (c .before .same .ensures) (c .if1 .taken)
+returns c = c .done .ensures ∙ judged-yes _ (c .before .before .same .ensures) (c .before .if1 .taken)
 
 returns-2 : tie.Need-returns-2
-returns-2 c = judged-no _ (c .before .same .ensures) (c .if1 .left)
+returns-2 c = c .refused .ensures ∙ judged-no _ (c .before .before .same .ensures) (c .before .if1 .left)
 
 pub judge-spec : {M : Type 1} → statement M
-judge-spec = tie.close (tie.spec same-requires returns returns-2)
+judge-spec = tie.close (tie.spec
+    (λ c κs. search needs) (λ c κs. search needs) returns (λ c κs. search needs) returns-2)

@@ -1,93 +1,86 @@
 -- `gather` meets its contract. The invariant: the values of i variables are gathered.
 -- Assumes nothing.
-use borrow.Author.Needs.{needs}
-use Prim.Native.Nat.{_≤_, _-_}
+use Prim.Native.Nat.{_≤_, _<_, _-_}
 use native.Mathlib.Omega.{arith}
 use Rattle.walk.specs.Gather.{Gathered, gathered-none, gather-fits, gathered-more, gathered-all}
+use borrow.Author.Needs.{needs}
 use Rattle.walk.proofs.gather.Statement.{statement}
 use Rattle.walk.proofs.gather.Tie as tie
 
 abbrev Inv-loop : tie.InvT-loop
-Inv-loop arena₀ lens scope len₀ i₀ arena len i = (i ≤ scope .count) × Gathered i lens scope arena₀ arena len
+Inv-loop arena₀ slots scope len₀ i₀ arena len i = (i ≤ scope .count) × Gathered i slots scope arena₀ arena len
 
 abbrev μ-loop : tie.MeasureT-loop
-μ-loop arena₀ lens scope len₀ i₀ arena len i = scope .count - i
+μ-loop arena₀ slots scope len₀ i₀ arena len i = scope .count - i
 
+-- PLACES: a turn of the loop; how long the next variable's old value is; where its value stands
+abbrev entry : tie.In-loop Inv-loop μ-loop → tie.Start Inv-loop μ-loop
+entry c = c .before .before .before
+
+abbrev turn : tie.After-place-of Inv-loop μ-loop → tie.In-loop Inv-loop μ-loop
+turn c = c .before .before .before .before .before
+
+abbrev stood : tie.After-place-of Inv-loop μ-loop → tie.After-length-of Inv-loop μ-loop
+stood c = c .before .before .before
+
+-- there are no more than 16 variables
+few : (c : tie.In-loop Inv-loop μ-loop) → c .before .loop .i < 16
+few c = let p = entry c .pre .placed in omega (arith, p .few, p .count, c .loop-test .taken)
+
+-- NEEDS
 loop-holds : tie.Need-loop-holds Inv-loop μ-loop
 loop-holds c = (omega arith, gathered-none _)
 
+element-copy-out-length-of : tie.Need-element-copy-out-length-of Inv-loop μ-loop
+element-copy-out-length-of c = omega (arith, few c)
+
 mul-place-of : tie.Need-mul-place-of Inv-loop μ-loop
-mul-place-of c = (omega (arith, c .before .before .before .pre .placed .few, c .before .before .before .pre .placed .count, c .loop-test .taken))
+mul-place-of c = omega (arith, few (c .before .before))
 
 element-copy-out-place-of : tie.Need-element-copy-out-place-of Inv-loop μ-loop
-element-copy-out-place-of c = (omega (arith, c .before .before .before .pre .placed .few, c .before .before .before .pre .placed .count, c .loop-test .taken))
+element-copy-out-place-of c = omega (arith, few (c .before .before))
 
 mul-place-of-2 : tie.Need-mul-place-of-2 Inv-loop μ-loop
-mul-place-of-2 c = (omega (arith, c .before .before .before .before .pre .placed .few, c .before .before .before .before .pre .placed .count, c .before .loop-test .taken))
+mul-place-of-2 c = omega (arith, few (c .before .before .before))
 
 element-copy-out-place-of-2 : tie.Need-element-copy-out-place-of-2 Inv-loop μ-loop
-element-copy-out-place-of-2 c = (omega (arith, c .before .before .before .before .pre .placed .few, c .before .before .before .before .pre .placed .count, c .before .loop-test .taken))
-
-cast-place-of : tie.Need-cast-place-of Inv-loop μ-loop
-cast-place-of c = search needs
-
-mul-place-of-3 : tie.Need-mul-place-of-3 Inv-loop μ-loop
-mul-place-of-3 c = (omega (arith, c .before .before .before .before .before .pre .placed .few, c .before .before .before .before .before .pre .placed .count, c .before .before .loop-test .taken))
-
-element-copy-out-place-of-3 : tie.Need-element-copy-out-place-of-3 Inv-loop μ-loop
-element-copy-out-place-of-3 c = (omega (arith, c .before .before .before .before .before .pre .placed .few, c .before .before .before .before .before .pre .placed .count, c .before .before .loop-test .taken))
-
-cast-place-of-2 : tie.Need-cast-place-of-2 Inv-loop μ-loop
-cast-place-of-2 c = search needs
-
-place-of-requires : tie.Need-place-of-requires Inv-loop μ-loop
-place-of-requires c κs = search needs
+element-copy-out-place-of-2 c = omega (arith, few (c .before .before .before))
 
 add-copy : tie.Need-add-copy Inv-loop μ-loop
-add-copy c = omega (arith, c .before .before .before .before .before .before .before .before .pre .placed .few, c .before .before .before .before .before .before .before .before .pre .placed .count, c .before .before .before .before .before .loop-test .taken, c .before .before .before .before .before .before .loop .inv .1 .short)
+add-copy c = let t = turn (c .before) in omega (arith, few t, t .before .loop .inv .1 .short)
 
 copy-requires : tie.Need-copy-requires Inv-loop μ-loop
-copy-requires c κs = gather-fits (c .before .before .before .before .before .before .loop .inv .1) (c .before .before .before .before .before .before .before .before .pre) (c .before .before .before .before .before .loop-test .taken) (c .before .place-of .ensures .inside (omega (arith, c .before .before .before .before .before .before .before .before .pre .placed .few, c .before .before .before .before .before .before .before .before .pre .placed .count, c .before .before .before .before .before .loop-test .taken)))
+copy-requires c κs =
+    let p = c .before in
+    let t = turn p in
+    gather-fits (t .before .loop .inv .1) (entry t .pre) (t .loop-test .taken) (stood p .length-of .ensures) (p .place-of .ensures)
 
 add-len : tie.Need-add-len Inv-loop μ-loop
-add-len c = let f = gather-fits (c .before .before .before .before .before .before .before .before .before .before .loop .inv .1) (c .before .before .before .before .before .before .before .before .before .before .before .before .pre) (c .before .before .before .before .before .before .before .before .before .loop-test .taken) (c .before .before .before .before .before .place-of .ensures .inside (omega (arith, c .before .before .before .before .before .before .before .before .before .before .before .before .pre .placed .few, c .before .before .before .before .before .before .before .before .before .before .before .before .pre .placed .count, c .before .before .before .before .before .before .before .before .before .loop-test .taken))) in omega (arith, f .1, c .before .before .before .before .before .before .before .before .before .before .loop .inv .1 .kept .long, c .before .before .before .before .before .before .before .before .before .before .before .before .pre .placed .long)
+add-len c =
+    let p = c .before .before .before .before .before in
+    let t = turn p in
+    let g = t .before .loop .inv .1 in
+    let f = gather-fits g (entry t .pre) (t .loop-test .taken) (stood p .length-of .ensures) (p .place-of .ensures) in
+    omega (arith, f .1, g .kept .long, entry t .pre .placed .long)
 
 add-i : tie.Need-add-i Inv-loop μ-loop
-add-i c = omega (arith, c .before .before .before .before .before .before .before .before .before .before .before .before .pre .placed .few, c .before .before .before .before .before .before .before .before .before .before .before .before .pre .placed .count, c .before .before .before .before .before .before .before .before .before .loop-test .taken)
+add-i c = omega (arith, few (turn (c .before .before .before .before .before)))
 
 loop-less : tie.Need-loop-less Inv-loop μ-loop
-loop-less c = omega (arith, c .before .before .before .before .before .before .before .before .before .loop-test .taken)
+loop-less c = omega (arith, turn (c .before .before .before .before .before) .loop-test .taken)
 
 loop-again : tie.Need-loop-again Inv-loop μ-loop
-loop-again c = (omega (arith, c .before .before .before .before .before .before .before .before .before .loop-test .taken), gathered-more (c .before .before .before .before .before .before .before .before .before .before .loop .inv .1) (c .before .before .before .before .before .before .before .before .before .before .before .before .pre) (c .before .before .before .before .before .before .before .before .before .loop-test .taken) (c .before .before .before .before .before .place-of .ensures .inside (omega (arith, c .before .before .before .before .before .before .before .before .before .before .before .before .pre .placed .few, c .before .before .before .before .before .before .before .before .before .before .before .before .pre .placed .count, c .before .before .before .before .before .before .before .before .before .loop-test .taken))) (c .before .before .before .copy .ensures))
-
-same-length : tie.Need-same-length Inv-loop μ-loop
-same-length c = c .before .loop .inv .1 .kept .long
+loop-again c =
+    let p = c .before .before .before .before .before in
+    let t = turn p in
+    let h = t .loop-test .taken in
+    let g = t .before .loop .inv .1 in
+    (omega arith, gathered-more g (entry t .pre) h (stood p .length-of .ensures) (p .place-of .ensures) (c .before .before .before .copy .ensures))
 
 returns : tie.Need-returns Inv-loop μ-loop
-returns c = gathered-all (c .before .loop .inv .1) (omega (arith, c .before .loop .inv .0, c .loop-test .left))
+returns c = let v = c .before .loop .inv in gathered-all (v .1) (omega (arith, v .0, c .loop-test .left))
 
 pub gather-spec : {M : Type 1} → statement M
-gather-spec =
-    tie.close
-    (tie.spec
-    Inv-loop
-    μ-loop
-    loop-holds
-    mul-place-of
-    element-copy-out-place-of
-    mul-place-of-2
-    element-copy-out-place-of-2
-    cast-place-of
-    mul-place-of-3
-    element-copy-out-place-of-3
-    cast-place-of-2
-    place-of-requires
-    add-copy
-    copy-requires
-    add-len
-    add-i
-    loop-less
-    loop-again
-    same-length
-    returns)
+gather-spec = tie.close (tie.spec Inv-loop μ-loop loop-holds (λ c. search needs) element-copy-out-length-of (λ c κs. search needs)
+    mul-place-of element-copy-out-place-of mul-place-of-2 element-copy-out-place-of-2 (λ c. search needs) (λ c κs. search needs)
+    add-copy copy-requires add-len add-i loop-less loop-again (λ c. returns c .kept .long) returns)

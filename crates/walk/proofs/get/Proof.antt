@@ -1,63 +1,85 @@
 -- `get` meets its contract.
 -- Assumes nothing.
 use mathlib.Core.Path.{sym}
+use Prim.Native.Nat.{_≤_}
 use native.Mathlib.Omega.{arith}
 use denote.Ref.{now}
+use lib.ListN.{length}
 use lib.Seq.{length-take-le}
-use Rattle.walk.specs.Entry.{table-read, call-2, call-3, call-refused, call-done, sheet-refusal, plan-refusal, planned, get-sheet-refused, get-plan-refused}
+use Rattle.walk.specs.Entry.{
+  TableRead,
+  table-read,
+  call-2,
+  call-3,
+  call-refused,
+  call-done,
+  sheet-refusal,
+  plan-refusal,
+  planned,
+  get-sheet-refused,
+  get-plan-refused,
+}
 use borrow.Author.Needs.{needs}
 use Rattle.walk.proofs.get.Statement.{statement}
 use Rattle.walk.proofs.get.Tie as tie
 
+-- PLACES: the function's entry; the arena and the allowance will do; the sheet is read; the plan is read; the scope is made
+abbrev entry : tie.Else2 → tie.Start
+entry c = c .before .before .before .before .before
+
+abbrev lent : tie.Else3 → tie.Else2
+lent c = c .before .before .before
+
+abbrev of-sheet : tie.Else4 → tie.Else3
+of-sheet c = c .before .before .before
+
+abbrev of-plan : tie.After-of-spans → tie.Else4
+of-plan c = c .before
+
+-- WHAT IS KNOWN THERE
+room : (c : tie.Else2) → (65536 ≤ length (now (entry c .args .arena))) × (entry c .args .allowance ≤ 1000000)
+room c = (omega (arith, c .before .if1 .left), omega (arith, c .if2 .left))
+
+table : (c : tie.Else3) → TableRead (now (entry (lent c) .args .sheet)) (c .before .before .read-sheet .result)
+table c = table-read _ (c .before .before .read-sheet .ensures) (c .if3 .left)
+
+-- NEEDS
 returns : tie.Need-returns
 returns c = call-2 (c .if1 .taken)
 
 returns-2 : tie.Need-returns-2
 returns-2 c = call-3 (omega (arith, c .before .if1 .left)) (c .if2 .taken)
 
-read-sheet-requires : tie.Need-read-sheet-requires
-read-sheet-requires c κs = search needs
-
 returns-3 : tie.Need-returns-3
-returns-3 c = call-refused (omega (arith, c .before .before .before .before .if1 .left)) (omega (arith, c .before .before .before .if2 .left)) (get-sheet-refused _ _ _ (sheet-refusal _ (c .before .before .read-sheet .ensures) (c .if3 .taken)))
-
-read-plan-requires : tie.Need-read-plan-requires
-read-plan-requires c κs = search needs
+returns-3 c =
+    let h = room (c .before .before .before) in
+    call-refused (h .0) (h .1) (get-sheet-refused _ _ _ (sheet-refusal _ (c .before .before .read-sheet .ensures) (c .if3 .taken)))
 
 returns-4 : tie.Need-returns-4
-returns-4 c = call-refused (omega (arith, c .before .before .before .before .before .before .before .if1 .left)) (omega (arith, c .before .before .before .before .before .before .if2 .left)) (let t = table-read _ (c .before .before .before .before .before .read-sheet .ensures) (c .before .before .before .if3 .left) in get-plan-refused _ _ _ (t .read) (plan-refusal _ t (c .before .before .read-plan .ensures) (c .if4 .taken)))
+returns-4 c =
+    let s = c .before .before .before in
+    let h = room (lent s) in
+    let t = table s in
+    call-refused (h .0) (h .1) (get-plan-refused _ _ _ (t .read) (plan-refusal _ t (c .before .before .read-plan .ensures) (c .if4 .taken)))
 
 of-spans-requires : tie.Need-of-spans-requires
-of-spans-requires c κs = table-read _ (c .before .before .before .before .before .read-sheet .ensures) (c .before .before .before .if3 .left) .few
-
-slice-relend-prefix-get-plan : tie.Need-slice-relend-prefix-get-plan
-slice-relend-prefix-get-plan c = search needs
+of-spans-requires c κs = table (of-sheet c) .few
 
 slice-aggregate-get-plan : tie.Need-slice-aggregate-get-plan
-slice-aggregate-get-plan c = sym (length-take-le 65536 (now (c .before .before .before .before .before .before .before .before .before .before .before .before .before .args .arena)) (omega (arith, c .before .before .before .before .before .before .before .before .before .if1 .left)))
+slice-aggregate-get-plan c = let l = lent (of-sheet (of-plan (c .before))) in sym (length-take-le 65536 (now (entry l .args .arena)) (room l .0))
 
 get-plan-requires : tie.Need-get-plan-requires
-get-plan-requires c κs = planned (now (c .before .before .before .before .before .before .before .before .before .before .before .before .before .args .arena)) (omega (arith, c .before .before .before .before .before .before .before .before .before .if1 .left)) (omega (arith, c .before .before .before .before .before .before .before .before .if2 .left)) (table-read _ (c .before .before .before .before .before .before .before .read-sheet .ensures) (c .before .before .before .before .before .if3 .left)) (c .before .before .before .before .read-plan .ensures) (c .before .before .if4 .left) (c .before .of-spans .ensures)
-
-same-length : tie.Need-same-length
-same-length c = search needs
+get-plan-requires c κs =
+    let p = of-plan (c .before) in
+    let s = of-sheet p in
+    let h = room (lent s) in
+    planned (now (entry (lent s) .args .arena)) (h .0) (h .1) (table s) (p .before .before .read-plan .ensures) (p .if4 .left) (c .before .of-spans .ensures)
 
 returns-5 : tie.Need-returns-5
-returns-5 c = call-done (omega (arith, c .before .before .before .before .before .before .before .before .before .before .before .before .if1 .left)) (omega (arith, c .before .before .before .before .before .before .before .before .before .before .before .if2 .left)) (omega arith) (c .before .before .get-plan .ensures)
+returns-5 c =
+    let h = room (lent (of-sheet (of-plan (c .before .before .before .before)))) in
+    call-done (h .0) (h .1) (omega arith) (c .before .before .get-plan .ensures)
 
 pub get-spec : {M : Type 1} → statement M
-get-spec =
-    tie.close
-    (tie.spec
-    returns
-    returns-2
-    read-sheet-requires
-    returns-3
-    read-plan-requires
-    returns-4
-    of-spans-requires
-    slice-relend-prefix-get-plan
-    slice-aggregate-get-plan
-    get-plan-requires
-    same-length
-    returns-5)
+get-spec = tie.close (tie.spec returns returns-2 (λ c κs. search needs) returns-3 (λ c κs. search needs) returns-4 of-spans-requires
+    (λ c. search needs) slice-aggregate-get-plan get-plan-requires (λ c. search needs) returns-5)

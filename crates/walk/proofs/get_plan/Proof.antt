@@ -1,55 +1,51 @@
 -- `get_plan` meets its contract.
 -- Assumes nothing.
-use mathlib.Core.Path.{refl}
-use native.Mathlib.Omega.{arith}
-use Rattle.walk.specs.Found.{found-refused, found-as}
-use Rattle.walk.specs.GetAt.{movable, bring-gives}
-use Rattle.walk.specs.Entry.{plan-fits, plan-ready, plan-got, same-done, same-refused}
+use mathlib.Core.Path.{sym, _∙_}
+use Rattle.walk.specs.GetAt.{movable}
+use Rattle.walk.specs.Entry.{plan-fits, plan-ready, get-refused, get-done}
 use borrow.Author.Needs.{needs}
 use Rattle.walk.proofs.get_plan.Statement.{statement}
 use Rattle.walk.proofs.get_plan.Tie as tie
 
+-- PLACES: the function's entry; the plan is copied in; the root was got, and brought to the top
+abbrev entry : tie.After-copy-in → tie.Start
+entry c = c .before .before .before .before .before
+
+abbrev copied : tie.After-get-node → tie.After-copy-in
+copied c = c .before .before .before .before .before .before
+
+abbrev got : tie.After-bring → tie.After-get-node
+got c = c .before .before .before .before
+
+-- NEEDS
 copy-in-requires : tie.Need-copy-in-requires
 copy-in-requires c κs = plan-fits (c .before .before .before .before .pre)
 
 get-node-requires : tie.Need-get-node-requires
-get-node-requires c κs = plan-ready (c .before .before .before .before .before .before .before .before .before .before .before .before .before .before .pre) (c .before .before .before .before .before .before .before .before .before .copy-in .ensures)
+get-node-requires c κs = let p = c .before .before .before .before .before in plan-ready (entry p .pre) (p .copy-in .ensures)
 
 bring-requires : tie.Need-bring-requires
-bring-requires c κs = λ h. let w = plan-ready (c .before .before .before .before .before .before .before .before .before .before .before .before .before .before .before .before .before .before .pre) (c .before .before .before .before .before .before .before .before .before .before .before .before .before .copy-in .ensures) in movable (c .before .before .before .get-node .ensures .1) (omega (arith, c .before .before .before .get-node .ensures .0 .kept .long, w .long)) (w .room) (w .few) h
-
-cast-t25 : tie.Need-cast-t25
-cast-t25 c = search needs
+bring-requires c κs =
+    let g = c .before .before .before in
+    let p = copied g in
+    movable (plan-ready (entry p .pre) (p .copy-in .ensures)) (g .get-node .ensures .0) (g .get-node .ensures .1)
 
 returns : tie.Need-returns
-returns c = plan-got (c .before .before .before .before .before .before .before .before .before .before .before .before .before .before .before .before .before .before .before .before .before .before .pre) (c .before .before .before .before .before .before .before .before .before .before .before .before .before .before .before .before .before .copy-in .ensures) ((bring-gives (omega arith) (c .before .before .before .before .before .before .before .get-node .ensures .0) (c .before .before .before .before .before .before .before .get-node .ensures .1) (c .before .before .before .bring .ensures)) .gives) ((bring-gives (omega arith) (c .before .before .before .before .before .before .before .get-node .ensures .0) (c .before .before .before .before .before .before .before .get-node .ensures .1) (c .before .before .before .bring .ensures)) .exact) (same-refused (found-refused (c .if1 .taken)))
-
-same-length : tie.Need-same-length
-same-length c = returns c .long
-
-len-of-requires : tie.Need-len-of-requires
-len-of-requires c κs = search needs
-
-steps-of-requires : tie.Need-steps-of-requires
-steps-of-requires c κs = search needs
+returns c =
+    let b = c .before .before .before .before .before in
+    let g = got b in
+    let p = copied g in
+    get-refused (entry p .pre) (p .copy-in .ensures) (g .get-node .ensures .0) (g .get-node .ensures .1) (b .bring .ensures)
+    (sym (c .before .before .is-refused .ensures) ∙ c .before .if1 .taken) (c .code-of .ensures)
 
 returns-2 : tie.Need-returns-2
-returns-2 c = plan-got (c .before .before .before .before .before .before .before .before .before .before .before .before .before .before .before .before .before .before .before .before .before .before .before .before .pre) (c .before .before .before .before .before .before .before .before .before .before .before .before .before .before .before .before .before .before .before .copy-in .ensures) ((bring-gives (omega arith) (c .before .before .before .before .before .before .before .before .before .get-node .ensures .0) (c .before .before .before .before .before .before .before .before .before .get-node .ensures .1) (c .before .before .before .before .before .bring .ensures)) .gives) ((bring-gives (omega arith) (c .before .before .before .before .before .before .before .before .before .get-node .ensures .0) (c .before .before .before .before .before .before .before .before .before .get-node .ensures .1) (c .before .before .before .before .before .bring .ensures)) .exact) (same-done (found-as (c .before .before .if1 .left) refl (c .before .len-of .ensures) (c .steps-of .ensures)))
-
-same-length-2 : tie.Need-same-length-2
-same-length-2 c = returns-2 c .long
+returns-2 c =
+    let b = c .before .before .before .before .before .before in
+    let g = got b in
+    let p = copied g in
+    get-done (entry p .pre) (p .copy-in .ensures) (g .get-node .ensures .0) (g .get-node .ensures .1) (b .bring .ensures)
+    (sym (c .before .before .before .is-refused .ensures) ∙ c .before .before .if1 .left) (c .before .len-of .ensures) (c .steps-of .ensures)
 
 pub get-plan-spec : {M : Type 1} → statement M
-get-plan-spec =
-    tie.close
-    (tie.spec
-    copy-in-requires
-    get-node-requires
-    bring-requires
-    cast-t25
-    same-length
-    returns
-    len-of-requires
-    steps-of-requires
-    same-length-2
-    returns-2)
+get-plan-spec = tie.close (tie.spec copy-in-requires get-node-requires bring-requires (λ c κs. search needs) (λ c κs. search needs)
+    (λ c. search needs) returns (λ c κs. search needs) (λ c κs. search needs) (λ c. search needs) returns-2)

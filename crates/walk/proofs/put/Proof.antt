@@ -1,72 +1,90 @@
 -- `put` meets its contract.
 -- Assumes nothing.
 use mathlib.Core.Path.{sym}
+use Prim.Native.Nat.{_≤_}
 use native.Mathlib.Omega.{arith}
 use denote.Ref.{now}
+use lib.ListN.{length}
 use lib.Seq.{length-take-le}
-use Rattle.walk.specs.Entry.{table-read, call-2, call-3, call-refused, call-done, sheet-refusal, plan-refusal, plan-values, planned}
+use Rattle.walk.specs.Entry.{TableRead, table-read, call-2, call-3, call-refused, call-done, sheet-refusal, plan-refusal, plan-values, planned}
 use Rattle.walk.specs.PutEntry.{viewed, view-refused, put-sheet-refused, put-plan-refused, put-view-refused}
 use borrow.Author.Needs.{needs}
 use Rattle.walk.proofs.put.Statement.{statement}
 use Rattle.walk.proofs.put.Tie as tie
 
+-- PLACES: the function's entry; the arena and the allowance will do; the sheet is read; the plan is read; the view is read; the scope is made
+abbrev entry : tie.Else2 → tie.Start
+entry c = c .before .before .before .before .before .before
+
+abbrev lent : tie.Else3 → tie.Else2
+lent c = c .before .before .before
+
+abbrev of-sheet : tie.Else4 → tie.Else3
+of-sheet c = c .before .before .before
+
+abbrev of-plan : tie.Else5 → tie.Else4
+of-plan c = c .before .before
+
+abbrev of-view : tie.After-of-spans → tie.Else5
+of-view c = c .before
+
+-- WHAT IS KNOWN THERE
+room : (c : tie.Else2) → (65536 ≤ length (now (entry c .args .arena))) × (entry c .args .allowance ≤ 1000000)
+room c = (omega (arith, c .before .if1 .left), omega (arith, c .if2 .left))
+
+table : (c : tie.Else3) → TableRead (now (entry (lent c) .args .sheet)) (c .before .before .read-sheet .result)
+table c = table-read _ (c .before .before .read-sheet .ensures) (c .if3 .left)
+
+-- NEEDS
 returns : tie.Need-returns
 returns c = call-2 (c .if1 .taken)
 
 returns-2 : tie.Need-returns-2
 returns-2 c = call-3 (omega (arith, c .before .if1 .left)) (c .if2 .taken)
 
-read-sheet-requires : tie.Need-read-sheet-requires
-read-sheet-requires c κs = search needs
-
 returns-3 : tie.Need-returns-3
-returns-3 c = call-refused (omega (arith, c .before .before .before .before .if1 .left)) (omega (arith, c .before .before .before .if2 .left)) (put-sheet-refused _ _ _ _ (sheet-refusal _ (c .before .before .read-sheet .ensures) (c .if3 .taken)))
-
-read-plan-requires : tie.Need-read-plan-requires
-read-plan-requires c κs = search needs
+returns-3 c =
+    let h = room (c .before .before .before) in
+    call-refused (h .0) (h .1) (put-sheet-refused _ _ _ _ (sheet-refusal _ (c .before .before .read-sheet .ensures) (c .if3 .taken)))
 
 returns-4 : tie.Need-returns-4
-returns-4 c = call-refused (omega (arith, c .before .before .before .before .before .before .before .if1 .left)) (omega (arith, c .before .before .before .before .before .before .if2 .left)) (let t = (table-read _ (c .before .before .before .before .before .read-sheet .ensures) (c .before .before .before .if3 .left)) in put-plan-refused _ _ _ _ (t .read) (plan-refusal _ t (c .before .before .read-plan .ensures) (c .if4 .taken)))
-
-read-view-requires : tie.Need-read-view-requires
-read-view-requires c κs = search needs
+returns-4 c =
+    let s = c .before .before .before in
+    let h = room (lent s) in
+    let t = table s in
+    call-refused (h .0) (h .1) (put-plan-refused _ _ _ _ (t .read) (plan-refusal _ t (c .before .before .read-plan .ensures) (c .if4 .taken)))
 
 returns-5 : tie.Need-returns-5
-returns-5 c = call-refused (omega (arith, c .before .before .before .before .before .before .before .before .before .if1 .left)) (omega (arith, c .before .before .before .before .before .before .before .before .if2 .left)) (let t = (table-read _ (c .before .before .before .before .before .before .before .read-sheet .ensures) (c .before .before .before .before .before .if3 .left)) in put-view-refused _ _ _ _ (t .read) (plan-values _ t (c .before .before .before .before .read-plan .ensures) (c .before .before .if4 .left) .1) (view-refused _ (c .before .read-view .ensures) (c .if5 .taken)))
+returns-5 c =
+    let p = c .before .before in
+    let h = room (lent (of-sheet p)) in
+    let t = table (of-sheet p) in
+    call-refused (h .0) (h .1) (put-view-refused _ _ _ _ (t .read) (plan-values _ t (p .before .before .read-plan .ensures) (p .if4 .left) .1)
+    (view-refused _ (c .before .read-view .ensures) (c .if5 .taken)))
 
 of-spans-requires : tie.Need-of-spans-requires
-of-spans-requires c κs = (table-read _ (c .before .before .before .before .before .before .before .read-sheet .ensures) (c .before .before .before .before .before .if3 .left)) .few
-
-slice-relend-prefix-put-plan : tie.Need-slice-relend-prefix-put-plan
-slice-relend-prefix-put-plan c = search needs
+of-spans-requires c κs = table (of-sheet (of-plan c)) .few
 
 slice-aggregate-put-plan : tie.Need-slice-aggregate-put-plan
-slice-aggregate-put-plan c = sym (length-take-le 65536 (now (c .before .before .before .before .before .before .before .before .before .before .before .before .before .before .before .before .args .arena)) (omega (arith, c .before .before .before .before .before .before .before .before .before .before .before .if1 .left)))
+slice-aggregate-put-plan c =
+    let l = lent (of-sheet (of-plan (of-view (c .before)))) in
+    sym (length-take-le 65536 (now (entry l .args .arena)) (room l .0))
 
 put-plan-requires : tie.Need-put-plan-requires
-put-plan-requires c κs = (planned (now (c .before .before .before .before .before .before .before .before .before .before .before .before .before .before .before .before .args .arena)) (omega (arith, c .before .before .before .before .before .before .before .before .before .before .before .if1 .left)) (omega (arith, c .before .before .before .before .before .before .before .before .before .before .if2 .left)) (table-read _ (c .before .before .before .before .before .before .before .before .before .read-sheet .ensures) (c .before .before .before .before .before .before .before .if3 .left)) (c .before .before .before .before .before .before .read-plan .ensures) (c .before .before .before .before .if4 .left) (c .before .of-spans .ensures), viewed _ (c .before .before .before .read-view .ensures) (c .before .before .if5 .left))
+put-plan-requires c κs =
+    let v = of-view (c .before) in
+    let p = of-plan v in
+    let s = of-sheet p in
+    let h = room (lent s) in (
+      planned (now (entry (lent s) .args .arena)) (h .0) (h .1) (table s) (p .before .before .read-plan .ensures) (p .if4 .left) (c .before .of-spans .ensures),
+      viewed _ (v .before .read-view .ensures) (v .if5 .left),
+    )
 
 returns-6 : tie.Need-returns-6
-returns-6 c = call-done (omega (arith, c .before .before .before .before .before .before .before .before .before .before .before .before .before .before .if1 .left)) (omega (arith, c .before .before .before .before .before .before .before .before .before .before .before .before .before .if2 .left)) (omega arith) (c .before .before .put-plan .ensures)
-
-same-length : tie.Need-same-length
-same-length c = returns-6 c .long
+returns-6 c =
+    let h = room (lent (of-sheet (of-plan (of-view (c .before .before .before .before))))) in
+    call-done (h .0) (h .1) (omega arith) (c .before .before .put-plan .ensures)
 
 pub put-spec : {M : Type 1} → statement M
-put-spec =
-    tie.close
-    (tie.spec
-    returns
-    returns-2
-    read-sheet-requires
-    returns-3
-    read-plan-requires
-    returns-4
-    read-view-requires
-    returns-5
-    of-spans-requires
-    slice-relend-prefix-put-plan
-    slice-aggregate-put-plan
-    put-plan-requires
-    same-length
-    returns-6)
+put-spec = tie.close (tie.spec returns returns-2 (λ c κs. search needs) returns-3 (λ c κs. search needs) returns-4 (λ c κs. search needs) returns-5
+    of-spans-requires (λ c. search needs) slice-aggregate-put-plan put-plan-requires (λ c. search needs) returns-6)

@@ -1,53 +1,68 @@
 -- `put_plan` meets its contract.
 -- Assumes nothing.
-use Rattle.walk.specs.Taken.{taken-refused, taken-as, taken-done}
+use mathlib.Core.Bool.{false}
+use mathlib.Core.Path.{_≡_, sym, _∙_}
+use Rattle.answer.specs.Answer.{isRefusal}
 use Rattle.walk.specs.Entry.{plan-fits}
 use Rattle.walk.specs.PutEntry.{few-variables, put-ready, put-placed, put-refused, put-done}
 use borrow.Author.Needs.{needs}
 use Rattle.walk.proofs.put_plan.Statement.{statement}
 use Rattle.walk.proofs.put_plan.Tie as tie
 
+-- PLACES: the function's entry; the plan is copied in; the first cells are made; the view was put into the root, and that succeeded
+abbrev entry : tie.After-copy-in → tie.Start
+entry c = c .before .before .before .before .before .before
+
+abbrev copied : tie.After-first-cells → tie.After-copy-in
+copied c = c .before .before .before .before
+
+abbrev made : tie.After-put-node → tie.After-first-cells
+made c = c .before .before .before .before .before .before
+
+abbrev was-put : tie.Else1 → tie.After-put-node
+was-put c = c .before .before .before .before
+
+fine : (c : tie.Else1) → isRefusal (was-put c .put-node .result) ≡ false
+fine c = sym (c .before .is-refused .ensures) ∙ c .if1 .left
+
+-- NEEDS
 copy-in-requires : tie.Need-copy-in-requires
 copy-in-requires c κs = plan-fits (c .before .before .before .before .before .pre .0)
 
 first-cells-requires : tie.Need-first-cells-requires
-first-cells-requires c κs = few-variables (c .before .before .before .before .before .before .before .before .before .before .pre .0) (c .before .before .before .before .before .before .before .before .before .before .pre .1)
+first-cells-requires c κs = let e = entry (c .before .before .before) in few-variables (e .pre .0) (e .pre .1)
 
 put-node-requires : tie.Need-put-node-requires
-put-node-requires c κs = put-ready (c .before .before .before .before .before .before .before .before .before .before .before .before .before .before .before .before .before .before .before .pre .0) (c .before .before .before .before .before .before .before .before .before .before .before .before .before .before .before .before .before .before .before .pre .1) (c .before .before .before .before .before .before .before .before .before .before .before .before .before .copy-in .ensures) (c .before .before .before .before .before .before .before .before .first-cells .ensures)
-
-cast-t29 : tie.Need-cast-t29
-cast-t29 c = search needs
+put-node-requires c κs =
+    let n = c .before .before .before .before .before in
+    let p = copied n in
+    put-ready (entry p .pre .0) (entry p .pre .1) (p .copy-in .ensures) (n .first-cells .ensures)
 
 returns : tie.Need-returns
-returns c = put-refused (c .before .before .before .before .before .before .before .before .before .before .before .before .before .before .before .before .before .before .before .before .before .before .before .pre .0) (c .before .before .before .before .before .before .before .before .before .before .before .before .before .before .before .before .before .before .before .before .before .before .before .pre .1) (c .before .before .before .before .before .before .before .before .before .before .before .before .before .before .before .before .before .copy-in .ensures) (c .before .before .before .before .before .before .before .before .before .before .before .before .first-cells .ensures) (c .before .before .before .put-node .ensures .0) (taken-refused (c .if1 .taken))
-
-same-length : tie.Need-same-length
-same-length c = returns c .long
+returns c =
+    let q = c .before .before .before .before .before in
+    let n = made q in
+    let p = copied n in
+    put-refused (entry p .pre .0) (entry p .pre .1) (p .copy-in .ensures) (n .first-cells .ensures) (q .put-node .ensures .0)
+    (sym (c .before .before .is-refused .ensures) ∙ c .before .if1 .taken) (c .code-of .ensures)
 
 gather-requires : tie.Need-gather-requires
-gather-requires c κs = put-placed (c .before .before .before .before .before .before .before .before .before .before .before .before .before .before .before .before .before .before .before .before .before .before .before .before .before .pre .0) (c .before .before .before .before .before .before .before .before .before .before .before .before .before .before .before .before .before .before .before .before .before .before .before .before .before .pre .1) (c .before .before .before .before .before .before .before .before .before .before .before .before .before .before .before .before .before .before .before .copy-in .ensures) (c .before .before .before .before .before .before .before .before .before .before .before .before .before .before .first-cells .ensures) (c .before .before .before .before .before .put-node .ensures .0) (taken-done (c .before .before .if1 .left))
-
-taken-requires : tie.Need-taken-requires
-taken-requires c κs = search needs
+gather-requires c κs =
+    let f = c .before .before in
+    let q = was-put f in
+    let n = made q in
+    let p = copied n in
+    put-placed (entry p .pre .0) (entry p .pre .1) (p .copy-in .ensures) (n .first-cells .ensures) (q .put-node .ensures .0) (fine f)
 
 returns-2 : tie.Need-returns-2
-returns-2 c = put-done (c .before .before .before .before .before .before .before .before .before .before .before .before .before .before .before .before .before .before .before .before .before .before .before .before .before .before .before .before .before .pre .0) (c .before .before .before .before .before .before .before .before .before .before .before .before .before .before .before .before .before .before .before .before .before .before .before .before .before .before .before .before .before .pre .1) (c .before .before .before .before .before .before .before .before .before .before .before .before .before .before .before .before .before .before .before .before .before .before .before .copy-in .ensures) (c .before .before .before .before .before .before .before .before .before .before .before .before .before .before .before .before .before .before .first-cells .ensures) (c .before .before .before .before .before .before .before .before .before .put-node .ensures .0) (taken-as (c .before .before .before .before .before .before .if1 .left) (c .taken .ensures)) (c .before .before .before .gather .ensures)
-
-same-length-2 : tie.Need-same-length-2
-same-length-2 c = returns-2 c .long
+returns-2 c =
+    let f = c .before .before .before .before .before .before in
+    let q = was-put f in
+    let n = made q in
+    let p = copied n in
+    put-done (entry p .pre .0) (entry p .pre .1) (p .copy-in .ensures) (n .first-cells .ensures) (q .put-node .ensures .0) (fine f)
+    (c .before .before .before .gather .ensures) (c .steps-of .ensures)
 
 pub put-plan-spec : {M : Type 1} → statement M
-put-plan-spec =
-    tie.close
-    (tie.spec
-    copy-in-requires
-    first-cells-requires
-    put-node-requires
-    cast-t29
-    same-length
-    returns
-    gather-requires
-    taken-requires
-    same-length-2
-    returns-2)
+put-plan-spec = tie.close (tie.spec copy-in-requires (λ c. search needs) first-cells-requires put-node-requires (λ c κs. search needs)
+    (λ c κs. search needs) (λ c. returns c .long) returns gather-requires (λ c κs. search needs) (λ c. returns-2 c .long) returns-2)

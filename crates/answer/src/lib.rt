@@ -1,0 +1,74 @@
+//! What a get or a put answers within a walk: one number, which a register holds. Its low byte is the refusal's number, or 0 for a
+//! success; then the length of the value that was got (16 bits), where it starts (16 bits) and the steps taken (24 bits) stand above it.
+//! A put that succeeds has got nothing: length and start are 0. Above the low byte of a refusal there is room for where it was met.
+ghost use mathlib.Core.Path.{_≡_};
+ghost use Rattle.answer.specs.Answer.{doneAs, isRefusal, codeOf, lenOf, startOf, stepsOf, laterAs};
+
+const LEN: usize = 256;
+
+const START: usize = 16777216;
+
+const STEPS: usize = 1099511627776;
+
+/// A value was got, or a view was put back, in so many steps. Of numbers that do not fit, what fits is kept.
+pub fn done(start: usize, len: usize, steps: usize) -> usize
+    ensures { λ r. ⌜ r ≡ doneAs start len steps ⌝ }
+{
+    LEN * (len % 65536) + START * (start % 65536) + STEPS * (steps % 16777216)
+}
+
+/// A refusal, by its number, which is not 0.
+pub fn refused(code: u8) -> usize
+    ensures { λ r. ⌜ r ≡ code ⌝ }
+{
+    code as usize
+}
+
+/// Whether an answer is a refusal.
+pub fn is_refused(answer: usize) -> bool
+    ensures { λ r. ⌜ r ≡ isRefusal answer ⌝ }
+{
+    0 < answer % LEN
+}
+
+/// The number of a refusal.
+pub fn code_of(answer: usize) -> u8
+    ensures { λ r. ⌜ r ≡ codeOf answer ⌝ }
+{
+    (answer % LEN) as u8
+}
+
+/// The length of the value that was got.
+pub fn len_of(answer: usize) -> usize
+    ensures { λ r. ⌜ r ≡ lenOf answer ⌝ }
+{
+    (answer / LEN) % 65536
+}
+
+/// Where it starts.
+pub fn start_of(answer: usize) -> usize
+    ensures { λ r. ⌜ r ≡ startOf answer ⌝ }
+{
+    (answer / START) % 65536
+}
+
+/// The steps taken.
+pub fn steps_of(answer: usize) -> usize
+    ensures { λ r. ⌜ r ≡ stepsOf answer ⌝ }
+{
+    (answer / STEPS) % 16777216
+}
+
+/// The same answer where `n` steps more were taken before; a refusal is as it was.
+pub fn later(answer: usize, n: usize) -> usize
+    ensures { λ r. ⌜ r ≡ laterAs answer n ⌝ }
+{
+    if is_refused(answer) {
+        return answer;
+    }
+    done(
+        start_of(answer),
+        len_of(answer),
+        n % 16777216 + steps_of(answer),
+    )
+}

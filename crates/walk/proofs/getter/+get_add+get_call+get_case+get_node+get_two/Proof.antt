@@ -1,0 +1,20 @@
+-- Every function of get meets its contract; each has a file. The measure: the levels left, twice, and the place in the cycle.
+-- Assumes nothing.
+use Rattle.walk.proofs.getter.+get_add+get_call+get_case+get_node+get_two.{statement}
+use Rattle.walk.proofs.getter.+get_add+get_call+get_case+get_node+get_two.Tie.{close}
+use Frame.{μ-node, μ-kind}
+use Add.{get-add-met}
+use Call.{get-call-met}
+use Case.{get-case-met}
+use Node.{get-node-met}
+use Two.{get-two-met}
+mod Frame
+mod Add
+mod Call
+mod Case
+mod Node
+mod Two
+
+pub +get-add+get-call+get-case+get-node+get-two-spec : {M : Type 1} → statement M
++get-add+get-call+get-case+get-node+get-two-spec =
+    close μ-kind μ-kind μ-kind μ-node μ-kind (λ t. get-add-met t) (λ t. get-call-met t) (λ t. get-case-met t) (λ t. get-node-met t) (λ t. get-two-met t)

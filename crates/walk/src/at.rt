@@ -1,0 +1,87 @@
+//! Where a walk is: how deep, how many steps it has left, where the stack goes on, and how many cells there are.
+ghost use mathlib.Core.Path.{_≡_};
+ghost use Prim.Native.Nat.{_+_, _≤_};
+ghost use Rattle.answer.specs.Answer.{lenOf, startOf, stepsOf};
+ghost use Rattle.walk.specs.Places.{belowOf, raisedOf, afterOf, behindOf, widerOf};
+use answer::len_of;
+use answer::start_of;
+use answer::steps_of;
+
+/// Where a walk is: the levels and the steps that are left, the top of the stack, and the number of cells (a get has no use for them).
+pub struct At {
+    pub levels: usize,
+    pub left: usize,
+    pub top: usize,
+    pub cells: usize,
+}
+
+impl At {
+    /// In a node that was entered: a level down, its step paid.
+    pub fn below(self) -> At
+        requires { ⌜ (1 ≤ self .levels) × (1 ≤ self .left) ⌝ }
+        ensures { λ r. ⌜ r ≡ belowOf self ⌝ }
+    {
+        At {
+            levels: self.levels - 1,
+            left: self.left - 1,
+            top: self.top,
+            cells: self.cells,
+        }
+    }
+
+    /// With the top raised by n bytes.
+    pub fn raised(self, n: usize) -> At
+        requires { ⌜ self .top + n ≤ 65536 ⌝ }
+        ensures { λ r. ⌜ r ≡ raisedOf self n ⌝ }
+    {
+        At {
+            levels: self.levels,
+            left: self.left,
+            top: self.top + n,
+            cells: self.cells,
+        }
+    }
+
+    /// After the steps of an answer.
+    pub fn after(self, answer: usize) -> At
+        requires { ⌜ stepsOf answer ≤ self .left ⌝ }
+        ensures { λ r. ⌜ r ≡ afterOf self answer ⌝ }
+    {
+        At {
+            levels: self.levels,
+            left: self.left - steps_of(answer),
+            top: self.top,
+            cells: self.cells,
+        }
+    }
+
+    /// After the steps of a get, with the top behind its value.
+    pub fn behind(self, got: usize) -> At
+        requires { ⌜ stepsOf got ≤ self .left ⌝ }
+        ensures { λ r. ⌜ r ≡ behindOf self got ⌝ }
+    {
+        let end = start_of(got) + len_of(got);
+        if end < self.top {
+            return self.after(got);
+        }
+        At {
+            levels: self.levels,
+            left: self.left - steps_of(got),
+            top: end,
+            cells: self.cells,
+        }
+    }
+
+    /// With two cells more.
+    pub fn wider(self) -> At
+        requires { ⌜ self .cells + 2 ≤ 110 ⌝ }
+        ensures { λ r. ⌜ r ≡ widerOf self ⌝ }
+    {
+        At {
+            levels: self.levels,
+            left: self.left,
+            top: self.top,
+            cells: self.cells + 2,
+        }
+    }
+}

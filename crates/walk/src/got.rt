@@ -1,0 +1,104 @@
+//! What is done behind a call of get, with its answer: the value's shape, its move to the top, and what a node's own rule makes of it.
+ghost use mathlib.Core.Path.{_≡_};
+ghost use mathlib.Core.Bool.{false};
+ghost use Prim.Native.Nat.{_+_, _≤_};
+ghost use lib.ListN.{length};
+ghost use Rattle.answer.specs.Answer.{isRefusal, lenOf, startOf};
+ghost use Rattle.value.specs.Parts.{shapeOf};
+ghost use Rattle.walk.specs.Parts.{part};
+ghost use Rattle.walk.specs.GetAt.{Movable, Brought};
+ghost use Rattle.walk.specs.GetBranch.{Judgeable, Judged};
+ghost use Rattle.walk.specs.GetTwo.{Joinable, Joined};
+ghost use Rattle.walk.specs.GetAdd.{Addable, Added};
+use crate::bytes::copy;
+use answer::done;
+use answer::is_refused;
+use answer::len_of;
+use answer::refused;
+use answer::start_of;
+use answer::steps_of;
+use value::Shape;
+
+/// The shape of a value that was got.
+pub fn shape_at(arena: &[u8], got: usize) -> Shape
+    requires { ⌜ startOf got + lenOf got ≤ length (now arena) ⌝ }
+    ensures { λ r. ⌜ r ≡ shapeOf (part (now (arena .entry)) (startOf got) (lenOf got)) ⌝ }
+{
+    let start = start_of(got);
+    let end = start + len_of(got);
+    value::shape_of(&arena[start..end])
+}
+
+/// A value that was got, brought to the top of the stack.
+pub fn bring(arena: &mut [u8], got: usize, top: usize) -> usize
+    requires { ⌜ (isRefusal got ≡ false → Movable (now arena) top got) ⌝ }
+    ensures { λ r. ⌜ Brought top got (now (arena .entry)) (now (arena .exit)) r ⌝ }
+{
+    if is_refused(got) {
+        return got;
+    }
+    let len = len_of(got);
+    copy(arena, start_of(got), top, len);
+    done(top, len, steps_of(got))
+}
+
+/// A branch that was got, judged by its test; it stands no higher than `top` then.
+pub fn judge(arena: &mut [u8], got: usize, test: u8, top: usize) -> usize
+    requires { ⌜ (isRefusal got ≡ false → Judgeable (now arena) got) ⌝ }
+    ensures { λ r. ⌜ Judged «test» top got (now (arena .entry)) (now (arena .exit)) r ⌝ }
+{
+    if is_refused(got) {
+        return got;
+    }
+    let start = start_of(got);
+    let len = len_of(got);
+    let end = start + len;
+    if !value::passes(test, &arena[start..end]) {
+        return refused(46);
+    }
+    if start <= top {
+        return got;
+    }
+    copy(arena, start, top, len);
+    done(top, len, steps_of(got))
+}
+
+/// Two values that were got one after the other behind a byte of their kind at `top`: the list or the pair that they make.
+pub fn joined(arena: &[u8], kind: u8, top: usize, first: usize, second: usize) -> usize
+    requires { ⌜ (isRefusal second ≡ false → Joinable (now arena) top first) ⌝ }
+    ensures { λ r. ⌜ Joined (now (arena .entry)) kind top first second r ⌝ }
+{
+    if is_refused(second) {
+        return second;
+    }
+    let f = len_of(first);
+    let mid = top + 1 + f;
+    if step::unfit(kind, arena[mid]) {
+        return refused(43);
+    }
+    let len = 1 + f + len_of(second);
+    if 256 < len {
+        return refused(44);
+    }
+    done(top, len, steps_of(first) + steps_of(second))
+}
+
+/// An amount added to a number that was got and stands at `top`.
+pub fn added(arena: &mut [u8], got: usize, amount: u16, top: usize) -> usize
+    requires { ⌜ (isRefusal got ≡ false → Addable (now arena) got top) ⌝ }
+    ensures { λ r. ⌜ Added amount got top (now (arena .entry)) (now (arena .exit)) r ⌝ }
+{
+    if is_refused(got) {
+        return got;
+    }
+    let Shape::Number(n) = shape_at(arena, got) else {
+        return refused(43);
+    };
+    if 65535 - n < amount {
+        return refused(45);
+    }
+    let sum = n + amount;
+    arena[top + 1] = value::high(sum);
+    arena[top + 2] = value::low(sum);
+    got
+}
