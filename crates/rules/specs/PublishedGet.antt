@@ -1,4 +1,4 @@
--- Get and the published relation: sound, complete up to our limits, and one value.
+-- Get and the published relation: sound, complete up to our limits, exact in its steps, and one value.
 use mathlib.Core.Path.{_≡_, refl, subst}
 use mathlib.Core.Bool.{Bool, true, false}
 use mathlib.Core.List.{[], _++_, append-nil}

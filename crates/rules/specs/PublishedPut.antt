@@ -1,4 +1,4 @@
--- Put and the published relation: sound, complete up to our limits, and one set of writes.
+-- Put and the published relation: sound, complete up to our limits, exact in its steps, and one set of writes.
 use mathlib.Core.Path.{_≡_, refl, sym, subst}
 use mathlib.Core.Bool.{Bool, true, false, not}
 use mathlib.Core.Option.{Option, none, some, Option·some-injective, map-eq-some-iff}

@@ -1,4 +1,5 @@
--- Walks from a whole plan, with nothing written yet: they give the published value, and exactly the published writes.
+-- Walks from a whole plan, with nothing written yet: they give the published value, and exactly the published writes, in as many
+-- steps as a derivation has nodes.
 use mathlib.Core.Path.{_≡_, refl, ap, sym, _∙_}
 use mathlib.Core.Option.{none, some, Option·none-ne-some}
 use mathlib.Core.List.{[], _∷_}
