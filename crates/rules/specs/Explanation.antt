@@ -70,7 +70,8 @@ number-after (refusal c) f g h = refl
 pub get-number : (sheet plan : List ℕ) (allowance : ℕ) → number (explainGet sheet plan allowance) ≡ refusalOf (getBytes sheet plan allowance)
 unfolding explainGet getBytes getWalk
 get-number sheet plan allowance = number-after _ _ _ λ sh. number-after _ _ _ λ μ.
-    number-told (λ v. v) encode (get levels sh (sh .root) μ allowance) ∙ ap (λ o. refusalOf (mapOut encode o)) (get-erases levels sh (sh .root) μ .same allowance)
+    number-told (λ v. v) encode (get levels sh (sh .root) μ allowance)
+    ∙ ap (λ o. refusalOf (mapOut encode o)) (get-erases levels sh (sh .root) μ .same allowance)
 
 strip-blank : (n : ℕ) → strip (replicate n none) ≡ replicate n none
 strip-blank n = go n
@@ -85,4 +86,5 @@ put-number sheet plan view allowance = number-after _ _ _ λ sh. number-after _ 
     let blank : Explain.Cells = replicate (length μ) none in
     let v = getD vs 0 vfalse in
     number-told strip (λ X. flat (newPlan X μ)) (put levels sh (sh .root) μ (count 0 (length μ)) v blank allowance)
-    ∙ ap (λ o. refusalOf (mapOut (λ X. flat (newPlan X μ)) o)) (rw (strip-blank (length μ)) at (put-erases levels sh (sh .root) μ (count 0 (length μ)) v blank .same allowance))
+    ∙ ap (λ o. refusalOf (mapOut (λ X. flat (newPlan X μ)) o))
+    (rw (strip-blank (length μ)) at (put-erases levels sh (sh .root) μ (count 0 (length μ)) v blank .same allowance))

@@ -247,7 +247,8 @@ lists-put (suc l) sh n μ σ v W = lists-plus 1 (lists-put-node (get l sh) (list
 pub lists-get-bytes : (sheet plan : List ℕ) (allowance : ℕ) → Lists (getBytes sheet plan allowance)
 unfolding getBytes getWalk among table
 lists-get-bytes sheet plan allowance =
-    lists-reading _ (lists-sheet sheet) λ sh. lists-reading _ (lists-values 20 refl refl refl (sh .k) plan) λ μ. lists-map _ (lists-within allowance (lists-get levels sh _ μ))
+    lists-reading _ (lists-sheet sheet) λ sh. lists-reading _ (lists-values 20 refl refl refl (sh .k) plan) λ μ.
+    lists-map _ (lists-within allowance (lists-get levels sh _ μ))
 
 pub lists-put-bytes : (sheet plan view : List ℕ) (allowance : ℕ) → Lists (putBytes sheet plan view allowance)
 unfolding putBytes putWalk among table

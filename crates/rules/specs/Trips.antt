@@ -130,8 +130,10 @@ written {sheet} {plan} {view} {allowance} {new} {n} p =
     let q = readValues-sound 30 1 view (p .view-read) in
     let (eb, g) = one-value (p .vs) (q .count) (q .readable) in
     let put-done = p .walk in
-    let cells-readable = after-at (rw put-done at (put-readable levels (p .sh) (numbers-fit sheet (p .sh) (p .sheet-read)) (p .sh .root) (p .μ) (count 0 (length (p .μ))) (getD (p .vs) 0 vfalse) (replicate (length (p .μ)) none) (r .readable) g (blank-readable (length (p .μ))))) in
-    let later = after-at (rw put-done at (lawful levels (p .sh) (p .sh .root) (p .μ) (count 0 (length (p .μ))) (getD (p .vs) 0 vfalse) (replicate (length (p .μ)) none) (g .fits))) .0 in
+    let cells-readable = after-at (rw put-done at (put-readable levels (p .sh) (numbers-fit sheet (p .sh) (p .sheet-read)) (p .sh .root) (p .μ)
+    (count 0 (length (p .μ))) (getD (p .vs) 0 vfalse) (replicate (length (p .μ)) none) (r .readable) g (blank-readable (length (p .μ))))) in
+    let later = after-at (rw put-done at (lawful levels (p .sh) (p .sh .root) (p .μ) (count 0 (length (p .μ)))
+    (getD (p .vs) 0 vfalse) (replicate (length (p .μ)) none) (g .fits))) .0 in
     let lx : length (p .X) ≡ length (p .μ) = sym (all2-length later) ∙ length-replicate (length (p .μ)) none in
     let ng = new-readable cells-readable (r .readable) in
     let back = readValues-back 20 ng in
@@ -151,7 +153,8 @@ stands : {sheet plan view : List ℕ} {allowance : ℕ} {new : List ℕ} {n : �
 stands {sheet} {plan} {view} {allowance} {new} {n} p =
     let w = written p in
     let put-done = p .walk in
-    let law = after-at (rw put-done at (lawful levels (p .sh) (p .sh .root) (p .μ) (count 0 (length (p .μ))) (getD (p .vs) 0 vfalse) (replicate (length (p .μ)) none) (w .view-readable .fits))) .1 in
+    let law = after-at (rw put-done at (lawful levels (p .sh) (p .sh .root) (p .μ) (count 0 (length (p .μ)))
+    (getD (p .vs) 0 vfalse) (replicate (length (p .μ)) none) (w .view-readable .fits))) .1 in
     let (t, e, h) = gives-out (law (newPlan (p .X) (p .μ)) (new-agrees [] (p .X) (p .μ) (w .cells))) in
     (t, record { sh = p .sh; sheet-read = p .sheet-read; μ = newPlan (p .X) (p .μ); plan-read = w .new-read; v = getD (p .vs) 0 vfalse; walk = e; few = le-trans h (p .few); bytes = w .view-bytes }, h)
 
