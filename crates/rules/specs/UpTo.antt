@@ -10,12 +10,13 @@ use Rattle.rules.specs.Outcome.{Out, done, refused, plus, steps, when, _
 use Rattle.rules.specs.Allowance.{within, cap}
 use Rattle.rules.specs.PublishedCost.{Cost, free, built, _⊕_, entered}
 
+-- what each limit's refusal shows of c
 pub data Limit (l a : ℕ) (c : Cost) : ℕ → Type 0 where
   deep : l < c .height → Limit l a c 40
   spent : a < c .nodes → Limit l a c 41
   long : 256 < c .longest → Limit l a c 44
 
--- what s steps of a walk of l levels can be
+-- c has exactly s nodes, and is within l levels and 256 bytes
 pub record Costs (l s : ℕ) (c : Cost) : Type 0 where
   pub levels : c .height ≤ l
   pub count : c .nodes ≡ s
@@ -41,7 +42,6 @@ module _ {l a : ℕ} where
   limit-right c d (spent h) = spent (omega arith)
   limit-right c d (long h) = long (omega arith)
 
-  -- a cost of the same height and nodes, whose values are as long or within the limit
   limit-as : {n : ℕ} (c d : Cost) → (c .height ≡ d .height) × (c .nodes ≡ d .nodes) × (c .longest ≤ d .longest) → Limit l a c n → Limit l a d n
   limit-as c d e (deep h) = deep (omega arith)
   limit-as c d e (spent h) = spent (omega arith)
@@ -56,6 +56,7 @@ module _ {A : Type 0} {l a : ℕ} {c : Cost} {Q : A → Type 0} where
   stops k h = limited k h
 
 module _ {A : Type 0} {l a : ℕ} {c : Cost} {Q : A → Type 0} where
+  -- another cost of the same height and nodes, whose values are no shorter, and within 256 bytes where those of c are
   pub up-as : {o : Out A} (d : Cost) → (c .height ≡ d .height) × (c .nodes ≡ d .nodes) × (c .longest ≤ d .longest) × (c .longest ≤ 256 → d .longest ≤ 256)
       → UpTo l a c Q o → UpTo l a d Q o
   up-as d e (reached k q) = gives (let z = e .3 (k .short) in omega arith) q
