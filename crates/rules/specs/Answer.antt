@@ -27,10 +27,14 @@ door need output scratch allowance o =
     given 1 (when (decLe need output)) λ _. given 2 (when (decLe 65536 scratch)) λ _.
     given 3 (when (decLe 1 allowance)) λ _. given 3 (when (decLe allowance 1000000)) λ _. o
 
--- GET: the root, at depth 1, in the scope of the plan
+-- the root is at depth 1, and a node at depth 49 is refused
+abbrev pub levels : ℕ
+levels = 48
+
+-- GET: the root, in the scope of the plan
 
 unfoldable pub getWalk : ℕ → Sheet → Env → Out Value
-getWalk allowance sh μ = within allowance (get 48 sh (sh .root) μ)
+getWalk allowance sh μ = within allowance (get levels sh (sh .root) μ)
 
 unfoldable pub getBytes : (sheet plan : List ℕ) (allowance : ℕ) → Out (List ℕ)
 getBytes sheet plan allowance =
@@ -52,7 +56,7 @@ newPlan (o ∷ X) [] = []
 newPlan (o ∷ X) (v ∷ μ) = orOld o v ∷ newPlan X μ
 
 unfoldable pub putWalk : ℕ → Sheet → Env → Value → Out Cells
-putWalk allowance sh μ v = within allowance (put 48 sh (sh .root) μ (count 0 (length μ)) v (replicate (length μ) none))
+putWalk allowance sh μ v = within allowance (put levels sh (sh .root) μ (count 0 (length μ)) v (replicate (length μ) none))
 
 unfoldable pub putBytes : (sheet plan view : List ℕ) (allowance : ℕ) → Out (List ℕ)
 putBytes sheet plan view allowance =

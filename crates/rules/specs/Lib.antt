@@ -15,6 +15,7 @@ pub mod Acceptability
 pub mod Trips
 pub mod Refusals
 pub mod Published
+pub mod PublishedCost
 pub mod UpTo
 pub mod PublishedGet
 pub mod PublishedCells

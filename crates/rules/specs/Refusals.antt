@@ -20,7 +20,7 @@ use Rattle.rules.specs.Outcome.{Out, done, refused, plus, steps, when, m
 use Rattle.rules.specs.Allowance.{within, cap}
 use Rattle.rules.specs.Text
 use Rattle.rules.specs.Rules.{Env, Cells, Getter, Putter, bounded, tested, onList, getNode, get, constant, write, both, under, putNode, put}
-use Rattle.rules.specs.Answer.{Answer, answer, door, getWalk, getBytes, getAnswer, putWalk, putBytes, putAnswer}
+use Rattle.rules.specs.Answer.{Answer, answer, door, levels, getWalk, getBytes, getAnswer, putWalk, putBytes, putAnswer}
 
 -- the table behind the door, row by row; 50 to 54 and 30 to 32 are put's
 unfoldable pub table : List ℕ
@@ -247,13 +247,14 @@ lists-put (suc l) sh n μ σ v W = lists-plus 1 (lists-put-node (get l sh) (list
 pub lists-get-bytes : (sheet plan : List ℕ) (allowance : ℕ) → Lists (getBytes sheet plan allowance)
 unfolding getBytes getWalk among table
 lists-get-bytes sheet plan allowance =
-    lists-reading _ (lists-sheet sheet) λ sh. lists-reading _ (lists-values 20 refl refl refl (sh .k) plan) λ μ. lists-map _ (lists-within allowance (lists-get 48 sh _ μ))
+    lists-reading _ (lists-sheet sheet) λ sh. lists-reading _ (lists-values 20 refl refl refl (sh .k) plan) λ μ.
+    lists-map _ (lists-within allowance (lists-get levels sh _ μ))
 
 pub lists-put-bytes : (sheet plan view : List ℕ) (allowance : ℕ) → Lists (putBytes sheet plan view allowance)
 unfolding putBytes putWalk among table
 lists-put-bytes sheet plan view allowance =
     lists-reading _ (lists-sheet sheet) λ sh. lists-reading _ (lists-values 20 refl refl refl (sh .k) plan) λ μ.
-    lists-reading _ (lists-values 30 refl refl refl 1 view) λ vs. lists-map _ (lists-within allowance (lists-put 48 sh _ μ _ _ _))
+    lists-reading _ (lists-values 30 refl refl refl 1 view) λ vs. lists-map _ (lists-within allowance (lists-put levels sh _ μ _ _ _))
 
 -- a listed number is above the door's
 unfoldable all-leb : ℕ → List ℕ → Bool
