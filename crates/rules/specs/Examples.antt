@@ -11,6 +11,7 @@ use Rattle.value.specs.Tests.{class, table, holds, passes}
 use Rattle.value.specs.Reading.{onWhole, kindOf, makeFront, makeNumber, makePair, makeRest, beginValue, beginRest, beginByte, read, readValue, onValue, readValues}
 use Rattle.sheet.specs.Sheet.{readNodes, oneSection, ifSection, readRecords, withNodes, readBody, nodesInRange, rootsInRange, inRange, readHeader, readSheet}
 use Rattle.sheet.specs.Kinds.{forms, formOf, bodyWidth, make, nodeInRange}
+use Rattle.rules.specs.Numbers.{SCRATCH, PUT-OUTPUT}
 use Rattle.rules.specs.Outcome.{plus, steps, when, _>>=_, mapOut, given, reading, choose}
 use Rattle.rules.specs.Allowance.{cap, within}
 use Rattle.rules.specs.Text
@@ -27,8 +28,8 @@ pub record Row : Type 0 where
 
 -- the call of a row, with an output of 4,096 bytes and scratch of 65,536
 unfoldable pub call : List ℕ → List ℕ → Option (List ℕ) → ℕ → Answer
-call sheet plan none allowance = getAnswer sheet plan allowance 4096 65536
-call sheet plan (some view) allowance = putAnswer sheet plan view allowance 4096 65536
+call sheet plan none allowance = getAnswer sheet plan allowance PUT-OUTPUT SCRATCH
+call sheet plan (some view) allowance = putAnswer sheet plan view allowance PUT-OUTPUT SCRATCH
 
 unfoldable pub run : Row → Answer
 unfolding call

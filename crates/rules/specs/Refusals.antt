@@ -16,6 +16,7 @@ use Rattle.sheet.specs.declared.Node.{Node}
 use Rattle.sheet.specs.declared.Node.the-variants.{Var, False, True, Empty, Number, Front, Pair, ListCase, TruthCase, Split, Call, Add}
 use Rattle.sheet.specs.Sheet.{Sheet, readNodes, oneSection, ifSection, readRecords, Records, withNodes, readBody, readHeader, readSheet}
 use Rattle.sheet.specs.Kinds.{formOf}
+use Rattle.rules.specs.Numbers.{LEVELS, ALLOWANCE, SCRATCH, GET-OUTPUT, PUT-OUTPUT}
 use Rattle.rules.specs.Outcome.{Out, done, refused, plus, steps, when, mapOut, _>>=_, given, reading, choose}
 use Rattle.rules.specs.Allowance.{within, cap}
 use Rattle.rules.specs.Text
@@ -247,13 +248,13 @@ lists-put (suc l) sh n μ σ v W = lists-plus 1 (lists-put-node (get l sh) (list
 pub lists-get-bytes : (sheet plan : List ℕ) (allowance : ℕ) → Lists (getBytes sheet plan allowance)
 unfolding getBytes getWalk among table
 lists-get-bytes sheet plan allowance =
-    lists-reading _ (lists-sheet sheet) λ sh. lists-reading _ (lists-values 20 refl refl refl (sh .k) plan) λ μ. lists-map _ (lists-within allowance (lists-get 48 sh _ μ))
+    lists-reading _ (lists-sheet sheet) λ sh. lists-reading _ (lists-values 20 refl refl refl (sh .k) plan) λ μ. lists-map _ (lists-within allowance (lists-get LEVELS sh _ μ))
 
 pub lists-put-bytes : (sheet plan view : List ℕ) (allowance : ℕ) → Lists (putBytes sheet plan view allowance)
 unfolding putBytes putWalk among table
 lists-put-bytes sheet plan view allowance =
     lists-reading _ (lists-sheet sheet) λ sh. lists-reading _ (lists-values 20 refl refl refl (sh .k) plan) λ μ.
-    lists-reading _ (lists-values 30 refl refl refl 1 view) λ vs. lists-map _ (lists-within allowance (lists-put 48 sh _ μ _ _ _))
+    lists-reading _ (lists-values 30 refl refl refl 1 view) λ vs. lists-map _ (lists-within allowance (lists-put LEVELS sh _ μ _ _ _))
 
 -- a listed number is above the door's
 unfoldable all-leb : ℕ → List ℕ → Bool
@@ -310,7 +311,7 @@ stated-three = refl
 
 stated-answer : (need output scratch allowance : ℕ) {o : Out (List ℕ)} {c : ℕ} → Lists o → answer (door need output scratch allowance o) ≡ Answer.refusal c → Stated c
 unfolding door given when answer
-stated-answer need output scratch allowance {o} {c} h e = go₁ (decLe need output) (decLe 65536 scratch) (decLe 1 allowance) (decLe allowance 1000000) e
+stated-answer need output scratch allowance {o} {c} h e = go₁ (decLe need output) (decLe SCRATCH scratch) (decLe 1 allowance) (decLe allowance ALLOWANCE) e
   where
     inner : {o : Out (List ℕ)} → Lists o → answer o ≡ Answer.refusal c → Stated c
     inner lDone e = let z : _≡_ {A = ℕ} 0 1 = cc in absurd (omega arith)
@@ -319,7 +320,7 @@ stated-answer need output scratch allowance {o} {c} h e = go₁ (decLe need outp
     small : (k : ℕ) → Stated k → Answer.refusal k ≡ Answer.refusal c → Stated c
     small k l e = let z : k ≡ c = cc in rw z at l
 
-    go₁ : (p : Dec (need ≤ output)) (q : Dec (65536 ≤ scratch)) (r : Dec (1 ≤ allowance)) (t : Dec (allowance ≤ 1000000))
+    go₁ : (p : Dec (need ≤ output)) (q : Dec (SCRATCH ≤ scratch)) (r : Dec (1 ≤ allowance)) (t : Dec (allowance ≤ ALLOWANCE))
         → answer (given 1 (when p) λ _. given 2 (when q) λ _. given 3 (when r) λ _. given 3 (when t) λ _. o) ≡ Answer.refusal c → Stated c
     go₁ (no p) q r t e = small 1 stated-one e
     go₁ (yes p) (no q) r t e = small 2 stated-two e
@@ -330,8 +331,8 @@ stated-answer need output scratch allowance {o} {c} h e = go₁ (decLe need outp
 -- THE CLAIM
 pub get-refusals : (sheet plan : List ℕ) (allowance output scratch c : ℕ) → getAnswer sheet plan allowance output scratch ≡ Answer.refusal c → Stated c
 unfolding getAnswer
-get-refusals sheet plan allowance output scratch c e = stated-answer 256 output scratch allowance (lists-get-bytes sheet plan allowance) e
+get-refusals sheet plan allowance output scratch c e = stated-answer GET-OUTPUT output scratch allowance (lists-get-bytes sheet plan allowance) e
 
 pub put-refusals : (sheet plan view : List ℕ) (allowance output scratch c : ℕ) → putAnswer sheet plan view allowance output scratch ≡ Answer.refusal c → Stated c
 unfolding putAnswer
-put-refusals sheet plan view allowance output scratch c e = stated-answer 4096 output scratch allowance (lists-put-bytes sheet plan view allowance) e
+put-refusals sheet plan view allowance output scratch c e = stated-answer PUT-OUTPUT output scratch allowance (lists-put-bytes sheet plan view allowance) e
