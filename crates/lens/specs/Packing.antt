@@ -5,6 +5,7 @@ use Prim.Native.Nat.{ℕ, _+_, _*_, _≤_}
 use native.Mathlib.Omega.{arith}
 use native.Mathlib.Nat.{le-trans}
 use lib.ListN.{length}
+use Rattle.rules.specs.Numbers.{ALLOWANCE, PUT-OUTPUT}
 use Rattle.rules.specs.Answer.{Answer, refusal, success, getAnswer, putAnswer}
 use Rattle.rules.specs.AnswerLaws.{get-shows, put-shows, get-steps, put-steps}
 use Rattle.rules.specs.Trips.{get-short, put-short}
@@ -23,7 +24,7 @@ packedReply (Done len n) = 256 * len + 4294967296 * n
 -- a reply whose parts fit their bits
 abbrev pub Small : Reply → Type 0
 Small (Refused c) = Unit {0}
-Small (Done len n) = (len ≤ 4096) × (n ≤ 1000000)
+Small (Done len n) = (len ≤ PUT-OUTPUT) × (n ≤ ALLOWANCE)
 
 -- the call's answer is a: the number r says so, and output and scratch hold what document 01 says
 pub record Packed (a : Answer) (r : ℕ) (o o′ s s′ : List ℕ) : Type 0 where
@@ -39,7 +40,7 @@ reply-packed (success bs n) = refl
 pub pack-answered : {a : Answer} {q : Reply} {r : ℕ} {o o′ s s′ : List ℕ} → Answered a q o o′ s s′ → r ≡ packedReply q → Packed a r o o′ s s′
 pack-answered {a} w e = record { answer = e ∙ ap packedReply (w .answer) ∙ reply-packed a; output = w .output; scratch = w .scratch }
 
-small-reply : (a : Answer) → ((bs : List ℕ) (n : ℕ) → a ≡ success bs n → (length bs ≤ 4096) × (n ≤ 1000000)) → Small (reply a)
+small-reply : (a : Answer) → ((bs : List ℕ) (n : ℕ) → a ≡ success bs n → (length bs ≤ PUT-OUTPUT) × (n ≤ ALLOWANCE)) → Small (reply a)
 unfolding reply
 small-reply (refusal c) h = tt
 small-reply (success bs n) h = h bs n refl
@@ -57,7 +58,7 @@ small-put sheet plan view allowance output scratch w = rw (w .answer) (small-rep
 ))
 
 -- a reply, case by case
-pub small-done : {q : Reply} {len n : ℕ} → Small q → q ≡ Done len n → (len ≤ 4096) × (n ≤ 1000000)
+pub small-done : {q : Reply} {len n : ℕ} → Small q → q ≡ Done len n → (len ≤ PUT-OUTPUT) × (n ≤ ALLOWANCE)
 small-done {q} h e = rw e at h
 
 pub packed-refused : {q : Reply} {c : ℕ} → q ≡ Refused c → c ≡ packedReply q
