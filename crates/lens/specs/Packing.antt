@@ -1,14 +1,18 @@
 -- One number for an answer: the low 8 bits the refusal (0: success), the next 24 the length, the upper 32 the steps.
-use mathlib.Core.Path.{_≡_, refl, ap, _∙_}
-use mathlib.Core.List.{List}
-use Prim.Native.Nat.{ℕ, _+_, _*_, _≤_}
+use mathlib.Core.Path.{_≡_, refl, ap, ap₂, _∙_}
+use mathlib.Core.Bool.{Bool, true, false, _&&_, false≢true}
+use mathlib.Core.List.{List, [], _∷_}
+use Prim.Native.Nat.{ℕ, _+_, _*_, _/_, _%_, _≤_, _<_}
 use native.Mathlib.Omega.{arith}
 use native.Mathlib.Nat.{le-trans}
+use lib.Dec.{eqb, leb}
 use lib.ListN.{length}
+use borrow.Author.Tests.{eqb-true, leb-true, eq-eqb, ne-eqb}
 use Rattle.rules.specs.Numbers.{ALLOWANCE, PUT-OUTPUT}
 use Rattle.rules.specs.Answer.{Answer, refusal, success, getAnswer, putAnswer}
 use Rattle.rules.specs.AnswerLaws.{get-shows, put-shows, get-steps, put-steps}
 use Rattle.rules.specs.Trips.{get-short, put-short}
+use Rattle.rules.specs.Refusals.{among, table, Stated, get-refusals, put-refusals}
 use Rattle.lens.specs.declared.Reply.{Reply}
 use Rattle.lens.specs.declared.Reply.the-variants.{Done, Refused}
 use Rattle.lens.specs.Calls.{reply, written, cleared, Answered}
@@ -21,10 +25,29 @@ unfoldable pub packedReply : Reply → ℕ
 packedReply (Refused c) = c
 packedReply (Done len n) = 256 * len + 4294967296 * n
 
+-- the number taken apart, as include/lens.h does it
+unfoldable pub apart : Bool → ℕ → Reply
+apart true r = Done (r / 256 % 16777216) (r / 4294967296)
+apart false r = Refused (r % 256)
+
+unfoldable pub unpacked : ℕ → Reply
+unpacked r = apart (eqb (r % 256) 0) r
+
 -- a reply whose parts fit their bits
 abbrev pub Small : Reply → Type 0
-Small (Refused c) = Unit {0}
+Small (Refused c) = (1 ≤ c) × (c < 256)
 Small (Done len n) = (len ≤ PUT-OUTPUT) × (n ≤ ALLOWANCE)
+
+-- what is packed is read back
+pub packed-back : (q : Reply) {r : ℕ} → Small q → r ≡ packedReply q → unpacked r ≡ q
+unfolding packedReply unpacked apart
+packed-back (Refused c) {r} h e =
+    let k : r % 256 ≡ c = omega arith in
+    rw (ne-eqb (r % 256) 0 (λ z. omega arith)) (ap Refused k)
+packed-back (Done len n) {r} h e =
+    let k : r / 256 % 16777216 ≡ len = omega arith in
+    let j : r / 4294967296 ≡ n = omega arith in
+    rw (eq-eqb (r % 256) 0 (omega arith)) (ap₂ Done k j)
 
 -- the call's answer is a: the number r says so, and output and scratch hold what document 01 says
 pub record Packed (a : Answer) (r : ℕ) (o o′ s s′ : List ℕ) : Type 0 where
@@ -40,22 +63,53 @@ reply-packed (success bs n) = refl
 pub pack-answered : {a : Answer} {q : Reply} {r : ℕ} {o o′ s s′ : List ℕ} → Answered a q o o′ s s′ → r ≡ packedReply q → Packed a r o o′ s s′
 pack-answered {a} w e = record { answer = e ∙ ap packedReply (w .answer) ∙ reply-packed a; output = w .output; scratch = w .scratch }
 
-small-reply : (a : Answer) → ((bs : List ℕ) (n : ℕ) → a ≡ success bs n → (length bs ≤ PUT-OUTPUT) × (n ≤ ALLOWANCE)) → Small (reply a)
+-- THE PARTS FIT
+
+-- what a test says of every member of a list it says of a number among them
+unfoldable everywhere : (ℕ → Bool) → List ℕ → Bool
+everywhere p [] = true
+everywhere p (x ∷ xs) = p x && everywhere p xs
+
+both-true : (a b : Bool) → (a && b) ≡ true → (a ≡ true) × (b ≡ true)
+both-true true b e = (refl, e)
+both-true false b e = absurd (false≢true e)
+
+among-all : (p : ℕ → Bool) (c : ℕ) (xs : List ℕ) → everywhere p xs ≡ true → among c xs ≡ true → p c ≡ true
+unfolding among everywhere
+among-all p c [] h e = absurd (false≢true e)
+among-all p c (x ∷ xs) h e = let l = both-true (p x) (everywhere p xs) h in go (eqb c x) refl (l .0) (λ q. among-all p c xs (l .1) (rw q at e))
+  where
+    go : (b : Bool) → eqb c x ≡ b → p x ≡ true → (eqb c x ≡ false → p c ≡ true) → p c ≡ true
+    go true q k f = rw (eqb-true c x q) k
+    go false q k f = f q
+
+stated-small : (c : ℕ) → Stated c → (1 ≤ c) × (c < 256)
+unfolding table everywhere
+stated-small c e =
+    let l = both-true (leb 1 c) (leb c 255) (among-all (λ x. leb 1 x && leb x 255) c (1 ∷ 2 ∷ 3 ∷ table) refl e) in
+    (leb-true 1 c (l .0), omega (arith, leb-true c 255 (l .1)))
+
+small-reply : (a : Answer) → ((c : ℕ) → a ≡ refusal c → Stated c) → ((bs : List ℕ) (n : ℕ) → a ≡ success bs n → (length bs ≤ PUT-OUTPUT) × (n ≤ ALLOWANCE))
+    → Small (reply a)
 unfolding reply
-small-reply (refusal c) h = tt
-small-reply (success bs n) h = h bs n refl
+small-reply (refusal c) k h = stated-small c (k c refl)
+small-reply (success bs n) k h = h bs n refl
 
-pub small-get : (sheet plan : List ℕ) (allowance output scratch : ℕ) {q : Reply} {o o′ s s′ : List ℕ} → Answered (getAnswer sheet plan allowance output scratch) q o o′ s s′ → Small q
-small-get sheet plan allowance output scratch w = rw (w .answer) (small-reply (getAnswer sheet plan allowance output scratch) λ bs n e. (
-  omega (arith, get-short sheet plan allowance output scratch bs n e),
-  le-trans (get-steps sheet plan allowance output scratch bs n e) (get-shows e .0 .few-steps),
-))
+pub small-get : (sheet plan : List ℕ) (allowance output scratch : ℕ) {q : Reply} {o o′ s s′ : List ℕ}
+    → Answered (getAnswer sheet plan allowance output scratch) q o o′ s s′ → Small q
+small-get sheet plan allowance output scratch w =
+    rw (w .answer) (small-reply (getAnswer sheet plan allowance output scratch) (get-refusals sheet plan allowance output scratch) λ bs n e. (
+      omega (arith, get-short sheet plan allowance output scratch bs n e),
+      le-trans (get-steps sheet plan allowance output scratch bs n e) (get-shows e .0 .few-steps),
+    ))
 
-pub small-put : (sheet plan view : List ℕ) (allowance output scratch : ℕ) {q : Reply} {o o′ s s′ : List ℕ} → Answered (putAnswer sheet plan view allowance output scratch) q o o′ s s′ → Small q
-small-put sheet plan view allowance output scratch w = rw (w .answer) (small-reply (putAnswer sheet plan view allowance output scratch) λ bs n e. (
-  put-short sheet plan view allowance output scratch bs n e,
-  le-trans (put-steps sheet plan allowance output scratch bs n view e) (put-shows e .0 .few-steps),
-))
+pub small-put : (sheet plan view : List ℕ) (allowance output scratch : ℕ) {q : Reply} {o o′ s s′ : List ℕ}
+    → Answered (putAnswer sheet plan view allowance output scratch) q o o′ s s′ → Small q
+small-put sheet plan view allowance output scratch w =
+    rw (w .answer) (small-reply (putAnswer sheet plan view allowance output scratch) (put-refusals sheet plan view allowance output scratch) λ bs n e. (
+      put-short sheet plan view allowance output scratch bs n e,
+      le-trans (put-steps sheet plan allowance output scratch bs n view e) (put-shows e .0 .few-steps),
+    ))
 
 -- a reply, case by case
 pub small-done : {q : Reply} {len n : ℕ} → Small q → q ≡ Done len n → (len ≤ PUT-OUTPUT) × (n ≤ ALLOWANCE)
