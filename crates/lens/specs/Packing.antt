@@ -1,18 +1,18 @@
 -- One number for an answer: the low 8 bits the refusal (0: success), the next 24 the length, the upper 32 the steps.
 use mathlib.Core.Path.{_≡_, refl, ap, ap₂, _∙_}
-use mathlib.Core.Bool.{Bool, true, false, _&&_, false≢true}
-use mathlib.Core.List.{List, [], _∷_}
+use mathlib.Core.Bool.{Bool, true, false}
+use mathlib.Core.List.{List}
 use Prim.Native.Nat.{ℕ, _+_, _*_, _/_, _%_, _≤_, _<_}
 use native.Mathlib.Omega.{arith}
 use native.Mathlib.Nat.{le-trans}
-use lib.Dec.{eqb, leb}
+use lib.Dec.{eqb}
 use lib.ListN.{length}
-use borrow.Author.Tests.{eqb-true, leb-true, eq-eqb, ne-eqb}
+use borrow.Author.Tests.{eq-eqb, ne-eqb}
 use Rattle.rules.specs.Numbers.{ALLOWANCE, PUT-OUTPUT}
 use Rattle.rules.specs.Answer.{Answer, refusal, success, getAnswer, putAnswer}
 use Rattle.rules.specs.AnswerLaws.{get-shows, put-shows, get-steps, put-steps}
 use Rattle.rules.specs.Trips.{get-short, put-short}
-use Rattle.rules.specs.Refusals.{among, table, Stated, get-refusals, put-refusals}
+use Rattle.rules.specs.Refusals.{Stated, stated-small, get-refusals, put-refusals}
 use Rattle.lens.specs.declared.Reply.{Reply}
 use Rattle.lens.specs.declared.Reply.the-variants.{Done, Refused}
 use Rattle.lens.specs.Calls.{reply, written, cleared, Answered}
@@ -64,30 +64,6 @@ pub pack-answered : {a : Answer} {q : Reply} {r : ℕ} {o o′ s s′ : List ℕ
 pack-answered {a} w e = record { answer = e ∙ ap packedReply (w .answer) ∙ reply-packed a; output = w .output; scratch = w .scratch }
 
 -- THE PARTS FIT
-
--- what a test says of every member of a list it says of a number among them
-unfoldable everywhere : (ℕ → Bool) → List ℕ → Bool
-everywhere p [] = true
-everywhere p (x ∷ xs) = p x && everywhere p xs
-
-both-true : (a b : Bool) → (a && b) ≡ true → (a ≡ true) × (b ≡ true)
-both-true true b e = (refl, e)
-both-true false b e = absurd (false≢true e)
-
-among-all : (p : ℕ → Bool) (c : ℕ) (xs : List ℕ) → everywhere p xs ≡ true → among c xs ≡ true → p c ≡ true
-unfolding among everywhere
-among-all p c [] h e = absurd (false≢true e)
-among-all p c (x ∷ xs) h e = let l = both-true (p x) (everywhere p xs) h in go (eqb c x) refl (l .0) (λ q. among-all p c xs (l .1) (rw q at e))
-  where
-    go : (b : Bool) → eqb c x ≡ b → p x ≡ true → (eqb c x ≡ false → p c ≡ true) → p c ≡ true
-    go true q k f = rw (eqb-true c x q) k
-    go false q k f = f q
-
-stated-small : (c : ℕ) → Stated c → (1 ≤ c) × (c < 256)
-unfolding table everywhere
-stated-small c e =
-    let l = both-true (leb 1 c) (leb c 255) (among-all (λ x. leb 1 x && leb x 255) c (1 ∷ 2 ∷ 3 ∷ table) refl e) in
-    (leb-true 1 c (l .0), omega (arith, leb-true c 255 (l .1)))
 
 small-reply : (a : Answer) → ((c : ℕ) → a ≡ refusal c → Stated c) → ((bs : List ℕ) (n : ℕ) → a ≡ success bs n → (length bs ≤ PUT-OUTPUT) × (n ≤ ALLOWANCE))
     → Small (reply a)
