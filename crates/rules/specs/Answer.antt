@@ -8,7 +8,7 @@ use lib.ListN.{length, getD, replicate}
 use Rattle.value.specs.Value.{Value, vfalse, encode, flat}
 use Rattle.value.specs.Reading.{readPlan, readView}
 use Rattle.sheet.specs.Sheet.{Sheet, readSheet}
-use Rattle.rules.specs.Numbers.{LEVELS, ALLOWANCE, SCRATCH, GET-OUTPUT, PUT-OUTPUT}
+use Rattle.rules.specs.Numbers.{ALLOWANCE, SCRATCH, GET-OUTPUT, PUT-OUTPUT}
 use Rattle.rules.specs.Outcome.{Out, done, refused, when, mapOut, given, reading}
 use Rattle.rules.specs.Allowance.{within}
 use Rattle.rules.specs.Rules.{Env, Cells, get, orOld, put}
@@ -31,7 +31,7 @@ door need output scratch allowance o =
 -- GET: the root, at depth 1, in the scope of the plan
 
 unfoldable pub getWalk : ℕ → Sheet → Env → Out Value
-getWalk allowance sh μ = within allowance (get LEVELS sh (sh .root) μ)
+getWalk allowance sh μ = within allowance (get 48 sh (sh .root) μ)
 
 unfoldable pub getBytes : (sheet plan : List ℕ) (allowance : ℕ) → Out (List ℕ)
 getBytes sheet plan allowance =
@@ -53,7 +53,7 @@ newPlan (o ∷ X) [] = []
 newPlan (o ∷ X) (v ∷ μ) = orOld o v ∷ newPlan X μ
 
 unfoldable pub putWalk : ℕ → Sheet → Env → Value → Out Cells
-putWalk allowance sh μ v = within allowance (put LEVELS sh (sh .root) μ (count 0 (length μ)) v (replicate (length μ) none))
+putWalk allowance sh μ v = within allowance (put 48 sh (sh .root) μ (count 0 (length μ)) v (replicate (length μ) none))
 
 unfoldable pub putBytes : (sheet plan view : List ℕ) (allowance : ℕ) → Out (List ℕ)
 putBytes sheet plan view allowance =

@@ -1,9 +1,5 @@
--- The numbers of whole calls, by the names that the code has for them (src/lib.rt).
+-- The numbers of whole calls, by the names that the code has for them (src/lib.rt); that of levels stands with the walks (Answer.antt).
 use Prim.Native.Nat.{ℕ}
-
--- the levels of a walk: a node at depth 49 is refused
-abbrev pub LEVELS : ℕ
-LEVELS = 48
 
 -- the largest allowance of steps
 abbrev pub ALLOWANCE : ℕ

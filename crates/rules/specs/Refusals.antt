@@ -15,7 +15,7 @@ use Rattle.sheet.specs.declared.Node.{Node}
 use Rattle.sheet.specs.declared.Node.the-variants.{Var, False, True, Empty, Number, Front, Pair, ListCase, TruthCase, Split, Call, Add}
 use Rattle.sheet.specs.Sheet.{Sheet, readNodes, oneSection, ifSection, readRecords, Records, withNodes, readBody, readHeader, readSheet}
 use Rattle.sheet.specs.Kinds.{formOf}
-use Rattle.rules.specs.Numbers.{LEVELS, ALLOWANCE, SCRATCH, GET-OUTPUT, PUT-OUTPUT}
+use Rattle.rules.specs.Numbers.{ALLOWANCE, SCRATCH, GET-OUTPUT, PUT-OUTPUT}
 use Rattle.rules.specs.Outcome.{Out, done, refused, plus, steps, when, mapOut, _>>=_, given, reading, choose}
 use Rattle.rules.specs.Allowance.{within, cap}
 use Rattle.rules.specs.Text
@@ -247,13 +247,13 @@ lists-put (suc l) sh n μ σ v W = lists-plus 1 (lists-put-node (get l sh) (list
 pub lists-get-bytes : (sheet plan : List ℕ) (allowance : ℕ) → Lists (getBytes sheet plan allowance)
 unfolding getBytes getWalk among table
 lists-get-bytes sheet plan allowance =
-    lists-reading _ (lists-sheet sheet) λ sh. lists-reading _ (lists-values 20 refl refl refl (sh .k) plan) λ μ. lists-map _ (lists-within allowance (lists-get LEVELS sh _ μ))
+    lists-reading _ (lists-sheet sheet) λ sh. lists-reading _ (lists-values 20 refl refl refl (sh .k) plan) λ μ. lists-map _ (lists-within allowance (lists-get 48 sh _ μ))
 
 pub lists-put-bytes : (sheet plan view : List ℕ) (allowance : ℕ) → Lists (putBytes sheet plan view allowance)
 unfolding putBytes putWalk among table
 lists-put-bytes sheet plan view allowance =
     lists-reading _ (lists-sheet sheet) λ sh. lists-reading _ (lists-values 20 refl refl refl (sh .k) plan) λ μ.
-    lists-reading _ (lists-values 30 refl refl refl 1 view) λ vs. lists-map _ (lists-within allowance (lists-put LEVELS sh _ μ _ _ _))
+    lists-reading _ (lists-values 30 refl refl refl 1 view) λ vs. lists-map _ (lists-within allowance (lists-put 48 sh _ μ _ _ _))
 
 -- what a test says of every number of a list it says of a number among them
 unfoldable everywhere : (ℕ → Bool) → List ℕ → Bool
