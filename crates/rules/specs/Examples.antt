@@ -11,12 +11,12 @@ use Rattle.value.specs.Tests.{class, table, holds, passes}
 use Rattle.value.specs.Reading.{onWhole, kindOf, makeFront, makeNumber, makePair, makeRest, beginValue, beginRest, beginByte, read, readValue, onValue, readValues}
 use Rattle.sheet.specs.Sheet.{readNodes, oneSection, ifSection, readRecords, withNodes, readBody, nodesInRange, rootsInRange, inRange, readHeader, readSheet}
 use Rattle.sheet.specs.Kinds.{forms, formOf, bodyWidth, make, nodeInRange}
-use Rattle.rules.specs.Numbers.{SCRATCH, PUT-OUTPUT}
 use Rattle.rules.specs.Outcome.{plus, steps, when, _>>=_, mapOut, given, reading, choose}
 use Rattle.rules.specs.Allowance.{cap, within}
 use Rattle.rules.specs.Text
 use Rattle.rules.specs.Rules.{bounded, tested, onList, getNode, get, orOld, constant, write, both, under, mkList, mkPair, putNode, put}
 use Rattle.rules.specs.Answer.{Answer, refusal, success, answer, door, getWalk, getBytes, getAnswer, count, newPlan, putWalk, putBytes, putAnswer}
+use Rattle.rules.specs.Numbers.{SCRATCH, PUT-OUTPUT}
 
 -- a sheet, a plan, a view to be put (or none: a get), an allowance, and the answer
 pub record Row : Type 0 where
