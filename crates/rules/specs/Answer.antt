@@ -8,6 +8,7 @@ use lib.ListN.{length, getD, replicate}
 use Rattle.value.specs.Value.{Value, vfalse, encode, flat}
 use Rattle.value.specs.Reading.{readPlan, readView}
 use Rattle.sheet.specs.Sheet.{Sheet, readSheet}
+use Rattle.rules.specs.Numbers.{ALLOWANCE, SCRATCH, GET-OUTPUT, PUT-OUTPUT}
 use Rattle.rules.specs.Outcome.{Out, done, refused, when, mapOut, given, reading}
 use Rattle.rules.specs.Allowance.{within}
 use Rattle.rules.specs.Rules.{Env, Cells, get, orOld, put}
@@ -24,8 +25,8 @@ answer (refused c s) = refusal c
 -- 1 output under `need` bytes; 2 scratch under 65,536; 3 allowance 0 or over 1,000,000
 unfoldable pub door : (need output scratch allowance : ℕ) → Out (List ℕ) → Out (List ℕ)
 door need output scratch allowance o =
-    given 1 (when (decLe need output)) λ _. given 2 (when (decLe 65536 scratch)) λ _.
-    given 3 (when (decLe 1 allowance)) λ _. given 3 (when (decLe allowance 1000000)) λ _. o
+    given 1 (when (decLe need output)) λ _. given 2 (when (decLe SCRATCH scratch)) λ _.
+    given 3 (when (decLe 1 allowance)) λ _. given 3 (when (decLe allowance ALLOWANCE)) λ _. o
 
 -- the root is at depth 1, and a node at depth 49 is refused
 abbrev pub levels : ℕ
@@ -41,7 +42,7 @@ getBytes sheet plan allowance =
     reading (readSheet sheet) λ sh. reading (readPlan (sh .k) plan) λ μ. mapOut encode (getWalk allowance sh μ)
 
 unfoldable pub getAnswer : (sheet plan : List ℕ) (allowance output scratch : ℕ) → Answer
-getAnswer sheet plan allowance output scratch = answer (door 256 output scratch allowance (getBytes sheet plan allowance))
+getAnswer sheet plan allowance output scratch = answer (door GET-OUTPUT output scratch allowance (getBytes sheet plan allowance))
 
 -- PUT: variable i is cell i, and nothing is written yet; at the end each plan variable not written keeps its old value
 
@@ -64,4 +65,4 @@ putBytes sheet plan view allowance =
     mapOut (λ X. flat (newPlan X μ)) (putWalk allowance sh μ (getD vs 0 vfalse))
 
 unfoldable pub putAnswer : (sheet plan view : List ℕ) (allowance output scratch : ℕ) → Answer
-putAnswer sheet plan view allowance output scratch = answer (door 4096 output scratch allowance (putBytes sheet plan view allowance))
+putAnswer sheet plan view allowance output scratch = answer (door PUT-OUTPUT output scratch allowance (putBytes sheet plan view allowance))

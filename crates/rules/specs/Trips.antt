@@ -17,6 +17,7 @@ use Rattle.value.specs.Laws.{Readable, readValues-sound, readValues-back}
 use Rattle.sheet.specs.declared.Node.the-variants.{False}
 use Rattle.sheet.specs.Sheet.{Sheet, readSheet}
 use Rattle.sheet.specs.Laws.{sheet-ranges}
+use Rattle.rules.specs.Numbers.{ALLOWANCE, FACTOR, SCRATCH, GET-OUTPUT, PUT-OUTPUT}
 use Rattle.rules.specs.Outcome.{Out, done, refused, plus}
 use Rattle.rules.specs.Text
 use Rattle.rules.specs.Rules.{Env, Cells, getNode, get}
@@ -160,14 +161,14 @@ stands {sheet} {plan} {view} {allowance} {new} {n} p =
 
 pub consistency : (sheet plan view : List ℕ) (allowance output scratch : ℕ) (new : List ℕ) (p : ℕ)
     → putAnswer sheet plan view allowance output scratch ≡ success new p
-    → (output′ scratch′ : ℕ) → 256 ≤ output′ → 65536 ≤ scratch′
+    → (output′ scratch′ : ℕ) → GET-OUTPUT ≤ output′ → SCRATCH ≤ scratch′
     → (g : ℕ) × (getAnswer sheet new allowance output′ scratch′ ≡ success view g) × (g ≤ p)
 consistency sheet plan view allowance output scratch new p e output′ scratch′ ho hs =
     let (l, d) = put-shows e in let (g, got, h) = stands d in
     (g, get-answers (record { output-long = ho; scratch-long = hs; some-steps = l .some-steps; few-steps = l .few-steps }) got, h)
 
 -- A LIST SENT BACK UNEDITED MOVES NOTHING
-unmoved : {sheet plan : List ℕ} {allowance : ℕ} {view : List ℕ} {n : ℕ} → Got sheet plan allowance view n → (b : ℕ) → 48 * n ≤ b
+unmoved : {sheet plan : List ℕ} {allowance : ℕ} {view : List ℕ} {n : ℕ} → Got sheet plan allowance view n → (b : ℕ) → FACTOR * n ≤ b
     → (p : ℕ) × PutBack sheet plan view b plan p
 unmoved {sheet} {plan} {allowance} {view} {n} g b h =
     let r = readValues-sound 20 (g .sh .k) plan (g .plan-read) in
@@ -192,7 +193,7 @@ unmoved {sheet} {plan} {allowance} {view} {n} g b h =
 
 pub acceptability : (sheet plan : List ℕ) (allowance output scratch : ℕ) (view : List ℕ) (n : ℕ)
     → getAnswer sheet plan allowance output scratch ≡ success view n
-    → (b output′ scratch′ : ℕ) → 48 * n ≤ b → b ≤ 1000000 → 4096 ≤ output′ → 65536 ≤ scratch′
+    → (b output′ scratch′ : ℕ) → FACTOR * n ≤ b → b ≤ ALLOWANCE → PUT-OUTPUT ≤ output′ → SCRATCH ≤ scratch′
     → (p : ℕ) × (putAnswer sheet plan view b output′ scratch′ ≡ success plan p)
 acceptability sheet plan allowance output scratch view n e b output′ scratch′ hn hb ho hs =
     let (l, g) = get-shows e in let (p, d) = unmoved g b hn in
@@ -219,7 +220,7 @@ flat-short none = omega arith
 flat-short (each {a = v} {l = vs} r h) = rw length-append (omega (arith, encode-short r, flat-short h))
 
 pub get-short : (sheet plan : List ℕ) (allowance output scratch : ℕ) (view : List ℕ) (n : ℕ)
-    → getAnswer sheet plan allowance output scratch ≡ success view n → length view ≤ 256
+    → getAnswer sheet plan allowance output scratch ≡ success view n → length view ≤ GET-OUTPUT
 get-short sheet plan allowance output scratch view n e =
     let (l, g) = get-shows e in
     let r = readValues-sound 20 (g .sh .k) plan (g .plan-read) in
@@ -228,7 +229,7 @@ get-short sheet plan allowance output scratch view n e =
     rw (g .bytes) (encode-short v)
 
 pub put-short : (sheet plan view : List ℕ) (allowance output scratch : ℕ) (new : List ℕ) (p : ℕ)
-    → putAnswer sheet plan view allowance output scratch ≡ success new p → length new ≤ 4096
+    → putAnswer sheet plan view allowance output scratch ≡ success new p → length new ≤ PUT-OUTPUT
 put-short sheet plan view allowance output scratch new p e =
     let (sh, μ, es, en, k, good, back) = new-plan sheet plan view allowance output scratch new p e in
     rw en (omega (arith, flat-short good, k, sheet-ranges sheet es .few-variables))
