@@ -17,6 +17,12 @@ two bs i = 256 * getD bs i 0 + getD bs (i + 1) 0
 abbrev pub allowance : List ℕ → ℕ
 allowance bs = 65536 * getD bs 1 0 + two bs 2
 
+-- the number of each case in document 01: the byte that a job begins with, and the refusal of what is none
+abbrev pub jobNumber : Job → ℕ
+jobNumber (Get a n m) = 0x47
+jobNumber (Put a n m) = 0x50
+jobNumber Other = 60
+
 unfoldable pub pick : Bool → Job → Job → Job
 pick true a b = a
 pick false a b = b
@@ -27,11 +33,13 @@ unfolding pick
 jobOf bs =
     let n = two bs 4 in
     let m = two bs (6 + n) in
+    let get = Get (allowance bs) n m in
+    let put = Put (allowance bs) n m in
     pick (leb (8 + n) (length bs))
     (pick (leb (8 + n + m) (length bs))
-    (pick (eqb (getD bs 0 0) 0x47)
-    (pick (eqb (length bs) (8 + n + m)) (Get (allowance bs) n m) Other)
-    (pick (eqb (getD bs 0 0) 0x50) (Put (allowance bs) n m) Other))
+    (pick (eqb (getD bs 0 0) (jobNumber get))
+    (pick (eqb (length bs) (8 + n + m)) get Other)
+    (pick (eqb (getD bs 0 0) (jobNumber put)) put Other))
     Other)
     Other
 

@@ -5,7 +5,7 @@ ghost use Rattle.job.specs.Format.{jobOf};
 
 mod running;
 
-pub use running::run;
+pub use running::line;
 
 /// A get or a put, with its allowance and the lengths of its sheet and of its plan; or no job.
 pub enum Job {
