@@ -49,7 +49,7 @@ wrote-then {s} {t} {i} {m} {r} {b} {b₁} {b₂} p q =
     let l : length b₁ ≡ length b = ap length (p .made) ∙ length-sets b i s in
     wrote
     (q .made ∙ ap (λ (k : ℕ). sets b₁ k t) (p .end ∙ ap (min (i + length s)) (sym l)) ∙ sets-min t b₁ (i + length s)
-      ∙ ap (λ (c : List ℕ). sets c (i + length s) t) (p .made) ∙ sym (sets-append s t b i))
+    ∙ ap (λ (c : List ℕ). sets c (i + length s) t) (p .made) ∙ sym (sets-append s t b i))
     (rw length-append (omega (arith, q .end, p .end, l)))
 
 pub wrote-long : {t : List ℕ} {i r : ℕ} {b b′ : List ℕ} → Wrote t i b b′ r → length b′ ≡ length b

@@ -1,6 +1,6 @@
 -- `try_get` is safe and ends: the fronts that it lends lie within the buffers. Assumes nothing.
 use native.Mathlib.Omega.{arith}
-use Rattle.report.specs.Counting.{counts}
+use Rattle.io.proofs.Counting.{counts}
 use borrow.Author.Needs.{needs}
 use Rattle.examples.proofs.buffers.try_get.Statement.{statement}
 use Rattle.examples.proofs.buffers.try_get.Tie as tie
