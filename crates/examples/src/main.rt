@@ -92,7 +92,7 @@ fn last_start(table: sheet::Table) -> usize {
     table.starts[last] as usize
 }
 
-fn job_line(bytes: &[u8], text: &mut [u8; 8204]) -> usize
+fn job_line(bytes: &[u8], text: &mut [u8; job::LINE]) -> usize
     ensures { λ r. ⌜ Counts r (now (text .exit)) ⌝ }
 {
     let mut out = io::buffer();
@@ -101,7 +101,7 @@ fn job_line(bytes: &[u8], text: &mut [u8; 8204]) -> usize
 }
 
 // What a line of data/ makes: the line to print, at the front of the text, and its length.
-fn answer(letter: u8, bytes: &[u8], text: &mut [u8; 8204]) -> usize
+fn answer(letter: u8, bytes: &[u8], text: &mut [u8; job::LINE]) -> usize
     ensures { λ r. ⌜ Counts r (now (text .exit)) ⌝ }
 {
     match letter {
@@ -128,7 +128,7 @@ fn run_next(fd: i32) -> bool {
     }
     let mut bytes = [0u8; 8200];
     let m = lines::unhex(&line[2..n], &mut bytes);
-    let mut text = [0u8; 8204];
+    let mut text = [0u8; job::LINE];
     let end = answer(line[0], &bytes[..m], &mut text);
     io::write_all(STDOUT_FILENO, &text[..end]);
     true

@@ -56,7 +56,9 @@ module _ (bs : List ℕ) where
     job-cut-plan h = rw (← en, le-leb (8 + n) (length bs) hn, lt-leb (8 + n + two bs (6 + n)) (length bs) h)
 
     module _ {m : ℕ} (em : m ≡ two bs (6 + n)) (hm : 8 + n + m ≤ length bs) where
-      whole : jobOf bs ≡ pick (eqb (getD bs 0 0) 0x47) (pick (eqb (length bs) (8 + n + m)) (Get (allowance bs) n m) Other) (pick (eqb (getD bs 0 0) 0x50) (Put (allowance bs) n m) Other)
+      whole : jobOf bs
+          ≡ pick (eqb (getD bs 0 0) 0x47) (pick (eqb (length bs) (8 + n + m)) (Get (allowance bs) n m) Other)
+          (pick (eqb (getD bs 0 0) 0x50) (Put (allowance bs) n m) Other)
       unfolding jobOf
       whole = rw (← en, le-leb (8 + n) (length bs) hn, ← em, le-leb (8 + n + m) (length bs) hm)
 
@@ -90,7 +92,8 @@ job-inside bs =
     go (leb (8 + n) (length bs)) (leb (8 + n + m) (length bs)) refl (eqb (getD bs 0 0) 0x47) (eqb (length bs) (8 + n + m)) (eqb (getD bs 0 0) 0x50)
   where
     go : (p q : Bool) → leb (8 + two bs 4 + two bs (6 + two bs 4)) (length bs) ≡ q → (r s t : Bool)
-        → taken (pick p (pick q (pick r (pick s (Get (allowance bs) (two bs 4) (two bs (6 + two bs 4))) Other) (pick t (Put (allowance bs) (two bs 4) (two bs (6 + two bs 4))) Other)) Other) Other) ≤ length bs
+        → let n = two bs 4 in let m = two bs (6 + n) in let a = allowance bs in
+        taken (pick p (pick q (pick r (pick s (Get a n m) Other) (pick t (Put a n m) Other)) Other) Other) ≤ length bs
     go false q e r s t = zero-le
     go true false e r s t = zero-le
     go true true e true true t = leb-true _ _ e

@@ -19,9 +19,9 @@ use Rattle.job.specs.Format.{jobOf, jobNumber}
 abbrev pub part : List ℕ → ℕ → ℕ → List ℕ
 part bs i n = take n (drop i bs)
 
--- a job's answer: what the call answers on an output of 4,096 bytes and scratch of 65,536, or the number of what is no job
+-- a job's answer: what the call answers on buffers of the sizes that document 01 asks for, or the number of what is no job
 unfoldable pub answerOf : List ℕ → Job → Answer
-answerOf bs (Get a n m) = getAnswer (part bs 6 n) (part bs (8 + n) m) a 4096 65536
+answerOf bs (Get a n m) = getAnswer (part bs 6 n) (part bs (8 + n) m) a 256 65536
 answerOf bs (Put a n m) = putAnswer (part bs 6 n) (part bs (8 + n) m) (drop (8 + n + m) bs) a 4096 65536
 answerOf bs Other = refusal (jobNumber Other)
 

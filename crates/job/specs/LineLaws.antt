@@ -1,23 +1,22 @@
 -- Laws of the program's line: how long it is, that 8,193 bytes of the input decide it, and what shows it of the code.
 use mathlib.Core.Bool.{Bool, true, false, cond, _||_, false≢true}
-use mathlib.Core.Path.{_≡_, refl, sym, ap, _∙_}
-use mathlib.Core.List.{List, [], _∷_, _++_}
-use Prim.Native.Nat.{ℕ, _+_, _-_, _*_, _≤_, _<_}
-use native.Mathlib.Nat.{le-trans}
+use mathlib.Core.Path.{_≡_, refl, sym, ap}
+use mathlib.Core.List.{List, [], _∷_}
+use Prim.Native.Nat.{ℕ, _+_, _-_, _≤_, _<_}
 use native.Mathlib.Omega.{arith}
 use native.Mathlib.Decide.{decLe}
 use borrow.Author.Tests.{le-leb, lt-leb, ltb-true, eqb-true}
 use lib.Dec.{leb, ltb, eqb}
 use lib.ListN.{length, take, drop, length-drop}
 use lib.Seq.{length-take-le, take-all, take-append-seam}
-use Rattle.rules.specs.Answer.{Answer, refusal, success, getAnswer, putAnswer}
-use Rattle.rules.specs.AnswerLaws.{get-shows, put-shows, get-steps, put-steps}
+use Rattle.rules.specs.Outcome.{when, given}
+use Rattle.rules.specs.Answer.{Answer, refusal, success, door, getAnswer, putAnswer}
 use Rattle.rules.specs.Refusals.{Stated, among, table, get-refusals, put-refusals}
-use Rattle.rules.specs.Trips.{get-short, put-short}
 use Rattle.lens.specs.declared.Reply.{Reply}
 use Rattle.lens.specs.declared.Reply.the-variants.{Done, Refused}
 use Rattle.lens.specs.Calls.{reply, written, cleared, Answered}
 use Rattle.lens.specs.CallLaws.{done-inside}
+use Rattle.lens.specs.Packing.{Small, small-get, small-put}
 use Rattle.report.specs.Text.{refusalLine, successLine}
 use Rattle.report.specs.TextLaws.{refusal-length, success-length}
 use Rattle.report.specs.Writing.{Wrote, Front, wrote-front, wrote-text}
@@ -47,55 +46,40 @@ stated-small : (c : ℕ) → Stated c → c < 256
 unfolding below table
 stated-small c h = among-below c (1 ∷ 2 ∷ 3 ∷ table) refl h
 
--- what the line of an answer shows of its numbers
-pub record Small (a : Answer) : Type 0 where
-  pub number : (c : ℕ) → a ≡ refusal c → c < 256
-  pub output : (bs : List ℕ) (n : ℕ) → a ≡ success bs n → length bs ≤ 4096
-  pub steps : (bs : List ℕ) (n : ℕ) → a ≡ success bs n → n ≤ 1000000
+fits : (a : Answer) → ((c : ℕ) → a ≡ refusal c → c < 256) → Small (reply a) → length (answerLine a) ≤ 8204
+unfolding answerLine reply
+fits (refusal c) h s = omega (arith, refusal-length c (h c refl))
+fits (success bs n) h s = omega (arith, s .0, success-length n bs (s .1))
 
-small-get : (sheet plan : List ℕ) (allowance output scratch : ℕ) → Small (getAnswer sheet plan allowance output scratch)
-small-get sheet plan allowance output scratch = record {
-  number = λ c e. stated-small c (get-refusals sheet plan allowance output scratch c e);
-  output = λ bs n e. omega (arith, get-short sheet plan allowance output scratch bs n e);
-  steps = λ bs n e. le-trans (get-steps sheet plan allowance output scratch bs n e) (get-shows e .0 .few-steps);
-}
+-- a call that answers a, on buffers of no bytes
+answered : (a : Answer) → Answered a (reply a) [] (written a []) [] (cleared a [])
+answered a = record { answer = refl; output = refl; scratch = refl }
 
-small-put : (sheet plan view : List ℕ) (allowance output scratch : ℕ) → Small (putAnswer sheet plan view allowance output scratch)
-small-put sheet plan view allowance output scratch = record {
-  number = λ c e. stated-small c (put-refusals sheet plan view allowance output scratch c e);
-  output = λ bs n e. put-short sheet plan view allowance output scratch bs n e;
-  steps = λ bs n e. le-trans (put-steps sheet plan allowance output scratch bs n view e) (put-shows e .0 .few-steps);
-}
+fits-get : (sheet plan : List ℕ) (allowance output scratch : ℕ) → length (answerLine (getAnswer sheet plan allowance output scratch)) ≤ 8204
+fits-get sheet plan allowance output scratch =
+    fits _ (λ c e. stated-small c (get-refusals sheet plan allowance output scratch c e)) (small-get sheet plan allowance output scratch (answered _))
 
-small-refusal : (c : ℕ) → c < 256 → Small (refusal c)
-small-refusal c h = record {
-  number = λ d e. let z : c ≡ d = cc in omega arith;
-  output = λ bs n e. let z : _≡_ {A = ℕ} 0 1 = cc in absurd (omega arith);
-  steps = λ bs n e. let z : _≡_ {A = ℕ} 0 1 = cc in absurd (omega arith);
-}
+fits-put : (sheet plan view : List ℕ) (allowance output scratch : ℕ) → length (answerLine (putAnswer sheet plan view allowance output scratch)) ≤ 8204
+fits-put sheet plan view allowance output scratch =
+    fits _ (λ c e. stated-small c (put-refusals sheet plan view allowance output scratch c e)) (small-put sheet plan view allowance output scratch (answered _))
 
-small-fits : (a : Answer) → Small a → length (answerLine a) ≤ 8204
+fits-refusal : (c : ℕ) → c < 256 → length (answerLine (refusal c)) ≤ 8204
 unfolding answerLine
-small-fits (refusal c) s = omega (arith, refusal-length c (s .number c refl))
-small-fits (success bs n) s = omega (arith, s .output bs n refl, success-length n bs (s .steps bs n refl))
+fits-refusal c h = omega (arith, refusal-length c h)
 
-small-job : (bs : List ℕ) (j : Job) → Small (answerOf bs j)
+fits-job : (bs : List ℕ) (j : Job) → length (answerLine (answerOf bs j)) ≤ 8204
 unfolding answerOf
-small-job bs (Get a n m) = small-get _ _ a 4096 65536
-small-job bs (Put a n m) = small-put _ _ _ a 4096 65536
-small-job bs Other = small-refusal 60 (omega arith)
-
-small-answer : (bs : List ℕ) → Small (jobAnswer bs)
-unfolding jobAnswer
-small-answer bs = go (leb (length bs) 8192)
-  where
-    go : (p : Bool) → Small (cond p (answerOf bs (jobOf bs)) (refusal 61))
-    go true = small-job bs (jobOf bs)
-    go false = small-refusal 61 (omega arith)
+fits-job bs (Get a n m) = fits-get _ _ a 256 65536
+fits-job bs (Put a n m) = fits-put _ _ _ a 4096 65536
+fits-job bs Other = fits-refusal 60 (omega arith)
 
 pub line-fits : (bs : List ℕ) → length (jobLine bs) ≤ 8204
-unfolding jobLine
-line-fits bs = small-fits (jobAnswer bs) (small-answer bs)
+unfolding jobLine jobAnswer
+line-fits bs = go (leb (length bs) 8192)
+  where
+    go : (p : Bool) → length (answerLine (cond p (answerOf bs (jobOf bs)) (refusal 61))) ≤ 8204
+    go true = fits-job bs (jobOf bs)
+    go false = fits-refusal 61 (omega arith)
 
 -- THE FIRST 8,193 BYTES DECIDE IT
 pub line-front : (bs : List ℕ) → jobLine (take 8193 bs) ≡ jobLine bs
@@ -139,22 +123,27 @@ pub line-done : (o : List ℕ) {q : Reply} {len n : ℕ} → q ≡ Done len n �
 unfolding replyLine
 line-done o e = rw e
 
+more-output : (sheet plan : List ℕ) (allowance : ℕ) → getAnswer sheet plan allowance 4096 65536 ≡ getAnswer sheet plan allowance 256 65536
+unfolding getAnswer door given when decLe
+more-output sheet plan allowance = refl
+
 -- a call on buffers of the sizes that the program lends
 module _ {o s t : List ℕ} (eo : length o ≡ 4096) (es : length s ≡ 65536) (et : length t ≡ 8204) (sheet plan : List ℕ) (allowance : ℕ)
     {q : Reply} {o′ s′ t′ : List ℕ} {r : ℕ} where
+  -- a get is lent more than the 256 bytes that it needs
   pub said-get : Answered (getAnswer sheet plan allowance (length o) (length s)) q o o′ s s′ → Wrote (replyLine q o′) 0 t t′ r
-      → Said (getAnswer sheet plan allowance 4096 65536) r t t′ o o′ s s′
-  said-get w l = said (rw (eo, es) at w) l (rw et (small-fits _ (small-get sheet plan allowance 4096 65536)))
+      → Said (getAnswer sheet plan allowance 256 65536) r t t′ o o′ s s′
+  said-get w l = said (rw (eo, es, more-output sheet plan allowance) at w) l (rw et (fits-get sheet plan allowance 256 65536))
 
   pub said-put : (view : List ℕ) → Answered (putAnswer sheet plan view allowance (length o) (length s)) q o o′ s s′ → Wrote (replyLine q o′) 0 t t′ r
       → Said (putAnswer sheet plan view allowance 4096 65536) r t t′ o o′ s s′
-  said-put view w l = said (rw (eo, es) at w) l (rw et (small-fits _ (small-put sheet plan view allowance 4096 65536)))
+  said-put view w l = said (rw (eo, es) at w) l (rw et (fits-put sheet plan view allowance 4096 65536))
 
--- a part up to its end
-up-to : (i n : ℕ) → i + n - i ≡ n
-up-to i n = omega arith
+-- a part from its start up to its end
+pub up-to : (bs : List ℕ) (i n : ℕ) → part bs i (i + n - i) ≡ part bs i n
+up-to bs i n = let e : i + n - i ≡ n = omega arith in ap (part bs i) e
 
-to-end : (bs : List ℕ) (i : ℕ) → part bs i (length bs - i) ≡ drop i bs
+pub to-end : (bs : List ℕ) (i : ℕ) → part bs i (length bs - i) ≡ drop i bs
 to-end bs i = take-all (length bs - i) (drop i bs) (omega (arith, length-drop i bs))
 
 -- an input: over 8,192 bytes, no job, a get, a put
@@ -171,7 +160,8 @@ module _ (bs : List ℕ) where
   unfolding written
   lent-over o s h = record { output = rw (answer-over h); scratch = rw (lt-leb (length bs) 8192 h) }
 
-  lent-job : {i j : Job} → length bs ≤ 8192 → i ≡ jobOf bs → i ≡ j → {o o′ s s′ : List ℕ} → o′ ≡ written (answerOf bs j) o → s′ ≡ clearedBy bs j s → Lent bs o o′ s s′
+  lent-job : {i j : Job} → length bs ≤ 8192 → i ≡ jobOf bs → i ≡ j → {o o′ s s′ : List ℕ}
+      → o′ ≡ written (answerOf bs j) o → s′ ≡ clearedBy bs j s → Lent bs o o′ s s′
   lent-job h e q p z = record { output = rw (answer-job h e q) p; scratch = rw (le-leb (length bs) 8192 h, ← e, q) z }
 
   module _ {t t′ : List ℕ} {r : ℕ} where
@@ -183,27 +173,25 @@ module _ (bs : List ℕ) where
     unfolding jobLine
     line-said e f = rw e f
 
-    pub over : {o s : List ℕ} → length t ≡ 8204 → 8192 < length bs → Wrote (refusalLine 61) 0 t t′ r → Front (jobLine bs) t t′ r × Lent bs o o s s
-    over {o} {s} et h l = (line-wrote 61 et (answer-over h) l, lent-over o s h)
+    pub prints-over : {o s : List ℕ} → length t ≡ 8204 → 8192 < length bs → Wrote (refusalLine 61) 0 t t′ r → Front (jobLine bs) t t′ r × Lent bs o o s s
+    prints-over {o} {s} et h l = (line-wrote 61 et (answer-over h) l, lent-over o s h)
 
     module _ {j : Job} (h : length bs ≤ 8192) (e : j ≡ jobOf bs) where
-      pub no-job : {o s : List ℕ} → length t ≡ 8204 → j ≡ Other → Wrote (refusalLine 60) 0 t t′ r → Front (jobLine bs) t t′ r × Lent bs o o s s
+      pub prints-none : {o s : List ℕ} → length t ≡ 8204 → j ≡ Other → Wrote (refusalLine 60) 0 t t′ r → Front (jobLine bs) t t′ r × Lent bs o o s s
       unfolding answerOf written clearedBy
-      no-job et q l = (line-wrote 60 et (answer-job h e q) l, lent-job h e q refl refl)
+      prints-none et q l = (line-wrote 60 et (answer-job h e q) l, lent-job h e q refl refl)
 
-      -- the parts of the input, each from its start up to its end
-      pub a-get : {a n m : ℕ} {o o′ s s′ : List ℕ} → j ≡ Get a n m
-          → Said (getAnswer (part bs 6 (6 + n - 6)) (part bs (8 + n) (8 + n + m - (8 + n))) a 4096 65536) r t t′ o o′ s s′
-          → Front (jobLine bs) t t′ r × Lent bs o o′ s s′
+      pub prints-get : {a n m : ℕ} {sheet plan o o′ s s′ : List ℕ} → j ≡ Get a n m → sheet ≡ part bs 6 n → plan ≡ part bs (8 + n) m
+          → Said (getAnswer sheet plan a 256 65536) r t t′ o o′ s s′ → Front (jobLine bs) t t′ r × Lent bs o o′ s s′
       unfolding answerOf clearedBy
-      a-get {a} {n} {m} {o} {o′} {s} {s′} q w =
-          let v : Said (answerOf bs (Get a n m)) r t t′ o o′ s s′ = rw (up-to 6 n, up-to (8 + n) m) at w in
+      prints-get {a} {n} {m} {o = o} {o′ = o′} {s = s} {s′ = s′} q es ep w =
+          let v : Said (answerOf bs (Get a n m)) r t t′ o o′ s s′ = rw (es, ep) at w in
           (line-said (answer-job h e q) (v .text), lent-job h e q (v .output) (v .scratch))
 
-      pub a-put : {a n m : ℕ} {o o′ s s′ : List ℕ} → j ≡ Put a n m
-          → Said (putAnswer (part bs 6 (6 + n - 6)) (part bs (8 + n) (8 + n + m - (8 + n))) (part bs (8 + n + m) (length bs - (8 + n + m))) a 4096 65536) r t t′ o o′ s s′
-          → Front (jobLine bs) t t′ r × Lent bs o o′ s s′
+      pub prints-put : {a n m : ℕ} {sheet plan view o o′ s s′ : List ℕ} → j ≡ Put a n m
+          → sheet ≡ part bs 6 n → plan ≡ part bs (8 + n) m → view ≡ drop (8 + n + m) bs
+          → Said (putAnswer sheet plan view a 4096 65536) r t t′ o o′ s s′ → Front (jobLine bs) t t′ r × Lent bs o o′ s s′
       unfolding answerOf clearedBy
-      a-put {a} {n} {m} {o} {o′} {s} {s′} q w =
-          let v : Said (answerOf bs (Put a n m)) r t t′ o o′ s s′ = rw (up-to 6 n, up-to (8 + n) m, to-end bs (8 + n + m)) at w in
+      prints-put {a} {n} {m} {o = o} {o′ = o′} {s = s} {s′ = s′} q es ep ev w =
+          let v : Said (answerOf bs (Put a n m)) r t t′ o o′ s s′ = rw (es, ep, ev) at w in
           (line-said (answer-job h e q) (v .text), lent-job h e q (v .output) (v .scratch))

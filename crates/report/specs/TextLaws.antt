@@ -1,6 +1,6 @@
 -- What is written reads back: a byte is its two digits, and decimal text is its number. How long text is, and how it grows.
 use mathlib.Core.Bool.{cond}
-use mathlib.Core.Path.{_≡_, refl, sym, ap, _∙_}
+use mathlib.Core.Path.{_≡_, refl, sym, _∙_}
 use mathlib.Core.List.{List, [], _∷_, _++_}
 use Prim.Native.Nat.{ℕ, zero, suc, _+_, _-_, _*_, _/_, _%_, _^_, _≤_, _<_}
 use native.Mathlib.Nat.{pow-suc}
@@ -143,3 +143,14 @@ refusal-length c h = rw length-append (omega (arith, decimal-length c 2 (omega a
 pub success-length : (n : ℕ) (bs : List ℕ) → n ≤ 1000000 → length (successLine n bs) ≤ 12 + 2 * length bs
 unfolding successLine
 success-length n bs h = simp (length-append, hex-length) (omega (arith, decimal-length n 6 (omega arith)))
+
+-- EXAMPLES: `no 61`, `ok 1000 0ABA`
+
+refusal-61 : refusalLine 61 ≡ 0x6E ∷ 0x6F ∷ 0x20 ∷ 0x36 ∷ 0x31 ∷ 0x0A ∷ []
+unfolding refusalLine decimalOf decimalIn digitOf
+refusal-61 = refl
+
+success-1000 : successLine 1000 (0x0A ∷ 0xBA ∷ [])
+    ≡ 0x6F ∷ 0x6B ∷ 0x20 ∷ 0x31 ∷ 0x30 ∷ 0x30 ∷ 0x30 ∷ 0x20 ∷ 0x30 ∷ 0x41 ∷ 0x42 ∷ 0x41 ∷ 0x0A ∷ []
+unfolding successLine hexOf decimalOf decimalIn digitOf
+success-1000 = refl

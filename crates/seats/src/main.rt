@@ -4,11 +4,11 @@ use libc::STDIN_FILENO;
 use libc::STDOUT_FILENO;
 
 fn main() {
-    let mut input = [0u8; 8193];
+    let mut input = [0u8; job::INPUT + 1];
     let n = io::read_full(STDIN_FILENO, &mut input);
     let mut out = io::buffer();
     let mut scratch = io::large_buffer();
-    let mut text = [0u8; 8204];
+    let mut text = [0u8; job::LINE];
     let end = job::line(&input[..n], &mut out, &mut scratch, &mut text);
     io::write_all(STDOUT_FILENO, &text[..end]);
 }

@@ -1,12 +1,12 @@
 -- `decimal` meets its contract: the measure is the number, which loses its last digit at each call. Assumes nothing.
 use Prim.Native.Nat.{ℕ, _<_}
-use mathlib.Core.Path.{_≡_, sym}
+use mathlib.Core.Path.{sym}
 use native.Mathlib.Omega.{arith}
 use borrow.Author.Needs.{needs}
 use borrow.Fn.Kinds.{In, Out}
 use borrow.Fn.PlainCycle.{Measures, is, falls, and}
 use Rattle.report.specs.TextLaws.{decimal-small, decimal-more}
-use Rattle.report.specs.Writing.{wrote-long, wrote-then, wrote-text}
+use Rattle.report.specs.Writing.{wrote-then, wrote-text}
 use Rattle.report.proofs.decimal.Reads as decimal
 use Rattle.report.proofs.decimal.Kinds as decimal-kinds
 use Rattle.report.proofs.+decimal.Lts-decimal as lts

@@ -42,7 +42,9 @@ same-length : tie.Need-same-length Inv-loop μ-loop
 same-length c = wrote-long (c .before .loop .inv .1)
 
 returns : tie.Need-returns Inv-loop μ-loop
-returns c = let bytes = c .before .before .before .before .before .before .args .bytes .now in wrote-all (λ t. t) bytes (c .before .loop .i) (omega arith) (c .before .loop .inv .1)
+returns c =
+    let head = c .before in
+    wrote-all (λ t. t) (head .before .before .before .before .before .args .bytes .now) (head .loop .i) (omega arith) (head .loop .inv .1)
 
 pub bytes-spec : {M : Type 1} → statement M
 bytes-spec =

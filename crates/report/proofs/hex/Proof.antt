@@ -45,7 +45,9 @@ same-length : tie.Need-same-length Inv-loop μ-loop
 same-length c = wrote-long (c .before .loop .inv .1)
 
 returns : tie.Need-returns Inv-loop μ-loop
-returns c = let bytes = c .before .before .before .before .before .before .args .bytes .now in wrote-all hexOf bytes (c .before .loop .i) (omega arith) (c .before .loop .inv .1)
+returns c =
+    let head = c .before in
+    wrote-all hexOf (head .before .before .before .before .before .args .bytes .now) (head .loop .i) (omega arith) (head .loop .inv .1)
 
 pub hex-spec : {M : Type 1} → statement M
 hex-spec =

@@ -15,7 +15,8 @@ returns : tie.Need-returns
 returns c =
     let called = c .before .before .before .before in
     let e = called .before .before .before .before .before .args in
-    said-get (omega arith) (omega arith) (omega arith) (e .sheet .now) (e .plan .now) (e .allowance) (called .get .ensures .0) (c .reply-line .ensures)
+    said-get (omega arith) (omega arith) (omega arith) (e .sheet .now) (e .plan .now) (e .allowance)
+    (called .get .ensures .0) (c .reply-line .ensures)
 
 pub get-line-spec : {M : Type 1} → statement M
 get-line-spec = tie.close (tie.spec get-requires reply-line-requires returns)

@@ -15,7 +15,8 @@ returns : tie.Need-returns
 returns c =
     let called = c .before .before .before .before in
     let e = called .before .before .before .before .before .before .args in
-    said-put (omega arith) (omega arith) (omega arith) (e .sheet .now) (e .plan .now) (e .allowance) (e .view .now) (called .put .ensures .0) (c .reply-line .ensures)
+    said-put (omega arith) (omega arith) (omega arith) (e .sheet .now) (e .plan .now) (e .allowance) (e .view .now)
+    (called .put .ensures .0) (c .reply-line .ensures)
 
 pub put-line-spec : {M : Type 1} → statement M
 put-line-spec = tie.close (tie.spec put-requires reply-line-requires returns)
