@@ -25,6 +25,10 @@ extern "C" {
 #define LENS_SCRATCH 65536u       /* bytes of scratch for either */
 #define LENS_ALLOWANCE_MAX 1000000u /* the most steps that may be allowed; the least is 1 */
 
+/* The most bytes of stack that a call takes: measured on the deepest jobs (rust/tests/stack), not proved, and rounded up to a page. A
+ * thread needs this much free when it calls. */
+#define LENS_STACK 135168u
+
 /* The list that the sheet makes of the plan, in at most `allowance` steps. */
 uint64_t lens_get(const uint8_t *sheet, size_t sheet_len, const uint8_t *plan, size_t plan_len, uint32_t allowance,
                   uint8_t *out, size_t out_len, uint8_t *scratch, size_t scratch_len);
