@@ -3,7 +3,7 @@
  *   lens_get   a plan to its list (the "view")
  *   lens_put   the old plan and an edited list to the new plan
  *
- * Bytes of sheets, plans and lists, and what each refusal means, are those of document 01 (house sheets, plans and venue lists).
+ * Bytes of sheets, plans and lists, and what each refusal means, are in docs/SHEETS.md.
  *
  * Neither function allocates, keeps a pointer, or touches anything but the output and scratch that it is lent, so threads may call
  * both at once with buffers of their own. Every pointer must be good for the length behind it and must not be NULL, also where the
