@@ -1,9 +1,10 @@
 //! Runs the readers and the program's jobs on the lines of data/ and prints what each says.
 //!
 //! A line is a letter, a space and bytes in hexadecimal: `v` a value, `p` a plan behind the byte k, `w` a view, `s` a sheet,
-//! `j` a job.
+//! `j` a job, `t` a job whose call is followed by the one that turns it back.
 mod buffers;
 mod lines;
+mod turns;
 
 ghost use Rattle.io.specs.Counts.{Counts};
 use libc::STDOUT_FILENO;
@@ -109,6 +110,7 @@ fn answer(letter: u8, bytes: &[u8], text: &mut [u8; job::LINE]) -> usize
         b'w' => view_line(bytes, text),
         b's' => sheet_line(bytes, text),
         b'j' => job_line(bytes, text),
+        b't' => turns::line(bytes, text),
         b'p' => {
             if bytes.len() == 0 {
                 return 0;
@@ -158,4 +160,6 @@ fn main() {
     run_named(b"examples.txt");
     run_named(b"sizes.txt");
     run_named(b"jobs.txt");
+    run_named(b"turns.txt");
+    run_named(b"manual.txt");
 }

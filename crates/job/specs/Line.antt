@@ -5,6 +5,7 @@ use mathlib.Core.List.{List}
 use Prim.Native.Nat.{ℕ, _+_, _≤_}
 use lib.Dec.{leb}
 use lib.ListN.{length, take, drop}
+use Rattle.rules.specs.Numbers.{SCRATCH, GET-OUTPUT, PUT-OUTPUT}
 use Rattle.rules.specs.Answer.{Answer, refusal, success, getAnswer, putAnswer}
 use Rattle.lens.specs.declared.Reply.{Reply}
 use Rattle.lens.specs.declared.Reply.the-variants.{Done, Refused}
@@ -21,8 +22,8 @@ part bs i n = take n (drop i bs)
 
 -- a job's answer: what the call answers on buffers of the sizes that document 01 asks for, or the number of what is no job
 unfoldable pub answerOf : List ℕ → Job → Answer
-answerOf bs (Get a n m) = getAnswer (part bs 6 n) (part bs (8 + n) m) a 256 65536
-answerOf bs (Put a n m) = putAnswer (part bs 6 n) (part bs (8 + n) m) (drop (8 + n + m) bs) a 4096 65536
+answerOf bs (Get a n m) = getAnswer (part bs 6 n) (part bs (8 + n) m) a GET-OUTPUT SCRATCH
+answerOf bs (Put a n m) = putAnswer (part bs 6 n) (part bs (8 + n) m) (drop (8 + n + m) bs) a PUT-OUTPUT SCRATCH
 answerOf bs Other = refusal (jobNumber Other)
 
 -- over 8,192 bytes: 61, whatever they are

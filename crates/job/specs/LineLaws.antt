@@ -10,6 +10,7 @@ use lib.Dec.{leb, ltb, eqb}
 use lib.ListN.{length, take, drop, length-drop}
 use lib.Seq.{length-take-le, take-all, take-append-seam}
 use Rattle.rules.specs.Outcome.{when, given}
+use Rattle.rules.specs.Numbers.{SCRATCH, GET-OUTPUT, PUT-OUTPUT}
 use Rattle.rules.specs.Answer.{Answer, refusal, success, door, getAnswer, putAnswer}
 use Rattle.rules.specs.Refusals.{Stated, among, table, get-refusals, put-refusals}
 use Rattle.lens.specs.declared.Reply.{Reply}
@@ -69,8 +70,8 @@ fits-refusal c h = omega (arith, refusal-length c h)
 
 fits-job : (bs : List ℕ) (j : Job) → length (answerLine (answerOf bs j)) ≤ 8204
 unfolding answerOf
-fits-job bs (Get a n m) = fits-get _ _ a 256 65536
-fits-job bs (Put a n m) = fits-put _ _ _ a 4096 65536
+fits-job bs (Get a n m) = fits-get _ _ a GET-OUTPUT SCRATCH
+fits-job bs (Put a n m) = fits-put _ _ _ a PUT-OUTPUT SCRATCH
 fits-job bs Other = fits-refusal 60 (omega arith)
 
 pub line-fits : (bs : List ℕ) → length (jobLine bs) ≤ 8204
@@ -123,21 +124,21 @@ pub line-done : (o : List ℕ) {q : Reply} {len n : ℕ} → q ≡ Done len n �
 unfolding replyLine
 line-done o e = rw e
 
-more-output : (sheet plan : List ℕ) (allowance : ℕ) → getAnswer sheet plan allowance 4096 65536 ≡ getAnswer sheet plan allowance 256 65536
+more-output : (sheet plan : List ℕ) (allowance : ℕ) → getAnswer sheet plan allowance PUT-OUTPUT SCRATCH ≡ getAnswer sheet plan allowance GET-OUTPUT SCRATCH
 unfolding getAnswer door given when decLe
 more-output sheet plan allowance = refl
 
 -- a call on buffers of the sizes that the program lends
-module _ {o s t : List ℕ} (eo : length o ≡ 4096) (es : length s ≡ 65536) (et : length t ≡ 8204) (sheet plan : List ℕ) (allowance : ℕ)
+module _ {o s t : List ℕ} (eo : length o ≡ PUT-OUTPUT) (es : length s ≡ SCRATCH) (et : length t ≡ 8204) (sheet plan : List ℕ) (allowance : ℕ)
     {q : Reply} {o′ s′ t′ : List ℕ} {r : ℕ} where
   -- a get is lent more than the 256 bytes that it needs
   pub said-get : Answered (getAnswer sheet plan allowance (length o) (length s)) q o o′ s s′ → Wrote (replyLine q o′) 0 t t′ r
-      → Said (getAnswer sheet plan allowance 256 65536) r t t′ o o′ s s′
-  said-get w l = said (rw (eo, es, more-output sheet plan allowance) at w) l (rw et (fits-get sheet plan allowance 256 65536))
+      → Said (getAnswer sheet plan allowance GET-OUTPUT SCRATCH) r t t′ o o′ s s′
+  said-get w l = said (rw (eo, es, more-output sheet plan allowance) at w) l (rw et (fits-get sheet plan allowance GET-OUTPUT SCRATCH))
 
   pub said-put : (view : List ℕ) → Answered (putAnswer sheet plan view allowance (length o) (length s)) q o o′ s s′ → Wrote (replyLine q o′) 0 t t′ r
-      → Said (putAnswer sheet plan view allowance 4096 65536) r t t′ o o′ s s′
-  said-put view w l = said (rw (eo, es) at w) l (rw et (fits-put sheet plan view allowance 4096 65536))
+      → Said (putAnswer sheet plan view allowance PUT-OUTPUT SCRATCH) r t t′ o o′ s s′
+  said-put view w l = said (rw (eo, es) at w) l (rw et (fits-put sheet plan view allowance PUT-OUTPUT SCRATCH))
 
 -- a part from its start up to its end
 pub up-to : (bs : List ℕ) (i n : ℕ) → part bs i (i + n - i) ≡ part bs i n
@@ -182,7 +183,7 @@ module _ (bs : List ℕ) where
       prints-none et q l = (line-wrote 60 et (answer-job h e q) l, lent-job h e q refl refl)
 
       pub prints-get : {a n m : ℕ} {sheet plan o o′ s s′ : List ℕ} → j ≡ Get a n m → sheet ≡ part bs 6 n → plan ≡ part bs (8 + n) m
-          → Said (getAnswer sheet plan a 256 65536) r t t′ o o′ s s′ → Front (jobLine bs) t t′ r × Lent bs o o′ s s′
+          → Said (getAnswer sheet plan a GET-OUTPUT SCRATCH) r t t′ o o′ s s′ → Front (jobLine bs) t t′ r × Lent bs o o′ s s′
       unfolding answerOf clearedBy
       prints-get {a} {n} {m} {o = o} {o′ = o′} {s = s} {s′ = s′} q es ep w =
           let v : Said (answerOf bs (Get a n m)) r t t′ o o′ s s′ = rw (es, ep) at w in
@@ -190,7 +191,7 @@ module _ (bs : List ℕ) where
 
       pub prints-put : {a n m : ℕ} {sheet plan view o o′ s s′ : List ℕ} → j ≡ Put a n m
           → sheet ≡ part bs 6 n → plan ≡ part bs (8 + n) m → view ≡ drop (8 + n + m) bs
-          → Said (putAnswer sheet plan view a 4096 65536) r t t′ o o′ s s′ → Front (jobLine bs) t t′ r × Lent bs o o′ s s′
+          → Said (putAnswer sheet plan view a PUT-OUTPUT SCRATCH) r t t′ o o′ s s′ → Front (jobLine bs) t t′ r × Lent bs o o′ s s′
       unfolding answerOf clearedBy
       prints-put {a} {n} {m} {o = o} {o′ = o′} {s = s} {s′ = s′} q es ep ev w =
           let v : Said (answerOf bs (Put a n m)) r t t′ o o′ s s′ = rw (es, ep, ev) at w in

@@ -2,6 +2,7 @@
 ghost use mathlib.Core.Path.{_≡_};
 ghost use Prim.Native.Nat.{_+_, _≤_};
 ghost use lib.ListN.{length, drop};
+ghost use Rattle.rules.specs.Numbers.{SCRATCH, GET-OUTPUT, PUT-OUTPUT};
 ghost use Rattle.rules.specs.Answer.{getAnswer, putAnswer};
 ghost use Rattle.report.specs.Writing.{Wrote, Front};
 ghost use Rattle.job.specs.Line.{part, jobLine, Within, replyLine, Said, Lent};
@@ -31,7 +32,7 @@ fn get_line(
     scratch: &mut [u8; rules::SCRATCH],
     text: &mut [u8; LINE],
 ) -> usize
-    ensures { λ r. ⌜ Said (getAnswer (now (sheet .entry)) (now (plan .entry)) allowance 256 65536) r (now (text .entry)) (now (text .exit)) (now (out .entry)) (now (out .exit)) (now (scratch .entry)) (now (scratch .exit)) ⌝ }
+    ensures { λ r. ⌜ Said (getAnswer (now (sheet .entry)) (now (plan .entry)) allowance GET-OUTPUT SCRATCH) r (now (text .entry)) (now (text .exit)) (now (out .entry)) (now (out .exit)) (now (scratch .entry)) (now (scratch .exit)) ⌝ }
 {
     let reply = lens::get(sheet, plan, allowance, out, scratch);
     reply_line(reply, out, text)
@@ -47,7 +48,7 @@ fn put_line(
     scratch: &mut [u8; rules::SCRATCH],
     text: &mut [u8; LINE],
 ) -> usize
-    ensures { λ r. ⌜ Said (putAnswer (now (sheet .entry)) (now (plan .entry)) (now (view .entry)) allowance 4096 65536) r (now (text .entry)) (now (text .exit)) (now (out .entry)) (now (out .exit)) (now (scratch .entry)) (now (scratch .exit)) ⌝ }
+    ensures { λ r. ⌜ Said (putAnswer (now (sheet .entry)) (now (plan .entry)) (now (view .entry)) allowance PUT-OUTPUT SCRATCH) r (now (text .entry)) (now (text .exit)) (now (out .entry)) (now (out .exit)) (now (scratch .entry)) (now (scratch .exit)) ⌝ }
 {
     let reply = lens::put(sheet, plan, view, allowance, out, scratch);
     reply_line(reply, out, text)

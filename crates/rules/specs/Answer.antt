@@ -1,5 +1,5 @@
 -- The answers of whole calls on bytes: the door, the sheet, the plan, the view, the walk, each refusal in its row's order
--- (document 01, "Where each refusal is met").
+-- (document 01, "Where each refusal is met"; docs/SHEETS.md, "All refusals on one page").
 use mathlib.Core.Option.{none}
 use mathlib.Core.List.{List, [], _∷_}
 use Prim.Native.Nat.{ℕ, zero, suc}
@@ -8,7 +8,7 @@ use lib.ListN.{length, getD, replicate}
 use Rattle.value.specs.Value.{Value, vfalse, encode, flat}
 use Rattle.value.specs.Reading.{readPlan, readView}
 use Rattle.sheet.specs.Sheet.{Sheet, readSheet}
-use Rattle.rules.specs.Numbers.{ALLOWANCE, SCRATCH, GET-OUTPUT, PUT-OUTPUT}
+use Rattle.rules.specs.Numbers.{LEVELS, ALLOWANCE, SCRATCH, GET-OUTPUT, PUT-OUTPUT}
 use Rattle.rules.specs.Outcome.{Out, done, refused, when, mapOut, given, reading}
 use Rattle.rules.specs.Allowance.{within}
 use Rattle.rules.specs.Rules.{Env, Cells, get, orOld, put}
@@ -28,14 +28,10 @@ door need output scratch allowance o =
     given 1 (when (decLe need output)) λ _. given 2 (when (decLe SCRATCH scratch)) λ _.
     given 3 (when (decLe 1 allowance)) λ _. given 3 (when (decLe allowance ALLOWANCE)) λ _. o
 
--- the root is at depth 1, and a node at depth 49 is refused
-abbrev pub levels : ℕ
-levels = 48
-
 -- GET: the root, in the scope of the plan
 
 unfoldable pub getWalk : ℕ → Sheet → Env → Out Value
-getWalk allowance sh μ = within allowance (get levels sh (sh .root) μ)
+getWalk allowance sh μ = within allowance (get LEVELS sh (sh .root) μ)
 
 unfoldable pub getBytes : (sheet plan : List ℕ) (allowance : ℕ) → Out (List ℕ)
 getBytes sheet plan allowance =
@@ -57,7 +53,7 @@ newPlan (o ∷ X) [] = []
 newPlan (o ∷ X) (v ∷ μ) = orOld o v ∷ newPlan X μ
 
 unfoldable pub putWalk : ℕ → Sheet → Env → Value → Out Cells
-putWalk allowance sh μ v = within allowance (put levels sh (sh .root) μ (count 0 (length μ)) v (replicate (length μ) none))
+putWalk allowance sh μ v = within allowance (put LEVELS sh (sh .root) μ (count 0 (length μ)) v (replicate (length μ) none))
 
 unfoldable pub putBytes : (sheet plan view : List ℕ) (allowance : ℕ) → Out (List ℕ)
 putBytes sheet plan view allowance =

@@ -11,10 +11,10 @@ use Rattle.value.specs.Result.{Result, ok}
 use Rattle.value.specs.Value.{Value, vfalse, encode, flat}
 use Rattle.value.specs.Reading.{readPlan, readView}
 use Rattle.sheet.specs.Sheet.{Sheet, readSheet}
-use Rattle.rules.specs.Numbers.{ALLOWANCE, SCRATCH, GET-OUTPUT, PUT-OUTPUT}
+use Rattle.rules.specs.Numbers.{LEVELS, ALLOWANCE, SCRATCH, GET-OUTPUT, PUT-OUTPUT}
 use Rattle.rules.specs.Outcome.{Out, done, refused, mapOut, given, reading}
 use Rattle.rules.specs.Rules.{Env, Cells, get, put}
-use Rattle.rules.specs.Answer.{refusal, success, answer, door, levels, getWalk, getBytes, getAnswer, count, newPlan, putWalk, putBytes, putAnswer}
+use Rattle.rules.specs.Answer.{refusal, success, answer, door, getWalk, getBytes, getAnswer, count, newPlan, putWalk, putBytes, putAnswer}
 use Rattle.rules.specs.OutcomeLaws.{given-yes, given-not}
 use Rattle.rules.specs.AllowanceLaws.{within-done, done-within}
 
@@ -89,7 +89,7 @@ pub record Got (sheet plan : List ℕ) (allowance : ℕ) (view : List ℕ) (n : 
   pub μ : Env
   pub plan-read : readPlan (sh .k) plan ≡ ok μ
   pub v : Value
-  pub walk : get levels sh (sh .root) μ ≡ done v n
+  pub walk : get LEVELS sh (sh .root) μ ≡ done v n
   pub few : n ≤ allowance
   pub bytes : view ≡ encode v
 
@@ -102,7 +102,7 @@ pub record PutBack (sheet plan view : List ℕ) (allowance : ℕ) (new : List �
   pub vs : List Value
   pub view-read : readView view ≡ ok vs
   pub X : Cells
-  pub walk : put levels sh (sh .root) μ (count 0 (length μ)) (getD vs 0 vfalse) (replicate (length μ) none) ≡ done X n
+  pub walk : put LEVELS sh (sh .root) μ (count 0 (length μ)) (getD vs 0 vfalse) (replicate (length μ) none) ≡ done X n
   pub few : n ≤ allowance
   pub bytes : new ≡ flat (newPlan X μ)
 

@@ -1,13 +1,17 @@
--- The numbers of whole calls, by the names that the code has for them (src/lib.rt); that of levels stands with the walks (Answer.antt).
+-- The numbers of whole calls, by the names that the code has for them (src/lib.rt).
 use Prim.Native.Nat.{ℕ}
+
+-- the levels of a walk: the root is at depth 1, and a node at depth 49 is refused
+abbrev pub LEVELS : ℕ
+LEVELS = 48
 
 -- the largest allowance of steps
 abbrev pub ALLOWANCE : ℕ
 ALLOWANCE = 1000000
 
--- how many times the steps of a get an allowance has to be, for the put of its list to succeed
+-- how many times the steps of a get an allowance has to be, for the put of its list to succeed: the levels
 abbrev pub FACTOR : ℕ
-FACTOR = 48
+FACTOR = LEVELS
 
 -- the bytes of scratch that a call takes
 abbrev pub SCRATCH : ℕ

@@ -8,10 +8,11 @@ use native.Mathlib.Omega.{arith}
 use lib.ListN.{length, getElem?, replicate}
 use Rattle.value.specs.Value.{Value}
 use Rattle.sheet.specs.Sheet.{Sheet}
+use Rattle.rules.specs.Numbers.{LEVELS}
 use Rattle.rules.specs.Outcome.{done}
 use Rattle.rules.specs.Allowance.{within}
 use Rattle.rules.specs.Rules.{Env, Cells, orOld, put}
-use Rattle.rules.specs.Answer.{levels, getWalk, count, newPlan, putWalk}
+use Rattle.rules.specs.Answer.{getWalk, count, newPlan, putWalk}
 use Rattle.rules.specs.Related.{ends, more, all2-at, all2-of, all2-length}
 use Rattle.rules.specs.Consistency.{Later}
 use Rattle.rules.specs.Published.{Writes, Over, blank, _◁_, residual, Get, Put}
@@ -99,31 +100,31 @@ module _ (sh : Sheet) (n : ℕ) (μ : Env) (v : Value) where
 module _ (a : ℕ) (sh : Sheet) (μ : Env) (v : Value) where
   pub get-walk-sound : (s : ℕ) → getWalk a sh μ ≡ done v s → Get sh μ (residual sh (sh .root)) v
   unfolding getWalk
-  get-walk-sound s e = get-sound sh (sh .root) μ v levels a s e
+  get-walk-sound s e = get-sound sh (sh .root) μ v LEVELS a s e
 
-  pub get-walk-complete : (d : Get sh μ (residual sh (sh .root)) v) → Comes levels a (getCost d) v (getWalk a sh μ)
+  pub get-walk-complete : (d : Get sh μ (residual sh (sh .root)) v) → Comes LEVELS a (getCost d) v (getWalk a sh μ)
   unfolding getWalk
-  get-walk-complete d = get-complete sh (sh .root) μ v levels a d
+  get-walk-complete d = get-complete sh (sh .root) μ v LEVELS a d
 
   pub get-walk-exact : (d : Get sh μ (residual sh (sh .root)) v) → getCost d .height ≤ 48 → getCost d .nodes ≤ a → Exactly (getCost d) v (getWalk a sh μ)
   get-walk-exact d h k = up-exactly (get-walk-complete d) h k
 
-  pub get-walk-counted : (s : ℕ) → getWalk a sh μ ≡ done v s → (d : Get sh μ (residual sh (sh .root)) v) × Costs levels s (getCost d)
+  pub get-walk-counted : (s : ℕ) → getWalk a sh μ ≡ done v s → (d : Get sh μ (residual sh (sh .root)) v) × Costs LEVELS s (getCost d)
   unfolding getWalk
-  get-walk-counted s e = get-counted sh (sh .root) μ v levels a s e
+  get-walk-counted s e = get-counted sh (sh .root) μ v LEVELS a s e
 
   pub put-walk-sound : (s : ℕ) (X : Cells) → putWalk a sh μ v ≡ done X s → Put sh μ v (residual sh (sh .root)) X × (newPlan X μ ≡ X ◁ μ)
   unfolding putWalk
-  put-walk-sound s X e = (plan-sound sh (sh .root) μ v levels a s X e, new-plan-is X μ)
+  put-walk-sound s X e = (plan-sound sh (sh .root) μ v LEVELS a s X e, new-plan-is X μ)
 
-  pub put-walk-complete : (ω : Writes) (d : Put sh μ v (residual sh (sh .root)) ω) → Comes levels a (putCost d) ω (putWalk a sh μ v)
+  pub put-walk-complete : (ω : Writes) (d : Put sh μ v (residual sh (sh .root)) ω) → Comes LEVELS a (putCost d) ω (putWalk a sh μ v)
   unfolding putWalk
-  put-walk-complete ω d = plan-complete sh (sh .root) μ v levels a ω d
+  put-walk-complete ω d = plan-complete sh (sh .root) μ v LEVELS a ω d
 
   pub put-walk-exact : (ω : Writes) (d : Put sh μ v (residual sh (sh .root)) ω) → putCost d .height ≤ 48 → putCost d .nodes ≤ a
       → Exactly (putCost d) ω (putWalk a sh μ v)
   put-walk-exact ω d h k = up-exactly (put-walk-complete ω d) h k
 
-  pub put-walk-counted : (s : ℕ) (X : Cells) → putWalk a sh μ v ≡ done X s → (d : Put sh μ v (residual sh (sh .root)) X) × Costs levels s (putCost d)
+  pub put-walk-counted : (s : ℕ) (X : Cells) → putWalk a sh μ v ≡ done X s → (d : Put sh μ v (residual sh (sh .root)) X) × Costs LEVELS s (putCost d)
   unfolding putWalk
-  put-walk-counted s X e = plan-counted sh (sh .root) μ v levels a s X e
+  put-walk-counted s X e = plan-counted sh (sh .root) μ v LEVELS a s X e

@@ -15,12 +15,12 @@ use Rattle.sheet.specs.declared.Node.{Node}
 use Rattle.sheet.specs.declared.Node.the-variants.{Var, False, True, Empty, Number, Front, Pair, ListCase, TruthCase, Split, Call, Add}
 use Rattle.sheet.specs.Sheet.{Sheet, readNodes, oneSection, ifSection, readRecords, Records, withNodes, readBody, readHeader, readSheet}
 use Rattle.sheet.specs.Kinds.{formOf}
-use Rattle.rules.specs.Numbers.{ALLOWANCE, SCRATCH, GET-OUTPUT, PUT-OUTPUT}
+use Rattle.rules.specs.Numbers.{LEVELS, ALLOWANCE, SCRATCH, GET-OUTPUT, PUT-OUTPUT}
 use Rattle.rules.specs.Outcome.{Out, done, refused, plus, steps, when, mapOut, _>>=_, given, reading, choose}
 use Rattle.rules.specs.Allowance.{within, cap}
 use Rattle.rules.specs.Text
 use Rattle.rules.specs.Rules.{Env, Cells, Getter, Putter, bounded, tested, onList, getNode, get, constant, write, both, under, putNode, put}
-use Rattle.rules.specs.Answer.{Answer, answer, door, levels, getWalk, getBytes, getAnswer, putWalk, putBytes, putAnswer}
+use Rattle.rules.specs.Answer.{Answer, answer, door, getWalk, getBytes, getAnswer, putWalk, putBytes, putAnswer}
 
 -- the table behind the door, row by row; 50 to 54 and 30 to 32 are put's
 unfoldable pub table : List ℕ
@@ -248,13 +248,13 @@ pub lists-get-bytes : (sheet plan : List ℕ) (allowance : ℕ) → Lists (getBy
 unfolding getBytes getWalk among table
 lists-get-bytes sheet plan allowance =
     lists-reading _ (lists-sheet sheet) λ sh. lists-reading _ (lists-values 20 refl refl refl (sh .k) plan) λ μ.
-    lists-map _ (lists-within allowance (lists-get levels sh _ μ))
+    lists-map _ (lists-within allowance (lists-get LEVELS sh _ μ))
 
 pub lists-put-bytes : (sheet plan view : List ℕ) (allowance : ℕ) → Lists (putBytes sheet plan view allowance)
 unfolding putBytes putWalk among table
 lists-put-bytes sheet plan view allowance =
     lists-reading _ (lists-sheet sheet) λ sh. lists-reading _ (lists-values 20 refl refl refl (sh .k) plan) λ μ.
-    lists-reading _ (lists-values 30 refl refl refl 1 view) λ vs. lists-map _ (lists-within allowance (lists-put levels sh _ μ _ _ _))
+    lists-reading _ (lists-values 30 refl refl refl 1 view) λ vs. lists-map _ (lists-within allowance (lists-put LEVELS sh _ μ _ _ _))
 
 -- what a test says of every number of a list it says of a number among them
 unfoldable everywhere : (ℕ → Bool) → List ℕ → Bool

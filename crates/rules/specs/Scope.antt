@@ -14,11 +14,12 @@ use Rattle.sheet.specs.declared.Node.{Node}
 use Rattle.sheet.specs.declared.Node.the-variants.{Var, False, True, Empty, Number, Front, Pair, ListCase, TruthCase, Split, Call, Add}
 use Rattle.sheet.specs.Sheet.{Sheet, readSheet}
 use Rattle.sheet.specs.Laws.{sheet-ranges}
+use Rattle.rules.specs.Numbers.{LEVELS}
 use Rattle.rules.specs.Outcome.{Out, refused, plus, when, mapOut, _>>=_, given, reading, choose}
 use Rattle.rules.specs.Allowance.{within}
 use Rattle.rules.specs.Text
 use Rattle.rules.specs.Rules.{Env, Cells, Getter, Putter, two, tested, onList, getNode, get, both, under, mkList, mkPair, putNode, put}
-use Rattle.rules.specs.Answer.{answer, door, levels, getWalk, getBytes, getAnswer, count, newPlan, putWalk, putBytes, putAnswer}
+use Rattle.rules.specs.Answer.{answer, door, getWalk, getBytes, getAnswer, count, newPlan, putWalk, putBytes, putAnswer}
 use Rattle.rules.specs.OutcomeLaws.{given-yes}
 
 -- as `get` and `put`, and no node is entered with over 110 variables in scope (0 is no refusal of document 01's)
@@ -122,13 +123,13 @@ put-narrow (suc l) sh n μ σ v W z = given-yes 0 (decLe (length μ) 110) (omega
 -- WHOLE WALKS: at most 16 variables of the plan, and two more for each of 47 levels
 
 module _ (a : ℕ) (sh : Sheet) (μ : Env) (few : length μ ≤ 16) where
-  pub get-walk-narrow : within a (getNarrow levels sh (sh .root) μ) ≡ getWalk a sh μ
+  pub get-walk-narrow : within a (getNarrow LEVELS sh (sh .root) μ) ≡ getWalk a sh μ
   unfolding getWalk
-  get-walk-narrow = ap (within a) (get-narrow levels sh (sh .root) μ (omega arith))
+  get-walk-narrow = ap (within a) (get-narrow LEVELS sh (sh .root) μ (omega arith))
 
-  pub put-walk-narrow : (v : Value) → within a (putNarrow levels sh (sh .root) μ (count 0 (length μ)) v (replicate (length μ) none)) ≡ putWalk a sh μ v
+  pub put-walk-narrow : (v : Value) → within a (putNarrow LEVELS sh (sh .root) μ (count 0 (length μ)) v (replicate (length μ) none)) ≡ putWalk a sh μ v
   unfolding putWalk
-  put-walk-narrow v = ap (within a) (put-narrow levels sh (sh .root) μ (count 0 (length μ)) v (replicate (length μ) none) (omega arith))
+  put-walk-narrow v = ap (within a) (put-narrow LEVELS sh (sh .root) μ (count 0 (length μ)) v (replicate (length μ) none) (omega arith))
 
 -- AND WHOLE CALLS, of any bytes: a sheet that was read has no more variables
 
@@ -142,7 +143,7 @@ few-read sheet plan {sh} es ep = let r = sheet-ranges sheet es in let q = readVa
 
 module _ (sheet plan : List ℕ) (allowance output scratch : ℕ) where
   pub get-call-narrow : answer (door 256 output scratch allowance (
-      reading (readSheet sheet) λ sh. reading (readPlan (sh .k) plan) λ μ. mapOut encode (within allowance (getNarrow levels sh (sh .root) μ))))
+      reading (readSheet sheet) λ sh. reading (readPlan (sh .k) plan) λ μ. mapOut encode (within allowance (getNarrow LEVELS sh (sh .root) μ))))
       ≡ getAnswer sheet plan allowance output scratch
   unfolding getAnswer getBytes
   get-call-narrow = ap (λ o. answer (door 256 output scratch allowance o)) (reading-ext _ λ sh es. reading-ext _ λ μ ep.
@@ -150,7 +151,7 @@ module _ (sheet plan : List ℕ) (allowance output scratch : ℕ) where
 
   pub put-call-narrow : (view : List ℕ) → answer (door 4096 output scratch allowance (
       reading (readSheet sheet) λ sh. reading (readPlan (sh .k) plan) λ μ. reading (readView view) λ vs. mapOut (λ X. flat (newPlan X μ))
-      (within allowance (putNarrow levels sh (sh .root) μ (count 0 (length μ)) (getD vs 0 vfalse) (replicate (length μ) none)))))
+      (within allowance (putNarrow LEVELS sh (sh .root) μ (count 0 (length μ)) (getD vs 0 vfalse) (replicate (length μ) none)))))
       ≡ putAnswer sheet plan view allowance output scratch
   unfolding putAnswer putBytes
   put-call-narrow view = ap (λ o. answer (door 4096 output scratch allowance o)) (reading-ext _ λ sh es. reading-ext _ λ μ ep. reading-ext _ λ vs _.

@@ -17,11 +17,11 @@ use Rattle.value.specs.Laws.{Readable, readValues-sound, readValues-back}
 use Rattle.sheet.specs.declared.Node.the-variants.{False}
 use Rattle.sheet.specs.Sheet.{Sheet, readSheet}
 use Rattle.sheet.specs.Laws.{sheet-ranges}
-use Rattle.rules.specs.Numbers.{ALLOWANCE, FACTOR, SCRATCH, GET-OUTPUT, PUT-OUTPUT}
+use Rattle.rules.specs.Numbers.{LEVELS, ALLOWANCE, FACTOR, SCRATCH, GET-OUTPUT, PUT-OUTPUT}
 use Rattle.rules.specs.Outcome.{Out, done, refused, plus}
 use Rattle.rules.specs.Text
 use Rattle.rules.specs.Rules.{Env, Cells, getNode, get}
-use Rattle.rules.specs.Answer.{success, levels, getAnswer, count, newPlan, putAnswer}
+use Rattle.rules.specs.Answer.{success, getAnswer, count, newPlan, putAnswer}
 use Rattle.rules.specs.Related.{All2, ends, more, all2-length}
 use Rattle.rules.specs.OutcomeLaws.{after-at, after-out, gives-out}
 use Rattle.rules.specs.AnswerLaws.{Got, PutBack, get-shows, get-answers, put-shows, put-answers}
@@ -131,9 +131,9 @@ written {sheet} {plan} {view} {allowance} {new} {n} p =
     let q = readValues-sound 30 1 view (p .view-read) in
     let (eb, g) = one-value (p .vs) (q .count) (q .readable) in
     let put-done = p .walk in
-    let cells-readable = after-at (rw put-done at (put-readable levels (p .sh) (numbers-fit sheet (p .sh) (p .sheet-read)) (p .sh .root) (p .μ)
+    let cells-readable = after-at (rw put-done at (put-readable LEVELS (p .sh) (numbers-fit sheet (p .sh) (p .sheet-read)) (p .sh .root) (p .μ)
     (count 0 (length (p .μ))) (getD (p .vs) 0 vfalse) (replicate (length (p .μ)) none) (r .readable) g (blank-readable (length (p .μ))))) in
-    let later = after-at (rw put-done at (lawful levels (p .sh) (p .sh .root) (p .μ) (count 0 (length (p .μ)))
+    let later = after-at (rw put-done at (lawful LEVELS (p .sh) (p .sh .root) (p .μ) (count 0 (length (p .μ)))
     (getD (p .vs) 0 vfalse) (replicate (length (p .μ)) none) (g .fits))) .0 in
     let lx : length (p .X) ≡ length (p .μ) = sym (all2-length later) ∙ length-replicate (length (p .μ)) none in
     let ng = new-readable cells-readable (r .readable) in
@@ -154,7 +154,7 @@ stands : {sheet plan view : List ℕ} {allowance : ℕ} {new : List ℕ} {n : �
 stands {sheet} {plan} {view} {allowance} {new} {n} p =
     let w = written p in
     let put-done = p .walk in
-    let law = after-at (rw put-done at (lawful levels (p .sh) (p .sh .root) (p .μ) (count 0 (length (p .μ)))
+    let law = after-at (rw put-done at (lawful LEVELS (p .sh) (p .sh .root) (p .μ) (count 0 (length (p .μ)))
     (getD (p .vs) 0 vfalse) (replicate (length (p .μ)) none) (w .view-readable .fits))) .1 in
     let (t, e, h) = gives-out (law (newPlan (p .X) (p .μ)) (new-agrees [] (p .X) (p .μ) (w .cells))) in
     (t, record { sh = p .sh; sheet-read = p .sheet-read; μ = newPlan (p .X) (p .μ); plan-read = w .new-read; v = getD (p .vs) 0 vfalse; walk = e; few = le-trans h (p .few); bytes = w .view-bytes }, h)
@@ -173,8 +173,8 @@ unmoved : {sheet plan : List ℕ} {allowance : ℕ} {view : List ℕ} {n : ℕ} 
 unmoved {sheet} {plan} {allowance} {view} {n} g b h =
     let r = readValues-sound 20 (g .sh .k) plan (g .plan-read) in
     let got = g .walk in
-    let gv = after-at (rw got at (get-readable levels (g .sh) (numbers-fit sheet (g .sh) (g .sheet-read)) (g .sh .root) (g .μ) (r .readable))) in
-    let law = after-at (rw got at (stable levels (g .sh) (g .sh .root) (g .μ) (count 0 (length (g .μ))) (g .μ) (old-agrees [] (g .μ) (r .readable)))) .1 in
+    let gv = after-at (rw got at (get-readable LEVELS (g .sh) (numbers-fit sheet (g .sh) (g .sheet-read)) (g .sh .root) (g .μ) (r .readable))) in
+    let law = after-at (rw got at (stable LEVELS (g .sh) (g .sh .root) (g .μ) (count 0 (length (g .μ))) (g .μ) (old-agrees [] (g .μ) (r .readable)))) .1 in
     let (X, t, e, k) = after-out (law (replicate (length (g .μ)) none) (blank-keeps (g .μ))) in (
       t,
       record {
@@ -197,7 +197,7 @@ pub acceptability : (sheet plan : List ℕ) (allowance output scratch : ℕ) (vi
     → (p : ℕ) × (putAnswer sheet plan view b output′ scratch′ ≡ success plan p)
 acceptability sheet plan allowance output scratch view n e b output′ scratch′ hn hb ho hs =
     let (l, g) = get-shows e in let (p, d) = unmoved g b hn in
-    let pos : 1 ≤ n = steps-pos levels (g .sh) (g .sh .root) (g .μ) (g .walk) in
+    let pos : 1 ≤ n = steps-pos LEVELS (g .sh) (g .sh .root) (g .μ) (g .walk) in
     (p, put-answers (record { output-long = ho; scratch-long = hs; some-steps = omega arith; few-steps = hb }) d)
 
 -- WHAT A PUT GIVES: k values of at most 256 bytes each
@@ -225,7 +225,7 @@ get-short sheet plan allowance output scratch view n e =
     let (l, g) = get-shows e in
     let r = readValues-sound 20 (g .sh .k) plan (g .plan-read) in
     let got = g .walk in
-    let v = after-at (rw got at (get-readable levels (g .sh) (numbers-fit sheet (g .sh) (g .sheet-read)) (g .sh .root) (g .μ) (r .readable))) in
+    let v = after-at (rw got at (get-readable LEVELS (g .sh) (numbers-fit sheet (g .sh) (g .sheet-read)) (g .sh .root) (g .μ) (r .readable))) in
     rw (g .bytes) (encode-short v)
 
 pub put-short : (sheet plan view : List ℕ) (allowance output scratch : ℕ) (new : List ℕ) (p : ℕ)

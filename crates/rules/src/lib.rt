@@ -7,8 +7,8 @@ pub const LEVELS: usize = 48;
 /// The largest allowance of steps.
 pub const ALLOWANCE: usize = 1_000_000;
 
-/// How many times the steps of a get an allowance has to be, for the put of its list to succeed.
-pub const FACTOR: usize = 48;
+/// How many times the steps of a get an allowance has to be, for the put of its list to succeed: the levels.
+pub const FACTOR: usize = LEVELS;
 
 /// The bytes of scratch that a call takes.
 pub const SCRATCH: usize = 65_536;

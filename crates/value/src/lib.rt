@@ -1,4 +1,4 @@
-//! Values and their bytes (document 01, "Values").
+//! Values and their bytes (document 01 and docs/SHEETS.md, "Values").
 ghost use mathlib.Core.Path.{_≡_};
 ghost use Prim.Native.Nat.{_+_, _*_, _/_, _%_, _≤_};
 ghost use Rattle.value.specs.Reader.{Reads, PartBegins, NumberBegins, outcome, answer};
