@@ -3,7 +3,7 @@
  *   lens_get   a plan to its list (the "view")
  *   lens_put   the old plan and an edited list to the new plan
  *
- * Bytes of sheets, plans and lists, and what each refusal means, are those of document 01 (house sheets, plans and venue lists).
+ * Bytes of sheets, plans and lists, and what each refusal means, are in docs/SHEETS.md.
  *
  * Neither function allocates, keeps a pointer, or touches anything but the output and scratch that it is lent, so threads may call
  * both at once with buffers of their own. Every pointer must be good for the length behind it and must not be NULL, also where the
@@ -24,6 +24,10 @@ extern "C" {
 #define LENS_PUT_OUT 4096u        /* bytes of output for lens_put */
 #define LENS_SCRATCH 65536u       /* bytes of scratch for either */
 #define LENS_ALLOWANCE_MAX 1000000u /* the most steps that may be allowed; the least is 1 */
+
+/* The most bytes of stack that a call takes: measured on the deepest jobs (rust/tests/stack), not proved, and rounded up to a page. A
+ * thread needs this much free when it calls. */
+#define LENS_STACK 135168u
 
 /* The list that the sheet makes of the plan, in at most `allowance` steps. */
 uint64_t lens_get(const uint8_t *sheet, size_t sheet_len, const uint8_t *plan, size_t plan_len, uint32_t allowance,

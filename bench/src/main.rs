@@ -137,7 +137,7 @@ fn main() {
 
     println!("{}", machine());
     println!("Nanoseconds, the median of {BATCHES} batches; the ratio is the median of theirs. Scratch is cleared in every call, on both sides.");
-    println!("Zeroing 65,536 bytes alone takes {zeroing:.0}; the archive's call that does nothing else, {clearing:.0}.");
+    println!("Zeroing 65,536 bytes alone takes {zeroing:.0}; the archive's call that does nothing else, {clearing:.0}: its share of a call is the column clearing.");
     println!();
     println!(
         "{:<46} {:>7} {:>12} {:>8} {:>12} {:>8} {:>6} {:>5} {:<4} {:>8}",

@@ -1,8 +1,8 @@
 //! One sheet of rules for a venue, read both ways: forwards it gives the list from the plan, backwards the new plan from the old plan
 //! and the edited list.
 //!
-//! The work is done by an archive that is proved to read sheets exactly as document 01 says; this crate lends it its buffers and
-//! turns its answers into Rust. Two laws are proved of those answers:
+//! The work is done by an archive that is proved to follow the definitions of sheets, whose manual is `docs/SHEETS.md`; this crate lends it
+//! its buffers and turns its answers into Rust. Two laws are proved of those answers:
 //!
 //! - after a [`put`](Sheet::put) that succeeds, the [`get`](Sheet::get) of the new plan, under the same allowance, gives exactly the
 //!   list, in no more steps;

@@ -8,6 +8,8 @@ pub const GET_OUT: usize = 256;
 pub const PUT_OUT: usize = 4096;
 /// Bytes of scratch that both ask for.
 pub const SCRATCH: usize = 65_536;
+/// The most bytes of stack that a call takes, measured on the deepest jobs (`tests/stack`) and rounded up.
+pub const STACK: usize = 135_168;
 
 /// The archive's answer.
 #[derive(Clone, Copy, Debug, PartialEq, Eq)]

@@ -3,7 +3,7 @@
 use std::error::Error;
 use std::fmt;
 
-/// Why a call gave nothing: one number of document 01's table.
+/// Why a call gave nothing: one number of the table in `docs/SHEETS.md`.
 ///
 /// Its [`name`](Refusal::name) is that of the constant here (and, behind `LENS_`, in `include/lens.h`); as text it is a sentence that
 /// says what to do.
@@ -84,7 +84,7 @@ impl Refusal {
         (number > 0).then_some(Refusal { number })
     }
 
-    /// The refusal's number in document 01.
+    /// The refusal's number.
     pub fn number(self) -> u8 {
         self.number
     }

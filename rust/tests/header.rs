@@ -27,6 +27,7 @@ fn the_header_has_the_same_numbers() {
         ("GET_OUT", raw::GET_OUT),
         ("PUT_OUT", raw::PUT_OUT),
         ("SCRATCH", raw::SCRATCH),
+        ("STACK", raw::STACK),
         ("ALLOWANCE_MAX", ALLOWANCE_MAX as usize),
     ];
     wanted.extend(sizes.map(|(name, size)| (name.to_string(), size as u64)));

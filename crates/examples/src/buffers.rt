@@ -1,7 +1,10 @@
 //! Calls on buffers of several sizes: the door, and what output and scratch hold afterwards.
 ghost use mathlib.Core.Path.{_≡_};
 ghost use lib.ListN.{length};
+ghost use Rattle.io.specs.Counts.{Counts};
+use crate::labelled;
 use lens::Reply;
+use libc::STDOUT_FILENO;
 
 // How many bytes of s are b.
 fn count(s: &[u8], b: u8) -> usize {
@@ -14,30 +17,34 @@ fn count(s: &[u8], b: u8) -> usize {
     n
 }
 
-fn print_reply(reply: Reply) {
+fn reply_text(reply: Reply, text: &mut [u8]) -> usize
+    ensures { λ r. ⌜ Counts r (now (text .exit)) ⌝ }
+{
     match reply {
-        Reply::Refused(c) => {
-            report::text(b"no ");
-            report::number(c as usize);
-        }
+        Reply::Refused(c) => labelled(text, 0, b"no ", c as usize),
         Reply::Done { len, steps } => {
-            report::text(b"ok ");
-            report::number(steps);
-            report::text(b" length ");
-            report::number(len);
+            let end = labelled(text, 0, b"ok ", steps);
+            labelled(text, end, b" length ", len)
         }
     }
 }
 
-// A get of the sheet P, whose plan is its list, on buffers full of AA and 55: its answer, and how many bytes of the output
-// are AA and of scratch 00 afterwards.
+// The answer, and how many bytes of the output are AA and of scratch 00.
+fn get_line(reply: Reply, out: &[u8], scratch: &[u8], text: &mut [u8]) -> usize
+    ensures { λ r. ⌜ Counts r (now (text .exit)) ⌝ }
+{
+    let mut end = reply_text(reply, text);
+    end = labelled(text, end, b", output kept ", count(out, 0xAA));
+    end = labelled(text, end, b", scratch zero ", count(scratch, 0));
+    report::byte(text, end, b'\n')
+}
+
+// A get of the sheet P, whose plan is its list, on buffers full of AA and 55, and its line printed.
 fn print_get(sheet: &[u8], plan: &[u8], allowance: u32, out: &mut [u8], scratch: &mut [u8]) {
-    print_reply(lens::get(sheet, plan, allowance, out, scratch));
-    report::text(b", output kept ");
-    report::number(count(out, 0xAA));
-    report::text(b", scratch zero ");
-    report::number(count(scratch, 0));
-    report::text(b"\n");
+    let reply = lens::get(sheet, plan, allowance, out, scratch);
+    let mut text = [0u8; 100];
+    let end = get_line(reply, out, scratch, &mut text);
+    io::write_all(STDOUT_FILENO, &text[..end]);
 }
 
 // Buffers with a pattern; the contracts give only their lengths, which lending their fronts needs.

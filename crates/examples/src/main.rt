@@ -1,72 +1,83 @@
 //! Runs the readers and the program's jobs on the lines of data/ and prints what each says.
 //!
 //! A line is a letter, a space and bytes in hexadecimal: `v` a value, `p` a plan behind the byte k, `w` a view, `s` a sheet,
-//! `j` a job.
+//! `j` a job, `t` a job whose call is followed by the one that turns it back.
 mod buffers;
 mod lines;
+mod turns;
 
+ghost use Rattle.io.specs.Counts.{Counts};
+use libc::STDOUT_FILENO;
 use value::Read;
 
-fn print_value(bytes: &[u8]) {
+// A word and a number.
+fn labelled(text: &mut [u8], at: usize, label: &[u8], n: usize) -> usize
+    ensures { λ r. ⌜ Counts r (now (text .exit)) ⌝ }
+{
+    let end = report::bytes(text, at, label);
+    report::decimal(text, end, n)
+}
+
+fn value_line(bytes: &[u8], text: &mut [u8]) -> usize
+    ensures { λ r. ⌜ Counts r (now (text .exit)) ⌝ }
+{
     match value::read_value(bytes) {
         Read::Whole(n) => {
-            report::text(b"value of ");
-            report::number(n);
-            report::text(b"\n");
+            let end = labelled(text, 0, b"value of ", n);
+            report::byte(text, end, b'\n')
         }
-        Read::Malformed => report::text(b"malformed\n"),
-        Read::TooLong => report::text(b"too long\n"),
+        Read::Malformed => report::bytes(text, 0, b"malformed\n"),
+        Read::TooLong => report::bytes(text, 0, b"too long\n"),
     }
 }
 
-fn print_span(start: u16, len: u16) {
-    report::text(b" ");
-    report::number(start as usize);
-    report::text(b"+");
-    report::number(len as usize);
+fn span(text: &mut [u8], at: usize, start: u16, len: u16) -> usize
+    ensures { λ r. ⌜ Counts r (now (text .exit)) ⌝ }
+{
+    let end = labelled(text, at, b" ", start as usize);
+    labelled(text, end, b"+", len as usize)
 }
 
-fn print_plan(k: usize, plan: &[u8]) {
+fn plan_line(first: u8, plan: &[u8], text: &mut [u8]) -> usize
+    ensures { λ r. ⌜ Counts r (now (text .exit)) ⌝ }
+{
+    let k = first as usize;
     let spans = value::read_plan(k, plan);
     if spans.refusal != 0 {
-        report::refusal(spans.refusal);
-        return;
+        return report::refusal(text, 0, spans.refusal as usize);
     }
-    report::text(b"plan");
+    let mut end = report::bytes(text, 0, b"plan");
     for i in 0..16 {
         if i < k {
-            print_span(spans.starts[i], spans.lens[i]);
+            end = span(text, end, spans.starts[i], spans.lens[i]);
         }
     }
-    report::text(b"\n");
+    report::byte(text, end, b'\n')
 }
 
-fn print_view(view: &[u8]) {
+fn view_line(view: &[u8], text: &mut [u8]) -> usize
+    ensures { λ r. ⌜ Counts r (now (text .exit)) ⌝ }
+{
     let refusal = value::read_view(view);
     if refusal != 0 {
-        report::refusal(refusal);
-        return;
+        return report::refusal(text, 0, refusal as usize);
     }
-    report::text(b"view\n");
+    report::bytes(text, 0, b"view\n")
 }
 
-fn print_sheet(bytes: &[u8]) {
+fn sheet_line(bytes: &[u8], text: &mut [u8]) -> usize
+    ensures { λ r. ⌜ Counts r (now (text .exit)) ⌝ }
+{
     let table = sheet::read_sheet(bytes);
     if table.refusal != 0 {
-        report::refusal(table.refusal);
-        return;
+        return report::refusal(text, 0, table.refusal as usize);
     }
-    report::text(b"sheet k ");
-    report::number(table.k);
-    report::text(b" root ");
-    report::number(table.root);
-    report::text(b" sections ");
-    report::number(table.sections);
-    report::text(b" nodes ");
-    report::number(table.nodes);
-    report::text(b" last at ");
-    report::number(last_start(table));
-    report::text(b"\n");
+    let mut end = labelled(text, 0, b"sheet k ", table.k);
+    end = labelled(text, end, b" root ", table.root);
+    end = labelled(text, end, b" sections ", table.sections);
+    end = labelled(text, end, b" nodes ", table.nodes);
+    end = labelled(text, end, b" last at ", last_start(table));
+    report::byte(text, end, b'\n')
 }
 
 // Where the last node's record starts.
@@ -82,18 +93,31 @@ fn last_start(table: sheet::Table) -> usize {
     table.starts[last] as usize
 }
 
-fn run_line(letter: u8, bytes: &[u8]) {
+fn job_line(bytes: &[u8], text: &mut [u8; job::LINE]) -> usize
+    ensures { λ r. ⌜ Counts r (now (text .exit)) ⌝ }
+{
+    let mut out = io::buffer();
+    let mut scratch = io::large_buffer();
+    job::line(bytes, &mut out, &mut scratch, text)
+}
+
+// What a line of data/ makes: the line to print, at the front of the text, and its length.
+fn answer(letter: u8, bytes: &[u8], text: &mut [u8; job::LINE]) -> usize
+    ensures { λ r. ⌜ Counts r (now (text .exit)) ⌝ }
+{
     match letter {
-        b'v' => print_value(bytes),
-        b'w' => print_view(bytes),
-        b's' => print_sheet(bytes),
-        b'j' => job::run(bytes),
+        b'v' => value_line(bytes, text),
+        b'w' => view_line(bytes, text),
+        b's' => sheet_line(bytes, text),
+        b'j' => job_line(bytes, text),
+        b't' => turns::line(bytes, text),
         b'p' => {
-            if 0 < bytes.len() {
-                print_plan(bytes[0] as usize, &bytes[1..]);
+            if bytes.len() == 0 {
+                return 0;
             }
+            plan_line(bytes[0], &bytes[1..], text)
         }
-        _ => report::text(b"?\n"),
+        _ => report::bytes(text, 0, b"?\n"),
     }
 }
 
@@ -106,7 +130,9 @@ fn run_next(fd: i32) -> bool {
     }
     let mut bytes = [0u8; 8200];
     let m = lines::unhex(&line[2..n], &mut bytes);
-    run_line(line[0], &bytes[..m]);
+    let mut text = [0u8; job::LINE];
+    let end = answer(line[0], &bytes[..m], &mut text);
+    io::write_all(STDOUT_FILENO, &text[..end]);
     true
 }
 
@@ -132,5 +158,8 @@ fn main() {
     buffers::run();
     run_named(b"readers.txt");
     run_named(b"examples.txt");
+    run_named(b"sizes.txt");
     run_named(b"jobs.txt");
+    run_named(b"turns.txt");
+    run_named(b"manual.txt");
 }

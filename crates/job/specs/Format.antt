@@ -17,6 +17,12 @@ two bs i = 256 * getD bs i 0 + getD bs (i + 1) 0
 abbrev pub allowance : List ℕ → ℕ
 allowance bs = 65536 * getD bs 1 0 + two bs 2
 
+-- the number of each case in document 01: the byte that a job begins with, and the refusal of what is none
+abbrev pub jobNumber : Job → ℕ
+jobNumber (Get a n m) = 0x47
+jobNumber (Put a n m) = 0x50
+jobNumber Other = 60
+
 unfoldable pub pick : Bool → Job → Job → Job
 pick true a b = a
 pick false a b = b
@@ -27,11 +33,13 @@ unfolding pick
 jobOf bs =
     let n = two bs 4 in
     let m = two bs (6 + n) in
+    let get = Get (allowance bs) n m in
+    let put = Put (allowance bs) n m in
     pick (leb (8 + n) (length bs))
     (pick (leb (8 + n + m) (length bs))
-    (pick (eqb (getD bs 0 0) 0x47)
-    (pick (eqb (length bs) (8 + n + m)) (Get (allowance bs) n m) Other)
-    (pick (eqb (getD bs 0 0) 0x50) (Put (allowance bs) n m) Other))
+    (pick (eqb (getD bs 0 0) (jobNumber get))
+    (pick (eqb (length bs) (8 + n + m)) get Other)
+    (pick (eqb (getD bs 0 0) (jobNumber put)) put Other))
     Other)
     Other
 
@@ -48,7 +56,9 @@ module _ (bs : List ℕ) where
     job-cut-plan h = rw (← en, le-leb (8 + n) (length bs) hn, lt-leb (8 + n + two bs (6 + n)) (length bs) h)
 
     module _ {m : ℕ} (em : m ≡ two bs (6 + n)) (hm : 8 + n + m ≤ length bs) where
-      whole : jobOf bs ≡ pick (eqb (getD bs 0 0) 0x47) (pick (eqb (length bs) (8 + n + m)) (Get (allowance bs) n m) Other) (pick (eqb (getD bs 0 0) 0x50) (Put (allowance bs) n m) Other)
+      whole : jobOf bs
+          ≡ pick (eqb (getD bs 0 0) 0x47) (pick (eqb (length bs) (8 + n + m)) (Get (allowance bs) n m) Other)
+          (pick (eqb (getD bs 0 0) 0x50) (Put (allowance bs) n m) Other)
       unfolding jobOf
       whole = rw (← en, le-leb (8 + n) (length bs) hn, ← em, le-leb (8 + n + m) (length bs) hm)
 
@@ -82,7 +92,8 @@ job-inside bs =
     go (leb (8 + n) (length bs)) (leb (8 + n + m) (length bs)) refl (eqb (getD bs 0 0) 0x47) (eqb (length bs) (8 + n + m)) (eqb (getD bs 0 0) 0x50)
   where
     go : (p q : Bool) → leb (8 + two bs 4 + two bs (6 + two bs 4)) (length bs) ≡ q → (r s t : Bool)
-        → taken (pick p (pick q (pick r (pick s (Get (allowance bs) (two bs 4) (two bs (6 + two bs 4))) Other) (pick t (Put (allowance bs) (two bs 4) (two bs (6 + two bs 4))) Other)) Other) Other) ≤ length bs
+        → let n = two bs 4 in let m = two bs (6 + n) in let a = allowance bs in
+        taken (pick p (pick q (pick r (pick s (Get a n m) Other) (pick t (Put a n m) Other)) Other) Other) ≤ length bs
     go false q e r s t = zero-le
     go true false e r s t = zero-le
     go true true e true true t = leb-true _ _ e

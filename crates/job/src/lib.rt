@@ -5,7 +5,13 @@ ghost use Rattle.job.specs.Format.{jobOf};
 
 mod running;
 
-pub use running::run;
+pub use running::line;
+
+/// The most bytes of an input; a longer one is refused with 61.
+pub const INPUT: usize = 8_192;
+
+/// The most bytes of a line: `ok`, steps of 7 digits, 4,096 bytes in hexadecimal, spaces and a line feed.
+pub const LINE: usize = 8_204;
 
 /// A get or a put, with its allowance and the lengths of its sheet and of its plan; or no job.
 pub enum Job {

@@ -1,51 +1,122 @@
-//! A job run, and its answer's line printed.
+//! A job run, and the line of its answer written.
+ghost use mathlib.Core.Path.{_≡_};
+ghost use Prim.Native.Nat.{_+_, _≤_};
+ghost use lib.ListN.{length, drop};
+ghost use Rattle.rules.specs.Numbers.{SCRATCH, GET-OUTPUT, PUT-OUTPUT};
+ghost use Rattle.rules.specs.Answer.{getAnswer, putAnswer};
+ghost use Rattle.report.specs.Writing.{Wrote, Front};
+ghost use Rattle.job.specs.Line.{part, jobLine, Within, replyLine, Said, Lent};
+use crate::INPUT;
 use crate::Job;
+use crate::LINE;
 use crate::parse;
 use lens::Reply;
 
-fn run_get(sheet: &[u8], plan: &[u8], allowance: u32) {
-    let mut out = [0u8; 256];
-    let mut scratch = io::large_buffer();
-    match lens::get(sheet, plan, allowance, &mut out, &mut scratch) {
-        Reply::Refused(c) => report::refusal(c),
-        Reply::Done { len, steps } => report::success(steps, &out[..len]),
+// The line of a call's reply, whose bytes are at the front of `out`.
+fn reply_line(reply: Reply, out: &[u8], text: &mut [u8]) -> usize
+    requires { ⌜ Within reply (now out) ⌝ }
+    ensures { λ r. ⌜ Wrote (replyLine reply (now (out .entry))) 0 (now (text .entry)) (now (text .exit)) r ⌝ }
+{
+    match reply {
+        Reply::Refused(c) => report::refusal(text, 0, c as usize),
+        Reply::Done { len, steps } => report::success(text, 0, steps, &out[..len]),
     }
 }
 
-fn run_put(sheet: &[u8], plan: &[u8], view: &[u8], allowance: u32) {
-    let mut out = io::buffer();
-    let mut scratch = io::large_buffer();
-    match lens::put(sheet, plan, view, allowance, &mut out, &mut scratch) {
-        Reply::Refused(c) => report::refusal(c),
-        Reply::Done { len, steps } => report::success(steps, &out[..len]),
-    }
+// A get, and the line of its answer.
+fn get_line(
+    sheet: &[u8],
+    plan: &[u8],
+    allowance: u32,
+    out: &mut [u8; rules::PUT_OUTPUT],
+    scratch: &mut [u8; rules::SCRATCH],
+    text: &mut [u8; LINE],
+) -> usize
+    ensures { λ r. ⌜ Said (getAnswer (now (sheet .entry)) (now (plan .entry)) allowance GET-OUTPUT SCRATCH) r (now (text .entry)) (now (text .exit)) (now (out .entry)) (now (out .exit)) (now (scratch .entry)) (now (scratch .exit)) ⌝ }
+{
+    let reply = lens::get(sheet, plan, allowance, out, scratch);
+    reply_line(reply, out, text)
 }
 
-/// Runs a job and prints the line of its answer; 60 where it is no job.
-pub fn run(input: &[u8]) {
+// A put, and the line of its answer.
+fn put_line(
+    sheet: &[u8],
+    plan: &[u8],
+    view: &[u8],
+    allowance: u32,
+    out: &mut [u8; rules::PUT_OUTPUT],
+    scratch: &mut [u8; rules::SCRATCH],
+    text: &mut [u8; LINE],
+) -> usize
+    ensures { λ r. ⌜ Said (putAnswer (now (sheet .entry)) (now (plan .entry)) (now (view .entry)) allowance PUT-OUTPUT SCRATCH) r (now (text .entry)) (now (text .exit)) (now (out .entry)) (now (out .exit)) (now (scratch .entry)) (now (scratch .exit)) ⌝ }
+{
+    let reply = lens::put(sheet, plan, view, allowance, out, scratch);
+    reply_line(reply, out, text)
+}
+
+// The parts of a job: its sheet of n bytes, the plan of m bytes behind that, the view behind both.
+fn sheet_of(input: &[u8], n: usize) -> &[u8]
+    requires { ⌜ 6 + n ≤ length (now input) ⌝ }
+    ensures { λ r. ⌜ now r ≡ part (now (input .entry)) 6 n ⌝ }
+{
+    &input[6..6 + n]
+}
+
+fn plan_of(input: &[u8], n: usize, m: usize) -> &[u8]
+    requires { ⌜ 8 + n + m ≤ length (now input) ⌝ }
+    ensures { λ r. ⌜ now r ≡ part (now (input .entry)) (8 + n) m ⌝ }
+{
+    let start = 8 + n;
+    &input[start..start + m]
+}
+
+fn view_of(input: &[u8], n: usize, m: usize) -> &[u8]
+    requires { ⌜ 8 + n + m ≤ length (now input) ⌝ }
+    ensures { λ r. ⌜ now r ≡ drop (8 + n + m) (now (input .entry)) ⌝ }
+{
+    let start = 8 + n + m;
+    &input[start..]
+}
+
+/// The line that the program prints for an input, at the front of `text`; and how long it is.
+pub fn line(
+    input: &[u8],
+    out: &mut [u8; rules::PUT_OUTPUT],
+    scratch: &mut [u8; rules::SCRATCH],
+    text: &mut [u8; LINE],
+) -> usize
+    ensures { λ r. ⌜ Front (jobLine (now (input .entry))) (now (text .entry)) (now (text .exit)) r ⌝ }
+    ensures { λ _. ⌜ Lent (now (input .entry)) (now (out .entry)) (now (out .exit)) (now (scratch .entry)) (now (scratch .exit)) ⌝ }
+{
+    if INPUT < input.len() {
+        return report::refusal(text, 0, 61);
+    }
     match parse(input) {
         Job::Get {
             allowance,
             sheet,
             plan,
-        } => {
-            let start = 8 + sheet;
-            run_get(&input[6..6 + sheet], &input[start..start + plan], allowance);
-        }
+        } => get_line(
+            sheet_of(input, sheet),
+            plan_of(input, sheet, plan),
+            allowance,
+            out,
+            scratch,
+            text,
+        ),
         Job::Put {
             allowance,
             sheet,
             plan,
-        } => {
-            let start = 8 + sheet;
-            let end = start + plan;
-            run_put(
-                &input[6..6 + sheet],
-                &input[start..end],
-                &input[end..],
-                allowance,
-            );
-        }
-        Job::Other => report::refusal(60),
+        } => put_line(
+            sheet_of(input, sheet),
+            plan_of(input, sheet, plan),
+            view_of(input, sheet, plan),
+            allowance,
+            out,
+            scratch,
+            text,
+        ),
+        Job::Other => report::refusal(text, 0, 60),
     }
 }

@@ -7,6 +7,7 @@ use native.Mathlib.Omega.{arith}
 use lib.ListN.{length, drop, set, getD, replicate, length-drop, length-set}
 use lib.Seq.{paste, paste-zero, paste-suc, getD-drop}
 use borrow.Author.Fill.{fill-none, fill-more}
+use Rattle.rules.specs.Numbers.{SCRATCH}
 
 -- the first n bytes zero, and the others as they were
 unfoldable pub zeros : ℕ → List ℕ → List ℕ
@@ -14,7 +15,7 @@ zeros n s = replicate n 0 ++ drop n s
 
 -- scratch as a call leaves it
 abbrev pub zeroed : List ℕ → List ℕ
-zeroed s = zeros 65536 s
+zeroed s = zeros SCRATCH s
 
 -- i bytes are cleared
 pub record Clearing (i : ℕ) (b a : List ℕ) : Type 0 where

@@ -11,11 +11,12 @@ use lib.ListN.{length, take, drop, length-append}
 use lib.Seq.{paste}
 use Rattle.rules.specs.Outcome.{Out, done, refused}
 use Rattle.rules.specs.Answer.{Answer, refusal, success, answer, door}
-use Rattle.rules.specs.AnswerLaws.{Lent, door-open, door-output, door-scratch, door-none, door-over}
+use Rattle.rules.specs.AnswerLaws.{Lent, door-open}
 use Rattle.rules.specs.Refusals.{Lists, lRefused, listed-above}
 use Rattle.lens.specs.declared.Reply.{Reply}
 use Rattle.lens.specs.declared.Reply.the-variants.{Done, Refused}
 use Rattle.lens.specs.Buffers.{zeros, zeroed}
+use Rattle.lens.specs.Door.{shut, Door, opens, shuts, door-cases}
 use Rattle.lens.specs.Calls.{reply, written, cleared, afterRefusal, Answered}
 
 -- scratch that was only changed within its first n bytes is cleared to the same bytes
@@ -29,21 +30,13 @@ module _ (need : ℕ) (o s : List ℕ) (allowance : ℕ) (w : Out (List ℕ)) wh
   abbrev Call : Answer
   Call = answer (door need (length o) (length s) allowance w)
 
-  at-door : (c : ℕ) → leb c 3 ≡ true → door need (length o) (length s) allowance w ≡ refused c 0 → Answered Call (Refused c) o o s s
+  pub shut-call : {c : ℕ} → c ≡ shut need (length o) (length s) allowance → (c ≡ 0 → ⊥) → Answered Call (Refused c) o o s s
   unfolding answer reply written cleared afterRefusal
-  at-door c l e = rw e (record { answer = refl; output = refl; scratch = rw l refl })
-
-  pub shut-output : length o < need → Answered Call (Refused 1) o o s s
-  shut-output h = at-door 1 refl (door-output need (length o) (length s) allowance w h)
-
-  pub shut-scratch : need ≤ length o → length s < 65536 → Answered Call (Refused 2) o o s s
-  shut-scratch h k = at-door 2 refl (door-scratch need (length o) (length s) allowance w h k)
-
-  pub shut-none : need ≤ length o → 65536 ≤ length s → allowance ≡ 0 → Answered Call (Refused 3) o o s s
-  shut-none h k e = at-door 3 refl (door-none need (length o) (length s) allowance w h k e)
-
-  pub shut-over : need ≤ length o → 65536 ≤ length s → 1000000 < allowance → Answered Call (Refused 3) o o s s
-  shut-over h k e = at-door 3 refl (door-over need (length o) (length s) allowance w h k e)
+  shut-call e n = go (rw e door-cases) n
+    where
+      go : {k : ℕ} → Door need (length o) (length s) allowance k → (k ≡ 0 → ⊥) → Answered Call (Refused k) o o s s
+      go (opens l) z = absurd (z refl)
+      go (shuts h l f) z = rw (f w) (record { answer = refl; output = refl; scratch = rw l refl })
 
   -- BEHIND IT
 
@@ -53,7 +46,8 @@ module _ (need : ℕ) (o s : List ℕ) (allowance : ℕ) (w : Out (List ℕ)) wh
       go : Lists {A = List ℕ} (refused c n) → 3 < c
       go (lRefused h) = listed-above c h
 
-  pub refused-behind : Lent need (length o) (length s) allowance → Lists w → {c n : ℕ} → w ≡ refused c n → {s′ : List ℕ} → s′ ≡ zeroed s → Answered Call (Refused c) o o s s′
+  pub refused-behind : Lent need (length o) (length s) allowance → Lists w → {c n : ℕ} → w ≡ refused c n
+      → {s′ : List ℕ} → s′ ≡ zeroed s → Answered Call (Refused c) o o s s′
   unfolding answer reply written cleared afterRefusal
   refused-behind l h {c} {n} e {s′} z =
       let k : leb c 3 ≡ false = lt-leb c 3 (high h e) in

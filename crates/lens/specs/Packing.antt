@@ -1,13 +1,18 @@
 -- One number for an answer: the low 8 bits the refusal (0: success), the next 24 the length, the upper 32 the steps.
-use mathlib.Core.Path.{_≡_, refl, ap, _∙_}
+use mathlib.Core.Path.{_≡_, refl, ap, ap₂, _∙_}
+use mathlib.Core.Bool.{Bool, true, false}
 use mathlib.Core.List.{List}
-use Prim.Native.Nat.{ℕ, _+_, _*_, _≤_}
+use Prim.Native.Nat.{ℕ, _+_, _*_, _/_, _%_, _≤_, _<_}
 use native.Mathlib.Omega.{arith}
 use native.Mathlib.Nat.{le-trans}
+use lib.Dec.{eqb}
 use lib.ListN.{length}
+use borrow.Author.Tests.{eq-eqb, ne-eqb}
+use Rattle.rules.specs.Numbers.{ALLOWANCE, PUT-OUTPUT}
 use Rattle.rules.specs.Answer.{Answer, refusal, success, getAnswer, putAnswer}
 use Rattle.rules.specs.AnswerLaws.{get-shows, put-shows, get-steps, put-steps}
 use Rattle.rules.specs.Trips.{get-short, put-short}
+use Rattle.rules.specs.Refusals.{Stated, stated-small, get-refusals, put-refusals}
 use Rattle.lens.specs.declared.Reply.{Reply}
 use Rattle.lens.specs.declared.Reply.the-variants.{Done, Refused}
 use Rattle.lens.specs.Calls.{reply, written, cleared, Answered}
@@ -20,10 +25,29 @@ unfoldable pub packedReply : Reply → ℕ
 packedReply (Refused c) = c
 packedReply (Done len n) = 256 * len + 4294967296 * n
 
+-- the number taken apart, as include/lens.h does it
+unfoldable pub apart : Bool → ℕ → Reply
+apart true r = Done (r / 256 % 16777216) (r / 4294967296)
+apart false r = Refused (r % 256)
+
+unfoldable pub unpacked : ℕ → Reply
+unpacked r = apart (eqb (r % 256) 0) r
+
 -- a reply whose parts fit their bits
 abbrev pub Small : Reply → Type 0
-Small (Refused c) = Unit {0}
-Small (Done len n) = (len ≤ 4096) × (n ≤ 1000000)
+Small (Refused c) = (1 ≤ c) × (c < 256)
+Small (Done len n) = (len ≤ PUT-OUTPUT) × (n ≤ ALLOWANCE)
+
+-- what is packed is read back
+pub packed-back : (q : Reply) {r : ℕ} → Small q → r ≡ packedReply q → unpacked r ≡ q
+unfolding packedReply unpacked apart
+packed-back (Refused c) {r} h e =
+    let k : r % 256 ≡ c = omega arith in
+    rw (ne-eqb (r % 256) 0 (λ z. omega arith)) (ap Refused k)
+packed-back (Done len n) {r} h e =
+    let k : r / 256 % 16777216 ≡ len = omega arith in
+    let j : r / 4294967296 ≡ n = omega arith in
+    rw (eq-eqb (r % 256) 0 (omega arith)) (ap₂ Done k j)
 
 -- the call's answer is a: the number r says so, and output and scratch hold what document 01 says
 pub record Packed (a : Answer) (r : ℕ) (o o′ s s′ : List ℕ) : Type 0 where
@@ -39,25 +63,32 @@ reply-packed (success bs n) = refl
 pub pack-answered : {a : Answer} {q : Reply} {r : ℕ} {o o′ s s′ : List ℕ} → Answered a q o o′ s s′ → r ≡ packedReply q → Packed a r o o′ s s′
 pack-answered {a} w e = record { answer = e ∙ ap packedReply (w .answer) ∙ reply-packed a; output = w .output; scratch = w .scratch }
 
-small-reply : (a : Answer) → ((bs : List ℕ) (n : ℕ) → a ≡ success bs n → (length bs ≤ 4096) × (n ≤ 1000000)) → Small (reply a)
+-- THE PARTS FIT
+
+small-reply : (a : Answer) → ((c : ℕ) → a ≡ refusal c → Stated c) → ((bs : List ℕ) (n : ℕ) → a ≡ success bs n → (length bs ≤ PUT-OUTPUT) × (n ≤ ALLOWANCE))
+    → Small (reply a)
 unfolding reply
-small-reply (refusal c) h = tt
-small-reply (success bs n) h = h bs n refl
+small-reply (refusal c) k h = stated-small c (k c refl)
+small-reply (success bs n) k h = h bs n refl
 
-pub small-get : (sheet plan : List ℕ) (allowance output scratch : ℕ) {q : Reply} {o o′ s s′ : List ℕ} → Answered (getAnswer sheet plan allowance output scratch) q o o′ s s′ → Small q
-small-get sheet plan allowance output scratch w = rw (w .answer) (small-reply (getAnswer sheet plan allowance output scratch) λ bs n e. (
-  omega (arith, get-short sheet plan allowance output scratch bs n e),
-  le-trans (get-steps sheet plan allowance output scratch bs n e) (get-shows e .0 .few-steps),
-))
+pub small-get : (sheet plan : List ℕ) (allowance output scratch : ℕ) {q : Reply} {o o′ s s′ : List ℕ}
+    → Answered (getAnswer sheet plan allowance output scratch) q o o′ s s′ → Small q
+small-get sheet plan allowance output scratch w =
+    rw (w .answer) (small-reply (getAnswer sheet plan allowance output scratch) (get-refusals sheet plan allowance output scratch) λ bs n e. (
+      omega (arith, get-short sheet plan allowance output scratch bs n e),
+      le-trans (get-steps sheet plan allowance output scratch bs n e) (get-shows e .0 .few-steps),
+    ))
 
-pub small-put : (sheet plan view : List ℕ) (allowance output scratch : ℕ) {q : Reply} {o o′ s s′ : List ℕ} → Answered (putAnswer sheet plan view allowance output scratch) q o o′ s s′ → Small q
-small-put sheet plan view allowance output scratch w = rw (w .answer) (small-reply (putAnswer sheet plan view allowance output scratch) λ bs n e. (
-  put-short sheet plan view allowance output scratch bs n e,
-  le-trans (put-steps sheet plan allowance output scratch bs n view e) (put-shows e .0 .few-steps),
-))
+pub small-put : (sheet plan view : List ℕ) (allowance output scratch : ℕ) {q : Reply} {o o′ s s′ : List ℕ}
+    → Answered (putAnswer sheet plan view allowance output scratch) q o o′ s s′ → Small q
+small-put sheet plan view allowance output scratch w =
+    rw (w .answer) (small-reply (putAnswer sheet plan view allowance output scratch) (put-refusals sheet plan view allowance output scratch) λ bs n e. (
+      put-short sheet plan view allowance output scratch bs n e,
+      le-trans (put-steps sheet plan allowance output scratch bs n view e) (put-shows e .0 .few-steps),
+    ))
 
 -- a reply, case by case
-pub small-done : {q : Reply} {len n : ℕ} → Small q → q ≡ Done len n → (len ≤ 4096) × (n ≤ 1000000)
+pub small-done : {q : Reply} {len n : ℕ} → Small q → q ≡ Done len n → (len ≤ PUT-OUTPUT) × (n ≤ ALLOWANCE)
 small-done {q} h e = rw e at h
 
 pub packed-refused : {q : Reply} {c : ℕ} → q ≡ Refused c → c ≡ packedReply q

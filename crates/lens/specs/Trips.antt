@@ -5,6 +5,7 @@ use Prim.Native.Nat.{ℕ, _*_, _≤_}
 use native.Mathlib.Omega.{arith}
 use lib.ListN.{length, take, drop}
 use lib.Seq.{take-at}
+use Rattle.rules.specs.Numbers.{ALLOWANCE, FACTOR, SCRATCH, GET-OUTPUT, PUT-OUTPUT}
 use Rattle.rules.specs.Answer.{Answer, refusal, success, getAnswer, putAnswer}
 use Rattle.rules.specs.Trips.{consistency, acceptability}
 use Rattle.lens.specs.declared.Reply.{Reply}
@@ -14,12 +15,12 @@ use Rattle.lens.specs.Calls.{reply, written, Answered}
 -- a list that was taken back stands: the get of the new plan, the bytes at the front of the output, under the same sheet and allowance
 -- succeeds, gives exactly that list, in no more steps
 pub record Stands (sheet view : List ℕ) (allowance : ℕ) (r : Reply) (o′ : List ℕ) : Type 0 where
-  pub stands : (len n : ℕ) → r ≡ Done len n → (output scratch : ℕ) → 256 ≤ output → 65536 ≤ scratch
+  pub stands : (len n : ℕ) → r ≡ Done len n → (output scratch : ℕ) → GET-OUTPUT ≤ output → SCRATCH ≤ scratch
       → (g : ℕ) × (getAnswer sheet (take len o′) allowance output scratch ≡ success view g) × (g ≤ n)
 
 -- a list sent back unedited moves nothing: under every allowance from 48 × n to 1,000,000 its put succeeds and gives the old plan
 pub record Unmoved (sheet plan : List ℕ) (r : Reply) (o′ : List ℕ) : Type 0 where
-  pub unmoved : (len n : ℕ) → r ≡ Done len n → (b output scratch : ℕ) → 48 * n ≤ b → b ≤ 1000000 → 4096 ≤ output → 65536 ≤ scratch
+  pub unmoved : (len n : ℕ) → r ≡ Done len n → (b output scratch : ℕ) → FACTOR * n ≤ b → b ≤ ALLOWANCE → PUT-OUTPUT ≤ output → SCRATCH ≤ scratch
       → (p : ℕ) × (putAnswer sheet plan (take len o′) b output scratch ≡ success plan p)
 
 -- a success is at the front of the output
@@ -43,14 +44,17 @@ put-stands sheet plan view allowance output scratch {o′ = o′} w = record {
 pub get-unmoved : (sheet plan : List ℕ) (allowance output scratch : ℕ) {r : Reply} {o o′ s s′ : List ℕ}
     → Answered (getAnswer sheet plan allowance output scratch) r o o′ s s′ → Unmoved sheet plan r o′
 get-unmoved sheet plan allowance output scratch {o′ = o′} w = record {
-  unmoved = λ len n e b output′ scratch′ hn hb ho hs. acceptability sheet plan allowance output scratch (take len o′) n (success-of w e) b output′ scratch′ hn hb ho hs;
+  unmoved = λ len n e b output′ scratch′ hn hb ho hs.
+      acceptability sheet plan allowance output scratch (take len o′) n (success-of w e) b output′ scratch′ hn hb ho hs;
 }
 
 -- both clauses of a call's contract
 pub with-unmoved : (sheet plan : List ℕ) (allowance output scratch : ℕ) {r : Reply} {o o′ s s′ : List ℕ}
-    → Answered (getAnswer sheet plan allowance output scratch) r o o′ s s′ → Answered (getAnswer sheet plan allowance output scratch) r o o′ s s′ × Unmoved sheet plan r o′
+    → Answered (getAnswer sheet plan allowance output scratch) r o o′ s s′
+    → Answered (getAnswer sheet plan allowance output scratch) r o o′ s s′ × Unmoved sheet plan r o′
 with-unmoved sheet plan allowance output scratch w = (w, get-unmoved sheet plan allowance output scratch w)
 
 pub with-stands : (sheet plan view : List ℕ) (allowance output scratch : ℕ) {r : Reply} {o o′ s s′ : List ℕ}
-    → Answered (putAnswer sheet plan view allowance output scratch) r o o′ s s′ → Answered (putAnswer sheet plan view allowance output scratch) r o o′ s s′ × Stands sheet view allowance r o′
+    → Answered (putAnswer sheet plan view allowance output scratch) r o o′ s s′
+    → Answered (putAnswer sheet plan view allowance output scratch) r o o′ s s′ × Stands sheet view allowance r o′
 with-stands sheet plan view allowance output scratch w = (w, put-stands sheet plan view allowance output scratch w)

@@ -3,15 +3,16 @@ ghost use mathlib.Core.Path.{_≡_};
 ghost use Prim.Native.Nat.{_+_, _≤_};
 ghost use lib.ListN.{length, drop};
 ghost use lib.Seq.{paste};
+ghost use Rattle.rules.specs.Numbers.{SCRATCH};
 ghost use Rattle.lens.specs.Buffers.{zeroed};
 
-/// The first 65,536 bytes of scratch are zero.
+/// The bytes of scratch that a call takes are zero.
 pub fn clear(scratch: &mut [u8])
-    requires { ⌜ 65536 ≤ length (now scratch) ⌝ }
+    requires { ⌜ SCRATCH ≤ length (now scratch) ⌝ }
     ensures { λ _. ⌜ now (scratch .exit) ≡ zeroed (now (scratch .entry)) ⌝ }
 {
     let mut i = 0;
-    while i < 65536 {
+    while i < rules::SCRATCH {
         scratch[i] = 0;
         i += 1;
     }

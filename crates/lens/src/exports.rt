@@ -2,7 +2,8 @@
 ghost use mathlib.Core.Path.{_≡_};
 ghost use lib.ListN.{length};
 ghost use Rattle.rules.specs.Answer.{getAnswer, putAnswer};
-ghost use Rattle.lens.specs.Packing.{packedReply, Small, Packed};
+ghost use Rattle.lens.specs.Packing.{packedReply, unpacked, Small, Packed};
+ghost use Rattle.lens.specs.Trips.{Stands, Unmoved};
 use crate::Reply;
 use crate::get;
 use crate::put;
@@ -28,6 +29,7 @@ pub extern "C" fn lens_get(
     scratch: &mut [u8],
 ) -> u64
     ensures { λ r. ⌜ Packed (getAnswer (now (sheet .entry)) (now (plan .entry)) allowance (length (now (out .entry))) (length (now (scratch .entry)))) r (now (out .entry)) (now (out .exit)) (now (scratch .entry)) (now (scratch .exit)) ⌝ }
+    ensures { λ r. ⌜ Unmoved (now (sheet .entry)) (now (plan .entry)) (unpacked r) (now (out .exit)) ⌝ }
 {
     pack(get(sheet, plan, allowance, out, scratch))
 }
@@ -43,6 +45,7 @@ pub extern "C" fn lens_put(
     scratch: &mut [u8],
 ) -> u64
     ensures { λ r. ⌜ Packed (putAnswer (now (sheet .entry)) (now (plan .entry)) (now (view .entry)) allowance (length (now (out .entry))) (length (now (scratch .entry)))) r (now (out .entry)) (now (out .exit)) (now (scratch .entry)) (now (scratch .exit)) ⌝ }
+    ensures { λ r. ⌜ Stands (now (sheet .entry)) (now (view .entry)) allowance (unpacked r) (now (out .exit)) ⌝ }
 {
     pack(put(sheet, plan, view, allowance, out, scratch))
 }

@@ -3,9 +3,11 @@ ghost use mathlib.Core.Path.{_≡_};
 ghost use Prim.Native.Nat.{_+_, _≤_};
 ghost use lib.ListN.{length, drop};
 ghost use lib.Seq.{paste};
+ghost use Rattle.rules.specs.Numbers.{SCRATCH, STACK};
 ghost use Rattle.rules.specs.Answer.{getAnswer, putAnswer};
 ghost use Rattle.lens.specs.Buffers.{zeroed};
 ghost use Rattle.lens.specs.Calls.{Answered};
+ghost use Rattle.lens.specs.Door.{shut};
 ghost use Rattle.lens.specs.Trips.{Stands, Unmoved};
 
 mod buffers;
@@ -23,9 +25,29 @@ pub enum Reply {
     Refused(u8),
 }
 
+/// What a call refuses before it reads anything, 0 for nothing: 1 an output under `need` bytes (rules::GET_OUTPUT,
+/// rules::PUT_OUTPUT), 2 too little scratch, 3 an allowance of 0 or one that is too large.
+pub fn door(need: usize, output: usize, scratch: usize, allowance: usize) -> u8
+    ensures { λ r. ⌜ r ≡ shut need output scratch allowance ⌝ }
+{
+    if output < need {
+        return 1;
+    }
+    if scratch < rules::SCRATCH {
+        return 2;
+    }
+    if allowance == 0 {
+        return 3;
+    }
+    if rules::ALLOWANCE < allowance {
+        return 3;
+    }
+    0
+}
+
 // A refusal behind the door: scratch is cleared.
 fn refused(code: u8, scratch: &mut [u8]) -> Reply
-    requires { ⌜ 65536 ≤ length (now scratch) ⌝ }
+    requires { ⌜ SCRATCH ≤ length (now scratch) ⌝ }
     ensures { λ r. ⌜ (r ≡ Reply.Refused code) × (now (scratch .exit) ≡ zeroed (now (scratch .entry))) ⌝ }
 {
     clear(scratch);
@@ -34,11 +56,11 @@ fn refused(code: u8, scratch: &mut [u8]) -> Reply
 
 // A walk that is done: its bytes go to the front of the output, and scratch is cleared.
 fn given(len: usize, steps: usize, out: &mut [u8], scratch: &mut [u8]) -> Reply
-    requires { ⌜ 65536 ≤ length (now scratch) ⌝ }
-    requires { ⌜ (32256 + len ≤ length (now scratch)) × (len ≤ length (now out)) ⌝ }
-    ensures { λ r. ⌜ (r ≡ Reply.Done len steps) × (now (out .exit) ≡ paste (now (out .entry)) 0 (drop 32256 (now (scratch .entry))) len) × (now (scratch .exit) ≡ zeroed (now (scratch .entry))) ⌝ }
+    requires { ⌜ SCRATCH ≤ length (now scratch) ⌝ }
+    requires { ⌜ (STACK + len ≤ length (now scratch)) × (len ≤ length (now out)) ⌝ }
+    ensures { λ r. ⌜ (r ≡ Reply.Done len steps) × (now (out .exit) ≡ paste (now (out .entry)) 0 (drop STACK (now (scratch .entry))) len) × (now (scratch .exit) ≡ zeroed (now (scratch .entry))) ⌝ }
 {
-    copy_out(scratch, 32256, len, out, 0);
+    copy_out(scratch, rules::STACK, len, out, 0);
     clear(scratch);
     Reply::Done { len, steps }
 }
@@ -48,18 +70,10 @@ pub fn get(sheet: &[u8], plan: &[u8], allowance: u32, out: &mut [u8], scratch: &
     ensures { λ r. ⌜ Answered (getAnswer (now (sheet .entry)) (now (plan .entry)) allowance (length (now (out .entry))) (length (now (scratch .entry)))) r (now (out .entry)) (now (out .exit)) (now (scratch .entry)) (now (scratch .exit)) ⌝ }
     ensures { λ r. ⌜ Unmoved (now (sheet .entry)) (now (plan .entry)) r (now (out .exit)) ⌝ }
 {
-    if out.len() < rules::GET_OUTPUT {
-        return Reply::Refused(1);
-    }
-    if scratch.len() < rules::SCRATCH {
-        return Reply::Refused(2);
-    }
     let steps_allowed = allowance as usize;
-    if steps_allowed == 0 {
-        return Reply::Refused(3);
-    }
-    if rules::ALLOWANCE < steps_allowed {
-        return Reply::Refused(3);
+    let refusal = door(rules::GET_OUTPUT, out.len(), scratch.len(), steps_allowed);
+    if refusal != 0 {
+        return Reply::Refused(refusal);
     }
     match walk::get(sheet, plan, steps_allowed, scratch) {
         Walked::Refused(c) => refused(c, scratch),
@@ -80,18 +94,10 @@ pub fn put(
     ensures { λ r. ⌜ Answered (putAnswer (now (sheet .entry)) (now (plan .entry)) (now (view .entry)) allowance (length (now (out .entry))) (length (now (scratch .entry)))) r (now (out .entry)) (now (out .exit)) (now (scratch .entry)) (now (scratch .exit)) ⌝ }
     ensures { λ r. ⌜ Stands (now (sheet .entry)) (now (view .entry)) allowance r (now (out .exit)) ⌝ }
 {
-    if out.len() < rules::PUT_OUTPUT {
-        return Reply::Refused(1);
-    }
-    if scratch.len() < rules::SCRATCH {
-        return Reply::Refused(2);
-    }
     let steps_allowed = allowance as usize;
-    if steps_allowed == 0 {
-        return Reply::Refused(3);
-    }
-    if rules::ALLOWANCE < steps_allowed {
-        return Reply::Refused(3);
+    let refusal = door(rules::PUT_OUTPUT, out.len(), scratch.len(), steps_allowed);
+    if refusal != 0 {
+        return Reply::Refused(refusal);
     }
     match walk::put(sheet, plan, view, steps_allowed, scratch) {
         Walked::Refused(code) => refused(code, scratch),

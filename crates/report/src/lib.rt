@@ -1,60 +1,98 @@
-//! What the programs print: answers, as document 01 has them.
-ghost use Prim.Native.Nat.{_<_};
-ghost use Rattle.io.specs.Counts.{Counts};
-use libc::STDOUT_FILENO;
+//! Text, written into a buffer that the caller lends: a byte, bytes as they stand, bytes in hexadecimal, a number in decimal, the
+//! line of an answer. Each takes the buffer and the place, and gives the place behind what it wrote; text that has no room is cut.
+ghost use mathlib.Core.Path.{_≡_};
+ghost use mathlib.Core.List.{[], _∷_};
+ghost use Prim.Native.Nat.{_<_, _/_, _%_};
+ghost use Rattle.report.specs.Text.{digitOf, hexOf, decimalOf, refusalLine, successLine};
+ghost use Rattle.report.specs.Writing.{Wrote};
 
 // An upper-case hexadecimal digit.
 fn digit(n: u8) -> u8
     requires { ⌜ n < 16 ⌝ }
+    ensures { λ r. ⌜ r ≡ digitOf n ⌝ }
 {
     if n < 10 { 48 + n } else { 55 + n }
 }
 
-// The bytes as hexadecimal text, as many as there is room for; and how long the text is.
-fn hex(bytes: &[u8], text: &mut [u8]) -> usize
-    ensures { λ r. ⌜ Counts r (now (text .exit)) ⌝ }
+// The place, or the buffer's end where that comes first: nothing is written.
+fn place(text: &[u8], at: usize) -> usize
+    ensures { λ r. ⌜ Wrote [] at (now (text .entry)) (now (text .entry)) r ⌝ }
 {
+    if at < text.len() { at } else { text.len() }
+}
+
+/// One byte.
+pub fn byte(text: &mut [u8], at: usize, b: u8) -> usize
+    ensures { λ r. ⌜ Wrote (b ∷ []) at (now (text .entry)) (now (text .exit)) r ⌝ }
+{
+    if at < text.len() {
+        text[at] = b;
+        return at + 1;
+    }
+    text.len()
+}
+
+/// Bytes as they stand.
+pub fn bytes(text: &mut [u8], at: usize, bytes: &[u8]) -> usize
+    ensures { λ r. ⌜ Wrote (now (bytes .entry)) at (now (text .entry)) (now (text .exit)) r ⌝ }
+{
+    let mut end = place(text, at);
     let mut i = 0;
     while i < bytes.len() {
-        if text.len() - 2 * i < 2 {
-            return 2 * i;
-        }
-        text[2 * i] = digit(bytes[i] / 16);
-        text[2 * i + 1] = digit(bytes[i] % 16);
+        end = byte(text, end, bytes[i]);
         i += 1;
     }
-    2 * i
+    end
 }
 
-/// Prints bytes, at most 4,096, in upper-case hexadecimal.
-pub fn bytes(bytes: &[u8]) {
-    let mut text = [0u8; 8192];
-    let n = hex(bytes, &mut text);
-    io::write_all(STDOUT_FILENO, &text[..n]);
+// A byte in upper-case hexadecimal.
+fn hex_byte(text: &mut [u8], at: usize, b: u8) -> usize
+    ensures { λ r. ⌜ Wrote (digitOf (b / 16) ∷ digitOf (b % 16) ∷ []) at (now (text .entry)) (now (text .exit)) r ⌝ }
+{
+    let end = byte(text, at, digit(b / 16));
+    byte(text, end, digit(b % 16))
 }
 
-/// Prints a number in decimal.
-pub fn number(n: usize) {
-    io::print_decimal(STDOUT_FILENO, n as u64);
+/// Bytes in upper-case hexadecimal, two digits a byte.
+pub fn hex(text: &mut [u8], at: usize, bytes: &[u8]) -> usize
+    ensures { λ r. ⌜ Wrote (hexOf (now (bytes .entry))) at (now (text .entry)) (now (text .exit)) r ⌝ }
+{
+    let mut end = place(text, at);
+    let mut i = 0;
+    while i < bytes.len() {
+        end = hex_byte(text, end, bytes[i]);
+        i += 1;
+    }
+    end
 }
 
-/// Prints text as it stands.
-pub fn text(text: &[u8]) {
-    io::write_all(STDOUT_FILENO, text);
+/// A number in decimal.
+pub fn decimal(text: &mut [u8], at: usize, n: usize) -> usize
+    ensures { λ r. ⌜ Wrote (decimalOf n) at (now (text .entry)) (now (text .exit)) r ⌝ }
+{
+    if n < 10 {
+        return byte(text, at, digit(n as u8));
+    }
+    let end = decimal(text, at, n / 10);
+    byte(text, end, digit((n % 10) as u8))
 }
 
-/// Prints the line of a success: `ok`, the steps and the output.
-pub fn success(steps: usize, output: &[u8]) {
-    text(b"ok ");
-    number(steps);
-    text(b" ");
-    bytes(output);
-    text(b"\n");
+/// The line of a refusal: `no` and its number.
+pub fn refusal(text: &mut [u8], at: usize, code: usize) -> usize
+    ensures { λ r. ⌜ Wrote (refusalLine code) at (now (text .entry)) (now (text .exit)) r ⌝ }
+{
+    let mut end = bytes(text, at, b"no ");
+    end = decimal(text, end, code);
+    byte(text, end, b'\n')
 }
 
-/// Prints the line of a refusal: `no` and its number.
-pub fn refusal(code: u8) {
-    text(b"no ");
-    number(code as usize);
-    text(b"\n");
+/// The line of a success: `ok`, the steps and the output.
+pub fn success(text: &mut [u8], at: usize, steps: usize, output: &[u8]) -> usize
+    ensures { λ r. ⌜ Wrote (successLine steps (now (output .entry))) at (now (text .entry)) (now (text .exit)) r ⌝ }
+{
+    let mut end = bytes(text, at, b"ok ");
+    end = decimal(text, end, steps);
+    end = byte(text, end, b' ');
+    end = hex(text, end, output);
+    byte(text, end, b'\n')
 }

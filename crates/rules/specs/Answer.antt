@@ -1,5 +1,5 @@
 -- The answers of whole calls on bytes: the door, the sheet, the plan, the view, the walk, each refusal in its row's order
--- (document 01, "Where each refusal is met").
+-- (document 01, "Where each refusal is met"; docs/SHEETS.md, "All refusals on one page").
 use mathlib.Core.Option.{none}
 use mathlib.Core.List.{List, [], _∷_}
 use Prim.Native.Nat.{ℕ, zero, suc}
@@ -8,6 +8,7 @@ use lib.ListN.{length, getD, replicate}
 use Rattle.value.specs.Value.{Value, vfalse, encode, flat}
 use Rattle.value.specs.Reading.{readPlan, readView}
 use Rattle.sheet.specs.Sheet.{Sheet, readSheet}
+use Rattle.rules.specs.Numbers.{LEVELS, ALLOWANCE, SCRATCH, GET-OUTPUT, PUT-OUTPUT}
 use Rattle.rules.specs.Outcome.{Out, done, refused, when, mapOut, given, reading}
 use Rattle.rules.specs.Allowance.{within}
 use Rattle.rules.specs.Rules.{Env, Cells, get, orOld, put}
@@ -24,20 +25,20 @@ answer (refused c s) = refusal c
 -- 1 output under `need` bytes; 2 scratch under 65,536; 3 allowance 0 or over 1,000,000
 unfoldable pub door : (need output scratch allowance : ℕ) → Out (List ℕ) → Out (List ℕ)
 door need output scratch allowance o =
-    given 1 (when (decLe need output)) λ _. given 2 (when (decLe 65536 scratch)) λ _.
-    given 3 (when (decLe 1 allowance)) λ _. given 3 (when (decLe allowance 1000000)) λ _. o
+    given 1 (when (decLe need output)) λ _. given 2 (when (decLe SCRATCH scratch)) λ _.
+    given 3 (when (decLe 1 allowance)) λ _. given 3 (when (decLe allowance ALLOWANCE)) λ _. o
 
--- GET: the root, at depth 1, in the scope of the plan
+-- GET: the root, in the scope of the plan
 
 unfoldable pub getWalk : ℕ → Sheet → Env → Out Value
-getWalk allowance sh μ = within allowance (get 48 sh (sh .root) μ)
+getWalk allowance sh μ = within allowance (get LEVELS sh (sh .root) μ)
 
 unfoldable pub getBytes : (sheet plan : List ℕ) (allowance : ℕ) → Out (List ℕ)
 getBytes sheet plan allowance =
     reading (readSheet sheet) λ sh. reading (readPlan (sh .k) plan) λ μ. mapOut encode (getWalk allowance sh μ)
 
 unfoldable pub getAnswer : (sheet plan : List ℕ) (allowance output scratch : ℕ) → Answer
-getAnswer sheet plan allowance output scratch = answer (door 256 output scratch allowance (getBytes sheet plan allowance))
+getAnswer sheet plan allowance output scratch = answer (door GET-OUTPUT output scratch allowance (getBytes sheet plan allowance))
 
 -- PUT: variable i is cell i, and nothing is written yet; at the end each plan variable not written keeps its old value
 
@@ -52,7 +53,7 @@ newPlan (o ∷ X) [] = []
 newPlan (o ∷ X) (v ∷ μ) = orOld o v ∷ newPlan X μ
 
 unfoldable pub putWalk : ℕ → Sheet → Env → Value → Out Cells
-putWalk allowance sh μ v = within allowance (put 48 sh (sh .root) μ (count 0 (length μ)) v (replicate (length μ) none))
+putWalk allowance sh μ v = within allowance (put LEVELS sh (sh .root) μ (count 0 (length μ)) v (replicate (length μ) none))
 
 unfoldable pub putBytes : (sheet plan view : List ℕ) (allowance : ℕ) → Out (List ℕ)
 putBytes sheet plan view allowance =
@@ -60,4 +61,4 @@ putBytes sheet plan view allowance =
     mapOut (λ X. flat (newPlan X μ)) (putWalk allowance sh μ (getD vs 0 vfalse))
 
 unfoldable pub putAnswer : (sheet plan view : List ℕ) (allowance output scratch : ℕ) → Answer
-putAnswer sheet plan view allowance output scratch = answer (door 4096 output scratch allowance (putBytes sheet plan view allowance))
+putAnswer sheet plan view allowance output scratch = answer (door PUT-OUTPUT output scratch allowance (putBytes sheet plan view allowance))

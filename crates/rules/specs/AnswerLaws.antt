@@ -11,6 +11,7 @@ use Rattle.value.specs.Result.{Result, ok}
 use Rattle.value.specs.Value.{Value, vfalse, encode, flat}
 use Rattle.value.specs.Reading.{readPlan, readView}
 use Rattle.sheet.specs.Sheet.{Sheet, readSheet}
+use Rattle.rules.specs.Numbers.{LEVELS, ALLOWANCE, SCRATCH, GET-OUTPUT, PUT-OUTPUT}
 use Rattle.rules.specs.Outcome.{Out, done, refused, mapOut, given, reading}
 use Rattle.rules.specs.Rules.{Env, Cells, get, put}
 use Rattle.rules.specs.Answer.{refusal, success, answer, door, getWalk, getBytes, getAnswer, count, newPlan, putWalk, putBytes, putAnswer}
@@ -41,9 +42,9 @@ answer-success (refused c t) e = let z : _≡_ {A = ℕ} 0 1 = cc in absurd (ome
 -- the sizes that a call needs, and an allowance that it takes
 pub record Lent (need output scratch allowance : ℕ) : Type 0 where
   pub output-long : need ≤ output
-  pub scratch-long : 65536 ≤ scratch
+  pub scratch-long : SCRATCH ≤ scratch
   pub some-steps : 1 ≤ allowance
-  pub few-steps : allowance ≤ 1000000
+  pub few-steps : allowance ≤ ALLOWANCE
 
 module _ {need output scratch allowance : ℕ} {o : Out (List ℕ)} where
   door-done : {bs : List ℕ} {s : ℕ} → door need output scratch allowance o ≡ done bs s → Lent need output scratch allowance × (o ≡ done bs s)
@@ -56,8 +57,8 @@ module _ {need output scratch allowance : ℕ} {o : Out (List ℕ)} where
   -- it opens
   pub door-open : Lent need output scratch allowance → door need output scratch allowance o ≡ o
   unfolding door
-  door-open l = given-yes 1 (decLe need output) (l .output-long) ∙ given-yes 2 (decLe 65536 scratch) (l .scratch-long)
-      ∙ given-yes 3 (decLe 1 allowance) (l .some-steps) ∙ given-yes 3 (decLe allowance 1000000) (l .few-steps)
+  door-open l = given-yes 1 (decLe need output) (l .output-long) ∙ given-yes 2 (decLe SCRATCH scratch) (l .scratch-long)
+      ∙ given-yes 3 (decLe 1 allowance) (l .some-steps) ∙ given-yes 3 (decLe allowance ALLOWANCE) (l .few-steps)
 
 -- and the four ways in which it stays shut
 module _ (need output scratch allowance : ℕ) (o : Out (List ℕ)) where
@@ -65,20 +66,20 @@ module _ (need output scratch allowance : ℕ) (o : Out (List ℕ)) where
   unfolding door
   door-output h = given-not 1 (decLe need output) _ (λ k. omega arith)
 
-  pub door-scratch : need ≤ output → scratch < 65536 → door need output scratch allowance o ≡ refused 2 0
+  pub door-scratch : need ≤ output → scratch < SCRATCH → door need output scratch allowance o ≡ refused 2 0
   unfolding door
-  door-scratch h k = given-yes 1 (decLe need output) h ∙ given-not 2 (decLe 65536 scratch) _ (λ l. omega arith)
+  door-scratch h k = given-yes 1 (decLe need output) h ∙ given-not 2 (decLe SCRATCH scratch) _ (λ l. omega arith)
 
-  pub door-none : need ≤ output → 65536 ≤ scratch → allowance ≡ 0 → door need output scratch allowance o ≡ refused 3 0
+  pub door-none : need ≤ output → SCRATCH ≤ scratch → allowance ≡ 0 → door need output scratch allowance o ≡ refused 3 0
   unfolding door
-  door-none h k e = given-yes 1 (decLe need output) h ∙ given-yes 2 (decLe 65536 scratch) k ∙ given-not 3 (decLe 1 allowance) _ (λ l. omega arith)
+  door-none h k e = given-yes 1 (decLe need output) h ∙ given-yes 2 (decLe SCRATCH scratch) k ∙ given-not 3 (decLe 1 allowance) _ (λ l. omega arith)
 
-  pub door-over : need ≤ output → 65536 ≤ scratch → 1000000 < allowance → door need output scratch allowance o ≡ refused 3 0
+  pub door-over : need ≤ output → SCRATCH ≤ scratch → ALLOWANCE < allowance → door need output scratch allowance o ≡ refused 3 0
   unfolding door
-  door-over h k e = given-yes 1 (decLe need output) h ∙ given-yes 2 (decLe 65536 scratch) k ∙ given-yes 3 (decLe 1 allowance) (omega arith)
-      ∙ given-not 3 (decLe allowance 1000000) _ (λ l. omega arith)
+  door-over h k e = given-yes 1 (decLe need output) h ∙ given-yes 2 (decLe SCRATCH scratch) k ∙ given-yes 3 (decLe 1 allowance) (omega arith)
+      ∙ given-not 3 (decLe allowance ALLOWANCE) _ (λ l. omega arith)
 
-lent-larger : {need output scratch allowance : ℕ} (b : ℕ) → allowance ≤ b → b ≤ 1000000 → Lent need output scratch allowance → Lent need output scratch b
+lent-larger : {need output scratch allowance : ℕ} (b : ℕ) → allowance ≤ b → b ≤ ALLOWANCE → Lent need output scratch allowance → Lent need output scratch b
 lent-larger b h k l = record { output-long = l .output-long; scratch-long = l .scratch-long; some-steps = le-trans (l .some-steps) h; few-steps = k }
 
 -- a get that succeeds: what it read, and its walk
@@ -88,7 +89,7 @@ pub record Got (sheet plan : List ℕ) (allowance : ℕ) (view : List ℕ) (n : 
   pub μ : Env
   pub plan-read : readPlan (sh .k) plan ≡ ok μ
   pub v : Value
-  pub walk : get 48 sh (sh .root) μ ≡ done v n
+  pub walk : get LEVELS sh (sh .root) μ ≡ done v n
   pub few : n ≤ allowance
   pub bytes : view ≡ encode v
 
@@ -101,34 +102,34 @@ pub record PutBack (sheet plan view : List ℕ) (allowance : ℕ) (new : List �
   pub vs : List Value
   pub view-read : readView view ≡ ok vs
   pub X : Cells
-  pub walk : put 48 sh (sh .root) μ (count 0 (length μ)) (getD vs 0 vfalse) (replicate (length μ) none) ≡ done X n
+  pub walk : put LEVELS sh (sh .root) μ (count 0 (length μ)) (getD vs 0 vfalse) (replicate (length μ) none) ≡ done X n
   pub few : n ≤ allowance
   pub bytes : new ≡ flat (newPlan X μ)
 
 module _ {sheet plan : List ℕ} {allowance output scratch : ℕ} where
   pub get-shows : {view : List ℕ} {n : ℕ} → getAnswer sheet plan allowance output scratch ≡ success view n
-      → Lent 256 output scratch allowance × Got sheet plan allowance view n
+      → Lent GET-OUTPUT output scratch allowance × Got sheet plan allowance view n
   unfolding getAnswer getBytes getWalk
   get-shows e =
       let (l, e₀) = door-done (answer-success _ e) in let (sh, es, e₁) = reading-done _ _ e₀ in let (μ, ep, e₂) = reading-done _ _ e₁ in
       let (v, ew, eb) = map-done _ _ e₂ in let (eg, h) = within-done allowance _ ew in
       (l, record { sh = sh; sheet-read = es; μ = μ; plan-read = ep; v = v; walk = eg; few = h; bytes = eb })
 
-  pub get-answers : {view : List ℕ} {n : ℕ} → Lent 256 output scratch allowance → Got sheet plan allowance view n
+  pub get-answers : {view : List ℕ} {n : ℕ} → Lent GET-OUTPUT output scratch allowance → Got sheet plan allowance view n
       → getAnswer sheet plan allowance output scratch ≡ success view n
   unfolding getAnswer getBytes getWalk answer reading mapOut
   get-answers l g = ap answer (door-open l) ∙ rw (g .sheet-read, g .plan-read, g .walk, done-within allowance (g .v) _ (g .few), g .bytes)
 
 module _ {sheet plan view : List ℕ} {allowance output scratch : ℕ} where
   pub put-shows : {new : List ℕ} {n : ℕ} → putAnswer sheet plan view allowance output scratch ≡ success new n
-      → Lent 4096 output scratch allowance × PutBack sheet plan view allowance new n
+      → Lent PUT-OUTPUT output scratch allowance × PutBack sheet plan view allowance new n
   unfolding putAnswer putBytes putWalk
   put-shows e =
       let (l, e₀) = door-done (answer-success _ e) in let (sh, es, e₁) = reading-done _ _ e₀ in let (μ, ep, e₂) = reading-done _ _ e₁ in
       let (vs, ev, e₃) = reading-done _ _ e₂ in let (X, ew, eb) = map-done _ _ e₃ in let (eg, h) = within-done allowance _ ew in
       (l, record { sh = sh; sheet-read = es; μ = μ; plan-read = ep; vs = vs; view-read = ev; X = X; walk = eg; few = h; bytes = eb })
 
-  pub put-answers : {new : List ℕ} {n : ℕ} → Lent 4096 output scratch allowance → PutBack sheet plan view allowance new n
+  pub put-answers : {new : List ℕ} {n : ℕ} → Lent PUT-OUTPUT output scratch allowance → PutBack sheet plan view allowance new n
       → putAnswer sheet plan view allowance output scratch ≡ success new n
   unfolding putAnswer putBytes putWalk answer reading mapOut
   put-answers l g = ap answer (door-open l) ∙ rw (g .sheet-read, g .plan-read, g .view-read, g .walk, done-within allowance (g .X) _ (g .few), g .bytes)
@@ -144,12 +145,12 @@ module _ (sheet plan : List ℕ) (allowance output scratch : ℕ) (bs : List ℕ
   put-steps view e = put-shows e .1 .few
 
   -- and it is the same success, with the same steps, under every larger one
-  pub get-larger : (b : ℕ) → allowance ≤ b → b ≤ 1000000 → getAnswer sheet plan allowance output scratch ≡ success bs n
+  pub get-larger : (b : ℕ) → allowance ≤ b → b ≤ ALLOWANCE → getAnswer sheet plan allowance output scratch ≡ success bs n
       → getAnswer sheet plan b output scratch ≡ success bs n
   get-larger b h k e = let (l, g) = get-shows e in get-answers (lent-larger b h k l)
       (record { sh = g .sh; sheet-read = g .sheet-read; μ = g .μ; plan-read = g .plan-read; v = g .v; walk = g .walk; few = le-trans (g .few) h; bytes = g .bytes })
 
-  pub put-larger : (view : List ℕ) (b : ℕ) → allowance ≤ b → b ≤ 1000000 → putAnswer sheet plan view allowance output scratch ≡ success bs n
+  pub put-larger : (view : List ℕ) (b : ℕ) → allowance ≤ b → b ≤ ALLOWANCE → putAnswer sheet plan view allowance output scratch ≡ success bs n
       → putAnswer sheet plan view b output scratch ≡ success bs n
   put-larger view b h k e = let (l, g) = put-shows e in put-answers (lent-larger b h k l) (record {
     sh = g .sh;

@@ -16,6 +16,7 @@ use Rattle.rules.specs.Allowance.{cap, within}
 use Rattle.rules.specs.Text
 use Rattle.rules.specs.Rules.{bounded, tested, onList, getNode, get, orOld, constant, write, both, under, mkList, mkPair, putNode, put}
 use Rattle.rules.specs.Answer.{Answer, refusal, success, answer, door, getWalk, getBytes, getAnswer, count, newPlan, putWalk, putBytes, putAnswer}
+use Rattle.rules.specs.Numbers.{SCRATCH, PUT-OUTPUT}
 
 -- a sheet, a plan, a view to be put (or none: a get), an allowance, and the answer
 pub record Row : Type 0 where
@@ -27,8 +28,8 @@ pub record Row : Type 0 where
 
 -- the call of a row, with an output of 4,096 bytes and scratch of 65,536
 unfoldable pub call : List ℕ → List ℕ → Option (List ℕ) → ℕ → Answer
-call sheet plan none allowance = getAnswer sheet plan allowance 4096 65536
-call sheet plan (some view) allowance = putAnswer sheet plan view allowance 4096 65536
+call sheet plan none allowance = getAnswer sheet plan allowance PUT-OUTPUT SCRATCH
+call sheet plan (some view) allowance = putAnswer sheet plan view allowance PUT-OUTPUT SCRATCH
 
 unfoldable pub run : Row → Answer
 unfolding call

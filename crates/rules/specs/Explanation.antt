@@ -8,6 +8,7 @@ use Rattle.value.specs.Result.{Result, ok, refusal}
 use Rattle.value.specs.Value.{Value, vfalse, encode, flat}
 use Rattle.value.specs.Reading.{readPlan, readView}
 use Rattle.sheet.specs.Sheet.{Sheet, readSheet}
+use Rattle.rules.specs.Numbers.{LEVELS}
 use Rattle.rules.specs.Outcome.{Out, done, refused, mapOut, reading}
 use Rattle.rules.specs.Allowance.{within}
 use Rattle.rules.specs.Rules.{Env}
@@ -39,12 +40,12 @@ afterwards (refusal c) f = before c
 
 unfoldable pub explainGet : (sheet plan : List ℕ) (allowance : ℕ) → Explanation
 explainGet sheet plan allowance =
-    afterwards (readSheet sheet) λ sh. afterwards (readPlan (sh .k) plan) λ μ. explained (get 48 sh (sh .root) μ allowance)
+    afterwards (readSheet sheet) λ sh. afterwards (readPlan (sh .k) plan) λ μ. explained (get LEVELS sh (sh .root) μ allowance)
 
 unfoldable pub explainPut : (sheet plan view : List ℕ) (allowance : ℕ) → Explanation
 explainPut sheet plan view allowance =
     afterwards (readSheet sheet) λ sh. afterwards (readPlan (sh .k) plan) λ μ. afterwards (readView view) λ vs.
-    explained (put 48 sh (sh .root) μ (count 0 (length μ)) (getD vs 0 vfalse) (replicate (length μ) none) allowance)
+    explained (put LEVELS sh (sh .root) μ (count 0 (length μ)) (getD vs 0 vfalse) (replicate (length μ) none) allowance)
 
 -- ITS NUMBER is that of the call
 
@@ -70,7 +71,8 @@ number-after (refusal c) f g h = refl
 pub get-number : (sheet plan : List ℕ) (allowance : ℕ) → number (explainGet sheet plan allowance) ≡ refusalOf (getBytes sheet plan allowance)
 unfolding explainGet getBytes getWalk
 get-number sheet plan allowance = number-after _ _ _ λ sh. number-after _ _ _ λ μ.
-    number-told (λ v. v) encode (get 48 sh (sh .root) μ allowance) ∙ ap (λ o. refusalOf (mapOut encode o)) (get-erases 48 sh (sh .root) μ .same allowance)
+    number-told (λ v. v) encode (get LEVELS sh (sh .root) μ allowance)
+    ∙ ap (λ o. refusalOf (mapOut encode o)) (get-erases LEVELS sh (sh .root) μ .same allowance)
 
 strip-blank : (n : ℕ) → strip (replicate n none) ≡ replicate n none
 strip-blank n = go n
@@ -84,5 +86,6 @@ unfolding explainPut putBytes putWalk
 put-number sheet plan view allowance = number-after _ _ _ λ sh. number-after _ _ _ λ μ. number-after _ _ _ λ vs.
     let blank : Explain.Cells = replicate (length μ) none in
     let v = getD vs 0 vfalse in
-    number-told strip (λ X. flat (newPlan X μ)) (put 48 sh (sh .root) μ (count 0 (length μ)) v blank allowance)
-    ∙ ap (λ o. refusalOf (mapOut (λ X. flat (newPlan X μ)) o)) (rw (strip-blank (length μ)) at (put-erases 48 sh (sh .root) μ (count 0 (length μ)) v blank .same allowance))
+    number-told strip (λ X. flat (newPlan X μ)) (put LEVELS sh (sh .root) μ (count 0 (length μ)) v blank allowance)
+    ∙ ap (λ o. refusalOf (mapOut (λ X. flat (newPlan X μ)) o))
+    (rw (strip-blank (length μ)) at (put-erases LEVELS sh (sh .root) μ (count 0 (length μ)) v blank .same allowance))

@@ -1,3 +1,4 @@
+pub mod Numbers
 pub mod Outcome
 pub mod Allowance
 pub mod Text
@@ -15,6 +16,7 @@ pub mod Acceptability
 pub mod Trips
 pub mod Refusals
 pub mod Published
+pub mod PublishedCost
 pub mod UpTo
 pub mod PublishedGet
 pub mod PublishedCells

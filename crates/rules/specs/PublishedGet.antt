@@ -1,8 +1,8 @@
--- Get and the published relation: sound, complete up to our limits, and one value.
-use mathlib.Core.Path.{_≡_, refl}
+-- Get and the published relation: sound, complete up to our limits, exact in its steps, and one value.
+use mathlib.Core.Path.{_≡_, refl, subst}
 use mathlib.Core.Bool.{Bool, true, false}
 use mathlib.Core.List.{[], _++_, append-nil}
-use Prim.Native.Nat.{ℕ, zero, suc}
+use Prim.Native.Nat.{ℕ, zero, suc, _≤_}
 use native.Mathlib.Omega.{arith}
 use lib.ListN.{getD}
 use Rattle.value.specs.Value.{Value, vfalse, vtrue, list, number, pair, nil, cons, truth}
@@ -18,7 +18,9 @@ use Rattle.rules.specs.Rules.{Env, Getter, pick, bounded, tested, onList
 use Rattle.rules.specs.OutcomeLaws.{After, fine, stopped, after-map, after-at, as-number, after-plus, after-bind, after-given, after-list}
 use Rattle.rules.specs.AllowanceLaws.{within-done}
 use Rattle.rules.specs.Published.{Pattern, pFalse, pTrue, pEmpty, pFront, pPair, Match, m-false, m-true, m-empty, m-front, m-pair, Branch, plain, opened, Expr, var, const, front, case, letIn, couple, call, add, expr, node, residual, Get, g-var, g-const, g-cons, g-case, g-let, g-pair, g-call, g-add}
-use Rattle.rules.specs.UpTo.{deep, limited, Comes, reach, up-plus, up-within, comes-bind, up-given, up-when, up-size}
+use Rattle.rules.specs.PublishedCost.{Cost, built, _⊕_, getBelow, getCost}
+use Rattle.rules.specs.UpTo.{deep, Costs, Comes, Exactly, stops, reach, up-as, up-enter, up-within, up-costs, up-exactly}
+use Rattle.rules.specs.UpTo.{comes-bind, comes-last, up-given, up-when, up-size}
 
 -- SOUND
 
@@ -65,48 +67,52 @@ gets-soundly (suc l) sh n μ = after-plus 1 (get-node-sound sh (get l sh) (gets-
 
 -- COMPLETE UP TO OUR LIMITS
 
-abbrev pub GetsAll : Sheet → Getter → Type 0
-GetsAll sh g = (n : ℕ) (μ : Env) (v : Value) → Get sh μ (residual sh n) v → Comes v (g n μ)
+abbrev pub GetsAll : (l a : ℕ) → Sheet → Getter → Type 0
+GetsAll l a sh g = (n : ℕ) (μ : Env) (v : Value) (d : Get sh μ (residual sh n) v) → Comes l a (getCost d) v (g n μ)
 
-scope-nil : {sh : Sheet} {μ : Env} {e : Expr} {v : Value} → Get sh (μ ++ []) e v → Get sh μ e v
-scope-nil {sh} {μ} {e} {v} d = rw append-nil at d
+-- Q of the cost of each way to get a case
+abbrev Cases : Sheet → Env → Value → ℕ → Branch → Branch → (Cost → Type 0) → Type 0
+Cases sh μ v s b₁ b₂ Q = (i : Bool) (v₀ : Value) (μᵢ : Env) (ds : Get sh μ (residual sh s) v₀) → Match (pick i b₁ b₂ .pattern) v₀ μᵢ
+    → (d : Get sh (μ ++ μᵢ) (residual sh (pick i b₁ b₂ .body)) v) → Passes (pick i b₁ b₂ .exit) v → Q (getCost ds ⊕ getCost d)
 
-module _ (sh : Sheet) (g : Getter) (ih : GetsAll sh g) where
-  tested-all : (t : ℕ) {o : Out Value} {v : Value} → Comes v o → Passes t v → Comes v (tested t o)
+module _ {l a : ℕ} (sh : Sheet) (g : Getter) (ih : GetsAll l a sh g) where
+  bounded-all : (v : Value) → Comes l a (built v) v (bounded v)
+  unfolding Text.bounded
+  bounded-all v = up-as (built v) (omega arith) (up-size v λ _. reach refl)
+
+  -- a branch's result, and its exit condition
+  tested-all : (t n : ℕ) {ν μ : Env} (v : Value) → ν ≡ μ → (d : Get sh ν (residual sh n) v) → Passes t v → Comes l a (getCost d) v (tested t (g n μ))
   unfolding Text.tested
-  tested-all t h p = comes-bind _ h (up-when _ _ p λ _. reach refl)
+  tested-all t n v e d p = comes-last _ (subst (λ μ. Comes l a (getCost d) v (g n μ)) e (ih n _ v d)) (up-when _ _ p λ _. reach refl)
 
-  get-node-complete : (nd : Node) (μ : Env) (v : Value) → Get sh μ (expr nd) v → Comes v (getNode g sh nd μ)
-  unfolding Text.getNode Text.bounded asList asPair asTruth onList
+  get-node-complete : (nd : Node) (μ : Env) (v : Value) (d : Get sh μ (expr nd) v) → Comes l a (getBelow d) v (getNode g sh nd μ)
+  unfolding Text.getNode asList asPair asTruth onList getBelow
   get-node-complete (Var x) μ v (g-var e) = up-given _ _ e (reach refl)
   get-node-complete False μ v g-const = reach refl
   get-node-complete True μ v g-const = reach refl
   get-node-complete Empty μ v g-const = reach refl
   get-node-complete (Number n) μ v g-const = reach refl
-  get-node-complete (Front a b) μ v (g-cons df dr) = comes-bind _ (ih a μ _ df) (comes-bind _ (ih b μ _ dr) (up-given _ _ refl (up-size _ λ _. reach refl)))
-  get-node-complete (Pair a b) μ v (g-pair df dr) = comes-bind _ (ih a μ _ df) (comes-bind _ (ih b μ _ dr) (up-size _ λ _. reach refl))
-  get-node-complete (ListCase s e te n tn df dr) μ v (g-case i ds m d p) = go i ds m d p
+  get-node-complete (Front a b) μ v (g-cons df dr) = comes-bind _ (ih a μ _ df) (comes-bind _ (ih b μ _ dr) (up-given _ _ refl (bounded-all _)))
+  get-node-complete (Pair a b) μ v (g-pair df dr) = comes-bind _ (ih a μ _ df) (comes-bind _ (ih b μ _ dr) (bounded-all _))
+  get-node-complete (ListCase s e te n tn df dr) μ v (g-case i ds m d p) = go i _ _ ds m d p
     where
-      go : {μᵢ : Env} {v₀ : Value} (i : Bool) → Get sh μ (residual sh s) v₀ → Match (pick i (plain pEmpty e te) (opened n tn df dr) .pattern) v₀ μᵢ
-          → Get sh (μ ++ μᵢ) (residual sh (pick i (plain pEmpty e te) (opened n tn df dr) .body)) v → Passes (pick i (plain pEmpty e te) (opened n tn df dr) .exit) v
-          → Comes v (getNode g sh (ListCase s e te n tn df dr) μ)
-      go false ds m-empty d p = comes-bind _ (ih s μ _ ds) (up-given _ _ refl (tested-all te (ih e μ v (scope-nil d)) p))
-      go true ds m-front d p = comes-bind _ (ih s μ _ ds) (up-given _ _ refl (tested-all tn (ih n _ v d) p))
-  get-node-complete (TruthCase s f tf t t₁) μ v (g-case i ds m d p) = go i ds m d p
+      go : Cases sh μ v s (plain pEmpty e te) (opened n tn df dr) λ c. Comes l a c v (getNode g sh (ListCase s e te n tn df dr) μ)
+      go false v₀ μᵢ ds m-empty d p = comes-bind _ (ih s μ _ ds) (up-given _ _ refl (tested-all te e v (append-nil μ) d p))
+      go true v₀ μᵢ ds m-front d p = comes-bind _ (ih s μ _ ds) (up-given _ _ refl (tested-all tn n v refl d p))
+  get-node-complete (TruthCase s f tf t t₁) μ v (g-case i ds m d p) = go i _ _ ds m d p
     where
-      go : {μᵢ : Env} {v₀ : Value} (i : Bool) → Get sh μ (residual sh s) v₀ → Match (pick i (plain pFalse f tf) (plain pTrue t t₁) .pattern) v₀ μᵢ
-          → Get sh (μ ++ μᵢ) (residual sh (pick i (plain pFalse f tf) (plain pTrue t t₁) .body)) v → Passes (pick i (plain pFalse f tf) (plain pTrue t t₁) .exit) v
-          → Comes v (getNode g sh (TruthCase s f tf t t₁) μ)
-      go false ds m-false d p = comes-bind _ (ih s μ _ ds) (up-given _ _ refl (tested-all tf (ih f μ v (scope-nil d)) p))
-      go true ds m-true d p = comes-bind _ (ih s μ _ ds) (up-given _ _ refl (tested-all t₁ (ih t μ v (scope-nil d)) p))
+      go : Cases sh μ v s (plain pFalse f tf) (plain pTrue t t₁) λ c. Comes l a c v (getNode g sh (TruthCase s f tf t t₁) μ)
+      go false v₀ μᵢ ds m-false d p = comes-bind _ (ih s μ _ ds) (up-given _ _ refl (tested-all tf f v (append-nil μ) d p))
+      go true v₀ μᵢ ds m-true d p = comes-bind _ (ih s μ _ ds) (up-given _ _ refl (tested-all t₁ t v (append-nil μ) d p))
   get-node-complete (Split s i) μ v (g-let ds m-pair d) = comes-bind _ (ih s μ _ ds) (up-given _ _ refl (ih i _ v d))
   get-node-complete (Call sec x y) μ v (g-call ea eb d) = up-given _ _ ea (up-given _ _ eb (ih _ _ v d))
-  get-node-complete (Add n k) μ v (g-add {m = m} d q) = comes-bind _ (ih n μ _ d) (let (z, e) = as-number m (omega arith) in up-given _ _ e (up-when _ _ q λ _. reach refl))
+  get-node-complete (Add n k) μ v (g-add {m = m} d q) =
+      comes-last _ (ih n μ _ d) (let (z, e) = as-number m (omega arith) in up-given _ _ e (up-when _ _ q λ _. reach refl))
 
-pub gets-all : (l : ℕ) (sh : Sheet) → GetsAll sh (get l sh)
+pub gets-all : (l a : ℕ) (sh : Sheet) → GetsAll l a sh (get l sh)
 unfolding Text.get
-gets-all zero sh n μ v d = limited deep
-gets-all (suc l) sh n μ v d = up-plus 1 (get-node-complete sh (get l sh) (gets-all l sh) _ μ v d)
+gets-all zero a sh n μ v d = stops (omega arith) (deep (omega arith))
+gets-all (suc l) a sh n μ v d = up-enter (get-node-complete sh (get l sh) (gets-all l a sh) _ μ v d)
 
 -- ONE VALUE
 
@@ -197,9 +203,19 @@ module _ (sh : Sheet) (n : ℕ) (μ : Env) (v : Value) where
   pub get-sound : (l a s : ℕ) → within a (get l sh n μ) ≡ done v s → Get sh μ (residual sh n) v
   get-sound l a s e = after-at (rw (within-done a (get l sh n μ) e .0) at (gets-soundly l sh n μ))
 
-  -- where the published relation holds, get gives that value or is refused with 40, 41 or 44
-  pub get-complete : (l a : ℕ) → Get sh μ (residual sh n) v → Comes v (within a (get l sh n μ))
-  get-complete l a d = up-within a (gets-all l sh n μ v d)
+  -- where the published relation holds, get gives that value or is refused with 40, 41 or 44: with 40 only where the derivation
+  -- has more than l levels, with 41 only where it has more than a nodes
+  pub get-complete : (l a : ℕ) (d : Get sh μ (residual sh n) v) → Comes l a (getCost d) v (within a (get l sh n μ))
+  get-complete l a d = up-within (gets-all l a sh n μ v d)
+
+  -- so a derivation of at most l levels and a nodes gives the value, in exactly as many steps as it has nodes, or refusal 44
+  pub get-exact : (l a : ℕ) (d : Get sh μ (residual sh n) v) → getCost d .height ≤ l → getCost d .nodes ≤ a
+      → Exactly (getCost d) v (within a (get l sh n μ))
+  get-exact l a d h k = up-exactly (get-complete l a d) h k
+
+  -- and where get succeeds, there is a derivation of at most l levels and of exactly as many nodes as the steps
+  pub get-counted : (l a s : ℕ) → within a (get l sh n μ) ≡ done v s → (d : Get sh μ (residual sh n) v) × Costs l s (getCost d)
+  get-counted l a s e = let d = get-sound l a s e in (d, up-costs (rw e at (get-complete l a d)))
 
   -- one value
   pub get-functional : (v′ : Value) → Get sh μ (residual sh n) v → Get sh μ (residual sh n) v′ → v ≡ v′

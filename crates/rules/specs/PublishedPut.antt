@@ -1,11 +1,12 @@
--- Put and the published relation: sound, complete up to our limits, and one set of writes.
-use mathlib.Core.Path.{_≡_, refl, sym}
+-- Put and the published relation: sound, complete up to our limits, exact in its steps, and one set of writes.
+use mathlib.Core.Path.{_≡_, refl, sym, subst}
 use mathlib.Core.Bool.{Bool, true, false, not}
 use mathlib.Core.Option.{Option, none, some, Option·some-injective, map-eq-some-iff}
 use mathlib.Core.List.{List, [], _∷_, _++_, append-nil}
 use Prim.Native.Nat.{ℕ, zero, suc, _-_, _≤_}
+use native.Mathlib.Omega.{arith}
 use lib.ListN.{length, getD, getElem?}
-use Rattle.value.specs.Value.{Value, Values, vfalse, vtrue, list, number, pair, nil, cons, truth}
+use Rattle.value.specs.Value.{Value, Values, vfalse, vtrue, list, number, pair, nil, cons, size, truth}
 use Rattle.value.specs.Views.{asList, asFront, asPair, asTruth}
 use Rattle.value.specs.Tests.{Passes, passes}
 use Rattle.sheet.specs.declared.Node.{Node}
@@ -22,7 +23,9 @@ use Rattle.rules.specs.Consistency.{Later}
 use Rattle.rules.specs.Published.{Writes, Over, blank, only, Merge1, neither, left, right, same, Merge, mEnds, mMore, _◁_, Pattern, pFalse, pTrue, pEmpty, pFront, pPair, Match, m-false, m-true, m-empty, m-front, m-pair, Branch, plain, opened, Expr, var, const, front, case, couple, call, add, expr, node, residual, Get, Put, p-var, p-const, p-cons, p-case, p-case-switch, p-let, p-pair, p-call, p-add}
 use Rattle.rules.specs.PublishedGet.{GetsSoundly, gets-soundly, GetsAll, gets-all, match-env, match-value, Fair, fair, get-one}
 use Rattle.rules.specs.PublishedCells.{Laid, Seen, Joined, seen-later, laid-later, joined-one, seen-left, seen-right, merge-is, joined-merge, joined-blank, only-seen, seen-only, joined-new, joined-same, laid-section, section-seen, joined-section, laid-wider, wider-later, wider-seen, joined-outside, cells-inside, seen-cut, seen-over}
-use Rattle.rules.specs.UpTo.{deep, UpTo, limited, Comes, reach, up-plus, up-map, up-within, up-bind, comes-bind, up-given, up-when, up-size, up-first, up-second}
+use Rattle.rules.specs.PublishedCost.{Cost, free, built, _⊕_, getCost, defaultsCost, putBelow, putCost}
+use Rattle.rules.specs.UpTo.{deep, Costs, UpTo, Comes, Exactly, stops, reach, up-as, up-map, up-enter, up-within, up-costs, up-exactly}
+use Rattle.rules.specs.UpTo.{up-bind, comes-bind, up-given, up-when, up-size, up-first, up-second}
 
 -- SOUND
 
@@ -234,9 +237,9 @@ puts-soundly (suc l) sh n μ σ v W h = after-plus 1 (put-node-sound sh (get l s
 -- COMPLETE UP TO OUR LIMITS
 
 -- where W and the published writes have cells Y in common
-abbrev pub PutsAll : Sheet → Putter → Type 0
-PutsAll sh p = (n : ℕ) (μ : Env) (σ : List ℕ) (v : Value) (W : Cells) (ω : Writes) (Y : Cells) → Laid W σ μ → Put sh μ v (residual sh n) ω
-    → Later W Y → Seen ω σ Y → UpTo (Joined σ W ω) (p n μ σ v W)
+abbrev pub PutsAll : (l a : ℕ) → Sheet → Putter → Type 0
+PutsAll l a sh p = (n : ℕ) (μ : Env) (σ : List ℕ) (v : Value) (W : Cells) (ω : Writes) (Y : Cells) → Laid W σ μ → (d : Put sh μ v (residual sh n) ω)
+    → Later W Y → Seen ω σ Y → UpTo l a (putCost d) (Joined σ W ω) (p n μ σ v W)
 
 match-mkList : (a b u : Value) → Match pFront u (two a b) → mkList a b ≡ some u
 unfolding mkList asList
@@ -246,73 +249,101 @@ match-mkPair : (a b u : Value) → Match pPair u (two a b) → mkPair a b ≡ so
 unfolding mkPair
 match-mkPair a b u m-pair = refl
 
-scope-nil : {sh : Sheet} {μ : Env} {v : Value} {e : Expr} {ω : Writes} → Put sh (μ ++ []) v e (ω ++ []) → Put sh μ v e ω
-scope-nil {sh} {μ} {v} {e} {ω} d = rw (append-nil, append-nil) at d
+-- a value that binds nothing is never too long
+match-short : {q : Pattern} {u : Value} → Match q u [] → size u ≤ 256
+unfolding size
+match-short m-false = omega arith
+match-short m-true = omega arith
+match-short m-empty = omega arith
 
--- Q of each way to put into a case: the branch is kept, or switched
-abbrev Stays : Sheet → Env → Value → ℕ → Branch → Branch → Writes → Type 0 → Type 0
-Stays sh μ v s b₁ b₂ ω Q = (i : Bool) (v₀ : Value) (μᵢ : Env) → Get sh μ (residual sh s) v₀ → Match (pick i b₁ b₂ .pattern) v₀ μᵢ → Passes (pick i b₁ b₂ .exit) v
-    → Back sh μ v (pick i b₁ b₂ .pattern) (pick i b₁ b₂ .body) μᵢ s ω → Q
+abbrev backCost : {sh : Sheet} {μ : Env} {v : Value} {q : Pattern} {b : ℕ} {μᵢ : Env} {s : ℕ} {ω : Writes} → Back sh μ v q b μᵢ s ω → Cost
+backCost k = putCost (k .branch) ⊕ built (k .u) ⊕ putCost (k .subject)
 
-abbrev Switches : Sheet → Env → Value → ℕ → Branch → Branch → Writes → Type 0 → Type 0
-Switches sh μ v s b₁ b₂ ω Q = (i : Bool) (v₀ u₀ : Value) (μᵢ μⱼ : Env) → Get sh μ (residual sh s) v₀ → Match (pick i b₁ b₂ .pattern) v₀ μᵢ
-    → ¬ Passes (pick i b₁ b₂ .exit) v → Passes (pick (not i) b₁ b₂ .exit) v → All2 (λ n w. Get sh [] (residual sh n) w) (pick (not i) b₁ b₂ .by) μⱼ
-    → Match (pick (not i) b₁ b₂ .pattern) u₀ μⱼ → Back sh μ v (pick (not i) b₁ b₂ .pattern) (pick (not i) b₁ b₂ .body) μⱼ s ω → Q
+-- Q of the cost of each way to put into a case: the branch is kept, or switched
+abbrev Stays : Sheet → Env → Value → ℕ → Branch → Branch → Writes → (Cost → Type 0) → Type 0
+Stays sh μ v s b₁ b₂ ω Q = (i : Bool) (v₀ : Value) (μᵢ : Env) (g : Get sh μ (residual sh s) v₀) → Match (pick i b₁ b₂ .pattern) v₀ μᵢ
+    → Passes (pick i b₁ b₂ .exit) v → (k : Back sh μ v (pick i b₁ b₂ .pattern) (pick i b₁ b₂ .body) μᵢ s ω) → Q (getCost g ⊕ backCost k)
 
-by-case : {sh : Sheet} {μ : Env} {v : Value} {s : ℕ} {b₁ b₂ : Branch} {ω : Writes} {Q : Type 0} → Put sh μ v (case s b₁ b₂) ω
-    → Stays sh μ v s b₁ b₂ ω Q → Switches sh μ v s b₁ b₂ ω Q → Q
-by-case (p-case i ds mᵢ q d o oᵢ r d₀ m) f g =
+abbrev Switches : Sheet → Env → Value → ℕ → Branch → Branch → Writes → (Cost → Type 0) → Type 0
+Switches sh μ v s b₁ b₂ ω Q = (i : Bool) (v₀ u₀ : Value) (μᵢ μⱼ : Env) (g : Get sh μ (residual sh s) v₀) → Match (pick i b₁ b₂ .pattern) v₀ μᵢ
+    → ¬ Passes (pick i b₁ b₂ .exit) v → Passes (pick (not i) b₁ b₂ .exit) v → (gs : All2 (λ n w. Get sh [] (residual sh n) w) (pick (not i) b₁ b₂ .by) μⱼ)
+    → Match (pick (not i) b₁ b₂ .pattern) u₀ μⱼ → (k : Back sh μ v (pick (not i) b₁ b₂ .pattern) (pick (not i) b₁ b₂ .body) μⱼ s ω)
+    → Q (getCost g ⊕ defaultsCost gs (backCost k))
+
+by-case : {sh : Sheet} {μ : Env} {v : Value} {s : ℕ} {b₁ b₂ : Branch} {ω : Writes} (Q : Cost → Type 0) (d : Put sh μ v (case s b₁ b₂) ω)
+    → Stays sh μ v s b₁ b₂ ω Q → Switches sh μ v s b₁ b₂ ω Q → Q (putBelow d)
+unfolding putBelow
+by-case Q (p-case i ds mᵢ q d o oᵢ r d₀ m) f g =
     f i _ _ ds mᵢ q (record { ω = _; ωᵢ = _; ω₀ = _; u = _; branch = d; over = o; overᵢ = oᵢ; rebuilt = r; subject = d₀; merged = m })
-by-case (p-case-switch i ds mᵢ q q′ dd mⱼ d o oⱼ r d₀ m) f g =
+by-case Q (p-case-switch i ds mᵢ q q′ dd mⱼ d o oⱼ r d₀ m) f g =
     g i _ _ _ _ ds mᵢ q q′ dd mⱼ (record { ω = _; ωᵢ = _; ω₀ = _; u = _; branch = d; over = o; overᵢ = oⱼ; rebuilt = r; subject = d₀; merged = m })
 
-module _ (sh : Sheet) (g : Getter) (gets : GetsAll sh g) (p : Putter) (ih : PutsAll sh p) (μ : Env) (σ : List ℕ) (W : Cells) (laid : Laid W σ μ)
-    (Y : Cells) (later : Later W Y) where
-  constant-all : (v : Value) → UpTo (Joined σ W (blank μ)) (constant v v W)
+module _ {l a : ℕ} (sh : Sheet) (g : Getter) (gets : GetsAll l a sh g) (p : Putter) (ih : PutsAll l a sh p)
+    (μ : Env) (σ : List ℕ) (W : Cells) (laid : Laid W σ μ) (Y : Cells) (later : Later W Y) where
+  constant-all : (v : Value) → UpTo l a free (Joined σ W (blank μ)) (constant v v W)
   unfolding Text.constant
   constant-all v = up-when _ _ refl λ _. reach (joined-blank laid)
 
-  write-all : (v : Value) (x c : ℕ) (m : Value) (o : Option Value) → getElem? μ x ≡ some m → getElem? σ x ≡ some c → getElem? W c ≡ some o → Seen (only μ x (some v)) σ Y
-      → UpTo (Joined σ W (only μ x (some v))) (write c v W o)
+  write-all : (v : Value) (x c : ℕ) (m : Value) (o : Option Value) → getElem? μ x ≡ some m → getElem? σ x ≡ some c → getElem? W c ≡ some o
+      → Seen (only μ x (some v)) σ Y → UpTo l a free (Joined σ W (only μ x (some v))) (write c v W o)
   unfolding Text.write
   write-all v x c m none em ec eo s = reach (joined-new σ μ x c m em ec v laid eo)
   write-all v x c m (some w) em ec eo s =
       let (q, eq, h) = all2-at c later eo in let e : w ≡ v = cc (h w refl, seen-only σ μ x c m em ec (some v) s .has v refl) in
       up-when _ _ e λ _. reach (joined-same σ μ x c m em ec v laid (rw e at eo))
 
-  both-all : (a b : ℕ) (x y : Value) (ω₁ ω₂ ω : Writes) → Put sh μ x (residual sh a) ω₁ → Put sh μ y (residual sh b) ω₂ → Merge ω₁ ω₂ ω → Seen ω σ Y
-      → UpTo (Joined σ W ω) (both p μ σ W a x b y)
+  -- the first node that is put into here, in the scope μ
+  first-all : (n : ℕ) (v : Value) {ν : Env} {ψ ω : Writes} → ν ≡ μ → ψ ≡ ω → (d : Put sh ν v (residual sh n) ψ) → Seen ω σ Y
+      → UpTo l a (putCost d) (Joined σ W ω) (p n μ σ v W)
+  first-all n v {ν} {ψ} {ω} e e′ d h = subst (λ ν. UpTo l a (putCost d) (Joined σ W ω) (p n ν σ v W)) e
+      (subst (λ ψ. UpTo l a (putCost d) (Joined σ W ψ) (p n ν σ v W)) e′ (ih n ν σ v W ψ Y (rw e laid) d later (rw e′ h)))
+
+  both-all : {c : Cost} (n b : ℕ) (x y : Value) (ω₁ ω₂ ω : Writes) → UpTo l a c (Joined σ W ω₁) (p n μ σ x W)
+      → (d : Put sh μ y (residual sh b) ω₂) → Merge ω₁ ω₂ ω → Seen ω σ Y → UpTo l a (c ⊕ putCost d) (Joined σ W ω) (both p μ σ W n x b y)
   unfolding Text.both
-  both-all a b x y ω₁ ω₂ ω d₁ d₂ m s = up-bind _ (ih a μ σ x W ω₁ Y laid d₁ later (seen-left m s)) λ X j.
-      up-map (ih b μ σ y X ω₂ Y (laid-later laid (j .later)) d₂ (j .least Y later (seen-left m s)) (seen-right m s)) λ Z k. joined-merge j k m
+  both-all n b x y ω₁ ω₂ ω k d m s = up-bind _ k λ X j.
+      up-map (ih b μ σ y X ω₂ Y (laid-later laid (j .later)) d (j .least Y later (seen-left m s)) (seen-right m s)) λ Z k. joined-merge j k m
 
   under-all : (v : Value) (b s : ℕ) (mk : Value → Value → Option Value) (f r u : Value) (ω : Writes) (x y : Option Value) (ω₀ ω′ : Writes)
-      → Put sh (μ ++ two f r) v (residual sh b) (ω ++ two x y) → Over ω μ → mk (orOld x f) (orOld y r) ≡ some u → Put sh μ u (residual sh s) ω₀ → Merge ω ω₀ ω′ → Seen ω′ σ Y
-      → UpTo (Joined σ W ω′) (under p μ σ W b v s mk f r)
+      (d : Put sh (μ ++ two f r) v (residual sh b) (ω ++ two x y)) → Over ω μ → mk (orOld x f) (orOld y r) ≡ some u
+      → (d₀ : Put sh μ u (residual sh s) ω₀) → Merge ω ω₀ ω′ → Seen ω′ σ Y
+      → UpTo l a (putCost d ⊕ built u ⊕ putCost d₀) (Joined σ W ω′) (under p μ σ W b v s mk f r)
   unfolding Text.under
   under-all v b s mk f r u ω x y ω₀ ω′ d over eu d₀ m h =
-      up-bind _ (ih b _ _ v _ (ω ++ two x y) (Y ++ two x y) (laid-wider W f r laid) d (wider-later W laid ω x y later) (wider-seen W laid ω x y later (seen-left m h))) λ X j.
+      up-bind _ (ih b _ _ v _ (ω ++ two x y) (Y ++ two x y) (laid-wider W f r laid) d (wider-later W laid ω x y later)
+      (wider-seen W laid ω x y later (seen-left m h))) λ X j.
       let j₁ = joined-outside W laid ω x y over X j in let (cx, cy) = cells-inside W laid ω x y over X j in
-      up-given _ _ cx (up-given _ _ cy (up-given _ _ eu (up-size _ λ _.
+      up-given _ _ cx (up-given _ _ cy (up-given _ _ eu (up-size u λ _.
       up-map (ih s μ σ u _ ω₀ Y (laid-later laid (j₁ .later)) d₀ (j₁ .least Y later (seen-left m h)) (seen-right m h)) λ Z k. joined-merge j₁ k m)))
 
-  back-plain : {v : Value} {q : Pattern} {b s : ℕ} {u : Value} {ω′ : Writes} → Match q u [] → Back sh μ v q b [] s ω′ → Seen ω′ σ Y → UpTo (Joined σ W ω′) (both p μ σ W b v s u)
+  back-plain : {v : Value} {q : Pattern} {b s : ℕ} {u : Value} {ω′ : Writes} → Match q u [] → (k : Back sh μ v q b [] s ω′) → Seen ω′ σ Y
+      → UpTo l a (backCost k) (Joined σ W ω′) (both p μ σ W b v s u)
   unfolding _◁_
   back-plain {v} {q} {b} {s} {u} {ω′} m k h = go (k .branch) (k .overᵢ) (k .rebuilt)
     where
-      go : {ωᵢ : Writes} → Put sh (μ ++ []) v (residual sh b) (k .ω ++ ωᵢ) → Over ωᵢ [] → Match q (k .u) (ωᵢ ◁ []) → UpTo (Joined σ W ω′) (both p μ σ W b v s u)
-      go d ends m′ = both-all b s v u (k .ω) (k .ω₀) ω′ (scope-nil d) (rw (match-value m′ m) at (k .subject)) (k .merged) h
+      go : {ωᵢ : Writes} (d : Put sh (μ ++ []) v (residual sh b) (k .ω ++ ωᵢ)) → Over ωᵢ [] → Match q (k .u) (ωᵢ ◁ [])
+          → UpTo l a (putCost d ⊕ built (k .u) ⊕ putCost (k .subject)) (Joined σ W ω′) (both p μ σ W b v s u)
+      go d ends m′ =
+          let z = match-short m′ in let first = first-all b v (append-nil μ) (append-nil (k .ω)) d (seen-left (k .merged) h) in
+          subst (λ w. UpTo l a (putCost d ⊕ built (k .u) ⊕ putCost (k .subject)) (Joined σ W ω′) (both p μ σ W b v s w)) (match-value m′ m)
+          (up-as _ (omega arith) (both-all b s v (k .u) (k .ω) (k .ω₀) ω′ first (k .subject) (k .merged) h))
 
-  back-open : {v : Value} {q : Pattern} {b s : ℕ} {f r : Value} {ω′ : Writes} (mk : Value → Value → Option Value) → ((x y u : Value) → Match q u (two x y) → mk x y ≡ some u)
-      → Back sh μ v q b (two f r) s ω′ → Seen ω′ σ Y → UpTo (Joined σ W ω′) (under p μ σ W b v s mk f r)
+  back-open : {v : Value} {q : Pattern} {b s : ℕ} {f r : Value} {ω′ : Writes} (mk : Value → Value → Option Value)
+      → ((x y u : Value) → Match q u (two x y) → mk x y ≡ some u) → (k : Back sh μ v q b (two f r) s ω′) → Seen ω′ σ Y
+      → UpTo l a (backCost k) (Joined σ W ω′) (under p μ σ W b v s mk f r)
   unfolding _◁_
   back-open {v} {q} {b} {s} {f} {r} {ω′} mk inv k h = go (k .branch) (k .overᵢ) (k .rebuilt)
     where
-      go : {ωᵢ : Writes} → Put sh (μ ++ two f r) v (residual sh b) (k .ω ++ ωᵢ) → Over ωᵢ (two f r) → Match q (k .u) (ωᵢ ◁ two f r) → UpTo (Joined σ W ω′) (under p μ σ W b v s mk f r)
-      go d (more {a = x} _ (more {a = y} _ ends)) m′ = under-all v b s mk f r (k .u) (k .ω) x y (k .ω₀) ω′ d (k .over) (inv _ _ _ m′) (k .subject) (k .merged) h
+      go : {ωᵢ : Writes} (d : Put sh (μ ++ two f r) v (residual sh b) (k .ω ++ ωᵢ)) → Over ωᵢ (two f r) → Match q (k .u) (ωᵢ ◁ two f r)
+          → UpTo l a (putCost d ⊕ built (k .u) ⊕ putCost (k .subject)) (Joined σ W ω′) (under p μ σ W b v s mk f r)
+      go d (more {a = x} _ (more {a = y} _ ends)) m′ =
+          under-all v b s mk f r (k .u) (k .ω) x y (k .ω₀) ω′ d (k .over) (inv _ _ _ m′) (k .subject) (k .merged) h
 
-  put-node-complete : (nd : Node) (v : Value) {ω : Writes} → Put sh μ v (expr nd) ω → Seen ω σ Y → UpTo (Joined σ W ω) (putNode g p sh nd μ σ v W)
-  unfolding Text.putNode asList asFront asPair asTruth onList
+  abbrev Puts : Node → Value → Writes → Cost → Type 0
+  Puts nd v ω c = UpTo l a c (Joined σ W ω) (putNode g p sh nd μ σ v W)
+
+  put-node-complete : (nd : Node) (v : Value) {ω : Writes} (d : Put sh μ v (expr nd) ω) → Seen ω σ Y → Puts nd v ω (putBelow d)
+  unfolding Text.putNode asList asFront asPair asTruth onList putBelow defaultsCost
   put-node-complete (Var x) v (p-var em) h =
       let (c, ec, _) = all2-at x (all2-flip laid) em in let (m, _, t) = all2-at x laid ec in
       up-given _ _ ec (up-given _ _ (t .there) (write-all v x c _ (t .cell) em ec (t .there) h))
@@ -320,27 +351,27 @@ module _ (sh : Sheet) (g : Getter) (gets : GetsAll sh g) (p : Putter) (ih : Puts
   put-node-complete True v p-const h = constant-all _
   put-node-complete Empty v p-const h = constant-all _
   put-node-complete (Number n) v p-const h = constant-all _
-  put-node-complete (Front a b) v (p-cons d₁ d₂ m) h = up-given _ _ refl (both-all a b _ _ _ _ _ d₁ d₂ m h)
-  put-node-complete (Pair a b) v (p-pair d₁ d₂ m) h = up-given _ _ refl (both-all a b _ _ _ _ _ d₁ d₂ m h)
-  put-node-complete (ListCase s e te n tn df dr) v {ω} rel h = by-case rel stay switch
+  put-node-complete (Front a b) v (p-cons d₁ d₂ m) h = up-given _ _ refl (both-all a b _ _ _ _ _ (first-all a _ refl refl d₁ (seen-left m h)) d₂ m h)
+  put-node-complete (Pair a b) v (p-pair d₁ d₂ m) h = up-given _ _ refl (both-all a b _ _ _ _ _ (first-all a _ refl refl d₁ (seen-left m h)) d₂ m h)
+  put-node-complete (ListCase s e te n tn df dr) v {ω} rel h = by-case (Puts (ListCase s e te n tn df dr) v ω) rel stay switch
     where
-      stay : Stays sh μ v s (plain pEmpty e te) (opened n tn df dr) ω (UpTo (Joined σ W ω) (putNode g p sh (ListCase s e te n tn df dr) μ σ v W))
+      stay : Stays sh μ v s (plain pEmpty e te) (opened n tn df dr) ω (Puts (ListCase s e te n tn df dr) v ω)
       stay false v₀ μᵢ ds m-empty q b = comes-bind _ (gets s μ _ ds) (up-given _ _ refl (up-first _ _ _ q (back-plain m-empty b h)))
       stay true v₀ μᵢ ds m-front q b = comes-bind _ (gets s μ _ ds) (up-given _ _ refl (up-first _ _ _ q (back-open mkList match-mkList b h)))
 
-      switch : Switches sh μ v s (plain pEmpty e te) (opened n tn df dr) ω (UpTo (Joined σ W ω) (putNode g p sh (ListCase s e te n tn df dr) μ σ v W))
+      switch : Switches sh μ v s (plain pEmpty e te) (opened n tn df dr) ω (Puts (ListCase s e te n tn df dr) v ω)
       switch false v₀ u₀ μᵢ μⱼ ds m-empty q q′ (more dF (more dR ends)) m-front b = comes-bind _ (gets s μ _ ds) (up-given _ _ refl (up-second _ _ _ q q′
           (comes-bind _ (gets df [] _ dF) (comes-bind _ (gets dr [] _ dR) (up-given _ _ refl (back-open mkList match-mkList b h))))))
-      switch true v₀ u₀ μᵢ μⱼ ds m-front q q′ dd m-empty b = comes-bind _ (gets s μ _ ds) (up-given _ _ refl (up-second _ _ _ q q′ (back-plain m-empty b h)))
-  put-node-complete (TruthCase s f tf t t₁) v {ω} rel h = by-case rel stay switch
+      switch true v₀ u₀ μᵢ μⱼ ds m-front q q′ ends m-empty b = comes-bind _ (gets s μ _ ds) (up-given _ _ refl (up-second _ _ _ q q′ (back-plain m-empty b h)))
+  put-node-complete (TruthCase s f tf t t₁) v {ω} rel h = by-case (Puts (TruthCase s f tf t t₁) v ω) rel stay switch
     where
-      stay : Stays sh μ v s (plain pFalse f tf) (plain pTrue t t₁) ω (UpTo (Joined σ W ω) (putNode g p sh (TruthCase s f tf t t₁) μ σ v W))
+      stay : Stays sh μ v s (plain pFalse f tf) (plain pTrue t t₁) ω (Puts (TruthCase s f tf t t₁) v ω)
       stay false v₀ μᵢ ds m-false q b = comes-bind _ (gets s μ _ ds) (up-given _ _ refl (up-first _ _ _ q (back-plain m-false b h)))
       stay true v₀ μᵢ ds m-true q b = comes-bind _ (gets s μ _ ds) (up-given _ _ refl (up-first _ _ _ q (back-plain m-true b h)))
 
-      switch : Switches sh μ v s (plain pFalse f tf) (plain pTrue t t₁) ω (UpTo (Joined σ W ω) (putNode g p sh (TruthCase s f tf t t₁) μ σ v W))
-      switch false v₀ u₀ μᵢ μⱼ ds m-false q q′ dd m-true b = comes-bind _ (gets s μ _ ds) (up-given _ _ refl (up-second _ _ _ q q′ (back-plain m-true b h)))
-      switch true v₀ u₀ μᵢ μⱼ ds m-true q q′ dd m-false b = comes-bind _ (gets s μ _ ds) (up-given _ _ refl (up-second _ _ _ q q′ (back-plain m-false b h)))
+      switch : Switches sh μ v s (plain pFalse f tf) (plain pTrue t t₁) ω (Puts (TruthCase s f tf t t₁) v ω)
+      switch false v₀ u₀ μᵢ μⱼ ds m-false q q′ ends m-true b = comes-bind _ (gets s μ _ ds) (up-given _ _ refl (up-second _ _ _ q q′ (back-plain m-true b h)))
+      switch true v₀ u₀ μᵢ μⱼ ds m-true q q′ ends m-false b = comes-bind _ (gets s μ _ ds) (up-given _ _ refl (up-second _ _ _ q q′ (back-plain m-false b h)))
   put-node-complete (Split s i) v (p-let ds m-pair d o oᵢ r d₀ m) h = comes-bind _ (gets s μ _ ds) (up-given _ _ refl (back-open mkPair match-mkPair
       (record { ω = _; ωᵢ = _; ω₀ = _; u = _; branch = d; over = o; overᵢ = oᵢ; rebuilt = r; subject = d₀; merged = m }) h))
   put-node-complete (Call sec x y) v (p-call {a = a} {b = b} ea eb d m) h =
@@ -351,10 +382,11 @@ module _ (sh : Sheet) (g : Getter) (gets : GetsAll sh g) (p : Putter) (ih : Puts
   put-node-complete (Add n k) v (p-add {m = m} z low d) h =
       let (z′, e) = as-number m z in up-given _ _ e (up-when _ _ low λ _. ih n μ σ _ W _ Y laid d later h)
 
-pub puts-all : (l : ℕ) (sh : Sheet) → PutsAll sh (put l sh)
+pub puts-all : (l a : ℕ) (sh : Sheet) → PutsAll l a sh (put l sh)
 unfolding Text.put
-puts-all zero sh n μ σ v W ω Y laid d later h = limited deep
-puts-all (suc l) sh n μ σ v W ω Y laid d later h = up-plus 1 (put-node-complete sh (get l sh) (gets-all l sh) (put l sh) (puts-all l sh) μ σ W laid Y later _ v d h)
+puts-all zero a sh n μ σ v W ω Y laid d later h = stops (omega arith) (deep (omega arith))
+puts-all (suc l) a sh n μ σ v W ω Y laid d later h =
+    up-enter (put-node-complete sh (get l sh) (gets-all l a sh) (put l sh) (puts-all l a sh) μ σ W laid Y later _ v d h)
 
 -- ONE SET OF WRITES
 
@@ -444,9 +476,21 @@ module _ (sh : Sheet) (n : ℕ) (μ : Env) (v : Value) (σ : List ℕ) (W : Cell
   pub put-sound : (l a s : ℕ) (X : Cells) → within a (put l sh n μ σ v W) ≡ done X s → Written sh μ v (residual sh n) σ W X
   put-sound l a s X e = after-at (rw (within-done a (put l sh n μ σ v W) e .0) at (puts-soundly l sh n μ σ v W laid))
 
-  -- where the published relation holds and X is W merged with its writes, put gives X or is refused with 40, 41 or 44
-  pub put-complete : (l a : ℕ) (ω : Writes) (X : Cells) → Put sh μ v (residual sh n) ω → Joined σ W ω X → Comes X (within a (put l sh n μ σ v W))
-  put-complete l a ω X d j = up-within a (up-map (puts-all l sh n μ σ v W ω X laid d (j .later) (j .seen)) λ Z k. joined-one k j)
+  -- where the published relation holds and X is W merged with its writes, put gives X or is refused with 40, 41 or 44: with 40
+  -- only where the derivation has more than l levels, with 41 only where it has more than a nodes
+  pub put-complete : (l a : ℕ) (ω : Writes) (X : Cells) (d : Put sh μ v (residual sh n) ω) → Joined σ W ω X
+      → Comes l a (putCost d) X (within a (put l sh n μ σ v W))
+  put-complete l a ω X d j = up-within (up-map (puts-all l a sh n μ σ v W ω X laid d (j .later) (j .seen)) λ Z k. joined-one k j)
+
+  -- so a derivation of at most l levels and a nodes gives X, in exactly as many steps as it has nodes, or refusal 44
+  pub put-exact : (l a : ℕ) (ω : Writes) (X : Cells) (d : Put sh μ v (residual sh n) ω) → Joined σ W ω X → putCost d .height ≤ l → putCost d .nodes ≤ a
+      → Exactly (putCost d) X (within a (put l sh n μ σ v W))
+  put-exact l a ω X d j h k = up-exactly (put-complete l a ω X d j) h k
+
+  -- and where put succeeds, there is a derivation of at most l levels and of exactly as many nodes as the steps
+  pub put-counted : (l a s : ℕ) (X : Cells) → within a (put l sh n μ σ v W) ≡ done X s
+      → (w : Written sh μ v (residual sh n) σ W X) × Costs l s (putCost (w .rel))
+  put-counted l a s X e = let w = put-sound l a s X e in (w, up-costs (rw e at (put-complete l a (w .ω) X (w .rel) (w .joined))))
 
 -- one set of writes
 pub put-functional : (sh : Sheet) (n : ℕ) (μ : Env) (v : Value) (ω ω′ : Writes) → Put sh μ v (residual sh n) ω → Put sh μ v (residual sh n) ω′ → ω ≡ ω′

@@ -1,12 +1,14 @@
--- Walks from a whole plan, with nothing written yet: they give the published value, and exactly the published writes.
+-- Walks from a whole plan, with nothing written yet: they give the published value, and exactly the published writes, in as many
+-- steps as a derivation has nodes.
 use mathlib.Core.Path.{_≡_, refl, ap, sym, _∙_}
 use mathlib.Core.Option.{none, some, Option·none-ne-some}
 use mathlib.Core.List.{[], _∷_}
-use Prim.Native.Nat.{ℕ, zero, suc, _+_}
+use Prim.Native.Nat.{ℕ, zero, suc, _+_, _≤_}
 use native.Mathlib.Omega.{arith}
 use lib.ListN.{length, getElem?, replicate}
 use Rattle.value.specs.Value.{Value}
 use Rattle.sheet.specs.Sheet.{Sheet}
+use Rattle.rules.specs.Numbers.{LEVELS}
 use Rattle.rules.specs.Outcome.{done}
 use Rattle.rules.specs.Allowance.{within}
 use Rattle.rules.specs.Rules.{Env, Cells, orOld, put}
@@ -14,10 +16,11 @@ use Rattle.rules.specs.Answer.{getWalk, count, newPlan, putWalk}
 use Rattle.rules.specs.Related.{ends, more, all2-at, all2-of, all2-length}
 use Rattle.rules.specs.Consistency.{Later}
 use Rattle.rules.specs.Published.{Writes, Over, blank, _◁_, residual, Get, Put}
+use Rattle.rules.specs.PublishedCost.{getCost, putCost}
 use Rattle.rules.specs.PublishedCells.{Laid, Seen, Joined, later-same, blank-at, seen-over}
-use Rattle.rules.specs.PublishedGet.{get-sound, get-complete}
+use Rattle.rules.specs.PublishedGet.{get-sound, get-complete, get-counted}
 use Rattle.rules.specs.PublishedPut.{put-sound, puts-all, put-over}
-use Rattle.rules.specs.UpTo.{Comes, up-map, up-within}
+use Rattle.rules.specs.UpTo.{Costs, Comes, up-map, up-within, up-costs, Exactly, up-exactly}
 
 -- VARIABLE i IS CELL i
 
@@ -78,24 +81,50 @@ module _ (sh : Sheet) (n : ℕ) (μ : Env) (v : Value) where
       rw (joined-blank-is (seen-over (w .joined .seen) (blank-laid μ)) (w .joined)) (w .rel)
 
   -- and where the published relation holds, it has written that, or is refused with 40, 41 or 44
-  pub plan-complete : (l a : ℕ) (ω : Writes) → Put sh μ v (residual sh n) ω → Comes ω (within a (put l sh n μ (count 0 (length μ)) v (replicate (length μ) none)))
+  pub plan-complete : (l a : ℕ) (ω : Writes) (d : Put sh μ v (residual sh n) ω)
+      → Comes l a (putCost d) ω (within a (put l sh n μ (count 0 (length μ)) v (replicate (length μ) none)))
   plan-complete l a ω d = let h = put-over d in rw (blank-is μ)
-      (up-within a (up-map (puts-all l sh n μ (count 0 (length μ)) v (blank μ) ω ω (blank-laid μ) d (blank-later h) (seen-self h)) λ X j. joined-blank-is h j))
+      (up-within (up-map (puts-all l a sh n μ (count 0 (length μ)) v (blank μ) ω ω (blank-laid μ) d (blank-later h) (seen-self h)) λ X j. joined-blank-is h j))
+
+  -- a derivation of at most l levels and a nodes gives its writes, in exactly as many steps as it has nodes, or refusal 44
+  pub plan-exact : (l a : ℕ) (ω : Writes) (d : Put sh μ v (residual sh n) ω) → putCost d .height ≤ l → putCost d .nodes ≤ a
+      → Exactly (putCost d) ω (within a (put l sh n μ (count 0 (length μ)) v (replicate (length μ) none)))
+  plan-exact l a ω d h k = up-exactly (plan-complete l a ω d) h k
+
+  -- and a put that succeeds has a derivation of at most l levels and of exactly as many nodes as the steps
+  pub plan-counted : (l a s : ℕ) (X : Cells) → within a (put l sh n μ (count 0 (length μ)) v (replicate (length μ) none)) ≡ done X s
+      → (d : Put sh μ v (residual sh n) X) × Costs l s (putCost d)
+  plan-counted l a s X e = let d = plan-sound l a s X e in (d, up-costs (rw e at (plan-complete l a X d)))
 
 -- the walks of whole calls
 module _ (a : ℕ) (sh : Sheet) (μ : Env) (v : Value) where
   pub get-walk-sound : (s : ℕ) → getWalk a sh μ ≡ done v s → Get sh μ (residual sh (sh .root)) v
   unfolding getWalk
-  get-walk-sound s e = get-sound sh (sh .root) μ v 48 a s e
+  get-walk-sound s e = get-sound sh (sh .root) μ v LEVELS a s e
 
-  pub get-walk-complete : Get sh μ (residual sh (sh .root)) v → Comes v (getWalk a sh μ)
+  pub get-walk-complete : (d : Get sh μ (residual sh (sh .root)) v) → Comes LEVELS a (getCost d) v (getWalk a sh μ)
   unfolding getWalk
-  get-walk-complete d = get-complete sh (sh .root) μ v 48 a d
+  get-walk-complete d = get-complete sh (sh .root) μ v LEVELS a d
+
+  pub get-walk-exact : (d : Get sh μ (residual sh (sh .root)) v) → getCost d .height ≤ 48 → getCost d .nodes ≤ a → Exactly (getCost d) v (getWalk a sh μ)
+  get-walk-exact d h k = up-exactly (get-walk-complete d) h k
+
+  pub get-walk-counted : (s : ℕ) → getWalk a sh μ ≡ done v s → (d : Get sh μ (residual sh (sh .root)) v) × Costs LEVELS s (getCost d)
+  unfolding getWalk
+  get-walk-counted s e = get-counted sh (sh .root) μ v LEVELS a s e
 
   pub put-walk-sound : (s : ℕ) (X : Cells) → putWalk a sh μ v ≡ done X s → Put sh μ v (residual sh (sh .root)) X × (newPlan X μ ≡ X ◁ μ)
   unfolding putWalk
-  put-walk-sound s X e = (plan-sound sh (sh .root) μ v 48 a s X e, new-plan-is X μ)
+  put-walk-sound s X e = (plan-sound sh (sh .root) μ v LEVELS a s X e, new-plan-is X μ)
 
-  pub put-walk-complete : (ω : Writes) → Put sh μ v (residual sh (sh .root)) ω → Comes ω (putWalk a sh μ v)
+  pub put-walk-complete : (ω : Writes) (d : Put sh μ v (residual sh (sh .root)) ω) → Comes LEVELS a (putCost d) ω (putWalk a sh μ v)
   unfolding putWalk
-  put-walk-complete ω d = plan-complete sh (sh .root) μ v 48 a ω d
+  put-walk-complete ω d = plan-complete sh (sh .root) μ v LEVELS a ω d
+
+  pub put-walk-exact : (ω : Writes) (d : Put sh μ v (residual sh (sh .root)) ω) → putCost d .height ≤ 48 → putCost d .nodes ≤ a
+      → Exactly (putCost d) ω (putWalk a sh μ v)
+  put-walk-exact ω d h k = up-exactly (put-walk-complete ω d) h k
+
+  pub put-walk-counted : (s : ℕ) (X : Cells) → putWalk a sh μ v ≡ done X s → (d : Put sh μ v (residual sh (sh .root)) X) × Costs LEVELS s (putCost d)
+  unfolding putWalk
+  put-walk-counted s X e = plan-counted sh (sh .root) μ v LEVELS a s X e

@@ -8,7 +8,6 @@ use native.Mathlib.Omega.{arith}
 use native.Mathlib.Decide.{decLe}
 use lib.Dec.{eqb, leb}
 use borrow.Author.Tests.{eqb-true, leb-true}
-use Rattle.value.specs.All.{All, none, each}
 use Rattle.value.specs.Result.{Result, ok, refusal, andThen, mapResult, orRefuse, unless}
 use Rattle.value.specs.Value.{Value, Values, nil, cons}
 use Rattle.value.specs.Reading.{Found, whole, malformed, tooLong, nothing, aValue, value, readValue, onValue, readValues}
@@ -16,6 +15,7 @@ use Rattle.sheet.specs.declared.Node.{Node}
 use Rattle.sheet.specs.declared.Node.the-variants.{Var, False, True, Empty, Number, Front, Pair, ListCase, TruthCase, Split, Call, Add}
 use Rattle.sheet.specs.Sheet.{Sheet, readNodes, oneSection, ifSection, readRecords, Records, withNodes, readBody, readHeader, readSheet}
 use Rattle.sheet.specs.Kinds.{formOf}
+use Rattle.rules.specs.Numbers.{LEVELS, ALLOWANCE, SCRATCH, GET-OUTPUT, PUT-OUTPUT}
 use Rattle.rules.specs.Outcome.{Out, done, refused, plus, steps, when, mapOut, _>>=_, given, reading, choose}
 use Rattle.rules.specs.Allowance.{within, cap}
 use Rattle.rules.specs.Text
@@ -247,40 +247,37 @@ lists-put (suc l) sh n μ σ v W = lists-plus 1 (lists-put-node (get l sh) (list
 pub lists-get-bytes : (sheet plan : List ℕ) (allowance : ℕ) → Lists (getBytes sheet plan allowance)
 unfolding getBytes getWalk among table
 lists-get-bytes sheet plan allowance =
-    lists-reading _ (lists-sheet sheet) λ sh. lists-reading _ (lists-values 20 refl refl refl (sh .k) plan) λ μ. lists-map _ (lists-within allowance (lists-get 48 sh _ μ))
+    lists-reading _ (lists-sheet sheet) λ sh. lists-reading _ (lists-values 20 refl refl refl (sh .k) plan) λ μ.
+    lists-map _ (lists-within allowance (lists-get LEVELS sh _ μ))
 
 pub lists-put-bytes : (sheet plan view : List ℕ) (allowance : ℕ) → Lists (putBytes sheet plan view allowance)
 unfolding putBytes putWalk among table
 lists-put-bytes sheet plan view allowance =
     lists-reading _ (lists-sheet sheet) λ sh. lists-reading _ (lists-values 20 refl refl refl (sh .k) plan) λ μ.
-    lists-reading _ (lists-values 30 refl refl refl 1 view) λ vs. lists-map _ (lists-within allowance (lists-put 48 sh _ μ _ _ _))
+    lists-reading _ (lists-values 30 refl refl refl 1 view) λ vs. lists-map _ (lists-within allowance (lists-put LEVELS sh _ μ _ _ _))
 
--- a listed number is above the door's
-unfoldable all-leb : ℕ → List ℕ → Bool
-all-leb n [] = true
-all-leb n (x ∷ xs) = leb n x && all-leb n xs
+-- what a test says of every number of a list it says of a number among them
+unfoldable everywhere : (ℕ → Bool) → List ℕ → Bool
+everywhere p [] = true
+everywhere p (x ∷ xs) = p x && everywhere p xs
 
 and-true-both : (a b : Bool) → (a && b) ≡ true → (a ≡ true) × (b ≡ true)
 and-true-both true b e = (refl, e)
 and-true-both false b e = absurd (false≢true e)
 
-above-three : (c : ℕ) (xs : List ℕ) → All (λ x. 3 < x) xs → among c xs ≡ true → 3 < c
-unfolding among
-above-three c [] none e = let z : _≡_ {A = ℕ} 0 1 = cc in absurd (omega arith)
-above-three c (x ∷ xs) (each h hs) e = go (eqb c x) refl (λ q. above-three c xs hs (rw q at e))
+among-all : (p : ℕ → Bool) (c : ℕ) (xs : List ℕ) → everywhere p xs ≡ true → among c xs ≡ true → p c ≡ true
+unfolding among everywhere
+among-all p c [] h e = absurd (false≢true e)
+among-all p c (x ∷ xs) h e = let l = and-true-both (p x) (everywhere p xs) h in go (eqb c x) refl (l .0) (λ q. among-all p c xs (l .1) (rw q at e))
   where
-    go : (b : Bool) → eqb c x ≡ b → (eqb c x ≡ false → 3 < c) → 3 < c
-    go true q k = let z : c ≡ x = eqb-true c x q in omega arith
-    go false q k = k q
+    go : (b : Bool) → eqb c x ≡ b → p x ≡ true → (eqb c x ≡ false → p c ≡ true) → p c ≡ true
+    go true q k f = rw (eqb-true c x q) k
+    go false q k f = f q
 
-all-above : (xs : List ℕ) → all-leb 4 xs ≡ true → All (λ x. 3 < x) xs
-unfolding all-leb
-all-above [] e = none
-all-above (x ∷ xs) e = let p = and-true-both (leb 4 x) (all-leb 4 xs) e in each (leb-true 4 x (p .0)) (all-above xs (p .1))
-
+-- a listed number is above the door's
 pub listed-above : (c : ℕ) → Listed c → 3 < c
-unfolding table all-leb
-listed-above c h = above-three c table (all-above table refl) h
+unfolding table everywhere
+listed-above c h = leb-true 4 c (among-all (leb 4) c table refl h)
 
 -- the door's three numbers, and the table
 abbrev pub Stated : ℕ → Type 0
@@ -310,7 +307,7 @@ stated-three = refl
 
 stated-answer : (need output scratch allowance : ℕ) {o : Out (List ℕ)} {c : ℕ} → Lists o → answer (door need output scratch allowance o) ≡ Answer.refusal c → Stated c
 unfolding door given when answer
-stated-answer need output scratch allowance {o} {c} h e = go₁ (decLe need output) (decLe 65536 scratch) (decLe 1 allowance) (decLe allowance 1000000) e
+stated-answer need output scratch allowance {o} {c} h e = go₁ (decLe need output) (decLe SCRATCH scratch) (decLe 1 allowance) (decLe allowance ALLOWANCE) e
   where
     inner : {o : Out (List ℕ)} → Lists o → answer o ≡ Answer.refusal c → Stated c
     inner lDone e = let z : _≡_ {A = ℕ} 0 1 = cc in absurd (omega arith)
@@ -319,7 +316,7 @@ stated-answer need output scratch allowance {o} {c} h e = go₁ (decLe need outp
     small : (k : ℕ) → Stated k → Answer.refusal k ≡ Answer.refusal c → Stated c
     small k l e = let z : k ≡ c = cc in rw z at l
 
-    go₁ : (p : Dec (need ≤ output)) (q : Dec (65536 ≤ scratch)) (r : Dec (1 ≤ allowance)) (t : Dec (allowance ≤ 1000000))
+    go₁ : (p : Dec (need ≤ output)) (q : Dec (SCRATCH ≤ scratch)) (r : Dec (1 ≤ allowance)) (t : Dec (allowance ≤ ALLOWANCE))
         → answer (given 1 (when p) λ _. given 2 (when q) λ _. given 3 (when r) λ _. given 3 (when t) λ _. o) ≡ Answer.refusal c → Stated c
     go₁ (no p) q r t e = small 1 stated-one e
     go₁ (yes p) (no q) r t e = small 2 stated-two e
@@ -327,11 +324,18 @@ stated-answer need output scratch allowance {o} {c} h e = go₁ (decLe need outp
     go₁ (yes p) (yes q) (yes r) (no t) e = small 3 stated-three e
     go₁ (yes p) (yes q) (yes r) (yes t) e = inner h e
 
+-- a byte holds it, and it is not 0
+pub stated-small : (c : ℕ) → Stated c → (1 ≤ c) × (c < 256)
+unfolding table everywhere
+stated-small c e =
+    let l = and-true-both (leb 1 c) (leb c 255) (among-all (λ x. leb 1 x && leb x 255) c (1 ∷ 2 ∷ 3 ∷ table) refl e) in
+    (leb-true 1 c (l .0), omega (arith, leb-true c 255 (l .1)))
+
 -- THE CLAIM
 pub get-refusals : (sheet plan : List ℕ) (allowance output scratch c : ℕ) → getAnswer sheet plan allowance output scratch ≡ Answer.refusal c → Stated c
 unfolding getAnswer
-get-refusals sheet plan allowance output scratch c e = stated-answer 256 output scratch allowance (lists-get-bytes sheet plan allowance) e
+get-refusals sheet plan allowance output scratch c e = stated-answer GET-OUTPUT output scratch allowance (lists-get-bytes sheet plan allowance) e
 
 pub put-refusals : (sheet plan view : List ℕ) (allowance output scratch c : ℕ) → putAnswer sheet plan view allowance output scratch ≡ Answer.refusal c → Stated c
 unfolding putAnswer
-put-refusals sheet plan view allowance output scratch c e = stated-answer 4096 output scratch allowance (lists-put-bytes sheet plan view allowance) e
+put-refusals sheet plan view allowance output scratch c e = stated-answer PUT-OUTPUT output scratch allowance (lists-put-bytes sheet plan view allowance) e

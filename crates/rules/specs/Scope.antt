@@ -1,18 +1,25 @@
 -- At most 110 variables are ever in scope: a walk that refused to enter a node with more of them is the same walk.
 use mathlib.Core.Path.{_≡_, refl, ap, _∙_, fun-ext}
-use mathlib.Core.Option.{Option}
+use mathlib.Core.Option.{Option, none}
 use mathlib.Core.List.{List, [], _++_}
 use Prim.Native.Nat.{ℕ, zero, suc, _+_, _*_, _≤_}
 use native.Mathlib.Omega.{arith}
 use native.Mathlib.Decide.{decLe}
-use lib.ListN.{length, getD, length-append}
-use Rattle.value.specs.Value.{Value, Values, list, nil, cons}
+use lib.ListN.{length, getD, replicate, length-append}
+use Rattle.value.specs.Result.{Result, ok, refusal}
+use Rattle.value.specs.Value.{Value, Values, vfalse, list, nil, cons, encode, flat}
+use Rattle.value.specs.Reading.{readPlan, readView}
+use Rattle.value.specs.Laws.{readValues-sound}
 use Rattle.sheet.specs.declared.Node.{Node}
 use Rattle.sheet.specs.declared.Node.the-variants.{Var, False, True, Empty, Number, Front, Pair, ListCase, TruthCase, Split, Call, Add}
-use Rattle.sheet.specs.Sheet.{Sheet}
-use Rattle.rules.specs.Outcome.{Out, refused, plus, when, _>>=_, given, choose}
+use Rattle.sheet.specs.Sheet.{Sheet, readSheet}
+use Rattle.sheet.specs.Laws.{sheet-ranges}
+use Rattle.rules.specs.Numbers.{LEVELS}
+use Rattle.rules.specs.Outcome.{Out, refused, plus, when, mapOut, _>>=_, given, reading, choose}
+use Rattle.rules.specs.Allowance.{within}
 use Rattle.rules.specs.Text
 use Rattle.rules.specs.Rules.{Env, Cells, Getter, Putter, two, tested, onList, getNode, get, both, under, mkList, mkPair, putNode, put}
+use Rattle.rules.specs.Answer.{answer, door, getWalk, getBytes, getAnswer, count, newPlan, putWalk, putBytes, putAnswer}
 use Rattle.rules.specs.OutcomeLaws.{given-yes}
 
 -- as `get` and `put`, and no node is entered with over 110 variables in scope (0 is no refusal of document 01's)
@@ -112,3 +119,40 @@ unfolding putNarrow Text.put
 put-narrow zero sh n μ σ v W z = refl
 put-narrow (suc l) sh n μ σ v W z = given-yes 0 (decLe (length μ) 110) (omega arith)
     ∙ (ap (plus 1) (put-ext {k = length μ + 2} (λ m ν y. get-narrow l sh m ν (omega arith)) (λ m ν τ u X y. put-narrow l sh m ν τ u X (omega arith)) sh μ σ v W (omega arith) _))
+
+-- WHOLE WALKS: at most 16 variables of the plan, and two more for each of 47 levels
+
+module _ (a : ℕ) (sh : Sheet) (μ : Env) (few : length μ ≤ 16) where
+  pub get-walk-narrow : within a (getNarrow LEVELS sh (sh .root) μ) ≡ getWalk a sh μ
+  unfolding getWalk
+  get-walk-narrow = ap (within a) (get-narrow LEVELS sh (sh .root) μ (omega arith))
+
+  pub put-walk-narrow : (v : Value) → within a (putNarrow LEVELS sh (sh .root) μ (count 0 (length μ)) v (replicate (length μ) none)) ≡ putWalk a sh μ v
+  unfolding putWalk
+  put-walk-narrow v = ap (within a) (put-narrow LEVELS sh (sh .root) μ (count 0 (length μ)) v (replicate (length μ) none) (omega arith))
+
+-- AND WHOLE CALLS, of any bytes: a sheet that was read has no more variables
+
+reading-ext : {A B : Type 0} (r : Result A) {f f′ : A → Out B} → ((x : A) → r ≡ ok x → f x ≡ f′ x) → reading r f ≡ reading r f′
+unfolding reading
+reading-ext (ok x) h = h x refl
+reading-ext (refusal c) h = refl
+
+few-read : (sheet plan : List ℕ) {sh : Sheet} {μ : Env} → readSheet sheet ≡ ok sh → readPlan (sh .k) plan ≡ ok μ → length μ ≤ 16
+few-read sheet plan {sh} es ep = let r = sheet-ranges sheet es in let q = readValues-sound 20 (sh .k) plan ep in omega arith
+
+module _ (sheet plan : List ℕ) (allowance output scratch : ℕ) where
+  pub get-call-narrow : answer (door 256 output scratch allowance (
+      reading (readSheet sheet) λ sh. reading (readPlan (sh .k) plan) λ μ. mapOut encode (within allowance (getNarrow LEVELS sh (sh .root) μ))))
+      ≡ getAnswer sheet plan allowance output scratch
+  unfolding getAnswer getBytes
+  get-call-narrow = ap (λ o. answer (door 256 output scratch allowance o)) (reading-ext _ λ sh es. reading-ext _ λ μ ep.
+      ap (mapOut encode) (get-walk-narrow allowance sh μ (few-read sheet plan es ep)))
+
+  pub put-call-narrow : (view : List ℕ) → answer (door 4096 output scratch allowance (
+      reading (readSheet sheet) λ sh. reading (readPlan (sh .k) plan) λ μ. reading (readView view) λ vs. mapOut (λ X. flat (newPlan X μ))
+      (within allowance (putNarrow LEVELS sh (sh .root) μ (count 0 (length μ)) (getD vs 0 vfalse) (replicate (length μ) none)))))
+      ≡ putAnswer sheet plan view allowance output scratch
+  unfolding putAnswer putBytes
+  put-call-narrow view = ap (λ o. answer (door 4096 output scratch allowance o)) (reading-ext _ λ sh es. reading-ext _ λ μ ep. reading-ext _ λ vs _.
+      ap (mapOut (λ X. flat (newPlan X μ))) (put-walk-narrow allowance sh μ (few-read sheet plan es ep) (getD vs 0 vfalse)))

@@ -1,4 +1,5 @@
--- Get and put of a node (document 01, "Walking a sheet"; HOBiT, sections 2 and 4): one text, over any reading of outcomes.
+-- Get and put of a node (document 01, "Walking a sheet"; docs/SHEETS.md, "Reading out" and "Reading back"; HOBiT, sections 2 and 4): one
+-- text, over any reading of outcomes.
 use mathlib.Core.Bool.{Bool, true, false, not}
 use mathlib.Core.Option.{Option, none, some, Option·map}
 use mathlib.Core.List.{List, [], _∷_, _++_}

@@ -17,6 +17,7 @@ use Rattle.value.specs.Laws.{Readable, readValues-sound, readValues-back}
 use Rattle.sheet.specs.declared.Node.the-variants.{False}
 use Rattle.sheet.specs.Sheet.{Sheet, readSheet}
 use Rattle.sheet.specs.Laws.{sheet-ranges}
+use Rattle.rules.specs.Numbers.{LEVELS, ALLOWANCE, FACTOR, SCRATCH, GET-OUTPUT, PUT-OUTPUT}
 use Rattle.rules.specs.Outcome.{Out, done, refused, plus}
 use Rattle.rules.specs.Text
 use Rattle.rules.specs.Rules.{Env, Cells, getNode, get}
@@ -130,8 +131,10 @@ written {sheet} {plan} {view} {allowance} {new} {n} p =
     let q = readValues-sound 30 1 view (p .view-read) in
     let (eb, g) = one-value (p .vs) (q .count) (q .readable) in
     let put-done = p .walk in
-    let cells-readable = after-at (rw put-done at (put-readable 48 (p .sh) (numbers-fit sheet (p .sh) (p .sheet-read)) (p .sh .root) (p .μ) (count 0 (length (p .μ))) (getD (p .vs) 0 vfalse) (replicate (length (p .μ)) none) (r .readable) g (blank-readable (length (p .μ))))) in
-    let later = after-at (rw put-done at (lawful 48 (p .sh) (p .sh .root) (p .μ) (count 0 (length (p .μ))) (getD (p .vs) 0 vfalse) (replicate (length (p .μ)) none) (g .fits))) .0 in
+    let cells-readable = after-at (rw put-done at (put-readable LEVELS (p .sh) (numbers-fit sheet (p .sh) (p .sheet-read)) (p .sh .root) (p .μ)
+    (count 0 (length (p .μ))) (getD (p .vs) 0 vfalse) (replicate (length (p .μ)) none) (r .readable) g (blank-readable (length (p .μ))))) in
+    let later = after-at (rw put-done at (lawful LEVELS (p .sh) (p .sh .root) (p .μ) (count 0 (length (p .μ)))
+    (getD (p .vs) 0 vfalse) (replicate (length (p .μ)) none) (g .fits))) .0 in
     let lx : length (p .X) ≡ length (p .μ) = sym (all2-length later) ∙ length-replicate (length (p .μ)) none in
     let ng = new-readable cells-readable (r .readable) in
     let back = readValues-back 20 ng in
@@ -151,26 +154,27 @@ stands : {sheet plan view : List ℕ} {allowance : ℕ} {new : List ℕ} {n : �
 stands {sheet} {plan} {view} {allowance} {new} {n} p =
     let w = written p in
     let put-done = p .walk in
-    let law = after-at (rw put-done at (lawful 48 (p .sh) (p .sh .root) (p .μ) (count 0 (length (p .μ))) (getD (p .vs) 0 vfalse) (replicate (length (p .μ)) none) (w .view-readable .fits))) .1 in
+    let law = after-at (rw put-done at (lawful LEVELS (p .sh) (p .sh .root) (p .μ) (count 0 (length (p .μ)))
+    (getD (p .vs) 0 vfalse) (replicate (length (p .μ)) none) (w .view-readable .fits))) .1 in
     let (t, e, h) = gives-out (law (newPlan (p .X) (p .μ)) (new-agrees [] (p .X) (p .μ) (w .cells))) in
     (t, record { sh = p .sh; sheet-read = p .sheet-read; μ = newPlan (p .X) (p .μ); plan-read = w .new-read; v = getD (p .vs) 0 vfalse; walk = e; few = le-trans h (p .few); bytes = w .view-bytes }, h)
 
 pub consistency : (sheet plan view : List ℕ) (allowance output scratch : ℕ) (new : List ℕ) (p : ℕ)
     → putAnswer sheet plan view allowance output scratch ≡ success new p
-    → (output′ scratch′ : ℕ) → 256 ≤ output′ → 65536 ≤ scratch′
+    → (output′ scratch′ : ℕ) → GET-OUTPUT ≤ output′ → SCRATCH ≤ scratch′
     → (g : ℕ) × (getAnswer sheet new allowance output′ scratch′ ≡ success view g) × (g ≤ p)
 consistency sheet plan view allowance output scratch new p e output′ scratch′ ho hs =
     let (l, d) = put-shows e in let (g, got, h) = stands d in
     (g, get-answers (record { output-long = ho; scratch-long = hs; some-steps = l .some-steps; few-steps = l .few-steps }) got, h)
 
 -- A LIST SENT BACK UNEDITED MOVES NOTHING
-unmoved : {sheet plan : List ℕ} {allowance : ℕ} {view : List ℕ} {n : ℕ} → Got sheet plan allowance view n → (b : ℕ) → 48 * n ≤ b
+unmoved : {sheet plan : List ℕ} {allowance : ℕ} {view : List ℕ} {n : ℕ} → Got sheet plan allowance view n → (b : ℕ) → FACTOR * n ≤ b
     → (p : ℕ) × PutBack sheet plan view b plan p
 unmoved {sheet} {plan} {allowance} {view} {n} g b h =
     let r = readValues-sound 20 (g .sh .k) plan (g .plan-read) in
     let got = g .walk in
-    let gv = after-at (rw got at (get-readable 48 (g .sh) (numbers-fit sheet (g .sh) (g .sheet-read)) (g .sh .root) (g .μ) (r .readable))) in
-    let law = after-at (rw got at (stable 48 (g .sh) (g .sh .root) (g .μ) (count 0 (length (g .μ))) (g .μ) (old-agrees [] (g .μ) (r .readable)))) .1 in
+    let gv = after-at (rw got at (get-readable LEVELS (g .sh) (numbers-fit sheet (g .sh) (g .sheet-read)) (g .sh .root) (g .μ) (r .readable))) in
+    let law = after-at (rw got at (stable LEVELS (g .sh) (g .sh .root) (g .μ) (count 0 (length (g .μ))) (g .μ) (old-agrees [] (g .μ) (r .readable)))) .1 in
     let (X, t, e, k) = after-out (law (replicate (length (g .μ)) none) (blank-keeps (g .μ))) in (
       t,
       record {
@@ -182,18 +186,18 @@ unmoved {sheet} {plan} {allowance} {view} {n} g b h =
         view-read = rw (g .bytes) (view-back (g .v) gv);
         X = X;
         walk = e;
-        few = le-trans (k .1) h;
+        few = omega arith;
         bytes = rw (keeps-plan (k .0)) (r .bytes);
       },
     )
 
 pub acceptability : (sheet plan : List ℕ) (allowance output scratch : ℕ) (view : List ℕ) (n : ℕ)
     → getAnswer sheet plan allowance output scratch ≡ success view n
-    → (b output′ scratch′ : ℕ) → 48 * n ≤ b → b ≤ 1000000 → 4096 ≤ output′ → 65536 ≤ scratch′
+    → (b output′ scratch′ : ℕ) → FACTOR * n ≤ b → b ≤ ALLOWANCE → PUT-OUTPUT ≤ output′ → SCRATCH ≤ scratch′
     → (p : ℕ) × (putAnswer sheet plan view b output′ scratch′ ≡ success plan p)
 acceptability sheet plan allowance output scratch view n e b output′ scratch′ hn hb ho hs =
     let (l, g) = get-shows e in let (p, d) = unmoved g b hn in
-    let pos : 1 ≤ n = steps-pos 48 (g .sh) (g .sh .root) (g .μ) (g .walk) in
+    let pos : 1 ≤ n = steps-pos LEVELS (g .sh) (g .sh .root) (g .μ) (g .walk) in
     (p, put-answers (record { output-long = ho; scratch-long = hs; some-steps = omega arith; few-steps = hb }) d)
 
 -- WHAT A PUT GIVES: k values of at most 256 bytes each
@@ -216,16 +220,16 @@ flat-short none = omega arith
 flat-short (each {a = v} {l = vs} r h) = rw length-append (omega (arith, encode-short r, flat-short h))
 
 pub get-short : (sheet plan : List ℕ) (allowance output scratch : ℕ) (view : List ℕ) (n : ℕ)
-    → getAnswer sheet plan allowance output scratch ≡ success view n → length view ≤ 256
+    → getAnswer sheet plan allowance output scratch ≡ success view n → length view ≤ GET-OUTPUT
 get-short sheet plan allowance output scratch view n e =
     let (l, g) = get-shows e in
     let r = readValues-sound 20 (g .sh .k) plan (g .plan-read) in
     let got = g .walk in
-    let v = after-at (rw got at (get-readable 48 (g .sh) (numbers-fit sheet (g .sh) (g .sheet-read)) (g .sh .root) (g .μ) (r .readable))) in
+    let v = after-at (rw got at (get-readable LEVELS (g .sh) (numbers-fit sheet (g .sh) (g .sheet-read)) (g .sh .root) (g .μ) (r .readable))) in
     rw (g .bytes) (encode-short v)
 
 pub put-short : (sheet plan view : List ℕ) (allowance output scratch : ℕ) (new : List ℕ) (p : ℕ)
-    → putAnswer sheet plan view allowance output scratch ≡ success new p → length new ≤ 4096
+    → putAnswer sheet plan view allowance output scratch ≡ success new p → length new ≤ PUT-OUTPUT
 put-short sheet plan view allowance output scratch new p e =
     let (sh, μ, es, en, k, good, back) = new-plan sheet plan view allowance output scratch new p e in
     rw en (omega (arith, flat-short good, k, sheet-ranges sheet es .few-variables))

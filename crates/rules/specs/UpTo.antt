@@ -1,86 +1,165 @@
--- Up to our limits: a walk gives what is asked, or is refused with 40 (depth), 41 (allowance) or 44 (size), and nothing else.
+-- Up to our limits: a walk of l levels under an allowance of a steps gives what a derivation of cost c asks, in as many steps as c
+-- has nodes; or it is refused with 40 (depth), 41 (allowance) or 44 (size), and only where c is over that limit.
 use mathlib.Core.Path.{_≡_}
 use mathlib.Core.Option.{Option, some}
-use Prim.Native.Nat.{ℕ, _≤_}
+use Prim.Native.Nat.{ℕ, suc, _≤_, _<_}
+use native.Mathlib.Omega.{arith}
 use native.Mathlib.Decide.{decLe}
+use Rattle.value.specs.Value.{Value, size}
 use Rattle.rules.specs.Outcome.{Out, done, refused, plus, steps, when, _>>=_, given, choose}
 use Rattle.rules.specs.Allowance.{within, cap}
+use Rattle.rules.specs.PublishedCost.{Cost, free, built, _⊕_, entered}
 
-pub data Limit : ℕ → Type 0 where
-  deep : Limit 40
-  spent : Limit 41
-  long : Limit 44
+-- what each limit's refusal shows of c
+pub data Limit (l a : ℕ) (c : Cost) : ℕ → Type 0 where
+  deep : l < c .height → Limit l a c 40
+  spent : a < c .nodes → Limit l a c 41
+  long : 256 < c .longest → Limit l a c 44
+
+-- c has exactly s nodes, and is within l levels and 256 bytes
+pub record Costs (l s : ℕ) (c : Cost) : Type 0 where
+  pub levels : c .height ≤ l
+  pub count : c .nodes ≡ s
+  pub short : c .longest ≤ 256
 
 -- Q of what was done; where it was refused, a limit
-pub data UpTo {A : Type 0} (Q : A → Type 0) : Out A → Type 0 where
-  reached : {a : A} {s : ℕ} → Q a → UpTo Q (done a s)
-  limited : {c s : ℕ} → Limit c → UpTo Q (refused c s)
+pub data UpTo {A : Type 0} (l a : ℕ) (c : Cost) (Q : A → Type 0) : Out A → Type 0 where
+  reached : {x : A} {s : ℕ} → Costs l s c → Q x → UpTo l a c Q (done x s)
+  limited : {n s : ℕ} → s ≤ c .nodes → Limit l a c n → UpTo l a c Q (refused n s)
 
 -- o gives v
-abbrev pub Comes : {A : Type 0} → A → Out A → Type 0
-Comes v o = UpTo (λ a. a ≡ v) o
+abbrev pub Comes : {A : Type 0} (l a : ℕ) → Cost → A → Out A → Type 0
+Comes l a c v o = UpTo l a c (λ x. x ≡ v) o
 
-module _ {A : Type 0} {Q : A → Type 0} where
-  -- `reached` with its goal read first
-  pub reach : {a : A} {s : ℕ} → Q a → UpTo Q (done a s)
-  reach q = reached q
+module _ {l a : ℕ} where
+  limit-left : {n : ℕ} (c d : Cost) → Limit l a c n → Limit l a (c ⊕ d) n
+  limit-left c d (deep h) = deep (omega arith)
+  limit-left c d (spent h) = spent (omega arith)
+  limit-left c d (long h) = long (omega arith)
 
-  pub up-plus : {o : Out A} (s : ℕ) → UpTo Q o → UpTo Q (plus s o)
-  unfolding plus
-  up-plus s (reached q) = reached q
-  up-plus s (limited l) = limited l
+  limit-right : {n : ℕ} (c d : Cost) → Limit l a d n → Limit l a (c ⊕ d) n
+  limit-right c d (deep h) = deep (omega arith)
+  limit-right c d (spent h) = spent (omega arith)
+  limit-right c d (long h) = long (omega arith)
 
-  pub up-map : {P : A → Type 0} {o : Out A} → UpTo Q o → ((a : A) → Q a → P a) → UpTo P o
-  up-map (reached q) f = reached (f _ q)
-  up-map (limited l) f = limited l
+  limit-as : {n : ℕ} (c d : Cost) → (c .height ≡ d .height) × (c .nodes ≡ d .nodes) × (c .longest ≤ d .longest) → Limit l a c n → Limit l a d n
+  limit-as c d e (deep h) = deep (omega arith)
+  limit-as c d e (spent h) = spent (omega arith)
+  limit-as c d e (long h) = long (omega arith)
 
-  pub up-within : (a : ℕ) {o : Out A} → UpTo Q o → UpTo Q (within a o)
-  unfolding within cap
-  up-within a {o} h = go (decLe (steps o) a)
+module _ {A : Type 0} {l a : ℕ} {c : Cost} {Q : A → Type 0} where
+  -- `reached` and `limited` with their goal read first
+  gives : {x : A} {s : ℕ} → Costs l s c → Q x → UpTo l a c Q (done x s)
+  gives k q = reached k q
+
+  pub stops : {n s : ℕ} → s ≤ c .nodes → Limit l a c n → UpTo l a c Q (refused n s)
+  stops k h = limited k h
+
+module _ {A : Type 0} {l a : ℕ} {c : Cost} {Q : A → Type 0} where
+  -- another cost of the same height and nodes, whose values are no shorter, and within 256 bytes where those of c are
+  pub up-as : {o : Out A} (d : Cost) → (c .height ≡ d .height) × (c .nodes ≡ d .nodes) × (c .longest ≤ d .longest) × (c .longest ≤ 256 → d .longest ≤ 256)
+      → UpTo l a c Q o → UpTo l a d Q o
+  up-as d e (reached k q) = gives (let z = e .3 (k .short) in omega arith) q
+  up-as d e (limited k h) = stops (omega arith) (limit-as c d (e .0, e .1, e .2) h)
+
+  pub up-map : {P : A → Type 0} {o : Out A} → UpTo l a c Q o → ((x : A) → Q x → P x) → UpTo l a c P o
+  up-map (reached k q) f = reached k (f _ q)
+  up-map (limited k h) f = limited k h
+
+  pub up-within : {o : Out A} → UpTo l a c Q o → UpTo l a c Q (within a o)
+  unfolding within cap steps
+  up-within {o} h = go (decLe (steps o) a)
     where
-      go : (d : Dec (steps o ≤ a)) → UpTo Q (cap {a = a} o d)
+      few : {o : Out A} → UpTo l a c Q o → steps o ≤ c .nodes
+      few (reached k q) = omega arith
+      few (limited k h) = k
+
+      go : (d : Dec (steps o ≤ a)) → UpTo l a c Q (cap {a = a} o d)
       go (yes k) = h
-      go (no k) = limited spent
+      go (no k) = let z = few h in stops (omega arith) (spent (omega arith))
+
+  -- a node is entered
+  pub up-enter : {o : Out A} → UpTo l a c Q o → UpTo (suc l) a (entered c) Q (plus 1 o)
+  unfolding plus
+  up-enter (reached k q) = gives (omega arith) q
+  up-enter (limited k (deep h)) = stops (omega arith) (deep (omega arith))
+  up-enter (limited k (spent h)) = stops (omega arith) (spent (omega arith))
+  up-enter (limited k (long h)) = stops (omega arith) (long (omega arith))
+
+  up-plus : {o : Out A} {s : ℕ} (d : Cost) → Costs l s d → UpTo l a c Q o → UpTo l a (d ⊕ c) Q (plus s o)
+  unfolding plus
+  up-plus d j (reached k q) = gives (omega arith) q
+  up-plus d j (limited k h) = stops (omega arith) (limit-right d c h)
 
   -- what it says, in plain words
-  pub up-refused : {c s : ℕ} → UpTo Q (refused c s) → Limit c
-  up-refused (limited l) = l
+  pub up-refused : {n s : ℕ} → UpTo l a c Q (refused n s) → Limit l a c n
+  up-refused (limited k h) = h
 
-  pub up-done : {a : A} {s : ℕ} → UpTo Q (done a s) → Q a
-  up-done (reached q) = q
+  pub up-done : {x : A} {s : ℕ} → UpTo l a c Q (done x s) → Q x
+  up-done (reached k q) = q
 
-module _ {A B : Type 0} {Q : B → Type 0} where
-  pub up-bind : {P : A → Type 0} {m : Out A} (f : A → Out B) → UpTo P m → ((a : A) → P a → UpTo Q (f a)) → UpTo Q (m >>= f)
+  pub up-costs : {x : A} {s : ℕ} → UpTo l a c Q (done x s) → Costs l s c
+  up-costs (reached k q) = k
+
+module _ {A : Type 0} {l a : ℕ} {Q : A → Type 0} where
+  -- nothing is entered
+  pub reach : {x : A} → Q x → UpTo l a free Q (done x 0)
+  reach q = gives (omega arith) q
+
+module _ {A B : Type 0} {l a : ℕ} {c d : Cost} {Q : B → Type 0} where
+  pub up-bind : {P : A → Type 0} {m : Out A} (f : A → Out B) → UpTo l a c P m → ((x : A) → P x → UpTo l a d Q (f x)) → UpTo l a (c ⊕ d) Q (m >>= f)
   unfolding _>>=_
-  up-bind f (reached p) k = up-plus _ (k _ p)
-  up-bind f (limited l) k = limited l
+  up-bind f (reached j p) k = up-plus c j (k _ p)
+  up-bind f (limited j h) k = stops (omega arith) (limit-left c d h)
 
-  pub comes-bind : {v : A} {m : Out A} (f : A → Out B) → Comes v m → UpTo Q (f v) → UpTo Q (m >>= f)
-  comes-bind f h k = up-bind f h λ a e. rw e k
+  pub comes-bind : {v : A} {m : Out A} (f : A → Out B) → Comes l a c v m → UpTo l a d Q (f v) → UpTo l a (c ⊕ d) Q (m >>= f)
+  comes-bind f h k = up-bind f h λ x e. rw e k
 
-  pub up-given : {o : Option A} {a : A} (c : ℕ) (f : A → Out B) → o ≡ some a → UpTo Q (f a) → UpTo Q (given c o f)
+module _ {A B : Type 0} {l a : ℕ} {c : Cost} {Q : B → Type 0} where
+  -- nothing is entered after it
+  pub comes-last : {v : A} {m : Out A} (f : A → Out B) → Comes l a c v m → UpTo l a free Q (f v) → UpTo l a c Q (m >>= f)
+  comes-last f h k = up-as c (omega arith) (comes-bind f h k)
+
+  pub up-given : {o : Option A} {x : A} (n : ℕ) (f : A → Out B) → o ≡ some x → UpTo l a c Q (f x) → UpTo l a c Q (given n o f)
   unfolding given
-  up-given c f e h = rw e h
+  up-given n f e h = rw e h
 
-  pub up-when : {f : A → Out B} (c : ℕ) (d : Dec A) → A → ((a : A) → UpTo Q (f a)) → UpTo Q (given c (when d) f)
+  pub up-when : {f : A → Out B} (n : ℕ) (d : Dec A) → A → ((x : A) → UpTo l a c Q (f x)) → UpTo l a c Q (given n (when d) f)
   unfolding given when
-  up-when c (yes p) a k = k p
-  up-when c (no p) a k = absurd (p a)
+  up-when n (yes p) x k = k p
+  up-when n (no p) x k = absurd (p x)
 
+module _ {B : Type 0} {l a : ℕ} {c : Cost} {Q : B → Type 0} where
   -- over 256 bytes is a limit
-  pub up-size : {f : A → Out B} (d : Dec A) → ((a : A) → UpTo Q (f a)) → UpTo Q (given 44 (when d) f)
+  pub up-size : (v : Value) {f : size v ≤ 256 → Out B} → ((x : size v ≤ 256) → UpTo l a c Q (f x))
+      → UpTo l a (built v ⊕ c) Q (given 44 (when (decLe (size v) 256)) f)
   unfolding given when
-  up-size (yes p) k = k p
-  up-size (no p) k = limited long
+  up-size v {f} k = go (decLe (size v) 256)
+    where
+      go : (d : Dec (size v ≤ 256)) → UpTo l a (built v ⊕ c) Q (given 44 (when d) f)
+      go (yes p) = up-as (built v ⊕ c) (omega arith) (k p)
+      go (no p) = stops (omega arith) (long (omega arith))
 
-module _ {A P R : Type 0} {Q : A → Type 0} where
-  pub up-first : (p : Dec P) (r : Dec R) {x : Out A} (y : Out A) → P → UpTo Q x → UpTo Q (choose p r x y)
+module _ {A P R : Type 0} {l a : ℕ} {c : Cost} {Q : A → Type 0} where
+  pub up-first : (p : Dec P) (r : Dec R) {x : Out A} (y : Out A) → P → UpTo l a c Q x → UpTo l a c Q (choose p r x y)
   unfolding choose
   up-first (yes p) r y t h = h
   up-first (no p) r y t h = absurd (p t)
 
-  pub up-second : (p : Dec P) (r : Dec R) (x : Out A) {y : Out A} → ¬ P → R → UpTo Q y → UpTo Q (choose p r x y)
+  pub up-second : (p : Dec P) (r : Dec R) (x : Out A) {y : Out A} → ¬ P → R → UpTo l a c Q y → UpTo l a c Q (choose p r x y)
   unfolding choose
   up-second (yes p) r x n t h = absurd (n p)
   up-second (no p) (yes r) x n t h = h
   up-second (no p) (no r) x n t h = absurd (r t)
+
+-- o gives v in exactly as many steps as c has nodes, or a value is too long
+pub data Exactly {A : Type 0} (c : Cost) (v : A) : Out A → Type 0 where
+  exactly : Exactly c v (done v (c .nodes))
+  too-long : {s : ℕ} → 256 < c .longest → Exactly c v (refused 44 s)
+
+-- and so it is where c is within the levels and the allowance
+pub up-exactly : {A : Type 0} {l a : ℕ} {c : Cost} {v : A} {o : Out A} → Comes l a c v o → c .height ≤ l → c .nodes ≤ a → Exactly c v o
+up-exactly (reached k q) h j = rw (q, ← k .count) exactly
+up-exactly (limited k (deep d)) h j = absurd (omega arith)
+up-exactly (limited k (spent d)) h j = absurd (omega arith)
+up-exactly (limited k (long d)) h j = too-long d

@@ -1,4 +1,5 @@
--- THE KINDS OF NODES (document 01, "Sheet records"). A kind is one row: its byte and the fields of its body in order. All else is read off the row.
+-- THE KINDS OF NODES (document 01, "Sheet records"; docs/SHEETS.md, "All kinds on one page"). A kind is one row: its byte and the fields of
+-- its body in order. All else is read off the row.
 use mathlib.Core.Bool.{Bool, true, false, _&&_}
 use mathlib.Core.Option.{Option, none, some}
 use mathlib.Core.List.{List, [], _∷_, _++_, map}

@@ -1,4 +1,4 @@
--- Sheets, and how one is read from its bytes (document 01, "Sheet records" and "Where each refusal is met").
+-- Sheets, and how one is read from its bytes (document 01, "Sheet records" and "Where each refusal is met"; docs/SHEETS.md, "Records").
 -- A sheet is HOBiT's residual program: a table of residual expressions, its nodes.
 use mathlib.Core.Bool.{Bool, true, false, _&&_}
 use mathlib.Core.List.{List, [], _∷_}

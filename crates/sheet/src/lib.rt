@@ -1,4 +1,4 @@
-//! Sheets: records of bytes read, judged and decoded (document 01, "Sheet records").
+//! Sheets: records of bytes read, judged and decoded (document 01, "Sheet records"; docs/SHEETS.md, "Records").
 
 ghost use mathlib.Core.Path.{_≡_};
 ghost use Prim.Native.Nat.{_+_, _*_, _<_, _≤_};

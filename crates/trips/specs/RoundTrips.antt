@@ -1,16 +1,17 @@
--- Two calls one after the other: what they answer together, and that no answer is broken.
+-- Two calls one after the other: what they answer together, and what a list put back, or one read out and put back, may rely on.
 use mathlib.Core.Path.{_≡_, refl, sym, ap, _∙_}
 use mathlib.Core.Bool.{Bool, true, false}
 use mathlib.Core.List.{List, _++_}
-use Prim.Native.Nat.{ℕ, _+_, _*_, _≤_}
+use Prim.Native.Nat.{ℕ, _*_, _≤_, _<_}
 use native.Mathlib.Omega.{arith}
-use native.Mathlib.Nat.{le-trans, le-refl}
+use borrow.Author.Tests.{le-leb, lt-leb}
 use lib.Dec.{leb}
 use lib.ListN.{length, take, drop, replicate, length-replicate}
 use lib.Seq.{take-at, drop-at}
+use Rattle.value.specs.Parts.{sameBytes}
+use Rattle.value.specs.PartsLaws.{same-refl}
+use Rattle.rules.specs.Numbers.{ALLOWANCE, FACTOR, SCRATCH, GET-OUTPUT, PUT-OUTPUT}
 use Rattle.rules.specs.Answer.{Answer, refusal, success, getAnswer, putAnswer}
-use Rattle.rules.specs.AnswerLaws.{Lent, get-shows, put-shows, get-steps}
-use Rattle.rules.specs.Trips.{consistency, acceptability}
 use Rattle.lens.specs.declared.Reply.{Reply}
 use Rattle.lens.specs.declared.Reply.the-variants.{Done, Refused}
 use Rattle.trips.specs.declared.Trip.{Trip}
@@ -18,6 +19,8 @@ use Rattle.trips.specs.declared.Trip.the-variants.{Kept, Stopped, Broken
 use Rattle.lens.specs.Buffers.{zeros, zeroed}
 use Rattle.lens.specs.Calls.{reply, written, cleared, afterRefusal, Answered}
 use Rattle.lens.specs.Trips.{success-of}
+
+-- WHAT BOTH ANSWER
 
 -- the first call's refusal, or the second's; or the steps of both. No case of it is Broken
 unfoldable pub second : ℕ → Answer → Trip
@@ -38,7 +41,7 @@ abbrev pub backAndOut : (sheet : List ℕ) (allowance output scratch : ℕ) → 
 backAndOut sheet allowance output scratch new n = getAnswer sheet new allowance output scratch
 
 abbrev pub outAndBack : (sheet plan : List ℕ) (output scratch : ℕ) → List ℕ → ℕ → Answer
-outAndBack sheet plan output scratch view n = putAnswer sheet plan view (48 * n) output scratch
+outAndBack sheet plan output scratch view n = putAnswer sheet plan view (FACTOR * n) output scratch
 
 -- r is what both calls answer; the first's output o₁ and the second's o₂ hold their bytes, and scratch is left as the first call leaves it
 pub record Tripped (a : Answer) (f : List ℕ → ℕ → Answer) (r : Trip) (o₁ o₁′ o₂ o₂′ s s′ : List ℕ) : Type 0 where
@@ -46,6 +49,58 @@ pub record Tripped (a : Answer) (f : List ℕ → ℕ → Answer) (r : Trip) (o�
   pub first : o₁′ ≡ written a o₁
   pub then-written : o₂′ ≡ secondWrites a f o₂
   pub scratch : s′ ≡ cleared a s
+
+-- WHAT A CALLER MAY RELY ON
+
+-- Kept: these bytes stand at the front of the second output, in at most so many steps; a first call that succeeds is answered by Kept and
+-- nothing else, where the second is lent what it needs; and Broken is never answered
+pub record RoundTrip (a : Answer) (bytes : List ℕ) (most : ℕ → ℕ) (Lends : ℕ → Type 0) (r : Trip) (o₂′ : List ℕ) : Type 0 where
+  pub kept : (n m : ℕ) → r ≡ Kept n m → (take (length bytes) o₂′ ≡ bytes) × (m ≤ most n)
+  pub sure : (bs : List ℕ) (n : ℕ) → a ≡ success bs n → Lends n → (m : ℕ) × (r ≡ Kept n m)
+  pub whole : r ≡ Broken → ⊥
+
+-- a list put back is read out again, in no more steps
+abbrev pub ListStands : (sheet plan view : List ℕ) (allowance output₁ output₂ scratch : ℕ) → Trip → List ℕ → Type 0
+ListStands sheet plan view allowance output₁ output₂ scratch =
+    RoundTrip (putAnswer sheet plan view allowance output₁ scratch) view (λ n. n) (λ n. GET-OUTPUT ≤ output₂)
+
+-- a list read out in n steps and put back unedited gives the old plan, in at most 48 × n steps
+abbrev pub PlanStays : (sheet plan : List ℕ) (allowance output₁ output₂ scratch : ℕ) → Trip → List ℕ → Type 0
+PlanStays sheet plan allowance output₁ output₂ scratch =
+    RoundTrip (getAnswer sheet plan allowance output₁ scratch) plan (λ n. FACTOR * n) (λ n. (PUT-OUTPUT ≤ output₂) × (FACTOR * n ≤ ALLOWANCE))
+
+-- THE VERDICT ON THE SECOND CALL, as the code makes it: kept where it gives these very bytes in at most so many steps
+
+unfoldable pub ifBoth : Bool → Bool → ℕ → ℕ → Trip
+ifBoth true true n m = Kept n m
+ifBoth true false n m = Broken
+ifBoth false b n m = Broken
+
+unfoldable pub verdict : ℕ → Reply → ℕ → List ℕ → List ℕ → Trip
+verdict n (Refused c) most o bytes = Broken
+verdict n (Done len m) most o bytes = ifBoth (leb m most) (sameBytes (take len o) bytes) n m
+
+-- a success lies within the output
+abbrev pub Inside : Reply → List ℕ → Type 0
+Inside r o = (len n : ℕ) → r ≡ Done len n → len ≤ length o
+
+module _ (n : ℕ) (r : Reply) (most : ℕ) (o bytes : List ℕ) where
+  pub verdict-refused : {c : ℕ} → r ≡ Refused c → Broken ≡ verdict n r most o bytes
+  unfolding verdict
+  verdict-refused e = rw e
+
+  pub verdict-more : {len m : ℕ} → r ≡ Done len m → most < m → Broken ≡ verdict n r most o bytes
+  unfolding verdict ifBoth
+  verdict-more {len} {m} e h = rw (e, lt-leb m most h)
+
+  module _ {len m : ℕ} (e : r ≡ Done len m) (h : m ≤ most) where
+    pub verdict-same : {b : Bool} → b ≡ sameBytes (take len o) bytes → b ≡ true → Kept n m ≡ verdict n r most o bytes
+    unfolding verdict ifBoth
+    verdict-same p q = rw (e, le-leb m most h, ← p, q)
+
+    pub verdict-other : {b : Bool} → b ≡ sameBytes (take len o) bytes → b ≡ false → Broken ≡ verdict n r most o bytes
+    unfolding verdict ifBoth
+    verdict-other p q = rw (e, le-leb m most h, ← p, q)
 
 -- WHAT SHOWS IT
 
@@ -68,80 +123,83 @@ cleared-zeroed (refusal c) s = go (leb c 3)
   where
     go : (b : Bool) → afterRefusal b (zeroed s) ≡ zeroed s
     go true = refl
-    go false = zeros-twice 65536 s
-cleared-zeroed (success bs n) s = zeros-twice 65536 s
+    go false = zeros-twice SCRATCH s
+cleared-zeroed (success bs n) s = zeros-twice SCRATCH s
 
-module _ {a : Answer} (f : List ℕ → ℕ → Answer) {r₁ : Reply} {o₁ o₁′ s s₁ : List ℕ} (w₁ : Answered a r₁ o₁ o₁′ s s₁) where
-  pub first-refused : {c : ℕ} (o₂ : List ℕ) → r₁ ≡ Refused c → Tripped a f (Stopped c) o₁ o₁′ o₂ o₂ s s₁
+-- a success that is known stands at the front of the output, and is judged as kept
+front-of : {r : Reply} {o o′ s s′ bytes : List ℕ} {m : ℕ} → Answered (success bytes m) r o o′ s s′ → take (length bytes) o′ ≡ bytes
+unfolding written
+front-of {o = o} {bytes = bytes} w = rw (w .output) (take-at bytes (drop (length bytes) o) (length bytes) refl)
+
+verdict-kept : {r : Reply} {o o′ s s′ bytes : List ℕ} {m most : ℕ} (n : ℕ) → Answered (success bytes m) r o o′ s s′ → m ≤ most
+    → verdict n r most o′ bytes ≡ Kept n m
+unfolding verdict ifBoth reply
+verdict-kept {bytes = bytes} {m = m} {most = most} n w h = rw (w .answer, le-leb m most h, front-of w, same-refl bytes)
+
+module _ {a : Answer} (f : List ℕ → ℕ → Answer) (bytes : List ℕ) (most : ℕ → ℕ) (Lends : ℕ → Type 0)
+    {r₁ : Reply} {o₁ o₁′ s s₁ : List ℕ} (w₁ : Answered a r₁ o₁ o₁′ s s₁) where
+  abbrev Both : Trip → (o₂ o₂′ s₂ : List ℕ) → Type 0
+  Both r o₂ o₂′ s₂ = Tripped a f r o₁ o₁′ o₂ o₂′ s s₂ × RoundTrip a bytes most Lends r o₂′
+
+  pub first-refused : {c : ℕ} (o₂ : List ℕ) → r₁ ≡ Refused c → Both (Stopped c) o₂ o₂ s₁
   unfolding trip secondWrites
-  first-refused {c} o₂ e = let q = refusal-of w₁ e in record {
-    answer = rw q refl;
-    first = w₁ .output;
-    then-written = rw q refl;
-    scratch = w₁ .scratch;
-  }
+  first-refused {c} o₂ e = let q = refusal-of w₁ e in (
+    record { answer = rw q refl; first = w₁ .output; then-written = rw q refl; scratch = w₁ .scratch },
+    record {
+      kept = λ n m k. absurd (let z : _≡_ {A = ℕ} 0 1 = cc in omega arith);
+      sure = λ bs n k l. absurd (let z : _≡_ {A = ℕ} 0 1 = cc in omega arith);
+      whole = λ k. let z : _≡_ {A = ℕ} 0 1 = cc in omega arith;
+    },
+  )
 
-  module _ {len n : ℕ} (d : r₁ ≡ Done len n) {r₂ : Reply} {o₂ o₂′ s₂ : List ℕ} (w₂ : Answered (f (take len o₁′) n) r₂ o₂ o₂′ s₁ s₂) where
-    left-zeroed : s₂ ≡ cleared a s
-    unfolding cleared
-    left-zeroed =
-        let q = success-of w₁ d in
-        let z : s₁ ≡ zeroed s = w₁ .scratch ∙ ap (λ (x : Answer). cleared x s) q in
-        w₂ .scratch ∙ ap (cleared (f (take len o₁′) n)) z ∙ cleared-zeroed (f (take len o₁′) n) s ∙ ap (λ (x : Answer). cleared x s) (sym q)
+  module _ {len n : ℕ} (d : r₁ ≡ Done len n) (law : Lends n → (m : ℕ) × (f (take len o₁′) n ≡ success bytes m) × (m ≤ most n)) where
+    is : a ≡ success (take len o₁′) n
+    is = success-of w₁ d
 
-    whole : (r : Trip) → r ≡ second n (f (take len o₁′) n) → Tripped a f r o₁ o₁′ o₂ o₂′ s s₂
-    unfolding trip secondWrites
-    whole r e = let q = success-of w₁ d in record {
-      answer = e ∙ ap (λ (x : Answer). trip x f) (sym q);
-      first = w₁ .output;
-      then-written = w₂ .output ∙ ap (λ (x : Answer). secondWrites x f o₂) (sym q);
-      scratch = left-zeroed;
-    }
+    -- the door is shut to the second call
+    pub second-shut : {c : ℕ} (o₂ : List ℕ) → f (take len o₁′) n ≡ refusal c → Both (Stopped c) o₂ o₂ s₁
+    unfolding trip second secondWrites written
+    second-shut {c} o₂ e = (
+      record { answer = rw (is, e) refl; first = w₁ .output; then-written = rw (is, e) refl; scratch = w₁ .scratch },
+      record {
+        kept = λ n m k. absurd (let z : _≡_ {A = ℕ} 0 1 = cc in omega arith);
+        sure = λ bs k p l. absurd (never p l);
+        whole = λ k. let z : _≡_ {A = ℕ} 0 1 = cc in omega arith;
+      },
+    )
+      where
+        never : {bs : List ℕ} {k : ℕ} → a ≡ success bs k → Lends k → ⊥
+        never {bs} {k} p l =
+            let q = is in
+            let y : k ≡ n = cc in
+            let (m, g, h) = law (rw y at l) in
+            let z : _≡_ {A = ℕ} 0 1 = cc in
+            omega arith
 
-    pub second-refused : {c : ℕ} → r₂ ≡ Refused c → Tripped a f (Stopped c) o₁ o₁′ o₂ o₂′ s s₂
-    unfolding second
-    second-refused {c} e = whole (Stopped c) (ap (second n) (sym (refusal-of w₂ e)))
+    -- it was made
+    module _ {r₂ : Reply} {o₂ o₂′ s₂ : List ℕ} (w₂ : Answered (f (take len o₁′) n) r₂ o₂ o₂′ s₁ s₂) where
+      left-zeroed : s₂ ≡ cleared a s
+      unfolding cleared
+      left-zeroed =
+          let z : s₁ ≡ zeroed s = w₁ .scratch ∙ ap (λ (x : Answer). cleared x s) is in
+          w₂ .scratch ∙ ap (cleared (f (take len o₁′) n)) z ∙ cleared-zeroed (f (take len o₁′) n) s ∙ ap (λ (x : Answer). cleared x s) (sym is)
 
-    pub second-done : {m t : ℕ} → r₂ ≡ Done m t → Tripped a f (Kept n t) o₁ o₁′ o₂ o₂′ s s₂
-    unfolding second
-    second-done {m} {t} e = whole (Kept n t) (ap (second n) (sym (success-of w₂ e)))
+      pub second-judged : {r : Trip} → Lends n → r ≡ verdict n r₂ (most n) o₂′ bytes → Both r o₂ o₂′ s₂
+      unfolding trip second secondWrites
+      second-judged {r} l e =
+          let (m, g, h) = law l in
+          let v = rw g at w₂ in
+          let k : r ≡ Kept n m = e ∙ verdict-kept n v h in (
+            record { answer = k ∙ rw (is, g) refl; first = w₁ .output; then-written = rw is (w₂ .output); scratch = left-zeroed },
+            record {
+              kept = λ n′ m′ q. (front-of v, bound h k q);
+              sure = λ bs n′ p l′. (m, sure-as p k);
+              whole = λ q. let z : _≡_ {A = ℕ} 0 1 = cc in omega arith;
+            },
+          )
+        where
+          bound : {m n′ m′ : ℕ} → m ≤ most n → r ≡ Kept n m → r ≡ Kept n′ m′ → m′ ≤ most n′
+          bound {m} {n′} {m′} h k q = let y : n ≡ n′ = cc in let x : m ≡ m′ = cc in rw (← y, ← x) h
 
--- AND WHAT RULES OUT A BROKEN TRIP
-
--- the call succeeds with these bytes and steps
-pub record Sure (r : Reply) (o′ bytes : List ℕ) (t : ℕ) : Type 0 where
-  pub len : ℕ
-  pub is : r ≡ Done len t
-  pub front : take len o′ ≡ bytes
-
-sure : {a : Answer} {r : Reply} {o o′ s s′ : List ℕ} → Answered a r o o′ s s′ → {bs : List ℕ} {t : ℕ} → a ≡ success bs t → Sure r o′ bs t
-unfolding reply written
-sure {a} {r} {o} {o′} w {bs} {t} e =
-    let p : r ≡ Done (length bs) t = w .answer ∙ ap reply e in
-    let q : o′ ≡ bs ++ drop (length bs) o = w .output ∙ ap (λ (x : Answer). written x o) e in
-    record { len = length bs; is = p; front = rw q (take-at bs (drop (length bs) o) (length bs) refl) }
-
-module _ (sheet plan view : List ℕ) (allowance output scratch : ℕ) {r₁ : Reply} {o₁ o₁′ s s₁ : List ℕ}
-    (w₁ : Answered (putAnswer sheet plan view allowance output scratch) r₁ o₁ o₁′ s s₁) {len p : ℕ} (d : r₁ ≡ Done len p) where
-  pub put-lent : Lent 4096 output scratch allowance
-  put-lent = put-shows (success-of w₁ d) .0
-
-  pub put-then-get-sure : {output′ : ℕ} {r₂ : Reply} {o₂ o₂′ s₂ s₂′ : List ℕ} → 256 ≤ output′
-      → Answered (getAnswer sheet (take len o₁′) allowance output′ scratch) r₂ o₂ o₂′ s₂ s₂′ → (g : ℕ) × Sure r₂ o₂′ view g × (g ≤ p)
-  put-then-get-sure {output′} h w₂ =
-      let (g, e, k) = consistency sheet plan view allowance output scratch (take len o₁′) p (success-of w₁ d) output′ scratch h (put-lent .scratch-long) in
-      (g, sure w₂ e, k)
-
-module _ (sheet plan : List ℕ) (allowance output scratch : ℕ) {r₁ : Reply} {o₁ o₁′ s s₁ : List ℕ}
-    (w₁ : Answered (getAnswer sheet plan allowance output scratch) r₁ o₁ o₁′ s s₁) {len n : ℕ} (d : r₁ ≡ Done len n) where
-  pub get-lent : Lent 256 output scratch allowance
-  get-lent = get-shows (success-of w₁ d) .0
-
-  pub get-few : n ≤ 1000000
-  get-few = le-trans (get-steps sheet plan allowance output scratch _ n (success-of w₁ d)) (get-lent .few-steps)
-
-  pub get-then-put-sure : {output′ : ℕ} {r₂ : Reply} {o₂ o₂′ s₂ s₂′ : List ℕ} → 4096 ≤ output′ → 48 * n ≤ 1000000
-      → Answered (putAnswer sheet plan (take len o₁′) (48 * n) output′ scratch) r₂ o₂ o₂′ s₂ s₂′ → (p : ℕ) × Sure r₂ o₂′ plan p
-  get-then-put-sure {output′} h b w₂ =
-      let (p, e) = acceptability sheet plan allowance output scratch (take len o₁′) n (success-of w₁ d) (48 * n) output′ scratch (le-refl _) b h (get-lent .scratch-long) in
-      (p, sure w₂ e)
+          sure-as : {bs : List ℕ} {m n′ : ℕ} → a ≡ success bs n′ → r ≡ Kept n m → r ≡ Kept n′ m
+          sure-as {n′ = n′} p k = let q = is in let y : n ≡ n′ = cc in cc

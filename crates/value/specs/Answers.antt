@@ -10,9 +10,10 @@ use borrow.Author.Tests.{le-leb, lt-leb, eq-eqb, ne-eqb}
 use lib.Dec.{eqb}
 use lib.ListN.{length, getD, take, drop, drop-of-length-le, List·getD-eq-default}
 use lib.Seq.{drop-cons}
-use Rattle.value.specs.Reading.{Kind, value, kindOf, readValue}
-use Rattle.value.specs.Laws.{Names, names, is0, is1, is2, is3, is4, is5, isOther}
-use Rattle.value.specs.Reader.{Reads, outcome, answers, from, from-drop}
+use Rattle.value.specs.Value.{size}
+use Rattle.value.specs.Reading.{Kind, Found, whole, malformed, tooLong, value, nothing, aValue, kindOf, readValue}
+use Rattle.value.specs.Laws.{Names, names, is0, is1, is2, is3, is4, is5, isOther, read-sound}
+use Rattle.value.specs.Reader.{outcome, from, from-drop}
 use Rattle.value.specs.Parts.{behind, numberIn, shapeAs, shapeOf, middleOf, partWhere, firstPart, kindAt, kindBehind, restKind, passesBytes, both, sameBytes}
 use Rattle.value.specs.declared.Read.{Read}
 use Rattle.value.specs.declared.Read.the-variants.{Whole, Malformed as NotRead, TooLong}
@@ -76,10 +77,21 @@ module _ (v : List ℕ) (h : length v ≡ 0 → ⊥) where
   pair-lost k e z = sym (pair k ∙ unsplit Pair (λ n. refl) (outcome (readValue (drop 1 v))) (e ∙ ap middleOf (pair k)) z)
 
   -- middle
-  pub middle-behind : (getD v 0 0 ≡ 3) ⊎ (getD v 0 0 ≡ 5) → {r : Read} → Reads value (from 1 v) 256 r → middleOf (shapeOf v) ≡ middleOf (behind Front r)
-  middle-behind k w =
-      let e = ap (λ (r : Read). middleOf (behind Front r)) (sym (answers (rw from-drop at w))) in
-      ⊎-elim (λ k. ap middleOf (front k) ∙ e) (λ k. ap middleOf (pair k) ∙ as-front (outcome (readValue (drop 1 v))) ∙ e) k
+  pub middle-behind : (getD v 0 0 ≡ 3) ⊎ (getD v 0 0 ≡ 5) → {r q : Read} → r ≡ outcome (readValue (from 1 v)) → r ≡ q
+      → middleOf (behind Front q) ≡ middleOf (shapeOf v)
+  middle-behind k w f =
+      let e = ap (λ (r : Read). middleOf (behind Front r)) (sym (rw from-drop at w) ∙ f) in
+      sym (⊎-elim (λ k. ap middleOf (front k) ∙ e) (λ k. ap middleOf (pair k) ∙ as-front (outcome (readValue (drop 1 v))) ∙ e) k)
+
+-- a value that was read has at most 256 bytes
+pub whole-short : (bs : List ℕ) {r : Read} {n : ℕ} → r ≡ outcome (readValue bs) → r ≡ Whole n → n ≤ 256
+unfolding outcome
+whole-short bs {r} {n} e f = go (readValue bs) refl (sym f ∙ e)
+  where
+    go : (x : Found (value ∷ [])) → readValue bs ≡ x → Whole n ≡ outcome x → n ≤ 256
+    go (whole (aValue v nothing) more) p q = let z : n ≡ size v = cc in omega (arith, read-sound bs p .1 .fits)
+    go malformed p q = let z : _≡_ {A = ℕ} 0 1 = cc in absurd (omega arith)
+    go tooLong p q = let z : _≡_ {A = ℕ} 0 1 = cc in absurd (omega arith)
 
 pub number-short : (v : List ℕ) → length v < 3 → numberIn (drop 1 v) ≡ Malformed
 unfolding numberIn

@@ -16,11 +16,17 @@ use Rattle.value.specs.Reader.{outcome, from, from-drop}
 use Rattle.value.specs.Spans.{nextAs, nextOf, places, starts, spans, within16, spansOf, codeOf, viewCode}
 use Rattle.value.specs.declared.Read.{Read}
 use Rattle.value.specs.declared.Next.{Next}
-use Rattle.value.specs.declared.Next.the-variants.{Value as NextValue, Refused}
+use Rattle.value.specs.declared.Next.the-variants.{Value as NextValue, Malformed, TooLong, Missing}
+
+-- no next value, and its refusal's number in a row of three: malformed, too long, missing
+pub data Lacks : Next → ℕ → Type 0 where
+  asMalformed : Lacks Malformed 0
+  asTooLong : Lacks TooLong 1
+  asMissing : Lacks Missing 2
 
 -- what the next value says of the reading of several, whose refusals start at `base`
 pub data NextIs (base : ℕ) (bs : List ℕ) : Next → Type 0 where
-  nRefused : {c : ℕ} → c ≤ 2 → ((m : ℕ) → readValues base (suc m) bs ≡ refusal (base + c)) → NextIs base bs (Refused c)
+  nLacks : {r : Next} {c : ℕ} → Lacks r c → ((m : ℕ) → readValues base (suc m) bs ≡ refusal (base + c)) → NextIs base bs r
   nValue : {n : ℕ} (v : Value) (more : List ℕ) → size v ≡ n → bs ≡ encode v ++ more → Readable v →
       ((m : ℕ) → readValues base (suc m) bs ≡ mapResult (λ vs. v ∷ vs) (readValues base m more)) → NextIs base bs (NextValue n)
 
@@ -30,23 +36,25 @@ next-is base bs e = rw e (all bs)
   where
     one : (b : ℕ) (bs : List ℕ) (x : Found (value ∷ [])) → readValue (b ∷ bs) ≡ x → NextIs base (b ∷ bs) (nextAs (outcome x))
     one b bs (whole (aValue v nothing) more) e = let s = read-sound (b ∷ bs) e in nValue v more refl (s .0) (s .1) (λ m. rw e)
-    one b bs malformed e = nRefused {c = 0} (omega arith) (λ m. rw (e, add-zero))
-    one b bs tooLong e = nRefused {c = 1} (omega arith) (λ m. rw e)
+    one b bs malformed e = nLacks asMalformed (λ m. rw (e, add-zero))
+    one b bs tooLong e = nLacks asTooLong (λ m. rw e)
 
     all : (bs : List ℕ) → NextIs base bs (nextOf bs)
-    all [] = nRefused {c = 2} (omega arith) (λ m. refl)
+    all [] = nLacks asMissing (λ m. refl)
     all (b ∷ bs) = one b bs (readValue (b ∷ bs)) refl
 
 pub next-as : {base : ℕ} {s : List ℕ} {r o : Next} → NextIs base s r → r ≡ o → NextIs base s o
 next-as {base} {s} w e = rw e at w
 
--- a view is one value
-pub view-refused : {s : List ℕ} {c : ℕ} → NextIs 30 s (Refused c) → 30 + c ≡ viewCode s
-unfolding viewCode codeOf
-view-refused (nRefused h e) = rw (e 0)
+lacks : {base : ℕ} {s : List ℕ} {r : Next} {c : ℕ} → Lacks r c → NextIs base s r → (m : ℕ) → readValues base (suc m) s ≡ refusal (base + c)
+lacks asMalformed (nLacks asMalformed e) = e
+lacks asTooLong (nLacks asTooLong e) = e
+lacks asMissing (nLacks asMissing e) = e
 
-pub code-small : {base : ℕ} {s : List ℕ} {c : ℕ} → NextIs base s (Refused c) → c ≤ 2
-code-small (nRefused h e) = h
+-- a view is one value
+pub view-refused : {s : List ℕ} {r : Next} {c : ℕ} → Lacks r c → NextIs 30 s r → 30 + c ≡ viewCode s
+unfolding viewCode codeOf
+view-refused k w = rw (lacks k w 0)
 
 pub next-short : {base : ℕ} {s : List ℕ} {n : ℕ} → NextIs base s (NextValue n) → (n ≤ length s) × (n ≤ 256)
 next-short (nValue v more l e h f) = (omega (arith, ap length e, length-append (encode v) more, size-encode v), omega (arith, h .fits))
@@ -132,11 +140,11 @@ module _ {k : ℕ} {s ss ls : List ℕ} {at i : ℕ} (p : Progress k s ss ls at 
   unfolding spansOf within16
   answer e = rw (le-leb k 16 b, e)
 
-  pub stops : {c : ℕ} → i < k → NextIs 20 (from at s) (Refused c) → spans (refusal (20 + c)) ≡ spansOf k s
+  pub stops : {r : Next} {c : ℕ} → i < k → Lacks r c → NextIs 20 (from at s) r → spans (refusal (20 + c)) ≡ spansOf k s
   unfolding mapResult
-  stops {c} lt (nRefused h e) =
+  stops lt l w =
       let m : k - i ≡ suc (k - (i + 1)) = omega arith in
-      answer (p .goes ∙ rw (m, ← from-drop at s, e (k - (i + 1))))
+      answer (p .goes ∙ rw (m, ← from-drop at s, lacks l w (k - (i + 1))))
 
   pub goes-on : {n : ℕ} → i < k → NextIs 20 (from at s) (NextValue n) → Progress k s (set ss i at) (set ls i n) (at + n) (i + 1)
   unfolding flat
@@ -178,12 +186,12 @@ module _ {k : ℕ} {s ss ls : List ℕ} {at i : ℕ} (p : Progress k s ss ls at 
       answer (p .goes ∙ rw (z, drop-cons s at 0 lt))
 
 -- next_value
-pub next-none : (s : List ℕ) → length s ≡ 0 → Refused 2 ≡ nextOf s
+pub next-none : (s : List ℕ) → length s ≡ 0 → Missing ≡ nextOf s
 unfolding nextOf
 next-none [] e = refl
 next-none (b ∷ bs) e = absurd (omega arith)
 
-pub next-some : (s : List ℕ) → (length s ≡ 0 → ⊥) → {r : Read} → r ≡ outcome (readValue s) → nextAs r ≡ nextOf s
+pub next-some : (s : List ℕ) → (length s ≡ 0 → ⊥) → {r q : Read} → r ≡ outcome (readValue s) → r ≡ q → nextAs q ≡ nextOf s
 unfolding nextOf
-next-some [] h e = absurd (h refl)
-next-some (b ∷ bs) h e = ap nextAs e
+next-some [] h e f = absurd (h refl)
+next-some (b ∷ bs) h e f = ap nextAs (sym f ∙ e)

@@ -11,17 +11,17 @@ use Rattle.value.specs.Reader.{outcome}
 use Rattle.value.specs.declared.Read.{Read}
 use Rattle.value.specs.declared.Read.the-variants.{Whole, Malformed, TooLong}
 use Rattle.value.specs.declared.Next.{Next}
-use Rattle.value.specs.declared.Next.the-variants.{Value as NextValue, Refused}
+use Rattle.value.specs.declared.Next.the-variants.{Value as NextValue, Malformed as NextMalformed, TooLong as NextTooLong, Missing}
 use Rattle.value.specs.declared.Spans.{Spans}
 
--- the next of several values: its length, or 0 malformed, 1 over 256 bytes, 2 the bytes end where it should begin
+-- the next of several values: its length, or why there is none; missing where the bytes end where it should begin
 unfoldable pub nextAs : Read → Next
 nextAs (Whole n) = NextValue n
-nextAs Malformed = Refused 0
-nextAs TooLong = Refused 1
+nextAs Malformed = NextMalformed
+nextAs TooLong = NextTooLong
 
 unfoldable pub nextOf : List ℕ → Next
-nextOf [] = Refused 2
+nextOf [] = Missing
 nextOf (b ∷ bs) = nextAs (outcome (readValue (b ∷ bs)))
 
 -- a place for each of 16 variables, 0 behind the last

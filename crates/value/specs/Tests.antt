@@ -1,4 +1,4 @@
--- The seven tests of a branch's result (HOBiT's exit conditions): document 01, "Sheet records".
+-- The seven tests of a branch's result (HOBiT's exit conditions): document 01, "Sheet records"; docs/SHEETS.md, "Tests".
 use mathlib.Core.Path.{_≡_}
 use mathlib.Core.Bool.{Bool, true, false, Bool-discrete}
 use mathlib.Core.List.{List, [], _∷_}

@@ -77,10 +77,6 @@ module _ (s : List ℕ) (at : ℕ) {o : Owed} {room n : ℕ} (w : Reads o (from 
   pub is-whole : (n ≡ 0 → ⊥) → (n ≡ 257 → ⊥) → Reads o (drop at s) room (Whole n)
   is-whole h k = rw (from-drop, answer-whole n h k) at w
 
--- no more bytes than may be taken
-pub short : {o : Owed} {s : List ℕ} {room n : ℕ} → Reads o s room (Whole n) → n ≤ room
-short (rWhole f l k e) = k
-
 -- the byte at `at`
 there : (s : List ℕ) (at : ℕ) → at < length s → length (drop at s) ≡ 0 → ⊥
 there s at h e = omega (arith, length-drop at s)

@@ -1,4 +1,4 @@
--- Values, their bytes and their size (document 01, "Values").
+-- Values, their bytes and their size (document 01 and docs/SHEETS.md, "Values").
 use mathlib.Core.Bool.{Bool, true, false}
 use mathlib.Core.List.{List, [], _∷_, _++_}
 use Prim.Native.Nat.{ℕ, suc, _+_, _/_, _%_, _≤_}

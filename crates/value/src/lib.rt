@@ -1,4 +1,4 @@
-//! Values and their bytes (document 01, "Values").
+//! Values and their bytes (document 01 and docs/SHEETS.md, "Values").
 ghost use mathlib.Core.Path.{_≡_};
 ghost use Prim.Native.Nat.{_+_, _*_, _/_, _%_, _≤_};
 ghost use Rattle.value.specs.Reader.{Reads, PartBegins, NumberBegins, outcome, answer};
@@ -17,7 +17,10 @@ pub enum Read {
 // The most bytes that a value has.
 const MOST: usize = 256;
 
-// What the readers answer for a value of more bytes than they may take; they answer 0 for malformed bytes, and else the length.
+// What the readers that call each other answer: a length, or one of these for malformed bytes and for more bytes than they may
+// take. It is a number since a number goes back in a register (docs/DECISIONS.md); `read_value` makes it a `Read`.
+const MALFORMED: usize = 0;
+
 const TOO_LONG: usize = 257;
 
 // The value that the bytes begin with, of at most 256 bytes.
@@ -25,7 +28,7 @@ pub fn read_value(s: &[u8]) -> Read
     ensures { λ r. ⌜ r ≡ outcome (readValue (now (s .entry))) ⌝ }
 {
     let n = value(s, MOST);
-    if n == 0 {
+    if n == MALFORMED {
         return Read::Malformed;
     }
     if n == TOO_LONG {
@@ -43,7 +46,7 @@ fn value(s: &[u8], room: usize) -> usize
     let mut owed: usize = 1;
     while owed != 0 {
         if s.len() <= at {
-            return 0;
+            return MALFORMED;
         }
         if room <= at {
             return TOO_LONG;
@@ -60,8 +63,8 @@ fn value(s: &[u8], room: usize) -> usize
             continue;
         }
         let n = part(&s[at..], room - at);
-        if n == 0 {
-            return 0;
+        if n == MALFORMED {
+            return MALFORMED;
         }
         if n == TOO_LONG {
             return TOO_LONG;
@@ -84,7 +87,7 @@ fn part(s: &[u8], room: usize) -> usize
     if kind < 4 {
         return list(s, room);
     }
-    0
+    MALFORMED
 }
 
 // A list, of at most `room` bytes, member by member.
@@ -102,19 +105,19 @@ fn list(s: &[u8], room: usize) -> usize
             return at + 1;
         }
         if kind != 3 {
-            return 0;
+            return MALFORMED;
         }
         at += 1;
         let n = value(&s[at..], room - at);
-        if n == 0 {
-            return 0;
+        if n == MALFORMED {
+            return MALFORMED;
         }
         if n == TOO_LONG {
             return TOO_LONG;
         }
         at += n;
     }
-    0
+    MALFORMED
 }
 
 // A number of kind 04: the kind byte and two bytes, each judged in turn.
@@ -123,13 +126,13 @@ fn body(s: &[u8], room: usize) -> usize
     ensures { λ r. ⌜ Reads value (now (s .entry)) room (answer r) ⌝ }
 {
     if s.len() <= 1 {
-        return 0;
+        return MALFORMED;
     }
     if room <= 1 {
         return TOO_LONG;
     }
     if s.len() == 2 {
-        return 0;
+        return MALFORMED;
     }
     if room == 2 {
         return TOO_LONG;
@@ -137,27 +140,26 @@ fn body(s: &[u8], room: usize) -> usize
     3
 }
 
-// The next of several values: its length, or 0 malformed, 1 over 256 bytes, 2 the bytes end where it should begin.
+// What stands where the next of several values should begin: its length, or why there is none.
 enum Next {
     Value(usize),
-    Refused(u8),
+    Malformed,
+    TooLong,
+    Missing,
 }
 
-// What stands where the next value should begin.
+// The next of several values.
 fn next_value(s: &[u8]) -> Next
     ensures { λ r. ⌜ r ≡ nextOf (now (s .entry)) ⌝ }
 {
     if s.len() == 0 {
-        return Next::Refused(2);
+        return Next::Missing;
     }
-    let n = value(s, MOST);
-    if n == 0 {
-        return Next::Refused(0);
+    match read_value(s) {
+        Read::Whole(n) => Next::Value(n),
+        Read::Malformed => Next::Malformed,
+        Read::TooLong => Next::TooLong,
     }
-    if n == TOO_LONG {
-        return Next::Refused(1);
-    }
-    Next::Value(n)
 }
 
 // Where the values of a plan stand: refusal 0, and the start and the length of each; or a refusal and zeros.
@@ -191,7 +193,9 @@ pub fn read_plan(k: usize, s: &[u8]) -> Spans
     let mut i = 0;
     while i < k {
         match next_value(&s[at..]) {
-            Next::Refused(c) => return refused(20 + c),
+            Next::Malformed => return refused(20),
+            Next::TooLong => return refused(21),
+            Next::Missing => return refused(22),
             Next::Value(n) => {
                 starts[i] = at as u16;
                 lens[i] = n as u16;
@@ -215,7 +219,9 @@ pub fn read_view(s: &[u8]) -> u8
     ensures { λ r. ⌜ r ≡ viewCode (now (s .entry)) ⌝ }
 {
     match next_value(s) {
-        Next::Refused(c) => 30 + c,
+        Next::Malformed => 30,
+        Next::TooLong => 31,
+        Next::Missing => 32,
         Next::Value(n) => {
             if n < s.len() {
                 return 32;
@@ -282,14 +288,11 @@ pub fn middle(v: &[u8]) -> usize
     let kind = v[0];
     match kind {
         3 | 5 => {
-            let n = value(&v[1..], MOST);
-            if n == 0 {
-                return 0;
+            match read_value(&v[1..]) {
+                Read::Whole(n) => 1 + n,
+                Read::Malformed => 0,
+                Read::TooLong => 0,
             }
-            if n == TOO_LONG {
-                return 0;
-            }
-            1 + n
         }
         _ => 0,
     }

@@ -91,16 +91,40 @@ add-if5-2 : tie.Need-add-if5-2
 add-if5-2 c = search needs
 
 returns-4 : tie.Need-returns-4
-returns-4 c = job-get _ (c .before .before .before .before .before .before .before .before .before .before .before .before .before .before .length .ensures .0) (omega arith) (c .before .before .before .before .before .before .before .before .before .before .length2 .ensures .0) (omega arith) (c .before .if4 .taken) (c .if5 .taken) (omega (arith, c .before .before .before .before .before .before .before .wide .ensures .0, c .before .before .before .before .before .wide2 .ensures .0, c .before .before .before .wide3 .ensures .0))
+returns-4 c =
+    let kind = c .before in
+    let low = kind .before .before in
+    let middle = low .before .before in
+    let high = middle .before .before in
+    let plan = high .before .before .before in
+    let sheet = plan .before .before .before .before in
+    job-get _ (sheet .length .ensures .0) (omega arith) (plan .length2 .ensures .0) (omega arith) (kind .if4 .taken) (c .if5 .taken)
+    (omega (arith, high .wide .ensures .0, middle .wide2 .ensures .0, low .wide3 .ensures .0))
 
 returns-5 : tie.Need-returns-5
-returns-5 c = job-more _ (c .before .before .before .before .before .before .before .before .before .before .before .before .before .before .length .ensures .0) (omega arith) (c .before .before .before .before .before .before .before .before .before .before .length2 .ensures .0) (omega arith) (c .before .if4 .taken) (c .if5 .left)
+returns-5 c =
+    let kind = c .before in
+    let plan = kind .before .before .before .before .before .before .before .before .before in
+    let sheet = plan .before .before .before .before in
+    job-more _ (sheet .length .ensures .0) (omega arith) (plan .length2 .ensures .0) (omega arith) (kind .if4 .taken) (c .if5 .left)
 
 returns-6 : tie.Need-returns-6
-returns-6 c = job-put _ (c .before .before .before .before .before .before .before .before .before .before .before .before .before .before .length .ensures .0) (omega arith) (c .before .before .before .before .before .before .before .before .before .before .length2 .ensures .0) (omega arith) (c .before .if4 .left) (c .if6 .taken) (omega (arith, c .before .before .before .before .before .before .before .wide .ensures .0, c .before .before .before .before .before .wide2 .ensures .0, c .before .before .before .wide3 .ensures .0))
+returns-6 c =
+    let kind = c .before in
+    let low = kind .before .before in
+    let middle = low .before .before in
+    let high = middle .before .before in
+    let plan = high .before .before .before in
+    let sheet = plan .before .before .before .before in
+    job-put _ (sheet .length .ensures .0) (omega arith) (plan .length2 .ensures .0) (omega arith) (kind .if4 .left) (c .if6 .taken)
+    (omega (arith, high .wide .ensures .0, middle .wide2 .ensures .0, low .wide3 .ensures .0))
 
 returns-7 : tie.Need-returns-7
-returns-7 c = job-other _ (c .before .before .before .before .before .before .before .before .before .before .before .before .before .before .length .ensures .0) (omega arith) (c .before .before .before .before .before .before .before .before .before .before .length2 .ensures .0) (omega arith) (c .before .if4 .left) (c .if6 .left)
+returns-7 c =
+    let kind = c .before in
+    let plan = kind .before .before .before .before .before .before .before .before .before in
+    let sheet = plan .before .before .before .before in
+    job-other _ (sheet .length .ensures .0) (omega arith) (plan .length2 .ensures .0) (omega arith) (kind .if4 .left) (c .if6 .left)
 
 pub parse-spec : {M : Type 1} → statement M
 parse-spec =

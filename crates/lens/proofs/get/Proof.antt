@@ -1,68 +1,63 @@
--- `get` meets its contract: each return is a case of the door, of the walk refused, or of the walk done. Assumes nothing.
+-- `get` meets its contract: refused at the door, behind it by the walk, or done. Assumes nothing.
 use native.Mathlib.Omega.{arith}
+use lib.ListN.{length}
+use Rattle.rules.specs.Numbers.{GET-OUTPUT}
+use Rattle.rules.specs.AnswerLaws.{Lent}
+use Rattle.lens.specs.Door.{door-lent}
 use Rattle.lens.specs.Trips.{with-unmoved}
-use Rattle.lens.specs.WalkCalls.{get-output, get-scratch, get-none, get-over, get-refused, get-done, get-fits}
+use Rattle.lens.specs.WalkCalls.{get-behind, call-shut, call-refused, call-done, call-fits}
 use borrow.Author.Needs.{needs}
 use Rattle.lens.proofs.get.Statement.{statement}
 use Rattle.lens.proofs.get.Tie as tie
 
+-- PLACES: the door was asked; it opens; the walk was made, and it refused, or is done
+abbrev entry : tie.After-door → tie.Start
+entry c = c .before .before .before .before .before
+
+abbrev opened : tie.After-get → tie.Else1
+opened c = c .before .before
+
+abbrev stopped : tie.After-refused-arg → tie.After-get
+stopped c = c .before .before .before .before .before .before
+
+abbrev walked : tie.After-given-arg2 → tie.After-get
+walked c = c .before .before .before .before .before .before .before
+
+-- what is lent behind the door
+lent : (c : tie.Else1) → let a = entry (c .before) .args in Lent GET-OUTPUT (length (a .out .now)) (length (a .scratch .now)) (a .allowance)
+lent c = door-lent (c .before .door .ensures) (c .if1 .left)
+
 returns : tie.Need-returns
-returns c = with-unmoved _ _ _ _ _ (get-output _ _ _ _ _ (omega arith))
-
-returns-2 : tie.Need-returns-2
-returns-2 c = with-unmoved _ _ _ _ _ (get-scratch _ _ _ _ _ (omega arith) (omega arith))
-
-returns-3 : tie.Need-returns-3
-returns-3 c = with-unmoved _ _ _ _ _ (get-none _ _ _ _ _ (omega arith) (omega arith) (omega arith))
-
-returns-4 : tie.Need-returns-4
-returns-4 c = with-unmoved _ _ _ _ _ (get-over _ _ _ _ _ (omega arith) (omega arith) (omega arith))
-
-get-requires : tie.Need-get-requires
-get-requires c κs = search needs
-
-enum-known-c : tie.Need-enum-known-c
-enum-known-c c = search needs
+returns c = with-unmoved _ _ _ _ _ (call-shut (get-behind _ _ _ _ _) (c .before .door .ensures) (c .if1 .taken))
 
 refused-requires : tie.Need-refused-requires
-refused-requires c κs = search needs
-
-enum-known-len : tie.Need-enum-known-len
-enum-known-len c = search needs
+refused-requires c κs = let w = stopped c in omega (arith, lent (opened w) .scratch-long, w .get .ensures .long)
 
 given-requires : tie.Need-given-requires
-given-requires c κs = let f = get-fits (c .before .before .before .before .before .before .before .before .before .before .before .before .before .before .before .before .before .args .sheet .now) (c .before .before .before .before .before .before .before .before .before .before .before .before .before .before .before .before .before .args .plan .now) (c .before .before .before .before .before .before .before .before .before .before .before .before .before .before .before .before .before .args .allowance) (c .before .before .before .before .before .before .before .before .before .before .before .before .before .before .before .before .before .args .out .now) (c .before .before .before .before .before .before .before .before .before .before .before .before .before .before .before .before .before .args .scratch .now) (record { output-long = omega arith; scratch-long = omega arith; some-steps = omega arith; few-steps = omega arith }) (c .before .before .before .before .before .before .before .get .ensures) (c .before .before .before .len .given .1) in (omega (arith), (f .0, omega (arith, f .1)))
+given-requires c κs =
+    let w = walked c in
+    let a = entry (opened w .before) .args in
+    call-fits (get-behind (a .sheet .now) (a .plan .now) (a .allowance) (a .out .now) (a .scratch .now))
+    (lent (opened w)) (w .get .ensures) (c .before .before .before .len .given .1)
 
-returns-5 : tie.Need-returns-5
-returns-5 c = rw (c .before .before .refused .ensures .0) (with-unmoved _ _ _ _ _ (get-refused _ _ _ _ _ (record { output-long = omega arith; scratch-long = omega arith; some-steps = omega arith; few-steps = omega arith }) (c .before .before .before .before .before .before .before .before .before .get .ensures) (c .before .before .before .before .before .c .given .1) (c .before .before .refused .ensures .1)))
+returns-2 : tie.Need-returns-2
+returns-2 c =
+    let r = c .before .before in
+    let w = stopped (r .before) in
+    let e = r .before .before .before .c .given .1 in
+    rw (r .refused .ensures .0) (with-unmoved _ _ _ _ _
+    (call-refused (get-behind _ _ _ _ _) (lent (opened w)) (w .get .ensures) e (r .refused .ensures .1)))
 
-same-length : tie.Need-same-length
-same-length c = search needs
-
-returns-6 : tie.Need-returns-6
-returns-6 c = rw (c .before .before .before .before .given .ensures .0) (with-unmoved _ _ _ _ _ (get-done _ _ _ _ _ (record { output-long = omega arith; scratch-long = omega arith; some-steps = omega arith; few-steps = omega arith }) (c .before .before .before .before .before .before .before .before .before .before .before .before .get .ensures) (c .before .before .before .before .before .before .before .before .len .given .1) (c .before .before .before .before .given .ensures .1) (c .before .before .before .before .given .ensures .2)))
-
-same-length-2 : tie.Need-same-length-2
-same-length-2 c = search needs
-
-same-length-3 : tie.Need-same-length-3
-same-length-3 c = search needs
+returns-3 : tie.Need-returns-3
+returns-3 c =
+    let r = c .before .before .before .before in
+    let w = walked (r .before) in
+    let e = r .before .before .before .before .len .given .1 in
+    rw (r .given .ensures .0) (with-unmoved _ _ _ _ _
+    (call-done (get-behind _ _ _ _ _) (lent (opened w)) (w .get .ensures) e (r .given .ensures .1) (r .given .ensures .2)))
 
 pub get-spec : {M : Type 1} → statement M
 get-spec =
     tie.close
-    (tie.spec
-    returns
-    returns-2
-    returns-3
-    returns-4
-    get-requires
-    enum-known-c
-    refused-requires
-    enum-known-len
-    given-requires
-    same-length
-    returns-5
-    same-length-2
-    same-length-3
-    returns-6)
+    (tie.spec (λ c κs. search needs) returns (λ c κs. search needs) (λ c. search needs) refused-requires (λ c. search needs)
+    given-requires (λ c. search needs) returns-2 (λ c. search needs) (λ c. search needs) returns-3)

@@ -1,68 +1,63 @@
--- `put` meets its contract: each return is a case of the door, of the walk refused, or of the walk done. Assumes nothing.
+-- `put` meets its contract: refused at the door, behind it by the walk, or done. Assumes nothing.
 use native.Mathlib.Omega.{arith}
+use lib.ListN.{length}
+use Rattle.rules.specs.Numbers.{PUT-OUTPUT}
+use Rattle.rules.specs.AnswerLaws.{Lent}
+use Rattle.lens.specs.Door.{door-lent}
 use Rattle.lens.specs.Trips.{with-stands}
-use Rattle.lens.specs.WalkCalls.{put-output, put-scratch, put-none, put-over, put-refused, put-done, put-fits}
+use Rattle.lens.specs.WalkCalls.{put-behind, call-shut, call-refused, call-done, call-fits}
 use borrow.Author.Needs.{needs}
 use Rattle.lens.proofs.put.Statement.{statement}
 use Rattle.lens.proofs.put.Tie as tie
 
+-- PLACES: the door was asked; it opens; the walk was made, and it refused, or is done
+abbrev entry : tie.After-door → tie.Start
+entry c = c .before .before .before .before .before .before
+
+abbrev opened : tie.After-put → tie.Else1
+opened c = c .before .before
+
+abbrev stopped : tie.After-refused-arg → tie.After-put
+stopped c = c .before .before .before .before .before .before
+
+abbrev walked : tie.After-given-arg2 → tie.After-put
+walked c = c .before .before .before .before .before .before .before
+
+-- what is lent behind the door
+lent : (c : tie.Else1) → let a = entry (c .before) .args in Lent PUT-OUTPUT (length (a .out .now)) (length (a .scratch .now)) (a .allowance)
+lent c = door-lent (c .before .door .ensures) (c .if1 .left)
+
 returns : tie.Need-returns
-returns c = with-stands _ _ _ _ _ _ (put-output _ _ _ _ _ _ (omega arith))
-
-returns-2 : tie.Need-returns-2
-returns-2 c = with-stands _ _ _ _ _ _ (put-scratch _ _ _ _ _ _ (omega arith) (omega arith))
-
-returns-3 : tie.Need-returns-3
-returns-3 c = with-stands _ _ _ _ _ _ (put-none _ _ _ _ _ _ (omega arith) (omega arith) (omega arith))
-
-returns-4 : tie.Need-returns-4
-returns-4 c = with-stands _ _ _ _ _ _ (put-over _ _ _ _ _ _ (omega arith) (omega arith) (omega arith))
-
-put-requires : tie.Need-put-requires
-put-requires c κs = search needs
-
-enum-known-code : tie.Need-enum-known-code
-enum-known-code c = search needs
+returns c = with-stands _ _ _ _ _ _ (call-shut (put-behind _ _ _ _ _ _) (c .before .door .ensures) (c .if1 .taken))
 
 refused-requires : tie.Need-refused-requires
-refused-requires c κs = search needs
-
-enum-known-len : tie.Need-enum-known-len
-enum-known-len c = search needs
+refused-requires c κs = let w = stopped c in omega (arith, lent (opened w) .scratch-long, w .put .ensures .long)
 
 given-requires : tie.Need-given-requires
-given-requires c κs = let f = put-fits (c .before .before .before .before .before .before .before .before .before .before .before .before .before .before .before .before .before .before .args .sheet .now) (c .before .before .before .before .before .before .before .before .before .before .before .before .before .before .before .before .before .before .args .plan .now) (c .before .before .before .before .before .before .before .before .before .before .before .before .before .before .before .before .before .before .args .view .now) (c .before .before .before .before .before .before .before .before .before .before .before .before .before .before .before .before .before .before .args .allowance) (c .before .before .before .before .before .before .before .before .before .before .before .before .before .before .before .before .before .before .args .out .now) (c .before .before .before .before .before .before .before .before .before .before .before .before .before .before .before .before .before .before .args .scratch .now) (record { output-long = omega arith; scratch-long = omega arith; some-steps = omega arith; few-steps = omega arith }) (c .before .before .before .before .before .before .before .put .ensures) (c .before .before .before .len .given .1) in (omega (arith), (f .0, omega (arith, f .1)))
+given-requires c κs =
+    let w = walked c in
+    let a = entry (opened w .before) .args in
+    call-fits (put-behind (a .sheet .now) (a .plan .now) (a .view .now) (a .allowance) (a .out .now) (a .scratch .now))
+    (lent (opened w)) (w .put .ensures) (c .before .before .before .len .given .1)
 
-returns-5 : tie.Need-returns-5
-returns-5 c = rw (c .before .before .refused .ensures .0) (with-stands _ _ _ _ _ _ (put-refused _ _ _ _ _ _ (record { output-long = omega arith; scratch-long = omega arith; some-steps = omega arith; few-steps = omega arith }) (c .before .before .before .before .before .before .before .before .before .put .ensures) (c .before .before .before .before .before .code .given .1) (c .before .before .refused .ensures .1)))
+returns-2 : tie.Need-returns-2
+returns-2 c =
+    let r = c .before .before in
+    let w = stopped (r .before) in
+    let e = r .before .before .before .code .given .1 in
+    rw (r .refused .ensures .0) (with-stands _ _ _ _ _ _
+    (call-refused (put-behind _ _ _ _ _ _) (lent (opened w)) (w .put .ensures) e (r .refused .ensures .1)))
 
-same-length : tie.Need-same-length
-same-length c = search needs
-
-returns-6 : tie.Need-returns-6
-returns-6 c = rw (c .before .before .before .before .given .ensures .0) (with-stands _ _ _ _ _ _ (put-done _ _ _ _ _ _ (record { output-long = omega arith; scratch-long = omega arith; some-steps = omega arith; few-steps = omega arith }) (c .before .before .before .before .before .before .before .before .before .before .before .before .put .ensures) (c .before .before .before .before .before .before .before .before .len .given .1) (c .before .before .before .before .given .ensures .1) (c .before .before .before .before .given .ensures .2)))
-
-same-length-2 : tie.Need-same-length-2
-same-length-2 c = search needs
-
-same-length-3 : tie.Need-same-length-3
-same-length-3 c = search needs
+returns-3 : tie.Need-returns-3
+returns-3 c =
+    let r = c .before .before .before .before in
+    let w = walked (r .before) in
+    let e = r .before .before .before .before .len .given .1 in
+    rw (r .given .ensures .0) (with-stands _ _ _ _ _ _
+    (call-done (put-behind _ _ _ _ _ _) (lent (opened w)) (w .put .ensures) e (r .given .ensures .1) (r .given .ensures .2)))
 
 pub put-spec : {M : Type 1} → statement M
 put-spec =
     tie.close
-    (tie.spec
-    returns
-    returns-2
-    returns-3
-    returns-4
-    put-requires
-    enum-known-code
-    refused-requires
-    enum-known-len
-    given-requires
-    same-length
-    returns-5
-    same-length-2
-    same-length-3
-    returns-6)
+    (tie.spec (λ c κs. search needs) returns (λ c κs. search needs) (λ c. search needs) refused-requires (λ c. search needs)
+    given-requires (λ c. search needs) returns-2 (λ c. search needs) (λ c. search needs) returns-3)

@@ -1,62 +1,32 @@
--- `hex` meets its contract: two digits a byte, within the text. Assumes nothing.
-use Prim.Native.Nat.{_≤_, _-_, _*_}
-use mathlib.Core.Path.{_≡_}
+-- `hex` meets its contract: the first i bytes are written. Assumes nothing.
+use Prim.Native.Nat.{_≤_, _-_}
 use native.Mathlib.Omega.{arith}
-use lib.ListN.{length, length-set}
-use Rattle.report.specs.Counting.{counts}
+use borrow.Author.Needs.{needs}
+use lib.ListN.{length, take}
+use Rattle.report.specs.Text.{hexOf}
+use Rattle.report.specs.TextLaws.{hex-more}
+use Rattle.report.specs.Writing.{Wrote, wrote-long, wrote-all, wrote-then, wrote-text}
 use Rattle.report.proofs.hex.Statement.{statement}
 use Rattle.report.proofs.hex.Tie as tie
 
 abbrev Inv-loop : tie.InvT-loop
-Inv-loop bytes text₀ i₀ text i = (2 * i ≤ length text) × (i ≤ length bytes) × (length text ≡ length text₀)
+Inv-loop text₀ at bytes end₀ i₀ text end i = (i ≤ length bytes) × Wrote (hexOf (take i bytes)) at text₀ text end
 
 abbrev μ-loop : tie.MeasureT-loop
-μ-loop bytes text₀ i₀ text i = length bytes - i
+μ-loop text₀ at bytes end₀ i₀ text end i = length bytes - i
+
+place-requires : tie.Need-place-requires Inv-loop μ-loop
+place-requires c κs = search needs
 
 loop-holds : tie.Need-loop-holds Inv-loop μ-loop
-loop-holds c = omega arith
+unfolding hexOf
+loop-holds c = (omega arith, c .place .ensures)
 
-mul-if1 : tie.Need-mul-if1 Inv-loop μ-loop
-mul-if1 c = omega arith
+shared-slice-read-hex-byte : tie.Need-shared-slice-read-hex-byte Inv-loop μ-loop
+shared-slice-read-hex-byte c = omega arith
 
-sub-if1 : tie.Need-sub-if1 Inv-loop μ-loop
-sub-if1 c = omega arith
-
-mul-result : tie.Need-mul-result Inv-loop μ-loop
-mul-result c = omega arith
-
-same-length : tie.Need-same-length Inv-loop μ-loop
-same-length c = omega arith
-
-returns : tie.Need-returns Inv-loop μ-loop
-returns c = let k = c .before .before .loop in counts (2 * k .i) (k .text) (omega arith)
-
-shared-slice-read-digit : tie.Need-shared-slice-read-digit Inv-loop μ-loop
-shared-slice-read-digit c = omega arith
-
-digit-requires : tie.Need-digit-requires Inv-loop μ-loop
-digit-requires c κs = omega (arith, c .shared-slice-known2 .given (c .before .before .before .loop .i))
-
-mul-text : tie.Need-mul-text Inv-loop μ-loop
-mul-text c = omega arith
-
-slice-write-text : tie.Need-slice-write-text Inv-loop μ-loop
-slice-write-text c = omega arith
-
-shared-slice-read-digit-2 : tie.Need-shared-slice-read-digit-2 Inv-loop μ-loop
-shared-slice-read-digit-2 c = omega arith
-
-digit-requires-2 : tie.Need-digit-requires-2 Inv-loop μ-loop
-digit-requires-2 c κs = omega arith
-
-mul-text-2 : tie.Need-mul-text-2 Inv-loop μ-loop
-mul-text-2 c = omega arith
-
-add-text : tie.Need-add-text Inv-loop μ-loop
-add-text c = omega arith
-
-slice-write-text-2 : tie.Need-slice-write-text-2 Inv-loop μ-loop
-slice-write-text-2 c = simp length-set (omega arith)
+hex-byte-requires : tie.Need-hex-byte-requires Inv-loop μ-loop
+hex-byte-requires c κs = search needs
 
 add-i : tie.Need-add-i Inv-loop μ-loop
 add-i c = omega arith
@@ -65,16 +35,19 @@ loop-less : tie.Need-loop-less Inv-loop μ-loop
 loop-less c = omega arith
 
 loop-again : tie.Need-loop-again Inv-loop μ-loop
-loop-again c = simp length-set (omega arith)
+loop-again c =
+    let called = c .before .before in
+    let head = called .before .before .before .before in
+    let bytes = head .before .before .before .before .before .args .bytes .now in
+    (omega arith, wrote-text (wrote-then (head .loop .inv .1) (called .hex-byte .ensures)) (hex-more bytes (head .loop .i) (omega arith)))
 
-mul-result-2 : tie.Need-mul-result-2 Inv-loop μ-loop
-mul-result-2 c = omega arith
+same-length : tie.Need-same-length Inv-loop μ-loop
+same-length c = wrote-long (c .before .loop .inv .1)
 
-same-length-2 : tie.Need-same-length-2 Inv-loop μ-loop
-same-length-2 c = omega arith
-
-returns-2 : tie.Need-returns-2 Inv-loop μ-loop
-returns-2 c = let k = c .before .loop in counts (2 * k .i) (k .text) (omega arith)
+returns : tie.Need-returns Inv-loop μ-loop
+returns c =
+    let head = c .before in
+    wrote-all hexOf (head .before .before .before .before .before .args .bytes .now) (head .loop .i) (omega arith) (head .loop .inv .1)
 
 pub hex-spec : {M : Type 1} → statement M
 hex-spec =
@@ -82,24 +55,12 @@ hex-spec =
     (tie.spec
     Inv-loop
     μ-loop
+    place-requires
     loop-holds
-    mul-if1
-    sub-if1
-    mul-result
-    same-length
-    returns
-    shared-slice-read-digit
-    digit-requires
-    mul-text
-    slice-write-text
-    shared-slice-read-digit-2
-    digit-requires-2
-    mul-text-2
-    add-text
-    slice-write-text-2
+    shared-slice-read-hex-byte
+    hex-byte-requires
     add-i
     loop-less
     loop-again
-    mul-result-2
-    same-length-2
-    returns-2)
+    same-length
+    returns)

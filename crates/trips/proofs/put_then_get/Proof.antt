@@ -1,149 +1,54 @@
 -- `put_then_get` meets its contract: a list put back is the list read out. Assumes nothing.
-use mathlib.Core.Path.{sym, _∙_}
 use native.Mathlib.Omega.{arith}
 use Rattle.lens.specs.CallLaws.{done-inside}
-use Rattle.trips.specs.TripCalls.{front-long, put-stopped, then-stopped, then-kept, never-refused, never-more, never-other}
+use Rattle.trips.specs.TripCalls.{front-long, put-stopped, get-shut, get-judged}
 use borrow.Author.Needs.{needs}
 use Rattle.trips.proofs.put_then_get.Statement.{statement}
 use Rattle.trips.proofs.put_then_get.Tie as tie
 
-put-requires : tie.Need-put-requires
-put-requires c κs = search needs
+-- PLACES: the list was put back, and that succeeded; the door was asked; the new plan was read out
+abbrev done : tie.After-len → tie.After-put
+done c = c .before .before .before .before .before .before
 
-enum-known-c : tie.Need-enum-known-c
-enum-known-c c = search needs
+abbrev asked : tie.After-door → tie.After-len
+asked c = c .before .before
 
-enum-known-len : tie.Need-enum-known-len
-enum-known-len c = search needs
+abbrev opened : tie.After-get → tie.Else1
+opened c = c .before .before .before .before
+
+abbrev read : tie.After-judged-arg → tie.After-get
+read c = c .before .before .before .before .before
 
 slice-reshare-prefix-get : tie.Need-slice-reshare-prefix-get
-slice-reshare-prefix-get c = done-inside (c .before .before .before .before .before .before .before .put .ensures .0) (c .before .len .given .1)
+slice-reshare-prefix-get c = let a = asked (c .before) in done-inside (done a .put .ensures .0) (a .len .given .1)
 
 slice-aggregate-get : tie.Need-slice-aggregate-get
-slice-aggregate-get c = front-long _ _ (done-inside (c .before .before .before .before .before .before .before .before .put .ensures .0) (c .before .before .len .given .1))
+slice-aggregate-get c = let a = asked (c .before .before) in front-long _ _ (done-inside (done a .put .ensures .0) (a .len .given .1))
 
-get-requires : tie.Need-get-requires
-get-requires c κs = search needs
-
-enum-known-c-2 : tie.Need-enum-known-c-2
-enum-known-c-2 c = search needs
+judged-requires : tie.Need-judged-requires
+judged-requires c κs = λ len n e. done-inside (read c .get .ensures .0) e
 
 returns : tie.Need-returns
-returns c = then-stopped _ _ _ _ _ _ _ (c .before .before .before .before .before .before .before .before .before .before .before .before .before .before .before .before .before .before .before .put .ensures .0) (c .before .before .before .before .before .before .before .before .before .before .before .before .before .before .before .before .before .before .before .put .kept .1 .1 .1 .1 .1 .0) (c .before .before .before .before .before .before .before .before .before .before .before .before .before .len .given .1) (c .before .before .before .before .before .before .before .before .get .ensures .0) (c .before .before .c2 .given .1)
-
-same-length-3 : tie.Need-same-length-3
-same-length-3 c = search needs
-
-same-length-2 : tie.Need-same-length-2
-same-length-2 c = search needs
-
-same-length : tie.Need-same-length
-same-length c = search needs
-
-enum-known-n : tie.Need-enum-known-n
-enum-known-n c = search needs
+returns c =
+    let a = asked (c .before) in
+    let p = done a .put in
+    get-shut _ _ _ _ _ _ _ (p .ensures .0) (p .kept .1 .1 .1 .1 .1 .0) (a .len .given .1) (c .before .door .ensures) (c .if1 .taken)
 
 returns-2 : tie.Need-returns-2
-returns-2 c = absurd (never-more _ _ _ _ _ _ _ (c .before .before .before .before .before .before .before .before .before .before .before .before .before .before .before .before .before .before .before .put .ensures .0) (c .before .before .before .before .before .before .before .before .before .before .before .before .before .before .before .before .before .before .before .put .kept .1 .1 .1 .1 .1 .0) (c .before .before .before .before .before .before .before .before .before .before .before .before .before .len .given .1) (c .before .before .before .before .before .before .before .before .get .ensures .0) (c .before .before .n .given .1) (c .if2 .taken))
-
-same-length-6 : tie.Need-same-length-6
-same-length-6 c = search needs
-
-same-length-5 : tie.Need-same-length-5
-same-length-5 c = search needs
-
-same-length-4 : tie.Need-same-length-4
-same-length-4 c = search needs
-
-slice-reshare-prefix-same : tie.Need-slice-reshare-prefix-same
-slice-reshare-prefix-same c = done-inside (c .before .before .before .before .before .before .before .before .get .ensures .0) (c .before .before .n .given .1)
-
-slice-aggregate-same : tie.Need-slice-aggregate-same
-slice-aggregate-same c = front-long _ _ (done-inside (c .before .before .before .before .before .before .before .before .before .get .ensures .0) (c .before .before .before .n .given .1))
-
-same-requires : tie.Need-same-requires
-same-requires c κs = search needs
+returns-2 c = put-stopped _ _ _ _ _ _ _ (c .before .before .before .before .before .before .before .put .ensures .0) (c .before .c .given .1)
 
 returns-3 : tie.Need-returns-3
-returns-3 c = then-kept _ _ _ _ _ _ _ (c .before .before .before .before .before .before .before .before .before .before .before .before .before .before .before .before .before .before .before .before .before .before .put .ensures .0) (c .before .before .before .before .before .before .before .before .before .before .before .before .before .before .before .before .before .before .before .before .before .before .put .kept .1 .1 .1 .1 .1 .0) (c .before .before .before .before .before .before .before .before .before .before .before .before .before .before .before .before .len .given .1) (c .before .before .before .before .before .before .before .before .before .before .before .get .ensures .0) (c .before .before .before .before .before .n .given .1)
-
-same-length-9 : tie.Need-same-length-9
-same-length-9 c = search needs
-
-same-length-8 : tie.Need-same-length-8
-same-length-8 c = search needs
-
-same-length-7 : tie.Need-same-length-7
-same-length-7 c = search needs
-
-returns-4 : tie.Need-returns-4
-returns-4 c = put-stopped _ _ _ _ _ _ _ (c .before .before .before .before .before .before .before .put .ensures .0) (c .before .c .given .1)
-
-same-length-11 : tie.Need-same-length-11
-same-length-11 c = search needs
-
-same-length-10 : tie.Need-same-length-10
-same-length-10 c = search needs
-
-returns-5 : tie.Need-returns-5
-returns-5 c = absurd (never-refused _ _ _ _ _ _ _ (c .before .before .before .before .before .before .before .before .before .before .before .before .before .before .before .before .before .before .before .put .ensures .0) (c .before .before .before .before .before .before .before .before .before .before .before .before .before .before .before .before .before .before .before .put .kept .1 .1 .1 .1 .1 .0) (c .before .before .before .before .before .before .before .before .before .before .before .before .before .len .given .1) (c .before .before .before .before .before .before .before .before .get .ensures .0) (omega (arith, c .if1 .left)) (c .before .before .c2 .given .1))
-
-same-length-14 : tie.Need-same-length-14
-same-length-14 c = search needs
-
-same-length-13 : tie.Need-same-length-13
-same-length-13 c = search needs
-
-same-length-12 : tie.Need-same-length-12
-same-length-12 c = search needs
-
-returns-6 : tie.Need-returns-6
-returns-6 c = absurd (never-other _ _ _ _ _ _ _ (c .before .before .before .before .before .before .before .before .before .before .before .before .before .before .before .before .before .before .before .before .before .before .put .ensures .0) (c .before .before .before .before .before .before .before .before .before .before .before .before .before .before .before .before .before .before .before .before .before .before .put .kept .1 .1 .1 .1 .1 .0) (c .before .before .before .before .before .before .before .before .before .before .before .before .before .before .before .before .len .given .1) (c .before .before .before .before .before .before .before .before .before .before .before .get .ensures .0) (c .before .before .before .before .before .n .given .1) (sym (c .before .same .ensures) ∙ c .if3 .left))
-
-same-length-17 : tie.Need-same-length-17
-same-length-17 c = search needs
-
-same-length-16 : tie.Need-same-length-16
-same-length-16 c = search needs
-
-same-length-15 : tie.Need-same-length-15
-same-length-15 c = search needs
+returns-3 c =
+    let g = read (c .before) in
+    let d = opened g in
+    let a = asked (d .before) in
+    let p = done a .put in
+    get-judged _ _ _ _ _ _ _ (p .ensures .0) (p .kept .1 .1 .1 .1 .1 .0) (a .len .given .1) (d .before .door .ensures) (d .if1 .left)
+    (g .get .ensures .0) (c .judged .ensures)
 
 pub put-then-get-spec : {M : Type 1} → statement M
 put-then-get-spec =
     tie.close
-    (tie.spec
-    put-requires
-    enum-known-c
-    enum-known-len
-    slice-reshare-prefix-get
-    slice-aggregate-get
-    get-requires
-    enum-known-c-2
-    same-length
-    same-length-2
-    same-length-3
-    returns
-    enum-known-n
-    same-length-4
-    same-length-5
-    same-length-6
-    returns-2
-    slice-reshare-prefix-same
-    slice-aggregate-same
-    same-requires
-    same-length-7
-    same-length-8
-    same-length-9
-    returns-3
-    same-length-10
-    same-length-11
-    returns-4
-    same-length-12
-    same-length-13
-    same-length-14
-    returns-5
-    same-length-15
-    same-length-16
-    same-length-17
-    returns-6)
+    (tie.spec (λ c κs. search needs) (λ c. search needs) (λ c. search needs) (λ c κs. search needs) (λ c. search needs) (λ c. search needs) returns
+    slice-reshare-prefix-get slice-aggregate-get (λ c κs. search needs) judged-requires (λ c. search needs) (λ c. search needs) returns-2
+    (λ c. search needs) (λ c. search needs) (λ c. search needs) returns-3)

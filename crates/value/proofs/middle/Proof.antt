@@ -1,51 +1,44 @@
--- `value::middle` meets its contract: the reader gives the first part's length.
+-- `value::middle` meets its contract: the reader gives the first part's length. Assumes nothing.
 use native.Mathlib.Omega.{arith}
 use denote.Ref.{now}
-use mathlib.Core.Path.{sym, ap, _∙_}
-use Prim.Native.Nat.{ℕ}
-use Rattle.value.specs.Reader.{answer, answer-whole}
-use Rattle.value.specs.Turns.{is-whole, short}
+use mathlib.Core.Path.{ap}
 use Rattle.value.specs.Parts.{behind, middleOf}
-use Rattle.value.specs.Answers.{shape-none, middle-behind, middle-none}
-use Rattle.value.specs.declared.Read.{Read}
-use Rattle.value.specs.declared.Shape.the-variants.{Front}
+use Rattle.value.specs.Answers.{shape-none, middle-behind, middle-none, whole-short}
 use borrow.Author.Needs.{needs}
 use Rattle.value.proofs.middle.Statement.{statement}
 use Rattle.value.proofs.middle.Tie as tie
+
+-- PLACES: there are bytes; the first part was read
+abbrev entry : tie.Else1 → tie.Start
+entry c = c .before .before
+
+abbrev some : tie.After-read-value → tie.Else1
+some c = c .before .before .before .before
 
 returns : tie.Need-returns
 unfolding middleOf
 returns c = ap middleOf (shape-none (now (c .before .before .args .v)) (c .if1 .taken))
 
-shared-slice-read-kind : tie.Need-shared-slice-read-kind
-shared-slice-read-kind c = search needs
-
-sub-value : tie.Need-sub-value
-sub-value c = search needs
-
-part-value-start : tie.Need-part-value-start
-part-value-start c = search needs
-
-part-value-end : tie.Need-part-value-end
-part-value-end c = search needs
-
-value-requires : tie.Need-value-requires
-value-requires c κs = search needs
+add-result : tie.Need-add-result
+add-result c = let r = c .before .before .before in omega (arith, whole-short _ (r .read-value .ensures) (c .before .n .given .1))
 
 returns-2 : tie.Need-returns-2
 unfolding middleOf behind
-returns-2 c = sym (middle-behind (now (c .before .before .before .before .before .before .before .args .v)) (c .before .before .before .before .before .if1 .left) (c .before .before .before .match .keys1) (c .before .value .ensures) ∙ ap (λ (n : ℕ). middleOf (behind Front (answer n))) (c .if2 .taken))
+returns-2 c =
+    let r = c .before .before .before in
+    middle-behind (now (entry (some r) .args .v)) (some r .if1 .left) (r .before .before .match .keys1) (r .read-value .ensures) (c .before .n .given .1)
 
 returns-3 : tie.Need-returns-3
 unfolding middleOf behind
-returns-3 c = sym (middle-behind (now (c .before .before .before .before .before .before .before .before .args .v)) (c .before .before .before .before .before .before .if1 .left) (c .before .before .before .before .match .keys1) (c .before .before .value .ensures) ∙ ap (λ (n : ℕ). middleOf (behind Front (answer n))) (c .if3 .taken))
-
-add-result : tie.Need-add-result
-add-result c = omega (arith, short (is-whole (now (c .before .before .before .before .before .before .before .before .args .v)) 1 (c .before .before .value .ensures) (c .before .if2 .left) (c .if3 .left)))
+returns-3 c =
+    let r = c .before .before in
+    middle-behind (now (entry (some r) .args .v)) (some r .if1 .left) (r .before .before .match .keys1) (r .read-value .ensures) (c .enum-told .given .1)
 
 returns-4 : tie.Need-returns-4
 unfolding middleOf behind
-returns-4 c = sym (middle-behind (now (c .before .before .before .before .before .before .before .before .args .v)) (c .before .before .before .before .before .before .if1 .left) (c .before .before .before .before .match .keys1) (c .before .before .value .ensures) ∙ ap (λ (r : Read). middleOf (behind Front r)) (answer-whole _ (c .before .if2 .left) (c .if3 .left)))
+returns-4 c =
+    let r = c .before .before in
+    middle-behind (now (entry (some r) .args .v)) (some r .if1 .left) (r .before .before .match .keys1) (r .read-value .ensures) (c .enum-told2 .given .1)
 
 returns-5 : tie.Need-returns-5
 returns-5 c = middle-none (now (c .before .before .before .before .args .v)) (c .match .rest .1)
@@ -53,15 +46,5 @@ returns-5 c = middle-none (now (c .before .before .before .before .args .v)) (c 
 pub middle-spec : {M : Type 1} → statement M
 middle-spec =
     tie.close
-    (tie.spec
-    returns
-    shared-slice-read-kind
-    sub-value
-    part-value-start
-    part-value-end
-    value-requires
-    returns-2
-    returns-3
-    add-result
-    returns-4
-    returns-5)
+    (tie.spec returns (λ c. search needs) (λ c. search needs) (λ c. search needs) (λ c. search needs) (λ c κs. search needs) (λ c. search needs)
+    add-result (λ c. search needs) (λ c. search needs) returns-2 returns-3 returns-4 returns-5)

@@ -1,6 +1,6 @@
 -- `try_get` is safe and ends: the fronts that it lends lie within the buffers. Assumes nothing.
 use native.Mathlib.Omega.{arith}
-use Rattle.report.specs.Counting.{counts}
+use Rattle.io.proofs.Counting.{counts}
 use borrow.Author.Needs.{needs}
 use Rattle.examples.proofs.buffers.try_get.Statement.{statement}
 use Rattle.examples.proofs.buffers.try_get.Tie as tie
@@ -21,13 +21,17 @@ array-borrow-prefix-out : tie.Need-array-borrow-prefix-out
 array-borrow-prefix-out c = search needs
 
 slice-aggregate-print-get : tie.Need-slice-aggregate-print-get
-slice-aggregate-print-get c = counts (c .before .before .before .before .before .before .before .args .out-len) (c .before .before .before .before .output .result) (omega (arith, c .before .before .before .before .output .ensures)) .1
+slice-aggregate-print-get c =
+    let made = c .before .before .before .before in
+    counts (made .before .before .before .args .out-len) (made .output .result) (omega (arith, made .output .ensures)) .1
 
 array-borrow-prefix-lent : tie.Need-array-borrow-prefix-lent
 array-borrow-prefix-lent c = search needs
 
 slice-aggregate-print-get-2 : tie.Need-slice-aggregate-print-get-2
-slice-aggregate-print-get-2 c = counts (c .before .before .before .before .before .before .before .before .args .scratch-len) (c .before .before .before .before .scratch .result) (omega (arith, c .before .before .before .before .scratch .ensures)) .1
+slice-aggregate-print-get-2 c =
+    let made = c .before .before .before .before in
+    counts (made .before .before .before .before .args .scratch-len) (made .scratch .result) (omega (arith, made .scratch .ensures)) .1
 
 print-get-requires : tie.Need-print-get-requires
 print-get-requires c κs = search needs

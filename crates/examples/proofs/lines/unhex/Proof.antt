@@ -3,7 +3,7 @@ use Prim.Native.Nat.{_≤_, _-_}
 use mathlib.Core.Path.{_≡_}
 use native.Mathlib.Omega.{arith}
 use lib.ListN.{length, length-set}
-use Rattle.report.specs.Counting.{counts}
+use Rattle.io.proofs.Counting.{counts}
 use Rattle.examples.proofs.lines.unhex.Statement.{statement}
 use Rattle.examples.proofs.lines.unhex.Tie as tie
 

@@ -1,0 +1,198 @@
+-- Laws of the program's line: how long it is, that 8,193 bytes of the input decide it, and what shows it of the code.
+use mathlib.Core.Bool.{Bool, true, false, cond, _||_, false≢true}
+use mathlib.Core.Path.{_≡_, refl, sym, ap}
+use mathlib.Core.List.{List, [], _∷_}
+use Prim.Native.Nat.{ℕ, _+_, _-_, _≤_, _<_}
+use native.Mathlib.Omega.{arith}
+use native.Mathlib.Decide.{decLe}
+use borrow.Author.Tests.{le-leb, lt-leb, ltb-true, eqb-true}
+use lib.Dec.{leb, ltb, eqb}
+use lib.ListN.{length, take, drop, length-drop}
+use lib.Seq.{length-take-le, take-all, take-append-seam}
+use Rattle.rules.specs.Outcome.{when, given}
+use Rattle.rules.specs.Numbers.{SCRATCH, GET-OUTPUT, PUT-OUTPUT}
+use Rattle.rules.specs.Answer.{Answer, refusal, success, door, getAnswer, putAnswer}
+use Rattle.rules.specs.Refusals.{Stated, among, table, get-refusals, put-refusals}
+use Rattle.lens.specs.declared.Reply.{Reply}
+use Rattle.lens.specs.declared.Reply.the-variants.{Done, Refused}
+use Rattle.lens.specs.Calls.{reply, written, cleared, Answered}
+use Rattle.lens.specs.CallLaws.{done-inside}
+use Rattle.lens.specs.Packing.{Small, small-get, small-put}
+use Rattle.report.specs.Text.{refusalLine, successLine}
+use Rattle.report.specs.TextLaws.{refusal-length, success-length}
+use Rattle.report.specs.Writing.{Wrote, Front, wrote-front, wrote-text}
+use Rattle.job.specs.declared.Job.{Job}
+use Rattle.job.specs.declared.Job.the-variants.{Get, Put, Other}
+use Rattle.job.specs.Format.{jobOf}
+use Rattle.job.specs.Line.{part, answerOf, jobAnswer, answerLine, jobLine, replyLine, Within, Said, clearedBy, Lent}
+
+-- HOW LONG A LINE IS
+
+unfoldable below : List ℕ → Bool
+below [] = true
+below (x ∷ xs) = cond (ltb x 256) (below xs) false
+
+among-below : (c : ℕ) (xs : List ℕ) → below xs ≡ true → among c xs ≡ true → c < 256
+unfolding among below
+among-below c [] h e = absurd (false≢true e)
+among-below c (x ∷ xs) h e = go (ltb x 256) refl (eqb c x) refl h e (among-below c xs)
+  where
+    go : (p : Bool) → ltb x 256 ≡ p → (b : Bool) → eqb c x ≡ b → cond p (below xs) false ≡ true → (b || among c xs) ≡ true
+        → (below xs ≡ true → among c xs ≡ true → c < 256) → c < 256
+    go true l true q h e r = omega (arith, eqb-true c x q, ltb-true x 256 l)
+    go true l false q h e r = r h e
+    go false l b q h e r = absurd (false≢true h)
+
+stated-small : (c : ℕ) → Stated c → c < 256
+unfolding below table
+stated-small c h = among-below c (1 ∷ 2 ∷ 3 ∷ table) refl h
+
+fits : (a : Answer) → ((c : ℕ) → a ≡ refusal c → c < 256) → Small (reply a) → length (answerLine a) ≤ 8204
+unfolding answerLine reply
+fits (refusal c) h s = omega (arith, refusal-length c (h c refl))
+fits (success bs n) h s = omega (arith, s .0, success-length n bs (s .1))
+
+-- a call that answers a, on buffers of no bytes
+answered : (a : Answer) → Answered a (reply a) [] (written a []) [] (cleared a [])
+answered a = record { answer = refl; output = refl; scratch = refl }
+
+fits-get : (sheet plan : List ℕ) (allowance output scratch : ℕ) → length (answerLine (getAnswer sheet plan allowance output scratch)) ≤ 8204
+fits-get sheet plan allowance output scratch =
+    fits _ (λ c e. stated-small c (get-refusals sheet plan allowance output scratch c e)) (small-get sheet plan allowance output scratch (answered _))
+
+fits-put : (sheet plan view : List ℕ) (allowance output scratch : ℕ) → length (answerLine (putAnswer sheet plan view allowance output scratch)) ≤ 8204
+fits-put sheet plan view allowance output scratch =
+    fits _ (λ c e. stated-small c (put-refusals sheet plan view allowance output scratch c e)) (small-put sheet plan view allowance output scratch (answered _))
+
+fits-refusal : (c : ℕ) → c < 256 → length (answerLine (refusal c)) ≤ 8204
+unfolding answerLine
+fits-refusal c h = omega (arith, refusal-length c h)
+
+fits-job : (bs : List ℕ) (j : Job) → length (answerLine (answerOf bs j)) ≤ 8204
+unfolding answerOf
+fits-job bs (Get a n m) = fits-get _ _ a GET-OUTPUT SCRATCH
+fits-job bs (Put a n m) = fits-put _ _ _ a PUT-OUTPUT SCRATCH
+fits-job bs Other = fits-refusal 60 (omega arith)
+
+pub line-fits : (bs : List ℕ) → length (jobLine bs) ≤ 8204
+unfolding jobLine jobAnswer
+line-fits bs = go (leb (length bs) 8192)
+  where
+    go : (p : Bool) → length (answerLine (cond p (answerOf bs (jobOf bs)) (refusal 61))) ≤ 8204
+    go true = fits-job bs (jobOf bs)
+    go false = fits-refusal 61 (omega arith)
+
+-- THE FIRST 8,193 BYTES DECIDE IT
+pub line-front : (bs : List ℕ) → jobLine (take 8193 bs) ≡ jobLine bs
+unfolding jobLine jobAnswer
+line-front bs = go (decLe (length bs) 8193)
+  where
+    go : Dec (length bs ≤ 8193) → jobLine (take 8193 bs) ≡ jobLine bs
+    go (yes h) = rw (take-all 8193 bs h)
+    go (no h) = rw (length-take-le 8193 bs (omega arith), lt-leb (length bs) 8192 (omega arith))
+
+-- WHAT SHOWS IT OF THE CODE
+
+module _ {a : Answer} {q : Reply} {o o′ s s′ : List ℕ} (w : Answered a q o o′ s s′) where
+  pub reply-within : Within q o′
+  reply-within = go q refl
+    where
+      go : (p : Reply) → q ≡ p → Within p o′
+      go (Refused c) e = tt
+      go (Done len n) e = done-inside w e
+
+  reply-line : replyLine q o′ ≡ answerLine a
+  unfolding replyLine answerLine reply written
+  reply-line = go a (w .answer) (w .output)
+    where
+      go : (a : Answer) → q ≡ reply a → o′ ≡ written a o → replyLine q o′ ≡ answerLine a
+      go (refusal c) e p = rw e
+      go (success bs n) e p = rw (e, p, take-append-seam bs (drop (length bs) o))
+
+  pub said : {t t′ : List ℕ} {r : ℕ} → Wrote (replyLine q o′) 0 t t′ r → length (answerLine a) ≤ length t → Said a r t t′ o o′ s s′
+  said l h = record { text = wrote-front (wrote-text l reply-line) h; output = w .output; scratch = w .scratch }
+
+-- a reply, case by case
+pub within-done : (o : List ℕ) {q : Reply} {len n : ℕ} → Within q o → q ≡ Done len n → len ≤ length o
+within-done o h e = rw e at h
+
+pub line-refused : (o : List ℕ) {q : Reply} {c : ℕ} → q ≡ Refused c → refusalLine c ≡ replyLine q o
+unfolding replyLine
+line-refused o e = rw e
+
+pub line-done : (o : List ℕ) {q : Reply} {len n : ℕ} → q ≡ Done len n → successLine n (take len o) ≡ replyLine q o
+unfolding replyLine
+line-done o e = rw e
+
+more-output : (sheet plan : List ℕ) (allowance : ℕ) → getAnswer sheet plan allowance PUT-OUTPUT SCRATCH ≡ getAnswer sheet plan allowance GET-OUTPUT SCRATCH
+unfolding getAnswer door given when decLe
+more-output sheet plan allowance = refl
+
+-- a call on buffers of the sizes that the program lends
+module _ {o s t : List ℕ} (eo : length o ≡ PUT-OUTPUT) (es : length s ≡ SCRATCH) (et : length t ≡ 8204) (sheet plan : List ℕ) (allowance : ℕ)
+    {q : Reply} {o′ s′ t′ : List ℕ} {r : ℕ} where
+  -- a get is lent more than the 256 bytes that it needs
+  pub said-get : Answered (getAnswer sheet plan allowance (length o) (length s)) q o o′ s s′ → Wrote (replyLine q o′) 0 t t′ r
+      → Said (getAnswer sheet plan allowance GET-OUTPUT SCRATCH) r t t′ o o′ s s′
+  said-get w l = said (rw (eo, es, more-output sheet plan allowance) at w) l (rw et (fits-get sheet plan allowance GET-OUTPUT SCRATCH))
+
+  pub said-put : (view : List ℕ) → Answered (putAnswer sheet plan view allowance (length o) (length s)) q o o′ s s′ → Wrote (replyLine q o′) 0 t t′ r
+      → Said (putAnswer sheet plan view allowance PUT-OUTPUT SCRATCH) r t t′ o o′ s s′
+  said-put view w l = said (rw (eo, es) at w) l (rw et (fits-put sheet plan view allowance PUT-OUTPUT SCRATCH))
+
+-- a part from its start up to its end
+pub up-to : (bs : List ℕ) (i n : ℕ) → part bs i (i + n - i) ≡ part bs i n
+up-to bs i n = let e : i + n - i ≡ n = omega arith in ap (part bs i) e
+
+pub to-end : (bs : List ℕ) (i : ℕ) → part bs i (length bs - i) ≡ drop i bs
+to-end bs i = take-all (length bs - i) (drop i bs) (omega (arith, length-drop i bs))
+
+-- an input: over 8,192 bytes, no job, a get, a put
+module _ (bs : List ℕ) where
+  answer-over : 8192 < length bs → jobAnswer bs ≡ refusal 61
+  unfolding jobAnswer
+  answer-over h = rw (lt-leb (length bs) 8192 h)
+
+  answer-job : {i j : Job} → length bs ≤ 8192 → i ≡ jobOf bs → i ≡ j → jobAnswer bs ≡ answerOf bs j
+  unfolding jobAnswer
+  answer-job h e q = rw (le-leb (length bs) 8192 h, ← e, q)
+
+  lent-over : (o s : List ℕ) → 8192 < length bs → Lent bs o o s s
+  unfolding written
+  lent-over o s h = record { output = rw (answer-over h); scratch = rw (lt-leb (length bs) 8192 h) }
+
+  lent-job : {i j : Job} → length bs ≤ 8192 → i ≡ jobOf bs → i ≡ j → {o o′ s s′ : List ℕ}
+      → o′ ≡ written (answerOf bs j) o → s′ ≡ clearedBy bs j s → Lent bs o o′ s s′
+  lent-job h e q p z = record { output = rw (answer-job h e q) p; scratch = rw (le-leb (length bs) 8192 h, ← e, q) z }
+
+  module _ {t t′ : List ℕ} {r : ℕ} where
+    line-wrote : (c : ℕ) → length t ≡ 8204 → jobAnswer bs ≡ refusal c → Wrote (refusalLine c) 0 t t′ r → Front (jobLine bs) t t′ r
+    unfolding jobLine answerLine
+    line-wrote c et e l = wrote-front (wrote-text l (sym (ap answerLine e))) (rw et (line-fits bs))
+
+    line-said : {a : Answer} → jobAnswer bs ≡ a → Front (answerLine a) t t′ r → Front (jobLine bs) t t′ r
+    unfolding jobLine
+    line-said e f = rw e f
+
+    pub prints-over : {o s : List ℕ} → length t ≡ 8204 → 8192 < length bs → Wrote (refusalLine 61) 0 t t′ r → Front (jobLine bs) t t′ r × Lent bs o o s s
+    prints-over {o} {s} et h l = (line-wrote 61 et (answer-over h) l, lent-over o s h)
+
+    module _ {j : Job} (h : length bs ≤ 8192) (e : j ≡ jobOf bs) where
+      pub prints-none : {o s : List ℕ} → length t ≡ 8204 → j ≡ Other → Wrote (refusalLine 60) 0 t t′ r → Front (jobLine bs) t t′ r × Lent bs o o s s
+      unfolding answerOf written clearedBy
+      prints-none et q l = (line-wrote 60 et (answer-job h e q) l, lent-job h e q refl refl)
+
+      pub prints-get : {a n m : ℕ} {sheet plan o o′ s s′ : List ℕ} → j ≡ Get a n m → sheet ≡ part bs 6 n → plan ≡ part bs (8 + n) m
+          → Said (getAnswer sheet plan a GET-OUTPUT SCRATCH) r t t′ o o′ s s′ → Front (jobLine bs) t t′ r × Lent bs o o′ s s′
+      unfolding answerOf clearedBy
+      prints-get {a} {n} {m} {o = o} {o′ = o′} {s = s} {s′ = s′} q es ep w =
+          let v : Said (answerOf bs (Get a n m)) r t t′ o o′ s s′ = rw (es, ep) at w in
+          (line-said (answer-job h e q) (v .text), lent-job h e q (v .output) (v .scratch))
+
+      pub prints-put : {a n m : ℕ} {sheet plan view o o′ s s′ : List ℕ} → j ≡ Put a n m
+          → sheet ≡ part bs 6 n → plan ≡ part bs (8 + n) m → view ≡ drop (8 + n + m) bs
+          → Said (putAnswer sheet plan view a PUT-OUTPUT SCRATCH) r t t′ o o′ s s′ → Front (jobLine bs) t t′ r × Lent bs o o′ s s′
+      unfolding answerOf clearedBy
+      prints-put {a} {n} {m} {o = o} {o′ = o′} {s = s} {s′ = s′} q es ep ev w =
+          let v : Said (answerOf bs (Put a n m)) r t t′ o o′ s s′ = rw (es, ep, ev) at w in
+          (line-said (answer-job h e q) (v .text), lent-job h e q (v .output) (v .scratch))

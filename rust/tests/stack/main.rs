@@ -1,0 +1,72 @@
+//! The stack that a call of the archive takes, on the deepest jobs. `cargo test --test stack -- --nocapture` prints it job by job.
+
+mod jobs;
+mod painted;
+
+use lens::raw;
+use reference::job::Job;
+
+struct Lent {
+    out: Vec<u8>,
+    scratch: Vec<u8>,
+}
+
+fn lent() -> Lent {
+    Lent { out: vec![0; raw::PUT_OUT], scratch: vec![0; raw::SCRATCH] }
+}
+
+fn run(job: &Job, lent: &mut Lent) -> u64 {
+    let answer = match &job.view {
+        None => raw::get(&job.sheet, &job.plan, job.allowance, &mut lent.out, &mut lent.scratch),
+        Some(view) => raw::put(&job.sheet, &job.plan, view, job.allowance, &mut lent.out, &mut lent.scratch),
+    };
+    answer.0
+}
+
+/// The jobs are as deep as they say: a chain that ends at depth 48 gives its list or plan, a longer one is refused.
+#[test]
+fn the_jobs_are_the_deepest() {
+    for deep in jobs::deepest() {
+        let mut theirs = lent();
+        let mut ours = lent();
+        let answer = deep.job.run(&mut theirs.out, &mut theirs.scratch);
+        assert!(deep.number.is_none_or(|number| number == answer as u8), "{}", deep.name);
+        assert_eq!((run(&deep.job, &mut ours), &ours.out), (answer, &theirs.out), "{}", deep.name);
+    }
+}
+
+/// None takes more than `raw::STACK`, which is little more than the most that is measured.
+#[test]
+fn the_stack_is_as_stated() {
+    let mut most = 0;
+    for deep in jobs::deepest() {
+        let mut lent = lent();
+        let used = painted::stack_of(&mut || {
+            run(&deep.job, &mut lent);
+        });
+        println!("{used:>8} {}", deep.name);
+        most = most.max(used);
+    }
+    let rounded = most.next_multiple_of(PAGE);
+    println!("{most:>8} bytes of stack are the most: STACK is to be {rounded}");
+    assert!(
+        most <= raw::STACK && raw::STACK <= most + 2 * PAGE,
+        "measured: {most} bytes. Set STACK in rust/src/raw.rs and include/lens.h, and the number in rust/README.md, to {rounded}"
+    );
+}
+
+/// The system hands out stack by pages.
+const PAGE: usize = 4096;
+
+/// What a thread needs beside the call: its own data, and the frames of the test.
+const LITTLE: usize = 2 * PAGE;
+
+#[test]
+fn a_thread_with_little_more_does() {
+    for deep in jobs::deepest() {
+        let mut lent = lent();
+        let thread = std::thread::Builder::new().stack_size(raw::STACK + LITTLE);
+        let answer = thread.spawn(move || run(&deep.job, &mut lent)).unwrap().join().unwrap();
+        assert!(deep.number.is_none_or(|number| number == answer as u8), "{}", deep.name);
+    }
+}
