@@ -27,7 +27,7 @@ extern "C" {
 
 /* The most bytes of stack that a call takes: measured on the deepest jobs (rust/tests/stack), not proved, and rounded up to a page. A
  * thread needs this much free when it calls. */
-#define LENS_STACK 135168u
+#define LENS_STACK 204800u
 
 /* The list that the sheet makes of the plan, in at most `allowance` steps. */
 uint64_t lens_get(const uint8_t *sheet, size_t sheet_len, const uint8_t *plan, size_t plan_len, uint32_t allowance,

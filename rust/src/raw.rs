@@ -9,7 +9,7 @@ pub const PUT_OUT: usize = 4096;
 /// Bytes of scratch that both ask for.
 pub const SCRATCH: usize = 65_536;
 /// The most bytes of stack that a call takes, measured on the deepest jobs (`tests/stack`) and rounded up.
-pub const STACK: usize = 135_168;
+pub const STACK: usize = 204_800;
 
 /// The archive's answer.
 #[derive(Clone, Copy, Debug, PartialEq, Eq)]

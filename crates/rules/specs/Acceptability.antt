@@ -13,9 +13,61 @@ use Rattle.sheet.specs.declared.Node.the-variants.{Var, False, True, Empty, Num
 use Rattle.sheet.specs.Sheet.{Sheet}
 use Rattle.rules.specs.Outcome.{Out, done, _>>=_}
 use Rattle.rules.specs.Text
-use Rattle.rules.specs.Rules.{Env, Cells, Getter, Putter, two, bounded, tested, onList, getNode, get, orOld, constant, write, both, under, mkList, mkPair, putNode, put}
-use Rattle.rules.specs.OutcomeLaws.{After, fine, stopped, after-map, after-at, gives-of, after-out, after-plus, after-bind, gives-bind, after-given, given-some, given-when, given-number, after-list, choose-first}
-use Rattle.rules.specs.Related.{All2, ends, more, all2-map, all2-append, all2-at, all2-of, all2-flip, all2-length, all2-take, all2-set, at-left, at-seam, at-last}
+use Rattle.rules.specs.Rules.{
+  Env,
+  Cells,
+  Getter,
+  Putter,
+  two,
+  bounded,
+  tested,
+  onList,
+  getNode,
+  get,
+  orOld,
+  constant,
+  write,
+  both,
+  under,
+  mkList,
+  mkPair,
+  putNode,
+  put,
+}
+use Rattle.rules.specs.OutcomeLaws.{
+  After,
+  fine,
+  stopped,
+  after-map,
+  after-at,
+  gives-of,
+  after-out,
+  after-plus,
+  after-bind,
+  gives-bind,
+  after-given,
+  given-some,
+  given-when,
+  given-number,
+  after-list,
+  choose-first,
+}
+use Rattle.rules.specs.Related.{
+  All2,
+  ends,
+  more,
+  all2-map,
+  all2-append,
+  all2-at,
+  all2-of,
+  all2-flip,
+  all2-length,
+  all2-take,
+  all2-set,
+  at-left,
+  at-seam,
+  at-last,
+}
 
 -- the cells' old values are ω: those of the variables, and what is written is no other
 abbrev pub Old : List ℕ → Env → Env → Type 0
@@ -46,7 +98,8 @@ take-same : (v : Value) (ω : Env) (b : ℕ) (W : Cells) → Keeps W ω → Kept
 unfolding Text.constant
 take-same v ω b W k = given-when _ _ refl λ _. fine (k, omega arith)
 
-take-write : (c : ℕ) (m : Value) (ω : Env) (b : ℕ) (W : Cells) (o : Option Value) → getElem? ω c ≡ some m → Keeps W ω → ((w : Value) → o ≡ some w → w ≡ m) → Kept ω b (write c m W o)
+take-write : (c : ℕ) (m : Value) (ω : Env) (b : ℕ) (W : Cells) (o : Option Value) → getElem? ω c ≡ some m → Keeps W ω → ((w : Value) → o ≡ some w → w ≡ m)
+    → Kept ω b (write c m W o)
 unfolding Text.write
 take-write c m ω b W none e k h = fine (all2-set c (some m) k e (λ w ew. sym (Option·some-injective _ _ ew)), omega arith)
 take-write c m ω b W (some w) e k h = given-when _ _ (h w refl) λ _. fine (k, omega arith)
@@ -60,7 +113,8 @@ pub free : (m w : Value) → none ≡ some w → w ≡ m
 free m w e = absurd (Option·none-ne-some w e)
 
 module _ (g : Getter) (p : Putter) (l : ℕ) (ih : Stable g p l) (sh : Sheet) (μ : Env) (σ : List ℕ) (ω : Env) (old : Old σ ω μ) where
-  both-takes : (a b : ℕ) (x y : Value) (i j : ℕ) → Accepts (p a μ σ) ω x i → Accepts (p b μ σ) ω y j → (W : Cells) → Keeps W ω → Kept ω (i + j) (both p μ σ W a x b y)
+  both-takes : (a b : ℕ) (x y : Value) (i j : ℕ) → Accepts (p a μ σ) ω x i → Accepts (p b μ σ) ω y j → (W : Cells) → Keeps W ω
+      → Kept ω (i + j) (both p μ σ W a x b y)
   unfolding Text.both
   both-takes a b x y i j ha hb W k = after-bind (ha .1 W k) λ X t _ hx. after-map (hb .1 X (hx .0)) λ Y u hy. (hy .0, omega arith)
 
@@ -68,7 +122,8 @@ module _ (g : Getter) (p : Putter) (l : ℕ) (ih : Stable g p l) (sh : Sheet) (�
       → Accepts (p b (μ ++ two f r) (σ ++ two (length ω) (suc (length ω)))) (ω ++ two f r) v i → Accepts (p s μ σ) ω u j
       → (W : Cells) → Keeps W ω → Kept ω (i + j) (under p μ σ W b v s mk f r)
   unfolding Text.under
-  under-takes b s mk f r u v i j e hb hs W k = rw (all2-length k) (after-bind (hb .1 (W ++ two none none) (all2-append k (more (free f) (more (free r) ends)))) λ X t _ hx.
+  under-takes b s mk f r u v i j e hb hs W k = rw (all2-length k)
+      (after-bind (hb .1 (W ++ two none none) (all2-append k (more (free f) (more (free r) ends)))) λ X t _ hx.
       let (x, ex, kx) = all2-at _ (all2-flip (hx .0)) (at-seam ω f r) in let (y, ey, ky) = all2-at _ (all2-flip (hx .0)) (at-last ω f r) in
       given-some _ _ ex (given-some _ _ ey (given-some _ _ (rw (or-old x f kx, or-old y r ky) e) (given-when _ _ (hs .0) λ _.
       after-map (hs .1 _ (all2-take ω _ (hx .0))) λ Y t₁ hy. (hy .0, omega arith)))))
@@ -93,15 +148,19 @@ module _ (g : Getter) (p : Putter) (l : ℕ) (ih : Stable g p l) (sh : Sheet) (�
       (λ el. after-bind (ih e μ σ ω old) λ v j _ hv. after-given _ λ t _. fine (
         hv .0,
         λ W k.
-            kept-again {b = l * j + l * i} _ eo (given-some _ _ ec (rw el (choose-first _ _ _ t (both-takes e s v (list nil) _ _ hv (rw (c .1, el) at ho) W k)))) (omega arith),
+            kept-again {b = l * j + l * i} _ eo
+            (given-some _ _ ec (rw el (choose-first _ _ _ t (both-takes e s v (list nil) _ _ hv (rw (c .1, el) at ho) W k)))) (omega arith),
       ))
       (λ f r el. let z : Fits (list (cons f r)) = rw (c .1, el) at (ho .0) in
       after-bind (ih n _ _ _ (deeper f (list r) (omega arith) (omega arith))) λ v j _ hv. after-given _ λ t _. fine (
         hv .0,
         λ W k.
-            kept-again {b = l * j + l * i} _ eo (given-some _ _ ec (rw el (choose-first _ _ _ t (under-takes n s mkList f (list r) (list (cons f r)) v _ _ refl hv (rw (c .1, el) at ho) W k)))) (omega arith),
+            kept-again {b = l * j + l * i} _ eo
+            (given-some _ _ ec (rw el
+            (choose-first _ _ _ t (under-takes n s mkList f (list r) (list (cons f r)) v _ _ refl hv (rw (c .1, el) at ho) W k)))) (omega arith),
       ))
-  node-accepts (TruthCase s f tf t t₁) = after-bind (ih s μ σ ω old) λ o i eo ho. after-given _ λ b eb. after-bind (ih _ μ σ ω old) λ v j _ hv. after-given _ λ h _.
+  node-accepts (TruthCase s f tf t t₁) = after-bind (ih s μ σ ω old) λ o i eo ho. after-given _ λ b eb. after-bind (ih _ μ σ ω old) λ v j _ hv.
+      after-given _ λ h _.
       fine (hv .0, λ W k. kept-again _ eo (given-some _ _ eb (choose-first _ _ _ h (both-takes _ s v _ _ _ hv (rw (b .1) at ho) W k))) (omega arith))
   node-accepts (Split s b) = after-bind (ih s μ σ ω old) λ o i eo ho. after-given _ λ c ec. let z : Fits (pair (c .0) (c .1)) = rw (c .2) at (ho .0) in
       after-map (ih b _ _ _ (deeper (c .0) (c .1) (omega arith) (omega arith))) λ v j hv. (
@@ -111,7 +170,8 @@ module _ (g : Getter) (p : Putter) (l : ℕ) (ih : Stable g p l) (sh : Sheet) (�
       )
   node-accepts (Call sec x y) = after-given _ λ a ea. after-given _ λ b eb.
       let (c, ec, hc) = all2-at x (all2-flip old) ea in let (d, ed, hd) = all2-at y (all2-flip old) eb in
-      after-map (ih _ _ _ ω (more hc (more hd ends))) λ v s h. (h .0, λ W k. given-some _ _ ea (given-some _ _ ec (given-some _ _ eb (given-some _ _ ed (kept-le (h .1 W k) (omega arith))))))
+      after-map (ih _ _ _ ω (more hc (more hd ends))) λ v s h.
+      (h .0, λ W k. given-some _ _ ea (given-some _ _ ec (given-some _ _ eb (given-some _ _ ed (kept-le (h .1 W k) (omega arith))))))
   node-accepts (Add n k) = after-bind (ih n μ σ ω old) λ o s _ h. after-given _ λ m _. after-given _ λ q _. fine (
     omega arith,
     λ W kw.

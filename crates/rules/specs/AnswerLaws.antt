@@ -148,7 +148,16 @@ module _ (sheet plan : List ℕ) (allowance output scratch : ℕ) (bs : List ℕ
   pub get-larger : (b : ℕ) → allowance ≤ b → b ≤ ALLOWANCE → getAnswer sheet plan allowance output scratch ≡ success bs n
       → getAnswer sheet plan b output scratch ≡ success bs n
   get-larger b h k e = let (l, g) = get-shows e in get-answers (lent-larger b h k l)
-      (record { sh = g .sh; sheet-read = g .sheet-read; μ = g .μ; plan-read = g .plan-read; v = g .v; walk = g .walk; few = le-trans (g .few) h; bytes = g .bytes })
+      (record {
+        sh = g .sh;
+        sheet-read = g .sheet-read;
+        μ = g .μ;
+        plan-read = g .plan-read;
+        v = g .v;
+        walk = g .walk;
+        few = le-trans (g .few) h;
+        bytes = g .bytes;
+      })
 
   pub put-larger : (view : List ℕ) (b : ℕ) → allowance ≤ b → b ≤ ALLOWANCE → putAnswer sheet plan view allowance output scratch ≡ success bs n
       → putAnswer sheet plan view b output scratch ≡ success bs n

@@ -15,9 +15,64 @@ use Rattle.sheet.specs.declared.Node.the-variants.{Var, False, True, Empty, Num
 use Rattle.sheet.specs.Sheet.{Sheet}
 use Rattle.rules.specs.Outcome.{Out, done, _>>=_}
 use Rattle.rules.specs.Text
-use Rattle.rules.specs.Rules.{Env, Cells, Getter, Putter, two, pick, bounded, tested, onList, getNode, get, orOld, constant, write, both, under, mkList, mkPair, putNode, put}
-use Rattle.rules.specs.OutcomeLaws.{After, fine, stopped, Gives, after-map, after-any, after-at, gives-le, gives-out, after-plus, after-bind, gives-bind, after-given, given-some, given-when, given-number, after-choose, after-list}
-use Rattle.rules.specs.Related.{All2, ends, more, all2-map, all2-append, all2-at, all2-of, all2-flip, all2-take, all2-set, all2-self, all2-join, at-take, at-set}
+use Rattle.rules.specs.Rules.{
+  Env,
+  Cells,
+  Getter,
+  Putter,
+  two,
+  pick,
+  bounded,
+  tested,
+  onList,
+  getNode,
+  get,
+  orOld,
+  constant,
+  write,
+  both,
+  under,
+  mkList,
+  mkPair,
+  putNode,
+  put,
+}
+use Rattle.rules.specs.OutcomeLaws.{
+  After,
+  fine,
+  stopped,
+  Gives,
+  after-map,
+  after-any,
+  after-at,
+  gives-le,
+  gives-out,
+  after-plus,
+  after-bind,
+  gives-bind,
+  after-given,
+  given-some,
+  given-when,
+  given-number,
+  after-choose,
+  after-list,
+}
+use Rattle.rules.specs.Related.{
+  All2,
+  ends,
+  more,
+  all2-map,
+  all2-append,
+  all2-at,
+  all2-of,
+  all2-flip,
+  all2-take,
+  all2-set,
+  all2-self,
+  all2-join,
+  at-take,
+  at-set,
+}
 
 -- X has the cells of W, and what W has written
 abbrev pub Later : Cells → Cells → Type 0

@@ -8,7 +8,21 @@ use Rattle.value.specs.Result.{andThen, mapResult, orRefuse, unless}
 use Rattle.value.specs.Value.{encode, encodes, size, sizes, flat, sameValue}
 use Rattle.value.specs.Views.{asList, asFront, asPair, asNumber, ifSmall, asTruth}
 use Rattle.value.specs.Tests.{class, table, holds, passes}
-use Rattle.value.specs.Reading.{onWhole, kindOf, makeFront, makeNumber, makePair, makeRest, beginValue, beginRest, beginByte, read, readValue, onValue, readValues}
+use Rattle.value.specs.Reading.{
+  onWhole,
+  kindOf,
+  makeFront,
+  makeNumber,
+  makePair,
+  makeRest,
+  beginValue,
+  beginRest,
+  beginByte,
+  read,
+  readValue,
+  onValue,
+  readValues,
+}
 use Rattle.sheet.specs.Sheet.{readNodes, oneSection, ifSection, readRecords, withNodes, readBody, nodesInRange, rootsInRange, inRange, readHeader, readSheet}
 use Rattle.sheet.specs.Kinds.{formOf, bodyWidth, make, nodeInRange}
 use Rattle.rules.specs.Outcome.{plus, steps, when, _>>=_, mapOut, given, reading, choose}
@@ -58,7 +72,8 @@ abbrev pub B : List ℕ
 B = 0x01 ∷ 0x01 ∷ 0x00 ∷ 0x18 ∷ 0x01 ∷ 0x02 ∷ 0x04 ∷ 0x03 ∷ 0x04 ∷ 0x10 ∷ 0x00 ∷ 0x12 ∷ 0x12 ∷ []
 
 abbrev pub J : List ℕ
-J = 0x01 ∷ 0x02 ∷ 0x00 ∷ 0x20 ∷ 0x01 ∷ 0x1A ∷ 0x00 ∷ 0x00 ∷ 0x01 ∷ 0x17 ∷ 0x02 ∷ 0x03 ∷ 0x00 ∷ 0x04 ∷ 0x02 ∷ 0x07 ∷ 0x08 ∷ 0x10 ∷ 0x00 ∷ 0x10 ∷ 0x01 ∷ 0x15 ∷ 0x05 ∷ 0x06 ∷ 0x10 ∷ 0x02 ∷ 0x1A ∷ 0x00 ∷ 0x03 ∷ 0x01 ∷ 0x11 ∷ 0x13 ∷ []
+J = 0x01 ∷ 0x02 ∷ 0x00 ∷ 0x20 ∷ 0x01 ∷ 0x1A ∷ 0x00 ∷ 0x00 ∷ 0x01 ∷ 0x17 ∷ 0x02 ∷ 0x03 ∷ 0x00 ∷ 0x04 ∷ 0x02 ∷ 0x07 ∷ 0x08 ∷ 0x10 ∷ 0x00 ∷ 0x10 ∷ 0x01 ∷ 0x15 ∷
+    0x05 ∷ 0x06 ∷ 0x10 ∷ 0x02 ∷ 0x1A ∷ 0x00 ∷ 0x03 ∷ 0x01 ∷ 0x11 ∷ 0x13 ∷ []
 
 unfoldable pub rows : List Row
 rows =
@@ -74,16 +89,19 @@ rows =
     ∷ (puts H (0x04 ∷ 0x00 ∷ 0x07 ∷ []) (0x04 ∷ 0x00 ∷ 0x64 ∷ []) (success (0x04 ∷ 0x00 ∷ 0x00 ∷ []) 2))
     ∷ (puts H (0x04 ∷ 0x00 ∷ 0x07 ∷ []) (0x04 ∷ 0x00 ∷ 0x63 ∷ []) (refusal 52))
     ∷ (puts B (0x00 ∷ []) (0x00 ∷ []) (refusal 53))
-    ∷ (puts J (0x03 ∷ 0x04 ∷ 0x00 ∷ 0x01 ∷ 0x03 ∷ 0x04 ∷ 0x00 ∷ 0x02 ∷ 0x02 ∷ 0x03 ∷ 0x04 ∷ 0x00 ∷ 0x03 ∷ 0x03 ∷ 0x04 ∷ 0x00 ∷ 0x04 ∷ 0x03 ∷ 0x04 ∷ 0x00 ∷ 0x05 ∷ 0x02 ∷ []) (0x03 ∷ 0x04 ∷ 0x00 ∷ 0x06 ∷ 0x02 ∷ []) (success (0x03 ∷ 0x04 ∷ 0x00 ∷ 0x06 ∷ 0x02 ∷ 0x02 ∷ []) 11))
+    ∷ (puts J (0x03 ∷ 0x04 ∷ 0x00 ∷ 0x01 ∷ 0x03 ∷ 0x04 ∷ 0x00 ∷ 0x02 ∷ 0x02 ∷ 0x03 ∷ 0x04 ∷ 0x00 ∷ 0x03 ∷ 0x03 ∷ 0x04 ∷ 0x00 ∷ 0x04 ∷ 0x03 ∷ 0x04 ∷ 0x00 ∷
+    0x05 ∷ 0x02 ∷ []) (0x03 ∷ 0x04 ∷ 0x00 ∷ 0x06 ∷ 0x02 ∷ []) (success (0x03 ∷ 0x04 ∷ 0x00 ∷ 0x06 ∷ 0x02 ∷ 0x02 ∷ []) 11))
     ∷ []
 
 -- each row has its answer
 pub starred : map run rows ≡ map (λ (r : Row). r .expected) rows
 unfolding rows run call getAnswer getBytes getWalk putAnswer putBytes putWalk answer door count newPlan within cap
-    plus steps when _>>=_ mapOut given reading choose Text.bounded Text.tested onList Text.getNode Text.get Text.orOld Text.constant Text.write Text.both Text.under mkList mkPair Text.putNode Text.put
+    plus steps when _>>=_ mapOut given reading choose Text.bounded Text.tested onList Text.getNode Text.get Text.orOld Text.constant Text.write Text.both
+    Text.under mkList mkPair Text.putNode Text.put
     andThen mapResult orRefuse unless encode encodes size sizes flat sameValue asList asFront asPair asNumber ifSmall asTruth class table holds passes
     onWhole kindOf makeFront makeNumber makePair makeRest beginValue beginRest beginByte read readValue onValue readValues
-    formOf bodyWidth make readNodes oneSection ifSection readRecords withNodes readBody nodeInRange nodesInRange rootsInRange inRange readHeader readSheet decLe ℕ-discrete
+    formOf bodyWidth make readNodes oneSection ifSection readRecords withNodes readBody nodeInRange nodesInRange rootsInRange inRange readHeader readSheet
+    decLe ℕ-discrete
 starred = refl
 
 -- Rows that tell the rules from document 01's plausible but mistaken builds
@@ -98,15 +116,18 @@ renewed = 0x01 ∷ 0x02 ∷ 0x00 ∷ 0x19 ∷ 0x01 ∷ 0x02 ∷ 0x18 ∷ 0x03 �
 
 -- the same with a truth case around it
 abbrev pub again : List ℕ
-again = 0x01 ∷ 0x02 ∷ 0x00 ∷ 0x18 ∷ 0x01 ∷ 0x02 ∷ 0x00 ∷ 0x03 ∷ 0x00 ∷ 0x18 ∷ 0x04 ∷ 0x05 ∷ 0x00 ∷ 0x06 ∷ 0x00 ∷ 0x10 ∷ 0x00 ∷ 0x10 ∷ 0x00 ∷ 0x10 ∷ 0x00 ∷ 0x10 ∷ 0x01 ∷ 0x10 ∷ 0x01 ∷ []
+again = 0x01 ∷ 0x02 ∷ 0x00 ∷ 0x18 ∷ 0x01 ∷ 0x02 ∷ 0x00 ∷ 0x03 ∷ 0x00 ∷ 0x18 ∷ 0x04 ∷ 0x05 ∷ 0x00 ∷ 0x06 ∷ 0x00 ∷ 0x10 ∷ 0x00 ∷ 0x10 ∷ 0x00 ∷ 0x10 ∷ 0x00 ∷
+    0x10 ∷ 0x01 ∷ 0x10 ∷ 0x01 ∷ []
 
 -- a list case whose non-empty branch writes the first member alone; the defaults are True and [9]
 abbrev pub opens : List ℕ
-opens = 0x01 ∷ 0x01 ∷ 0x00 ∷ 0x17 ∷ 0x01 ∷ 0x02 ∷ 0x01 ∷ 0x03 ∷ 0x00 ∷ 0x04 ∷ 0x05 ∷ 0x10 ∷ 0x00 ∷ 0x13 ∷ 0x10 ∷ 0x01 ∷ 0x12 ∷ 0x15 ∷ 0x06 ∷ 0x07 ∷ 0x14 ∷ 0x00 ∷ 0x09 ∷ 0x13 ∷ []
+opens = 0x01 ∷ 0x01 ∷ 0x00 ∷ 0x17 ∷ 0x01 ∷ 0x02 ∷ 0x01 ∷ 0x03 ∷ 0x00 ∷ 0x04 ∷ 0x05 ∷ 0x10 ∷ 0x00 ∷ 0x13 ∷ 0x10 ∷ 0x01 ∷ 0x12 ∷ 0x15 ∷ 0x06 ∷ 0x07 ∷ 0x14 ∷
+    0x00 ∷ 0x09 ∷ 0x13 ∷ []
 
 -- and one that writes the rest alone
 abbrev pub breaks : List ℕ
-breaks = 0x01 ∷ 0x01 ∷ 0x00 ∷ 0x17 ∷ 0x01 ∷ 0x02 ∷ 0x01 ∷ 0x03 ∷ 0x00 ∷ 0x04 ∷ 0x05 ∷ 0x10 ∷ 0x00 ∷ 0x13 ∷ 0x10 ∷ 0x02 ∷ 0x12 ∷ 0x15 ∷ 0x06 ∷ 0x07 ∷ 0x14 ∷ 0x00 ∷ 0x09 ∷ 0x13 ∷ []
+breaks = 0x01 ∷ 0x01 ∷ 0x00 ∷ 0x17 ∷ 0x01 ∷ 0x02 ∷ 0x01 ∷ 0x03 ∷ 0x00 ∷ 0x04 ∷ 0x05 ∷ 0x10 ∷ 0x00 ∷ 0x13 ∷ 0x10 ∷ 0x02 ∷ 0x12 ∷ 0x15 ∷ 0x06 ∷ 0x07 ∷ 0x14 ∷
+    0x00 ∷ 0x09 ∷ 0x13 ∷ []
 
 unfoldable pub telling : List Row
 telling =
@@ -119,8 +140,10 @@ telling =
 
 pub told-apart : map run telling ≡ map (λ (r : Row). r .expected) telling
 unfolding telling run call getAnswer getBytes getWalk putAnswer putBytes putWalk answer door count newPlan within cap
-    plus steps when _>>=_ mapOut given reading choose Text.bounded Text.tested onList Text.getNode Text.get Text.orOld Text.constant Text.write Text.both Text.under mkList mkPair Text.putNode Text.put
+    plus steps when _>>=_ mapOut given reading choose Text.bounded Text.tested onList Text.getNode Text.get Text.orOld Text.constant Text.write Text.both
+    Text.under mkList mkPair Text.putNode Text.put
     andThen mapResult orRefuse unless encode encodes size sizes flat sameValue asList asFront asPair asNumber ifSmall asTruth class table holds passes
     onWhole kindOf makeFront makeNumber makePair makeRest beginValue beginRest beginByte read readValue onValue readValues
-    formOf bodyWidth make readNodes oneSection ifSection readRecords withNodes readBody nodeInRange nodesInRange rootsInRange inRange readHeader readSheet decLe ℕ-discrete
+    formOf bodyWidth make readNodes oneSection ifSection readRecords withNodes readBody nodeInRange nodesInRange rootsInRange inRange readHeader readSheet
+    decLe ℕ-discrete
 told-apart = refl

@@ -12,7 +12,29 @@ use Rattle.sheet.specs.Sheet.{Sheet}
 use Rattle.rules.specs.Outcome.{when}
 use Rattle.rules.specs.Text
 use Rattle.rules.specs.Text.{Env, onList}
-use Rattle.rules.specs.Explain.{Why, Told, got, met, Explained, more, below, entered, choice, follow, next, wanted, Cell, Cells, Getter, Putter, explaining, own, barred, get, put}
+use Rattle.rules.specs.Explain.{
+  Why,
+  Told,
+  got,
+  met,
+  Explained,
+  more,
+  below,
+  entered,
+  choice,
+  follow,
+  next,
+  wanted,
+  Cell,
+  Cells,
+  Getter,
+  Putter,
+  explaining,
+  own,
+  barred,
+  get,
+  put,
+}
 
 -- at most k nodes below the one whose rule is followed
 pub data Short {A : Type 0} (k : ℕ) : Told A → Type 0 where
@@ -56,7 +78,8 @@ module _ {A : Type 0} {k : ℕ} where
   short-choose (no p) (yes q) h j = j
   short-choose (no p) (no q) h j = record { at = λ left. stop {y = own 53 none} (omega arith) }
 
-  short-list : (l : Values) {x : Explained A} {f : Value → Values → Explained A} → Shorts k x → ((v : Value) (r : Values) → Shorts k (f v r)) → Shorts k (onList l x f)
+  short-list : (l : Values) {x : Explained A} {f : Value → Values → Explained A} → Shorts k x → ((v : Value) (r : Values) → Shorts k (f v r))
+      → Shorts k (onList l x f)
   unfolding onList
   short-list nil h j = h
   short-list (cons v r) h j = j v r
@@ -99,7 +122,8 @@ module _ {k : ℕ} (g : Getter) (ih : Gets k g) (sh : Sheet) (μ : Env) where
   get-node-short (Number n) = gives-short _
   get-node-short (Front a b) = short-next (ih a μ) λ f. short-next (ih b μ) λ r. asked 43 none _ λ l. bounded-short _
   get-node-short (Pair a b) = short-next (ih a μ) λ u. short-next (ih b μ) λ v. bounded-short _
-  get-node-short (ListCase s e te n tn df dr) = short-next (ih s μ) λ v. asked 43 none _ λ l. short-list (l .0) (tested-short te (ih e μ)) λ f r. tested-short tn (ih n _)
+  get-node-short (ListCase s e te n tn df dr) = short-next (ih s μ) λ v. asked 43 none _ λ l. short-list (l .0) (tested-short te (ih e μ)) λ f r.
+      tested-short tn (ih n _)
   get-node-short (TruthCase s f tf t t₁) = short-next (ih s μ) λ v. asked 43 none _ λ b. tested-short _ (ih _ μ)
   get-node-short (Split s i) = short-next (ih s μ) λ v. asked 43 none _ λ p. ih i _
   get-node-short (Call sec x y) = asked 42 none _ λ a. asked 42 none _ λ b. ih _ _

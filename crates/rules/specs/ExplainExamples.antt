@@ -8,7 +8,21 @@ use Rattle.value.specs.Result.{andThen, mapResult, orRefuse, unless}
 use Rattle.value.specs.Value.{encode, encodes, size, sizes, flat, sameValue}
 use Rattle.value.specs.Views.{asList, asFront, asPair, asNumber, ifSmall, asTruth}
 use Rattle.value.specs.Tests.{class, table, holds, passes}
-use Rattle.value.specs.Reading.{onWhole, kindOf, makeFront, makeNumber, makePair, makeRest, beginValue, beginRest, beginByte, read, readValue, onValue, readValues}
+use Rattle.value.specs.Reading.{
+  onWhole,
+  kindOf,
+  makeFront,
+  makeNumber,
+  makePair,
+  makeRest,
+  beginValue,
+  beginRest,
+  beginByte,
+  read,
+  readValue,
+  onValue,
+  readValues,
+}
 use Rattle.sheet.specs.Sheet.{readNodes, oneSection, ifSection, readRecords, withNodes, readBody, nodesInRange, rootsInRange, inRange, readHeader, readSheet}
 use Rattle.sheet.specs.Kinds.{formOf, bodyWidth, make, nodeInRange}
 use Rattle.rules.specs.Outcome.{plus, steps, when, _>>=_, mapOut, given, reading, choose}
@@ -35,9 +49,12 @@ explainings =
     ∷ []
 
 worked : explainings ≡ why 54 (0 ∷ 2 ∷ []) (some 1) ∷ why 41 (0 ∷ 2 ∷ []) none ∷ why 51 (0 ∷ []) none ∷ why 41 (0 ∷ 1 ∷ []) none ∷ success ∷ before 20 ∷ []
-unfolding explainings explainGet explainPut explained afterwards more below entered choice follow next wanted getAnswer getBytes getWalk putAnswer putBytes putWalk answer door count newPlan within cap
-    plus steps when _>>=_ mapOut given reading choose Text.bounded Text.tested onList Text.getNode Text.get Text.orOld Text.constant Text.write Text.both Text.under mkList mkPair Text.putNode Text.put
+unfolding explainings explainGet explainPut explained afterwards more below entered choice follow next wanted getAnswer getBytes getWalk putAnswer putBytes
+    putWalk answer door count newPlan within cap
+    plus steps when _>>=_ mapOut given reading choose Text.bounded Text.tested onList Text.getNode Text.get Text.orOld Text.constant Text.write Text.both
+    Text.under mkList mkPair Text.putNode Text.put
     andThen mapResult orRefuse unless encode encodes size sizes flat sameValue asList asFront asPair asNumber ifSmall asTruth class table holds passes
     onWhole kindOf makeFront makeNumber makePair makeRest beginValue beginRest beginByte read readValue onValue readValues
-    formOf bodyWidth make readNodes oneSection ifSection readRecords withNodes readBody nodeInRange nodesInRange rootsInRange inRange readHeader readSheet decLe ℕ-discrete
+    formOf bodyWidth make readNodes oneSection ifSection readRecords withNodes readBody nodeInRange nodesInRange rootsInRange inRange readHeader readSheet
+    decLe ℕ-discrete
 worked = refl

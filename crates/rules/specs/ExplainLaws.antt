@@ -60,7 +60,8 @@ module _ {A B : Type 0} {f : A → B} where
     where
       go : (left : ℕ) → forget f (entered n m left) ≡ within left (plus 1 o)
       go zero = sym (within-none o)
-      go (suc left) = forget-below f n (m left) ∙ ap (plus 1) (h .same left) ∙ (let z : suc left - 1 ≡ left = omega arith in rw z at (sym (within-plus (suc left) 1 o (omega arith))))
+      go (suc left) = forget-below f n (m left) ∙ ap (plus 1) (h .same left)
+          ∙ (let z : suc left - 1 ≡ left = omega arith in rw z at (sym (within-plus (suc left) 1 o (omega arith))))
 
   erases-choose : {P Q : Type 0} (p : Dec P) (q : Dec Q) {x y : Explained A} {u v : Out B} → Erases f x u → Erases f y v
       → Erases f (choice p q x y) (choose p q u v)
@@ -79,7 +80,8 @@ module _ {A B C D : Type 0} {f : A → C} {h : B → D} where
   erases-bind : {m : Explained A} {o : Out C} {k : A → Explained B} (j : C → Out D) → Erases f m o → ((a : A) → Erases h (k a) (j (f a)))
       → Erases h (next m k) (o >>= j)
   unfolding next forget follow chain
-  erases-bind {m} {o} {k} j e c = record { same = λ left. go left (m left) ∙ ap (λ x. chain x (λ x s. within (left - s) (j x))) (e .same left) ∙ sym (within-bind left o j) }
+  erases-bind {m} {o} {k} j e c =
+      record { same = λ left. go left (m left) ∙ ap (λ x. chain x (λ x s. within (left - s) (j x))) (e .same left) ∙ sym (within-bind left o j) }
     where
       go : (left : ℕ) (t : Told A) → forget h (follow t (λ a s. k a (left - s))) ≡ chain (forget f t) (λ x s. within (left - s) (j x))
       go left (got a s) = forget-more h s (k a (left - s)) ∙ ap (plus s) (c a .same (left - s))
@@ -115,7 +117,8 @@ bounded-erases : (v : Value) → Erases same-value (Text.bounded explaining v) (
 unfolding Text.bounded
 bounded-erases v = asked 44 _ _ λ _. erases-give v
 
-tested-erases : (t : ℕ) {m : Explained Value} {o : Out Value} → Erases same-value m o → Erases same-value (Text.tested explaining t m) (Text.tested counting t o)
+tested-erases : (t : ℕ) {m : Explained Value} {o : Out Value} → Erases same-value m o
+    → Erases same-value (Text.tested explaining t m) (Text.tested counting t o)
 unfolding Text.tested
 tested-erases t e = erases-bind _ e λ v. asked 46 _ _ λ _. erases-give v
 
@@ -129,7 +132,8 @@ module _ (g : Explain.Getter) (k : Count.Getter) (ih : Gets g k) (sh : Sheet) (�
   get-node-erases (Number n) = erases-give _
   get-node-erases (Front a b) = erases-bind _ (ih a μ) λ f. erases-bind _ (ih b μ) λ r. asked 43 _ _ λ l. bounded-erases _
   get-node-erases (Pair a b) = erases-bind _ (ih a μ) λ u. erases-bind _ (ih b μ) λ v. bounded-erases _
-  get-node-erases (ListCase s e te n tn df dr) = erases-bind _ (ih s μ) λ v. asked 43 _ _ λ l. erases-list (l .0) (tested-erases te (ih e μ)) λ f r. tested-erases tn (ih n _)
+  get-node-erases (ListCase s e te n tn df dr) = erases-bind _ (ih s μ) λ v. asked 43 _ _ λ l. erases-list (l .0) (tested-erases te (ih e μ)) λ f r.
+      tested-erases tn (ih n _)
   get-node-erases (TruthCase s f tf t t₁) = erases-bind _ (ih s μ) λ v. asked 43 _ _ λ b. tested-erases _ (ih _ μ)
   get-node-erases (Split s i) = erases-bind _ (ih s μ) λ v. asked 43 _ _ λ p. ih i _
   get-node-erases (Call sec x y) = asked 42 _ _ λ a. asked 42 _ _ λ b. ih _ _
@@ -196,7 +200,8 @@ module _ (g : Explain.Getter) (k : Count.Getter) (gets : Gets g k) (p : Explain.
       erases-given value-of (own 42 none) 42 refl _ _ λ x. erases-given value-of (own 42 none) 42 refl _ _ λ y. rw (old-strip x f, old-strip y r) (
       asked 43 _ _ λ u. asked 44 _ _ λ _. rw (strip-take (length W) X) (ih s μ σ u _))))
 
-  put-node-erases : (n : ℕ) (nd : Node) → Erases strip (Text.putNode explaining (explaining .mark n) g p sh nd μ σ v W) (Text.putNode counting (λ w. w) k q sh nd μ σ v (strip W))
+  put-node-erases : (n : ℕ) (nd : Node)
+      → Erases strip (Text.putNode explaining (explaining .mark n) g p sh nd μ σ v W) (Text.putNode counting (λ w. w) k q sh nd μ σ v (strip W))
   unfolding Text.putNode
   put-node-erases n (Var x) = asked 42 _ _ λ c. rw (strip-at W c) (erases-given value-of (own 42 none) 42 refl _ _ λ o. write-erases n c v W o)
   put-node-erases n False = constant-erases v _ W

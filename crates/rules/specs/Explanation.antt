@@ -63,7 +63,8 @@ unfolding number explained refusalOf mapOut forget
 number-told f g (got a s) = refl
 number-told f g (met y s) = refl
 
-number-after : {A B : Type 0} (r : Result A) (f : A → Explanation) (g : A → Out B) → ((a : A) → number (f a) ≡ refusalOf (g a)) → number (afterwards r f) ≡ refusalOf (reading r g)
+number-after : {A B : Type 0} (r : Result A) (f : A → Explanation) (g : A → Out B) → ((a : A) → number (f a) ≡ refusalOf (g a))
+    → number (afterwards r f) ≡ refusalOf (reading r g)
 unfolding number refusalOf afterwards reading
 number-after (ok a) f g h = h a
 number-after (refusal c) f g h = refl

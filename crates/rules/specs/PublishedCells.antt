@@ -6,7 +6,22 @@ use Prim.Native.Nat.{ℕ, zero, suc}
 use lib.ListN.{length, take, set, getElem?}
 use Rattle.value.specs.Value.{Value}
 use Rattle.rules.specs.Rules.{Env, Cells, two}
-use Rattle.rules.specs.Related.{All2, ends, more, all2-map, all2-append, all2-at, all2-flip, all2-length, all2-take, all2-set, at-left, at-seam, at-last, at-set}
+use Rattle.rules.specs.Related.{
+  All2,
+  ends,
+  more,
+  all2-map,
+  all2-append,
+  all2-at,
+  all2-flip,
+  all2-length,
+  all2-take,
+  all2-set,
+  at-left,
+  at-seam,
+  at-last,
+  at-set,
+}
 use Rattle.rules.specs.Consistency.{Later, later-refl, later-trans}
 use Rattle.rules.specs.Published.{Writes, Over, blank, only, Merge1, neither, left, right, same, Merge, mEnds, mMore}
 
@@ -56,7 +71,8 @@ module _ {A B : Type 0} {R : A → B → Type 0} where
   all2-split ends h = (ends, h)
   all2-split (more s k) (more r h) = let (hu, hv) = all2-split k h in (more r hu, hv)
 
-take-at : {A B : Type 0} (W : List A) (X : List B) (c : ℕ) {a : A} {b : B} → getElem? W c ≡ some a → getElem? X c ≡ some b → getElem? (take (length W) X) c ≡ some b
+take-at : {A B : Type 0} (W : List A) (X : List B) (c : ℕ) {a : A} {b : B} → getElem? W c ≡ some a → getElem? X c ≡ some b
+    → getElem? (take (length W) X) c ≡ some b
 take-at [] X c e k = absurd (Option·none-ne-some _ e)
 take-at (w ∷ W) [] c e k = k
 take-at (w ∷ W) (x ∷ X) zero e k = k
@@ -186,7 +202,8 @@ module _ (σ : List ℕ) (μ : Env) (x c : ℕ) (m : Value) (em : getElem? μ x 
   pub section-seen : {o q : Option Value} {ω : Writes} {X : Cells} → Merge (only μ x o) (only μ y q) ω → Seen ω σ X → Seen (two o q) (two c d) X
   section-seen {o} {q} ms h = more (seen-only σ μ x c m em ec o (seen-left ms h)) (more (seen-only σ μ y d n en ed q (seen-right ms h)) ends)
 
-  pub joined-section : {o q : Option Value} {ω : Writes} {W X : Cells} → Laid W σ μ → Joined (two c d) W (two o q) X → Merge (only μ x o) (only μ y q) ω → Joined σ W ω X
+  pub joined-section : {o q : Option Value} {ω : Writes} {W X : Cells} → Laid W σ μ → Joined (two c d) W (two o q) X → Merge (only μ x o) (only μ y q) ω
+      → Joined σ W ω X
   joined-section h j ms = record {
     later = j .later;
     seen = seen-section ms (j .seen);
@@ -238,13 +255,18 @@ module _ {σ : List ℕ} {μ : Env} (W : Cells) (laid : Laid W σ μ) (ω : Writ
       where
         go : Seen (two x y) (two (length W) (suc (length W))) X → (getElem? X (length W) ≡ some x) × (getElem? X (suc (length W)) ≡ some y)
         go (more f (more g ends)) =
-            let e = all2-length kept-later in (cell-is (length W) x (rw (← e) at (at-seam (take (length W) X) x y)) f, cell-is (suc (length W)) y (rw (← e) at (at-last (take (length W) X) x y)) g)
+            let e = all2-length kept-later in (
+              cell-is (length W) x (rw (← e) at (at-seam (take (length W) X) x y)) f,
+              cell-is (suc (length W)) y (rw (← e) at (at-last (take (length W) X) x y)) g,
+            )
 
 -- writes seen through a branch's cells are those outside and its two
-pub seen-cut : {ω : Writes} {X : Cells} (σ : List ℕ) (c d : ℕ) → Seen ω (σ ++ two c d) X → (ω₁ : Writes) × (x y : Option Value) × (ω ≡ ω₁ ++ two x y) × Seen ω₁ σ X
+pub seen-cut : {ω : Writes} {X : Cells} (σ : List ℕ) (c d : ℕ) → Seen ω (σ ++ two c d) X
+    → (ω₁ : Writes) × (x y : Option Value) × (ω ≡ ω₁ ++ two x y) × Seen ω₁ σ X
 seen-cut {ω} {X} σ c d h = let (us, vs, e, hu, hv) = all2-cut σ (two c d) h in go us e hu hv
   where
-    go : (us : Writes) {vs : Writes} → ω ≡ us ++ vs → Seen us σ X → Seen vs (two c d) X → (ω₁ : Writes) × (x y : Option Value) × (ω ≡ ω₁ ++ two x y) × Seen ω₁ σ X
+    go : (us : Writes) {vs : Writes} → ω ≡ us ++ vs → Seen us σ X → Seen vs (two c d) X
+        → (ω₁ : Writes) × (x y : Option Value) × (ω ≡ ω₁ ++ two x y) × Seen ω₁ σ X
     go us e hu (more {a = x} f (more {a = y} g ends)) = (us, x, y, e, hu)
 
 pub seen-over : {ω : Writes} {σ : List ℕ} {μ : Env} {W X : Cells} → Seen ω σ X → Laid W σ μ → Over ω μ

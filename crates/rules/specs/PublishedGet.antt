@@ -17,7 +17,44 @@ use Rattle.rules.specs.Text
 use Rattle.rules.specs.Rules.{Env, Getter, pick, bounded, tested, onList, getNode, get}
 use Rattle.rules.specs.OutcomeLaws.{After, fine, stopped, after-map, after-at, as-number, after-plus, after-bind, after-given, after-list}
 use Rattle.rules.specs.AllowanceLaws.{within-done}
-use Rattle.rules.specs.Published.{Pattern, pFalse, pTrue, pEmpty, pFront, pPair, Match, m-false, m-true, m-empty, m-front, m-pair, Branch, plain, opened, Expr, var, const, front, case, letIn, couple, call, add, expr, node, residual, Get, g-var, g-const, g-cons, g-case, g-let, g-pair, g-call, g-add}
+use Rattle.rules.specs.Published.{
+  Pattern,
+  pFalse,
+  pTrue,
+  pEmpty,
+  pFront,
+  pPair,
+  Match,
+  m-false,
+  m-true,
+  m-empty,
+  m-front,
+  m-pair,
+  Branch,
+  plain,
+  opened,
+  Expr,
+  var,
+  const,
+  front,
+  case,
+  letIn,
+  couple,
+  call,
+  add,
+  expr,
+  node,
+  residual,
+  Get,
+  g-var,
+  g-const,
+  g-cons,
+  g-case,
+  g-let,
+  g-pair,
+  g-call,
+  g-add,
+}
 use Rattle.rules.specs.PublishedCost.{Cost, built, _⊕_, getBelow, getCost}
 use Rattle.rules.specs.UpTo.{deep, Costs, Comes, Exactly, stops, reach, up-as, up-enter, up-within, up-costs, up-exactly}
 use Rattle.rules.specs.UpTo.{comes-bind, comes-last, up-given, up-when, up-size}
@@ -53,7 +90,8 @@ module _ (sh : Sheet) (g : Getter) (ih : GetsSoundly sh g) where
   get-node-sound (TruthCase s f tf t t₁) μ = after-bind (ih s μ) λ v i _ ds. after-given _ λ b _.
       after-map (tested-soundly _ _ (ih _ μ)) λ u j h. side (b .0) (rw (b .1) at ds) h
     where
-      side : {u : Value} (b : Bool) → Get sh μ (residual sh s) (truth b) → Get sh μ (residual sh (pick b f t)) u × Passes (pick b tf t₁) u → Get sh μ (expr (TruthCase s f tf t t₁)) u
+      side : {u : Value} (b : Bool) → Get sh μ (residual sh s) (truth b) → Get sh μ (residual sh (pick b f t)) u × Passes (pick b tf t₁) u
+          → Get sh μ (expr (TruthCase s f tf t t₁)) u
       side false ds h = g-case false ds m-false (nil-scope (h .0)) (h .1)
       side true ds h = g-case true ds m-true (nil-scope (h .0)) (h .1)
   get-node-sound (Split s i) μ = after-bind (ih s μ) λ v j _ ds. after-given _ λ p _. after-map (ih i _) λ u t h. g-let (rw (p .2) at ds) m-pair h

@@ -20,9 +20,86 @@ use Rattle.rules.specs.OutcomeLaws.{After, fine, stopped, after-map, aft
 use Rattle.rules.specs.AllowanceLaws.{within-done}
 use Rattle.rules.specs.Related.{All2, ends, more, all2-at, all2-flip, all2-set}
 use Rattle.rules.specs.Consistency.{Later}
-use Rattle.rules.specs.Published.{Writes, Over, blank, only, Merge1, neither, left, right, same, Merge, mEnds, mMore, _◁_, Pattern, pFalse, pTrue, pEmpty, pFront, pPair, Match, m-false, m-true, m-empty, m-front, m-pair, Branch, plain, opened, Expr, var, const, front, case, couple, call, add, expr, node, residual, Get, Put, p-var, p-const, p-cons, p-case, p-case-switch, p-let, p-pair, p-call, p-add}
+use Rattle.rules.specs.Published.{
+  Writes,
+  Over,
+  blank,
+  only,
+  Merge1,
+  neither,
+  left,
+  right,
+  same,
+  Merge,
+  mEnds,
+  mMore,
+  _◁_,
+  Pattern,
+  pFalse,
+  pTrue,
+  pEmpty,
+  pFront,
+  pPair,
+  Match,
+  m-false,
+  m-true,
+  m-empty,
+  m-front,
+  m-pair,
+  Branch,
+  plain,
+  opened,
+  Expr,
+  var,
+  const,
+  front,
+  case,
+  couple,
+  call,
+  add,
+  expr,
+  node,
+  residual,
+  Get,
+  Put,
+  p-var,
+  p-const,
+  p-cons,
+  p-case,
+  p-case-switch,
+  p-let,
+  p-pair,
+  p-call,
+  p-add,
+}
 use Rattle.rules.specs.PublishedGet.{GetsSoundly, gets-soundly, GetsAll, gets-all, match-env, match-value, Fair, fair, get-one}
-use Rattle.rules.specs.PublishedCells.{Laid, Seen, Joined, seen-later, laid-later, joined-one, seen-left, seen-right, merge-is, joined-merge, joined-blank, only-seen, seen-only, joined-new, joined-same, laid-section, section-seen, joined-section, laid-wider, wider-later, wider-seen, joined-outside, cells-inside, seen-cut, seen-over}
+use Rattle.rules.specs.PublishedCells.{
+  Laid,
+  Seen,
+  Joined,
+  seen-later,
+  laid-later,
+  joined-one,
+  seen-left,
+  seen-right,
+  merge-is,
+  joined-merge,
+  joined-blank,
+  only-seen,
+  seen-only,
+  joined-new,
+  joined-same,
+  laid-section,
+  section-seen,
+  joined-section,
+  laid-wider,
+  wider-later,
+  wider-seen,
+  joined-outside,
+  cells-inside,
+  seen-cut,
+  seen-over,
+}
 use Rattle.rules.specs.PublishedCost.{Cost, free, built, _⊕_, getCost, defaultsCost, putBelow, putCost}
 use Rattle.rules.specs.UpTo.{deep, Costs, UpTo, Comes, Exactly, stops, reach, up-as, up-map, up-enter, up-within, up-costs, up-exactly}
 use Rattle.rules.specs.UpTo.{up-bind, comes-bind, up-given, up-when, up-size, up-first, up-second}
@@ -109,13 +186,17 @@ module _ {sh : Sheet} {μ : Env} {v : Value} {σ : List ℕ} {W : Cells} where
 
   stays : {X : Cells} {s : ℕ} {b₁ b₂ : Branch} {v₀ : Value} {μᵢ : Env} (i : Bool) → Get sh μ (residual sh s) v₀ → Match (pick i b₁ b₂ .pattern) v₀ μᵢ
       → Passes (pick i b₁ b₂ .exit) v → Taken sh μ v (pick i b₁ b₂ .pattern) (pick i b₁ b₂ .body) μᵢ s σ W X → Written sh μ v (case s b₁ b₂) σ W X
-  stays i d m h t = let b = t .back in record { ω = t .ω′; rel = p-case i d m h (b .branch) (b .over) (b .overᵢ) (b .rebuilt) (b .subject) (b .merged); joined = t .joined }
+  stays i d m h t =
+      let b = t .back in
+      record { ω = t .ω′; rel = p-case i d m h (b .branch) (b .over) (b .overᵢ) (b .rebuilt) (b .subject) (b .merged); joined = t .joined }
 
   switches : {X : Cells} {s : ℕ} {b₁ b₂ : Branch} {v₀ u₀ : Value} {μᵢ μⱼ : Env} (i : Bool) → Get sh μ (residual sh s) v₀ → Match (pick i b₁ b₂ .pattern) v₀ μᵢ
       → ¬ Passes (pick i b₁ b₂ .exit) v → Passes (pick (not i) b₁ b₂ .exit) v → All2 (λ n w. Get sh [] (residual sh n) w) (pick (not i) b₁ b₂ .by) μⱼ
       → Match (pick (not i) b₁ b₂ .pattern) u₀ μⱼ
       → Taken sh μ v (pick (not i) b₁ b₂ .pattern) (pick (not i) b₁ b₂ .body) μⱼ s σ W X → Written sh μ v (case s b₁ b₂) σ W X
-  switches i d m h k ds m₀ t = let b = t .back in record { ω = t .ω′; rel = p-case-switch i d m h k ds m₀ (b .branch) (b .over) (b .overᵢ) (b .rebuilt) (b .subject) (b .merged); joined = t .joined }
+  switches i d m h k ds m₀ t =
+      let b = t .back in
+      record { ω = t .ω′; rel = p-case-switch i d m h k ds m₀ (b .branch) (b .over) (b .overᵢ) (b .rebuilt) (b .subject) (b .merged); joined = t .joined }
 
   written-front : {X : Cells} {a b : ℕ} (f : Value) (r : Values) → v ≡ list (cons f r) → Twice sh μ f a (list r) b σ W X → Written sh μ v (front a b) σ W X
   written-front f r e t = rw e (record { ω = t .ω; rel = p-cons (t .first) (t .second) (t .merged); joined = t .joined })
@@ -123,20 +204,24 @@ module _ {sh : Sheet} {μ : Env} {v : Value} {σ : List ℕ} {W : Cells} where
   written-pair : {X : Cells} {a b : ℕ} (x y : Value) → v ≡ pair x y → Twice sh μ x a y b σ W X → Written sh μ v (couple a b) σ W X
   written-pair x y e t = rw e (record { ω = t .ω; rel = p-pair (t .first) (t .second) (t .merged); joined = t .joined })
 
-  written-add : {X : Cells} {n k : ℕ} (m : ℕ) → v ≡ number m → m ≤ 65535 → k ≤ m → Written sh μ (number (m - k)) (residual sh n) σ W X → Written sh μ v (add n k) σ W X
+  written-add : {X : Cells} {n k : ℕ} (m : ℕ) → v ≡ number m → m ≤ 65535 → k ≤ m → Written sh μ (number (m - k)) (residual sh n) σ W X
+      → Written sh μ v (add n k) σ W X
   written-add m e z low t = rw e (record { ω = t .ω; rel = p-add z low (t .rel); joined = t .joined })
 
   -- what is written to a section's two variables
-  written-call : {X : Cells} {sec x y : ℕ} {a b : Value} {c d : ℕ} → Laid W σ μ → getElem? μ x ≡ some a → getElem? σ x ≡ some c → getElem? μ y ≡ some b → getElem? σ y ≡ some d
+  written-call : {X : Cells} {sec x y : ℕ} {a b : Value} {c d : ℕ} → Laid W σ μ → getElem? μ x ≡ some a → getElem? σ x ≡ some c → getElem? μ y ≡ some b
+      → getElem? σ y ≡ some d
       → Written sh (two a b) v (residual sh (getD (sh .sections) sec 0)) (two c d) W X → Written sh μ v (call sec x y) σ W X
   written-call {X} {sec} {x} {y} {a} {b} {c} {d} laid ea ec eb ed t = go (t .rel) (t .joined) (t .joined .seen)
     where
-      go : {ω : Writes} → Put sh (two a b) v (residual sh (getD (sh .sections) sec 0)) ω → Joined (two c d) W ω X → Seen ω (two c d) X → Written sh μ v (call sec x y) σ W X
+      go : {ω : Writes} → Put sh (two a b) v (residual sh (getD (sh .sections) sec 0)) ω → Joined (two c d) W ω X → Seen ω (two c d) X
+          → Written sh μ v (call sec x y) σ W X
       go r j (more {a = o} f (more {a = q} h ends)) =
           let (ω′, m) = merge-is (only-seen σ μ x c a ea ec laid f) (only-seen σ μ y d b eb ed laid h) in
           record { ω = ω′; rel = p-call ea eb r m; joined = joined-section σ μ x c a ea ec y d b eb ed laid j m }
 
-module _ (sh : Sheet) (g : Getter) (gets : GetsSoundly sh g) (p : Putter) (ih : PutsSoundly sh p) (μ : Env) (σ : List ℕ) (v : Value) (W : Cells) (laid : Laid W σ μ) where
+module _ (sh : Sheet) (g : Getter) (gets : GetsSoundly sh g) (p : Putter) (ih : PutsSoundly sh p) (μ : Env) (σ : List ℕ) (v : Value) (W : Cells)
+    (laid : Laid W σ μ) where
   abbrev Sound : Expr → Out Cells → Type 0
   Sound e = After (Unit {0}) (λ X s. Written sh μ v e σ W X)
 
@@ -147,7 +232,8 @@ module _ (sh : Sheet) (g : Getter) (gets : GetsSoundly sh g) (p : Putter) (ih : 
   write-sound : (x c : ℕ) (m : Value) (o : Option Value) → getElem? μ x ≡ some m → getElem? σ x ≡ some c → getElem? W c ≡ some o → Sound (var x) (write c v W o)
   unfolding Text.write
   write-sound x c m none em ec eo = fine (record { ω = only μ x (some v); rel = p-var em; joined = joined-new σ μ x c m em ec v laid eo })
-  write-sound x c m (some w) em ec eo = after-given _ λ e _. fine (record { ω = only μ x (some v); rel = p-var em; joined = joined-same σ μ x c m em ec v laid (rw e at eo) })
+  write-sound x c m (some w) em ec eo = after-given _ λ e _.
+      fine (record { ω = only μ x (some v); rel = p-var em; joined = joined-same σ μ x c m em ec v laid (rw e at eo) })
 
   both-sound : (a b : ℕ) (x y : Value) → After (Unit {0}) (λ X s. Twice sh μ x a y b σ W X) (both p μ σ W a x b y)
   unfolding Text.both
@@ -215,7 +301,8 @@ module _ (sh : Sheet) (g : Getter) (gets : GetsSoundly sh g) (p : Putter) (ih : 
   put-node-sound (TruthCase s f tf t t₁) = after-bind (gets s μ) λ o i _ ds. after-given _ λ b _. side (b .0) (rw (b .1) at ds)
     where
       side : (b : Bool) → Get sh μ (residual sh s) (truth b) → Sound (expr (TruthCase s f tf t t₁))
-          (choose (passes (pick b tf t₁) v) (passes (pick (not b) tf t₁) v) (both p μ σ W (pick b f t) v s (truth b)) (both p μ σ W (pick (not b) f t) v s (truth (not b))))
+          (choose (passes (pick b tf t₁) v) (passes (pick (not b) tf t₁) v) (both p μ σ W (pick b f t) v s (truth b))
+          (both p μ σ W (pick (not b) f t) v s (truth (not b))))
       side false d = after-choice _ _
           (λ h. after-map (both-sound f s v vfalse) λ X j w. stays false d m-false h (taken-plain m-false w))
           (λ h k. after-map (both-sound t s v vtrue) λ X j w. switches false d m-false h k ends m-true (taken-plain m-true w))
@@ -408,7 +495,8 @@ over-one ωᵢ ωⱼ (more _ h) (more _ k) e = let (p, q) = over-one ωᵢ ωⱼ
 const-one : {sh : Sheet} {μ : Env} {v c : Value} {ω : Writes} → Put sh μ v (const c) ω → ω ≡ blank μ
 const-one p-const = refl
 
-defaults-one : {sh : Sheet} {ns : List ℕ} {μ μ′ : Env} → All2 (λ n w. Get sh [] (residual sh n) w) ns μ → All2 (λ n w. Get sh [] (residual sh n) w) ns μ′ → μ ≡ μ′
+defaults-one : {sh : Sheet} {ns : List ℕ} {μ μ′ : Env} → All2 (λ n w. Get sh [] (residual sh n) w) ns μ → All2 (λ n w. Get sh [] (residual sh n) w) ns μ′
+    → μ ≡ μ′
 defaults-one ends ends = refl
 defaults-one {sh} (more {a = n} d ds) (more d′ ds′) = let e = get-one sh (fair (node sh n)) d d′ in let es = defaults-one ds ds′ in cc
 

@@ -49,7 +49,8 @@ blank-later ends = ends
 blank-later (more _ h) = more (λ w e. absurd (Option·none-ne-some w e)) (blank-later h)
 
 blank-laid : (μ : Env) → Laid (blank μ) (count 0 (length μ)) μ
-blank-laid μ = all2-of _ _ (length-count 0 (length μ)) λ x c m ec em. let z : c ≡ x = first-at (length μ) x ec in record { cell = none; there = rw z (blank-at μ x em) }
+blank-laid μ = all2-of _ _ (length-count 0 (length μ)) λ x c m ec em. let z : c ≡ x = first-at
+    (length μ) x ec in record { cell = none; there = rw z (blank-at μ x em) }
 
 seen-self : {ω : Writes} {μ : Env} → Over ω μ → Seen ω (count 0 (length μ)) ω
 seen-self {ω} {μ} h = all2-of _ _ (all2-length h ∙ sym (length-count 0 (length μ))) λ x o c eo ec.
@@ -75,7 +76,8 @@ new-plan-is (o ∷ ω) (v ∷ μ) = ap (λ (ν : Env). orOld o v ∷ ν) (new-pl
 -- THE THEOREMS, for every sheet, node, environment, number of levels and allowance
 module _ (sh : Sheet) (n : ℕ) (μ : Env) (v : Value) where
   -- a put from a whole plan that succeeds has written what the published relation says
-  pub plan-sound : (l a s : ℕ) (X : Cells) → within a (put l sh n μ (count 0 (length μ)) v (replicate (length μ) none)) ≡ done X s → Put sh μ v (residual sh n) X
+  pub plan-sound : (l a s : ℕ) (X : Cells) → within a (put l sh n μ (count 0 (length μ)) v (replicate (length μ) none)) ≡ done X s
+      → Put sh μ v (residual sh n) X
   plan-sound l a s X e =
       let w = put-sound sh n μ v (count 0 (length μ)) (blank μ) (blank-laid μ) l a s X (rw (blank-is μ) at e) in
       rw (joined-blank-is (seen-over (w .joined .seen) (blank-laid μ)) (w .joined)) (w .rel)

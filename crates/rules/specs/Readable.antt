@@ -15,7 +15,26 @@ use Rattle.sheet.specs.declared.Node.the-variants.{Var, False, True, Empty, Num
 use Rattle.sheet.specs.Sheet.{Sheet}
 use Rattle.rules.specs.Outcome.{Out}
 use Rattle.rules.specs.Text
-use Rattle.rules.specs.Rules.{Env, Cells, Getter, Putter, two, bounded, tested, getNode, get, orOld, constant, write, both, under, mkList, mkPair, putNode, put}
+use Rattle.rules.specs.Rules.{
+  Env,
+  Cells,
+  Getter,
+  Putter,
+  two,
+  bounded,
+  tested,
+  getNode,
+  get,
+  orOld,
+  constant,
+  write,
+  both,
+  under,
+  mkList,
+  mkPair,
+  putNode,
+  put,
+}
 use Rattle.rules.specs.OutcomeLaws.{After, fine, stopped, after-plus, after-bind, after-given, after-choose, after-list}
 
 pub data ReadableCell : Option Value → Type 0 where
@@ -110,7 +129,8 @@ module _ (g : Getter) (ih : GetsReadable g) (sh : Sheet) where
   get-node-readable (Pair a b) nf μ ok = after-bind (ih a μ ok) λ f s _ gf. after-bind (ih b μ ok) λ r t _ gr. after-given _ λ z _. fine (pair-readable gf gr z)
   get-node-readable (ListCase s e te n tn df dr) nf μ ok = after-bind (ih s μ ok) λ v i _ gv. after-given _ λ l _. after-list (l .0)
       (λ _. after-tested te _ (ih e μ ok))
-      (λ f r el. let gl : Readable (list (cons f r)) = rw (l .1, el) at gv in after-tested tn _ (ih n _ (all-append ok (all-two (readable-front gl .0) (readable-front gl .1)))))
+      (λ f r el. let gl : Readable (list (cons f r)) = rw (l .1, el) at gv in after-tested tn _
+      (ih n _ (all-append ok (all-two (readable-front gl .0) (readable-front gl .1)))))
   get-node-readable (TruthCase s f tf t t₁) nf μ ok = after-bind (ih s μ ok) λ v i _ _. after-given _ λ b _. after-tested _ _ (ih _ μ ok)
   get-node-readable (Split s i) nf μ ok = after-bind (ih s μ ok) λ v j _ gv. after-given _ λ p _.
       let gp : Readable (pair (p .0) (p .1)) = rw (p .2) at gv in ih i _ (all-append ok (all-two (readable-pair gp .0) (readable-pair gp .1)))
@@ -125,7 +145,8 @@ get-readable (suc l) sh nf n μ ok = after-plus 1 (get-node-readable (get l sh) 
 -- PUT
 
 abbrev pub PutsReadable : Putter → Type 0
-PutsReadable p = (n : ℕ) (μ : Env) (σ : List ℕ) (v : Value) (W : Cells) → All Readable μ → Readable v → All ReadableCell W → After (Unit {0}) (λ X s. All ReadableCell X) (p n μ σ v W)
+PutsReadable p = (n : ℕ) (μ : Env) (σ : List ℕ) (v : Value) (W : Cells) → All Readable μ → Readable v → All ReadableCell W
+    → After (Unit {0}) (λ X s. All ReadableCell X) (p n μ σ v W)
 
 module _ (g : Getter) (gets : GetsReadable g) (p : Putter) (ih : PutsReadable p) (sh : Sheet) (μ : Env) (σ : List ℕ) (v : Value) (W : Cells)
     (ok : All Readable μ) (gv : Readable v) (gw : All ReadableCell W) where
@@ -145,7 +166,8 @@ module _ (g : Getter) (gets : GetsReadable g) (p : Putter) (ih : PutsReadable p)
   unfolding Text.both
   both-readable a b x y gx gy = after-bind (ih a μ σ x W ok gx gw) λ X s _ gX. ih b μ σ y X ok gy gX
 
-  under-readable : (b s : ℕ) (mk : Value → Value → Option Value) (f r : Value) → ((x y u : Value) → mk x y ≡ some u → Readable x → Readable y → Fits u → Readable u)
+  under-readable : (b s : ℕ) (mk : Value → Value → Option Value) (f r : Value)
+      → ((x y u : Value) → mk x y ≡ some u → Readable x → Readable y → Fits u → Readable u)
       → Readable f → Readable r → Fine (under p μ σ W b v s mk f r)
   unfolding Text.under
   under-readable b s mk f r k gf gr = after-bind (ih b _ _ v _ (all-append ok (all-two gf gr)) gv (all-append gw (all-two blank blank))) λ X i _ gX.
@@ -159,13 +181,17 @@ module _ (g : Getter) (gets : GetsReadable g) (p : Putter) (ih : PutsReadable p)
   put-node-readable True = constant-readable vtrue
   put-node-readable Empty = constant-readable (list nil)
   put-node-readable (Number n) = constant-readable (number n)
-  put-node-readable (Front a b) = after-given _ λ c _. let gc : Readable (list (cons (c .0) (c .1))) = rw (c .2) at gv in both-readable a b _ _ (readable-front gc .0) (readable-front gc .1)
-  put-node-readable (Pair a b) = after-given _ λ c _. let gc : Readable (pair (c .0) (c .1)) = rw (c .2) at gv in both-readable a b _ _ (readable-pair gc .0) (readable-pair gc .1)
+  put-node-readable (Front a b) = after-given _ λ c _. let gc : Readable (list (cons (c .0) (c .1))) = rw (c .2) at gv in both-readable a b _ _
+      (readable-front gc .0) (readable-front gc .1)
+  put-node-readable (Pair a b) = after-given _ λ c _. let gc : Readable (pair (c .0) (c .1)) = rw (c .2) at gv in both-readable a b _ _ (readable-pair gc .0)
+      (readable-pair gc .1)
   put-node-readable (ListCase s e te n tn df dr) = after-bind (gets s μ ok) λ o i _ go. after-given _ λ l _. after-list (l .0)
-      (λ _. after-choose _ _ (λ _. both-readable e s v (list nil) gv nil-readable) λ _. after-bind (gets df [] none) λ f j _ gf. after-bind (gets dr [] none) λ r q _ gr.
+      (λ _. after-choose _ _ (λ _. both-readable e s v (list nil) gv nil-readable) λ _. after-bind (gets df [] none) λ f j _ gf.
+      after-bind (gets dr [] none) λ r q _ gr.
       after-given _ λ _ _. under-readable n s mkList f r mkList-readable gf gr)
       (λ f r el. let gl : Readable (list (cons f r)) = rw (l .1, el) at go in
-      after-choose _ _ (λ _. under-readable n s mkList f (list r) mkList-readable (readable-front gl .0) (readable-front gl .1)) (λ _. both-readable e s v (list nil) gv nil-readable))
+      after-choose _ _ (λ _. under-readable n s mkList f (list r) mkList-readable (readable-front gl .0) (readable-front gl .1))
+      (λ _. both-readable e s v (list nil) gv nil-readable))
   put-node-readable (TruthCase s f tf t t₁) = after-bind (gets s μ ok) λ o i _ _. after-given _ λ b _.
       after-choose _ _ (λ _. both-readable _ s v _ gv (truth-readable (b .0))) (λ _. both-readable _ s v _ gv (truth-readable (not (b .0))))
   put-node-readable (Split s i) = after-bind (gets s μ ok) λ o j _ go. after-given _ λ c _. let gc : Readable (pair (c .0) (c .1)) = rw (c .2) at go in
@@ -177,4 +203,5 @@ module _ (g : Getter) (gets : GetsReadable g) (p : Putter) (ih : PutsReadable p)
 pub put-readable : (l : ℕ) (sh : Sheet) → NumbersFit sh → PutsReadable (put l sh)
 unfolding Text.put
 put-readable zero sh nf n μ σ v W ok gv gw = stopped tt
-put-readable (suc l) sh nf n μ σ v W ok gv gw = after-plus 1 (put-node-readable (get l sh) (get-readable l sh nf) (put l sh) (put-readable l sh nf) sh μ σ v W ok gv gw _)
+put-readable (suc l) sh nf n μ σ v W ok gv gw = after-plus 1
+    (put-node-readable (get l sh) (get-readable l sh nf) (put l sh) (put-readable l sh nf) sh μ σ v W ok gv gw _)

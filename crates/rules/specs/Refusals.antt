@@ -305,7 +305,8 @@ stated-three : Stated 3
 unfolding among table
 stated-three = refl
 
-stated-answer : (need output scratch allowance : ℕ) {o : Out (List ℕ)} {c : ℕ} → Lists o → answer (door need output scratch allowance o) ≡ Answer.refusal c → Stated c
+stated-answer : (need output scratch allowance : ℕ) {o : Out (List ℕ)} {c : ℕ} → Lists o → answer (door need output scratch allowance o) ≡ Answer.refusal c
+    → Stated c
 unfolding door given when answer
 stated-answer need output scratch allowance {o} {c} h e = go₁ (decLe need output) (decLe SCRATCH scratch) (decLe 1 allowance) (decLe allowance ALLOWANCE) e
   where
@@ -336,6 +337,7 @@ pub get-refusals : (sheet plan : List ℕ) (allowance output scratch c : ℕ) �
 unfolding getAnswer
 get-refusals sheet plan allowance output scratch c e = stated-answer GET-OUTPUT output scratch allowance (lists-get-bytes sheet plan allowance) e
 
-pub put-refusals : (sheet plan view : List ℕ) (allowance output scratch c : ℕ) → putAnswer sheet plan view allowance output scratch ≡ Answer.refusal c → Stated c
+pub put-refusals : (sheet plan view : List ℕ) (allowance output scratch c : ℕ) → putAnswer sheet plan view allowance output scratch ≡ Answer.refusal c
+    → Stated c
 unfolding putAnswer
 put-refusals sheet plan view allowance output scratch c e = stated-answer PUT-OUTPUT output scratch allowance (lists-put-bytes sheet plan view allowance) e

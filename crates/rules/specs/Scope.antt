@@ -41,7 +41,8 @@ module _ {A B : Type 0} where
   given-ext : (c : ℕ) (o : Option A) {f f′ : A → Out B} → ((a : A) → f a ≡ f′ a) → given c o f ≡ given c o f′
   given-ext c o h = ap (given c o) (fun-ext h)
 
-list-ext : {B : Type 0} (l : Values) {x x′ : B} {f f′ : Value → Values → B} → x ≡ x′ → ((v : Value) (r : Values) → f v r ≡ f′ v r) → onList l x f ≡ onList l x′ f′
+list-ext : {B : Type 0} (l : Values) {x x′ : B} {f f′ : Value → Values → B} → x ≡ x′ → ((v : Value) (r : Values) → f v r ≡ f′ v r)
+    → onList l x f ≡ onList l x′ f′
 unfolding onList
 list-ext nil e h = e
 list-ext (cons v r) e h = h v r
@@ -94,7 +95,8 @@ module _ {k : ℕ} {g h : Getter} {p q : Putter} (gets : SameGets k g h) (same :
 
   under-ext : (b s : ℕ) (mk : Value → Value → Option Value) (f r : Value) → under p μ σ W b v s mk f r ≡ under q μ σ W b v s mk f r
   unfolding Text.under
-  under-ext b s mk f r = bind-ext (same b _ _ v _ (longer μ f r z)) λ X. given-ext _ _ λ x. given-ext _ _ λ y. given-ext _ _ λ u. given-ext _ _ λ _. same s μ σ u _ (omega arith)
+  under-ext b s mk f r = bind-ext (same b _ _ v _ (longer μ f r z)) λ X. given-ext _ _ λ x. given-ext _ _ λ y. given-ext _ _ λ u. given-ext _ _ λ _.
+      same s μ σ u _ (omega arith)
 
   put-ext : (nd : Node) → putNode g p sh nd μ σ v W ≡ putNode h q sh nd μ σ v W
   unfolding Text.putNode
@@ -106,7 +108,8 @@ module _ {k : ℕ} {g h : Getter} {p q : Putter} (gets : SameGets k g h) (same :
   put-ext (Front a b) = given-ext _ _ λ c. both-ext a b _ _
   put-ext (Pair a b) = given-ext _ _ λ c. both-ext a b _ _
   put-ext (ListCase s e te n tn df dr) = bind-ext (gets s μ (omega arith)) λ o. given-ext _ _ λ l. list-ext (l .0)
-      (choose-ext _ _ (both-ext e s v (list nil)) (bind-ext (gets df [] (omega arith)) λ f. bind-ext (gets dr [] (omega arith)) λ r. given-ext _ _ λ _. under-ext n s mkList f r))
+      (choose-ext _ _ (both-ext e s v (list nil))
+      (bind-ext (gets df [] (omega arith)) λ f. bind-ext (gets dr [] (omega arith)) λ r. given-ext _ _ λ _. under-ext n s mkList f r))
       λ f r. choose-ext _ _ (under-ext n s mkList f (list r)) (both-ext e s v (list nil))
   put-ext (TruthCase s f tf t t₁) = bind-ext (gets s μ (omega arith)) λ o. given-ext _ _ λ b. choose-ext _ _ (both-ext _ s v _) (both-ext _ s v _)
   put-ext (Split s i) = bind-ext (gets s μ (omega arith)) λ o. given-ext _ _ λ c. under-ext i s mkPair _ _
@@ -118,7 +121,8 @@ pub put-narrow : (l : ℕ) (sh : Sheet) (n : ℕ) (μ : Env) (σ : List ℕ) (v 
 unfolding putNarrow Text.put
 put-narrow zero sh n μ σ v W z = refl
 put-narrow (suc l) sh n μ σ v W z = given-yes 0 (decLe (length μ) 110) (omega arith)
-    ∙ (ap (plus 1) (put-ext {k = length μ + 2} (λ m ν y. get-narrow l sh m ν (omega arith)) (λ m ν τ u X y. put-narrow l sh m ν τ u X (omega arith)) sh μ σ v W (omega arith) _))
+    ∙ (ap (plus 1) (put-ext {k = length μ + 2} (λ m ν y. get-narrow l sh m ν (omega arith)) (λ m ν τ u X y. put-narrow l sh m ν τ u X (omega arith)) sh μ σ v
+    W (omega arith) _))
 
 -- WHOLE WALKS: at most 16 variables of the plan, and two more for each of 47 levels
 

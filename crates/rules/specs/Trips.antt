@@ -125,7 +125,8 @@ pub record Written (sheet plan view : List ℕ) (allowance : ℕ) (new : List �
   pub new-readable : All Readable (newPlan (p .X) (p .μ))
   pub new-read : readPlan (p .sh .k) new ≡ ok (newPlan (p .X) (p .μ))
 
-written : {sheet plan view : List ℕ} {allowance : ℕ} {new : List ℕ} {n : ℕ} (p : PutBack sheet plan view allowance new n) → Written sheet plan view allowance new n p
+written : {sheet plan view : List ℕ} {allowance : ℕ} {new : List ℕ} {n : ℕ} (p : PutBack sheet plan view allowance new n)
+    → Written sheet plan view allowance new n p
 written {sheet} {plan} {view} {allowance} {new} {n} p =
     let r = readValues-sound 20 (p .sh .k) plan (p .plan-read) in
     let q = readValues-sound 30 1 view (p .view-read) in
@@ -156,8 +157,20 @@ stands {sheet} {plan} {view} {allowance} {new} {n} p =
     let put-done = p .walk in
     let law = after-at (rw put-done at (lawful LEVELS (p .sh) (p .sh .root) (p .μ) (count 0 (length (p .μ)))
     (getD (p .vs) 0 vfalse) (replicate (length (p .μ)) none) (w .view-readable .fits))) .1 in
-    let (t, e, h) = gives-out (law (newPlan (p .X) (p .μ)) (new-agrees [] (p .X) (p .μ) (w .cells))) in
-    (t, record { sh = p .sh; sheet-read = p .sheet-read; μ = newPlan (p .X) (p .μ); plan-read = w .new-read; v = getD (p .vs) 0 vfalse; walk = e; few = le-trans h (p .few); bytes = w .view-bytes }, h)
+    let (t, e, h) = gives-out (law (newPlan (p .X) (p .μ)) (new-agrees [] (p .X) (p .μ) (w .cells))) in (
+      t,
+      record {
+        sh = p .sh;
+        sheet-read = p .sheet-read;
+        μ = newPlan (p .X) (p .μ);
+        plan-read = w .new-read;
+        v = getD (p .vs) 0 vfalse;
+        walk = e;
+        few = le-trans h (p .few);
+        bytes = w .view-bytes;
+      },
+      h,
+    )
 
 pub consistency : (sheet plan view : List ℕ) (allowance output scratch : ℕ) (new : List ℕ) (p : ℕ)
     → putAnswer sheet plan view allowance output scratch ≡ success new p

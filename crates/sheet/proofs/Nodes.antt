@@ -135,7 +135,8 @@ module _ {s : List ℕ} {from n at : ℕ} {starts : List ℕ} (run : Run s from 
   run-end h = rw (run .rest, drop-of-length-le s h, read-end (200 - n)) (ap ok (append-nil (run .nodes)))
 
   -- one record more
-  run-step : (m : Node) (w : ℕ) → width m ≡ w → w ≤ 8 → n < 200 → readNodes (suc (200 - (n + 1))) (drop at s) ≡ mapResult (λ ns. m ∷ ns) (readNodes (200 - (n + 1)) (drop (at + w) s))
+  run-step : (m : Node) (w : ℕ) → width m ≡ w → w ≤ 8 → n < 200
+      → readNodes (suc (200 - (n + 1))) (drop at s) ≡ mapResult (λ ns. m ∷ ns) (readNodes (200 - (n + 1)) (drop (at + w) s))
       → Run s from (n + 1) (at + w) (set starts n at)
   run-step m w e small l r =
       let left : 200 - n ≡ suc (200 - (n + 1)) = omega arith in
@@ -191,12 +192,14 @@ module _ (s : List ℕ) (k root sections : ℕ) where
   unfolding andThen mapResult
   refused-table e r secs l = rw r e
 
-  no-node-table : {t : Table} (ns : List Node) → t ≡ tableOf (refusal 14) → length ns ≡ 0 → readNodes 200 (drop (firstNode sections) s) ≡ ok ns → NodesTable s k root sections t
+  no-node-table : {t : Table} (ns : List Node) → t ≡ tableOf (refusal 14) → length ns ≡ 0 → readNodes 200 (drop (firstNode sections) s) ≡ ok ns
+      → NodesTable s k root sections t
   unfolding andThen mapResult withNodes
   no-node-table [] e z r secs l = rw r e
   no-node-table (n ∷ ns) e z r secs l = absurd (omega arith)
 
-  node-table : {n : ℕ} {starts : List ℕ} (ns : List Node) → length ns ≡ n → (n ≡ 0 → ⊥) → starts ≡ offsets (firstNode sections) ns ++ replicate (200 - n) 0 → readNodes 200 (drop (firstNode sections) s) ≡ ok ns
+  node-table : {n : ℕ} {starts : List ℕ} (ns : List Node) → length ns ≡ n → (n ≡ 0 → ⊥) → starts ≡ offsets (firstNode sections) ns ++ replicate (200 - n) 0
+      → readNodes 200 (drop (firstNode sections) s) ≡ ok ns
       → NodesTable s k root sections (record { refusal = 0; k = k; root = root; sections = sections; nodes = n; starts = starts })
   unfolding andThen mapResult withNodes tableOf
   node-table [] m z f r secs l = absurd (z (sym m))

@@ -23,7 +23,8 @@ use Rattle.sheet.specs.declared.Table.{Table}
 
 pub record Roots (s : List ℕ) (sections nodes i : ℕ) : Type 0 where
   pub few : i ≤ sections
-  pub rest : (rs : List ℕ) → length rs ≡ sections → ((j : ℕ) → j < length rs → sectionAt s j ≡ getD rs j 0) → rootsInRange nodes rs ≡ rootsInRange nodes (drop i rs)
+  pub rest : (rs : List ℕ) → length rs ≡ sections → ((j : ℕ) → j < length rs → sectionAt s j ≡ getD rs j 0)
+      → rootsInRange nodes rs ≡ rootsInRange nodes (drop i rs)
 
 pub roots-none : (s : List ℕ) (sections nodes : ℕ) → Roots s sections nodes 0
 roots-none s sections nodes = record { few = omega arith; rest = λ rs l a. refl }
@@ -40,7 +41,8 @@ module _ {s : List ℕ} {sections nodes i : ℕ} (to : Roots s sections nodes i)
       rw (to .rest rs l a, drop-of-length-le rs e)
 
   module _ (h : i < sections) {r : ℕ} (e : r ≡ sectionAt s i) where
-    judged : (b : Bool) → ltb r nodes ≡ b → (rs : List ℕ) → length rs ≡ sections → ((j : ℕ) → j < length rs → sectionAt s j ≡ getD rs j 0) → rootsInRange nodes rs ≡ b && rootsInRange nodes (drop (i + 1) rs)
+    judged : (b : Bool) → ltb r nodes ≡ b → (rs : List ℕ) → length rs ≡ sections → ((j : ℕ) → j < length rs → sectionAt s j ≡ getD rs j 0)
+        → rootsInRange nodes rs ≡ b && rootsInRange nodes (drop (i + 1) rs)
     judged b t rs l a =
         let k : i < length rs = omega arith in
         let q : getD rs i 0 ≡ r = sym (a i k) ∙ sym e in
@@ -56,12 +58,14 @@ module _ {s : List ℕ} {sections nodes i : ℕ} (to : Roots s sections nodes i)
 
 pub record Nodes (s : List ℕ) (t : Table) (i : ℕ) : Type 0 where
   pub few : i ≤ t .nodes
-  pub rest : (ns : List Node) → length ns ≡ t .nodes → ((j : ℕ) → j < length ns → nodeAt s (getD (t .starts) j 0) ≡ getD ns j False) → nodesInRange (t .nodes) (t .sections) 0 ns ≡ nodesInRange (t .nodes) (t .sections) i (drop i ns)
+  pub rest : (ns : List Node) → length ns ≡ t .nodes → ((j : ℕ) → j < length ns → nodeAt s (getD (t .starts) j 0) ≡ getD ns j False)
+      → nodesInRange (t .nodes) (t .sections) 0 ns ≡ nodesInRange (t .nodes) (t .sections) i (drop i ns)
 
 pub nodes-none : (s : List ℕ) (t : Table) → Nodes s t 0
 nodes-none s t = record { few = omega arith; rest = λ ns l a. refl }
 
-next-node : (nodes sections : ℕ) (ns : List Node) (i : ℕ) → i < length ns → nodesInRange nodes sections i (drop i ns) ≡ nodeInRange nodes sections i (getD ns i False) && nodesInRange nodes sections (i + 1) (drop (i + 1) ns)
+next-node : (nodes sections : ℕ) (ns : List Node) (i : ℕ) → i < length ns
+    → nodesInRange nodes sections i (drop i ns) ≡ nodeInRange nodes sections i (getD ns i False) && nodesInRange nodes sections (i + 1) (drop (i + 1) ns)
 unfolding nodesInRange
 next-node nodes sections ns i h = rw (add-one, drop-cons ns i False)
 
@@ -73,7 +77,8 @@ module _ {s : List ℕ} {t : Table} {i : ℕ} (to : Nodes s t i) where
       rw (to .rest ns l a, drop-of-length-le ns e)
 
   module _ (h : i < t .nodes) {n : Node} (e : n ≡ nodeAt s (getD (t .starts) i 0)) {b : Bool} (q : b ≡ nodeInRange (t .nodes) (t .sections) i n) where
-    judged-node : (ns : List Node) → length ns ≡ t .nodes → ((j : ℕ) → j < length ns → nodeAt s (getD (t .starts) j 0) ≡ getD ns j False) → nodesInRange (t .nodes) (t .sections) 0 ns ≡ b && nodesInRange (t .nodes) (t .sections) (i + 1) (drop (i + 1) ns)
+    judged-node : (ns : List Node) → length ns ≡ t .nodes → ((j : ℕ) → j < length ns → nodeAt s (getD (t .starts) j 0) ≡ getD ns j False)
+        → nodesInRange (t .nodes) (t .sections) 0 ns ≡ b && nodesInRange (t .nodes) (t .sections) (i + 1) (drop (i + 1) ns)
     judged-node ns l a =
         let k : i < length ns = omega arith in
         let p : getD ns i False ≡ n = sym (a i k) ∙ sym e in
@@ -96,7 +101,8 @@ pub few-nodes : (s : List ℕ) {t : Table} → t ≡ tableOf (readHeader s) → 
 few-nodes s e = rw e (few (header-fine s))
 
 -- k, the root, the sections' roots and the nodes, in this order
-judged-sheet : {s : List ℕ} {sh : Sheet} → HeaderRead s sh → (t : Table) → t ≡ tableOf (ok sh) → {a b : Bool} → RootsJudged s (t .sections) (t .nodes) a → NodesJudged s t b
+judged-sheet : {s : List ℕ} {sh : Sheet} → HeaderRead s sh → (t : Table) → t ≡ tableOf (ok sh) → {a b : Bool} → RootsJudged s (t .sections) (t .nodes) a
+    → NodesJudged s t b
     → leb 1 (t .k) && leb (t .k) 16 && ltb (t .root) (t .nodes) && a && b ≡ inRange sh
 unfolding tableOf inRange
 judged-sheet {s} {sh} h t q {a} {b} =
@@ -128,7 +134,8 @@ module _ {P : Sheet → Type 0} where
   is-in (fine {a = sh} p) z j = rw (j sh refl)
   is-in (refused h) z j = absurd (omega arith)
 
-  is-out : {r : Result Sheet} → Fine P r → tableOf r .refusal ≡ 0 → ((sh : Sheet) → r ≡ ok sh → inRange sh ≡ false) → tableOf (refusal 13) ≡ tableOf (andThen r judge)
+  is-out : {r : Result Sheet} → Fine P r → tableOf r .refusal ≡ 0 → ((sh : Sheet) → r ≡ ok sh → inRange sh ≡ false)
+      → tableOf (refusal 13) ≡ tableOf (andThen r judge)
   unfolding tableOf andThen judge unless
   is-out (fine {a = sh} p) z j = rw (j sh refl)
   is-out (refused h) z j = absurd (omega arith)

@@ -40,7 +40,8 @@ module _ (s : List ℕ) (at : ℕ) (h : at < length s) where
     unfolding readRecords ifSection oneSection
     cut left l = rw (rest-begins s at h, eq-eqb _ 0x20 e, drop-of-length-le s l)
 
-    pub one : (left : ℕ) → at + 1 < length s → readRecords (suc left) (drop at s) ≡ mapResult (withRoot (getD s (at + 1) 0)) (readRecords left (drop (at + 2) s))
+    pub one : (left : ℕ) → at + 1 < length s
+        → readRecords (suc left) (drop at s) ≡ mapResult (withRoot (getD s (at + 1) 0)) (readRecords left (drop (at + 2) s))
     unfolding readRecords ifSection oneSection
     one left l =
         let q : at + 1 + 1 ≡ at + 2 = omega arith in

@@ -26,18 +26,21 @@ use Rattle.sheet.specs.declared.Node.the-variants.{False}
 pub sheet-read : (s : List ℕ) {sh : Sheet} → readSheet s ≡ ok sh → SheetRead s sh
 sheet-read s = fine-ok (sheet-fine s)
 
-pub header-node : {s : List ℕ} {sh : Sheet} → HeaderRead s sh → (i : ℕ) → i < length (sh .nodes) → nodeAt s (getD (offsets (firstNode (length (sh .sections))) (sh .nodes)) i 0) ≡ getD (sh .nodes) i False
+pub header-node : {s : List ℕ} {sh : Sheet} → HeaderRead s sh → (i : ℕ) → i < length (sh .nodes)
+    → nodeAt s (getD (offsets (firstNode (length (sh .sections))) (sh .nodes)) i 0) ≡ getD (sh .nodes) i False
 header-node h i l = placed-at (h .placed) i l
 
 pub header-section : {s : List ℕ} {sh : Sheet} → HeaderRead s sh → (i : ℕ) → i < length (sh .sections) → sectionAt s i ≡ getD (sh .sections) i 0
 unfolding sectionAt
 header-section h i l = rooted-at (h .rooted) i l
 
-pub node-read : (s : List ℕ) {sh : Sheet} → readSheet s ≡ ok sh → (i : ℕ) → i < length (sh .nodes) → nodeAt s (getD (offsets (3 + 2 * length (sh .sections)) (sh .nodes)) i 0) ≡ getD (sh .nodes) i False
+pub node-read : (s : List ℕ) {sh : Sheet} → readSheet s ≡ ok sh → (i : ℕ) → i < length (sh .nodes)
+    → nodeAt s (getD (offsets (3 + 2 * length (sh .sections)) (sh .nodes)) i 0) ≡ getD (sh .nodes) i False
 node-read s e = header-node (sheet-read s e .header)
 
 -- the bytes of a record tell its node
-pub node-made : (s : List ℕ) {sh : Sheet} → readSheet s ≡ ok sh → (i : ℕ) → i < length (sh .nodes) → Made s (getD (offsets (3 + 2 * length (sh .sections)) (sh .nodes)) i 0) (getD (sh .nodes) i False)
+pub node-made : (s : List ℕ) {sh : Sheet} → readSheet s ≡ ok sh → (i : ℕ) → i < length (sh .nodes)
+    → Made s (getD (offsets (3 + 2 * length (sh .sections)) (sh .nodes)) i 0) (getD (sh .nodes) i False)
 node-made s e i h = made-at (sheet-read s e .header .placed) i h
 
 pub made-as : {s : List ℕ} {p k : ℕ} {n : Node} {f : Form} → Made s p n → getD s (p + 0) 0 ≡ k → formOf k ≡ some f → n ≡ make f (λ i. getD s (p + suc i) 0)
@@ -114,7 +117,8 @@ roots-in nodes (r ∷ rs) e zero h = ltb-true r nodes (and-true (ltb r nodes) (r
 roots-in nodes (r ∷ rs) e (suc i) h = roots-in nodes rs (and-true (ltb r nodes) (rootsInRange nodes rs) e .1) i (omega arith)
 
 module _ (nodes sections : ℕ) where
-  nodes-in : (own : ℕ) (ns : List Node) → nodesInRange nodes sections own ns ≡ true → (i : ℕ) → i < length ns → nodeInRange nodes sections (own + i) (getD ns i False) ≡ true
+  nodes-in : (own : ℕ) (ns : List Node) → nodesInRange nodes sections own ns ≡ true → (i : ℕ) → i < length ns
+      → nodeInRange nodes sections (own + i) (getD ns i False) ≡ true
   unfolding nodesInRange
   nodes-in own [] e i h = absurd (omega arith)
   nodes-in own (n ∷ ns) e zero h = rw add-zero (and-true (nodeInRange nodes sections own n) (nodesInRange nodes sections (suc own) ns) e .0)
@@ -164,7 +168,8 @@ length-offsets p [] = refl
 length-offsets p (n ∷ ns) = ap suc (length-offsets (p + width n) ns)
 
 -- the start of node i
-pub table-start : (sh : Sheet) (i : ℕ) → i < length (sh .nodes) → getD (tableOf (ok sh) .starts) i 0 ≡ getD (offsets (firstNode (length (sh .sections))) (sh .nodes)) i 0
+pub table-start : (sh : Sheet) (i : ℕ) → i < length (sh .nodes)
+    → getD (tableOf (ok sh) .starts) i 0 ≡ getD (offsets (firstNode (length (sh .sections))) (sh .nodes)) i 0
 unfolding tableOf
 table-start sh i h =
     let o : List ℕ = offsets (firstNode (length (sh .sections))) (sh .nodes) in

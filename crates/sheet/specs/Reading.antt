@@ -43,7 +43,8 @@ module _ {A B : Type 0} {P : A → Type 0} {Q : B → Type 0} where
   fine-then f g (fine p) = g _ p
   fine-then f g (refused h) = refused h
 
-pub fine-or : {A B : Type 0} {Q : B → Type 0} (c : ℕ) (o : Option A) (f : A → Result B) → 10 ≤ c → ((a : A) → o ≡ some a → Fine Q (f a)) → Fine Q (orRefuse c o f)
+pub fine-or : {A B : Type 0} {Q : B → Type 0} (c : ℕ) (o : Option A) (f : A → Result B) → 10 ≤ c → ((a : A) → o ≡ some a → Fine Q (f a))
+    → Fine Q (orRefuse c o f)
 unfolding orRefuse
 fine-or c none f h g = refused h
 fine-or c (some a) f h g = g a refl
@@ -65,7 +66,8 @@ pub record NodesRead (s : List ℕ) (p left : ℕ) (ns : List Node) : Type 0 whe
   pub placed : Placed s p ns
   pub few : length ns ≤ left
 
-node-here : (s : List ℕ) (p : ℕ) {b : ℕ} {bs : List ℕ} {f : Form} → drop p s ≡ b ∷ bs → formOf b ≡ some f → leb (bodyWidth f) (length bs) ≡ true → nodeAt s p ≡ make f (λ i. getD bs i 0)
+node-here : (s : List ℕ) (p : ℕ) {b : ℕ} {bs : List ℕ} {f : Form} → drop p s ≡ b ∷ bs → formOf b ≡ some f → leb (bodyWidth f) (length bs) ≡ true
+    → nodeAt s p ≡ make f (λ i. getD bs i 0)
 unfolding nodeAt nodeOf ofForm ifWhole
 node-here s p e q t = rw (e, q, t)
 
@@ -130,7 +132,8 @@ pub record RecordsRead (s : List ℕ) (p left : ℕ) (x : Records) : Type 0 wher
   pub nodes : NodesRead s (p + 2 * length (x .0)) 200 (x .1)
 
 -- what goes on where no section record stands
-fine-if : (left : ℕ) (s : List ℕ) (p : ℕ) (bs : List ℕ) (t : Bool) {r : Result Records} → drop p s ≡ bs → Fine (RecordsRead s p left) r → Fine (RecordsRead s p left) (ifSection t r bs)
+fine-if : (left : ℕ) (s : List ℕ) (p : ℕ) (bs : List ℕ) (t : Bool) {r : Result Records} → drop p s ≡ bs → Fine (RecordsRead s p left) r
+    → Fine (RecordsRead s p left) (ifSection t r bs)
 unfolding ifSection
 fine-if left s p bs true e f = f
 fine-if left s p bs false e f =

@@ -24,7 +24,8 @@ readNodes zero [] = ok []
 readNodes zero (b ∷ bs) = orRefuse 10 (formOf b) λ _. refusal 12
 readNodes (suc left) [] = ok []
 readNodes (suc left) (b ∷ bs) =
-    orRefuse 10 (formOf b) λ f. unless 11 (leb (bodyWidth f) (length bs)) (mapResult (λ ns. make f (λ i. getD bs i 0) ∷ ns) (readNodes left (drop (bodyWidth f) bs)))
+    orRefuse 10 (formOf b) λ f. unless 11 (leb (bodyWidth f) (length bs))
+    (mapResult (λ ns. make f (λ i. getD bs i 0) ∷ ns) (readNodes left (drop (bodyWidth f) bs)))
 
 -- the sections' roots, of which `left` more may come, and then the nodes
 abbrev pub Records : Type 0

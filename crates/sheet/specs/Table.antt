@@ -72,7 +72,8 @@ sectionAt s i = getD s (4 + 2 * i) 0
 -- the table of a sheet with so many sections, whatever their roots are, and the nodes that follow them
 abbrev pub NodesTable : List ℕ → ℕ → ℕ → ℕ → Table → Type 0
 NodesTable s k root sections t =
-    (secs : List ℕ) → length secs ≡ sections → t ≡ tableOf (andThen (mapResult (λ ns. (secs, ns)) (readNodes 200 (drop (firstNode sections) s))) (withNodes k root))
+    (secs : List ℕ) → length secs ≡ sections
+    → t ≡ tableOf (andThen (mapResult (λ ns. (secs, ns)) (readNodes 200 (drop (firstNode sections) s))) (withNodes k root))
 
 -- the numbers of a sheet are judged as the definition judges those of the records that stand there
 abbrev pub RootsJudged : List ℕ → ℕ → ℕ → Bool → Type 0
@@ -81,7 +82,8 @@ RootsJudged s sections nodes r =
 
 abbrev pub NodesJudged : List ℕ → Table → Bool → Type 0
 NodesJudged s t r =
-    (ns : List Node) → length ns ≡ t .nodes → ((i : ℕ) → i < length ns → nodeAt s (getD (t .starts) i 0) ≡ getD ns i False) → r ≡ nodesInRange (t .nodes) (t .sections) 0 ns
+    (ns : List Node) → length ns ≡ t .nodes → ((i : ℕ) → i < length ns → nodeAt s (getD (t .starts) i 0) ≡ getD ns i False)
+    → r ≡ nodesInRange (t .nodes) (t .sections) 0 ns
 
 abbrev pub SheetJudged : List ℕ → Bool → Type 0
 SheetJudged s r = (sh : Sheet) → readHeader s ≡ ok sh → r ≡ inRange sh

@@ -12,7 +12,22 @@ use Rattle.step.specs.declared.Branch.the-variants.{Plain, Parts, Switch
 use Rattle.step.specs.declared.Apart.{Apart}
 use Rattle.step.specs.declared.Apart.the-variants.{At, Other}
 use Rattle.answer.specs.Answer.{doneAs}
-use Rattle.step.specs.Step.{When, where-so, placeOf, entryRefusal, fitsKind, fitOf, otherOf, choice, takenFrom, takeOf, apartOf, madeOf, judged, unfitRest}
+use Rattle.step.specs.Step.{
+  When,
+  where-so,
+  placeOf,
+  entryRefusal,
+  fitsKind,
+  fitOf,
+  otherOf,
+  choice,
+  takenFrom,
+  takeOf,
+  apartOf,
+  madeOf,
+  judged,
+  unfitRest,
+}
 
 pub when-in : {A P : Type 0} {r x y : A} → P → r ≡ x → When P r x y
 when-in p e = record { inside = λ _. e; outside = λ n. absurd (n p) }
@@ -186,11 +201,13 @@ neither-says p q b c e f = rw (e, f)
 
 -- from the branch that the subject fits
 module _ (kind : ℕ) (s : Shape) (p q : Bool) {r : Branch} where
-  pub plain-first : {i byte : ℕ} {d o : Branch} → d ≡ fitOf kind s → d ≡ Plain i byte → i ≡ 2 → o ≡ otherOf kind → r ≡ choice p q (Plain i byte) o → r ≡ takeOf kind s p q
+  pub plain-first : {i byte : ℕ} {d o : Branch} → d ≡ fitOf kind s → d ≡ Plain i byte → i ≡ 2 → o ≡ otherOf kind → r ≡ choice p q (Plain i byte) o
+      → r ≡ takeOf kind s p q
   unfolding takeOf takenFrom
   plain-first x e two f g = g ∙ rw (← x, e, f) (sym (where-is _ _ two))
 
-  pub plain-second : {i byte : ℕ} {d : Branch} → d ≡ fitOf kind s → d ≡ Plain i byte → (i ≡ 2 → ⊥) → r ≡ choice q p (Plain i byte) (Plain 2 0) → r ≡ takeOf kind s p q
+  pub plain-second : {i byte : ℕ} {d : Branch} → d ≡ fitOf kind s → d ≡ Plain i byte → (i ≡ 2 → ⊥) → r ≡ choice q p (Plain i byte) (Plain 2 0)
+      → r ≡ takeOf kind s p q
   unfolding takeOf takenFrom
   plain-second x e n g = g ∙ rw (← x, e) (sym (where-not _ _ n))
 
@@ -198,7 +215,8 @@ module _ (kind : ℕ) (s : Shape) (p q : Bool) {r : Branch} where
   unfolding takeOf takenFrom
   parts-split x e two g = g ∙ rw (← x, e) (sym (where-is _ _ two))
 
-  pub parts-list : {i mid : ℕ} {d : Branch} → d ≡ fitOf kind s → d ≡ Parts i mid → (i ≡ 2 → ⊥) → r ≡ choice q p (Parts i mid) (Plain 2 2) → r ≡ takeOf kind s p q
+  pub parts-list : {i mid : ℕ} {d : Branch} → d ≡ fitOf kind s → d ≡ Parts i mid → (i ≡ 2 → ⊥) → r ≡ choice q p (Parts i mid) (Plain 2 2)
+      → r ≡ takeOf kind s p q
   unfolding takeOf takenFrom
   parts-list x e n g = g ∙ rw (← x, e) (sym (where-not _ _ n))
 

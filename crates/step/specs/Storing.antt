@@ -22,5 +22,6 @@ pasting-more {at} {i} {s} {b} {a} m p h = record {
 }
 
 -- of what stands behind `start`
-pub pasting-part : (start : ℕ) (x : List ℕ) {at i : ℕ} {b a : List ℕ} → Pasting at i (drop start x) b a → at + i < length b → start + i < length x → Pasting at (i + 1) (drop start x) b (set a (at + i) (getD x (start + i) 0))
+pub pasting-part : (start : ℕ) (x : List ℕ) {at i : ℕ} {b a : List ℕ} → Pasting at i (drop start x) b a → at + i < length b → start + i < length x
+    → Pasting at (i + 1) (drop start x) b (set a (at + i) (getD x (start + i) 0))
 pasting-part start x {i = i} m p h = rw (← getD-drop start x i 0) (pasting-more m p (rw length-drop (omega arith)))

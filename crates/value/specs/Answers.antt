@@ -14,7 +14,21 @@ use Rattle.value.specs.Value.{size}
 use Rattle.value.specs.Reading.{Kind, Found, whole, malformed, tooLong, value, nothing, aValue, kindOf, readValue}
 use Rattle.value.specs.Laws.{Names, names, is0, is1, is2, is3, is4, is5, isOther, read-sound}
 use Rattle.value.specs.Reader.{outcome, from, from-drop}
-use Rattle.value.specs.Parts.{behind, numberIn, shapeAs, shapeOf, middleOf, partWhere, firstPart, kindAt, kindBehind, restKind, passesBytes, both, sameBytes}
+use Rattle.value.specs.Parts.{
+  behind,
+  numberIn,
+  shapeAs,
+  shapeOf,
+  middleOf,
+  partWhere,
+  firstPart,
+  kindAt,
+  kindBehind,
+  restKind,
+  passesBytes,
+  both,
+  sameBytes,
+}
 use Rattle.value.specs.declared.Read.{Read}
 use Rattle.value.specs.declared.Read.the-variants.{Whole, Malformed as NotRead, TooLong}
 use Rattle.value.specs.declared.Shape.{Shape}
@@ -145,7 +159,8 @@ beyond h k = omega arith
 
 pub no-test : (t : ℕ) (v : List ℕ) → 7 ≤ t → passesBytes t v ≡ false
 unfolding passesBytes
-no-test t v h = List·getD-eq-default (true ∷ eqb (kindAt v 0) 2 ∷ eqb (kindAt v 0) 3 ∷ eqb (kindAt v 0) 0 ∷ eqb (kindAt v 0) 1 ∷ eqb (restKind v) 2 ∷ eqb (restKind v) 3 ∷ []) false h
+no-test t v h = List·getD-eq-default
+    (true ∷ eqb (kindAt v 0) 2 ∷ eqb (kindAt v 0) 3 ∷ eqb (kindAt v 0) 0 ∷ eqb (kindAt v 0) 1 ∷ eqb (restKind v) 2 ∷ eqb (restKind v) 3 ∷ []) false h
 
 -- same
 both-false : (c : Bool) → both c false ≡ false

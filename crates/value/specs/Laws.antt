@@ -11,9 +11,69 @@ use borrow.Author.Tests.{lt-ltb, ltb-true}
 use lib.ListN.{length, length-append}
 use Rattle.value.specs.All.{All, none, each}
 use Rattle.value.specs.Result.{Result, ok, refusal, mapResult}
-use Rattle.value.specs.Value.{Value, Values, vfalse, vtrue, list, number, pair, nil, cons, encode, encodes, size, sizes, Fits, flat, Encodable, Encodables, eFalse, eTrue, eList, eNumber, ePair, eNil, eCons}
+use Rattle.value.specs.Value.{
+  Value,
+  Values,
+  vfalse,
+  vtrue,
+  list,
+  number,
+  pair,
+  nil,
+  cons,
+  encode,
+  encodes,
+  size,
+  sizes,
+  Fits,
+  flat,
+  Encodable,
+  Encodables,
+  eFalse,
+  eTrue,
+  eList,
+  eNumber,
+  ePair,
+  eNil,
+  eCons,
+}
 use Rattle.value.specs.Encoding.{size-encode, size-pos}
-use Rattle.value.specs.Reading.{Owed, value, rest, byte, Things, nothing, aValue, aRest, aByte, Found, whole, malformed, tooLong, onWhole, Kind, kFalse, kTrue, kEmpty, kFront, kNumber, kPair, unknown, kindOf, makeFront, makeNumber, makePair, makeRest, beginValue, beginRest, beginByte, read, readValue, onValue, readValues}
+use Rattle.value.specs.Reading.{
+  Owed,
+  value,
+  rest,
+  byte,
+  Things,
+  nothing,
+  aValue,
+  aRest,
+  aByte,
+  Found,
+  whole,
+  malformed,
+  tooLong,
+  onWhole,
+  Kind,
+  kFalse,
+  kTrue,
+  kEmpty,
+  kFront,
+  kNumber,
+  kPair,
+  unknown,
+  kindOf,
+  makeFront,
+  makeNumber,
+  makePair,
+  makeRest,
+  beginValue,
+  beginRest,
+  beginByte,
+  read,
+  readValue,
+  onValue,
+  readValues,
+}
 
 -- the bytes of what was read
 unfoldable pub bytesOf : {os : List Owed} → Things os → List ℕ
@@ -211,7 +271,8 @@ nothing-owed [] room = refl
 nothing-owed (b ∷ bs) room = refl
 
 -- a value that fits in the room is read from the front of the bytes
-pub read-room : {v : Value} → Encodable v → (room : ℕ) → size v ≤ room → (more : List ℕ) → read (encode v ++ more) room (value ∷ []) ≡ whole (aValue v nothing) more
+pub read-room : {v : Value} → Encodable v → (room : ℕ) → size v ≤ room → (more : List ℕ)
+    → read (encode v ++ more) room (value ∷ []) ≡ whole (aValue v nothing) more
 unfolding onWhole
 read-room {v} h room le more =
     let e : room ≡ size v + (room - size v) = omega arith in
@@ -235,7 +296,8 @@ pub data SoundValues (k : ℕ) (bs : List ℕ) : Result (List Value) → Type 0 
 one-more : {v : Value} {k : ℕ} {bs more : List ℕ} {r : Result (List Value)} → (bs ≡ encode v ++ more) × Readable v → SoundValues k more r →
     SoundValues (suc k) bs (mapResult (λ vs. v ∷ vs) r)
 unfolding mapResult flat
-one-more {v} e (sOk {vs} h) = sOk (record { bytes = e .0 ∙ ap (λ (l : List ℕ). encode v ++ l) (h .bytes); count = ap suc (h .count); readable = each (e .1) (h .readable) })
+one-more {v} e (sOk {vs} h) = sOk
+    (record { bytes = e .0 ∙ ap (λ (l : List ℕ). encode v ++ l) (h .bytes); count = ap suc (h .count); readable = each (e .1) (h .readable) })
 one-more e sRefusal = sRefusal
 
 sound-values : (c k : ℕ) (bs : List ℕ) → SoundValues k bs (readValues c k bs)
@@ -245,7 +307,8 @@ sound-values c zero (b ∷ bs) = sRefusal
 sound-values c (suc k) [] = sRefusal
 sound-values c (suc k) (b ∷ bs) = go (λ more. sound-values c k more) (readValue (b ∷ bs)) refl
   where
-    go : ((more : List ℕ) → SoundValues k more (readValues c k more)) → (found : Found (value ∷ [])) → readValue (b ∷ bs) ≡ found → SoundValues (suc k) (b ∷ bs) (onValue c found λ v more. mapResult (λ vs. v ∷ vs) (readValues c k more))
+    go : ((more : List ℕ) → SoundValues k more (readValues c k more)) → (found : Found (value ∷ [])) → readValue (b ∷ bs) ≡ found
+        → SoundValues (suc k) (b ∷ bs) (onValue c found λ v more. mapResult (λ vs. v ∷ vs) (readValues c k more))
     go next (whole (aValue v nothing) more) e = one-more (read-sound (b ∷ bs) e) (next more)
     go next malformed e = sRefusal
     go next tooLong e = sRefusal

@@ -15,7 +15,21 @@ use Rattle.value.specs.Tests.{class, table, holds}
 use Rattle.value.specs.Reading.{kindOf, readValue}
 use Rattle.value.specs.Laws.{Readable, readable-front, readable-pair, read-back}
 use Rattle.value.specs.Reader.{outcome}
-use Rattle.value.specs.Parts.{behind, numberIn, shapeAs, shapeOf, partWhere, firstPart, secondPart, kindAt, kindBehind, restKind, passesBytes, both, sameBytes}
+use Rattle.value.specs.Parts.{
+  behind,
+  numberIn,
+  shapeAs,
+  shapeOf,
+  partWhere,
+  firstPart,
+  secondPart,
+  kindAt,
+  kindBehind,
+  restKind,
+  passesBytes,
+  both,
+  sameBytes,
+}
 use Rattle.value.specs.declared.Shape.{Shape}
 use Rattle.value.specs.declared.Shape.the-variants.{False, True, Empty, Front, Number, Pair, Malformed}
 
@@ -41,7 +55,8 @@ which Malformed = 6
 pub unlike : {s t : Shape} → (which s ≡ which t → ⊥) → s ≡ t → ⊥
 unlike n e = n (ap which e)
 
-behind-value : (two : ℕ → Shape) {v : Value} → Readable v → (x : List ℕ) {z : List ℕ} → encode v ++ x ≡ z → behind two (outcome (readValue z)) ≡ two (1 + size v)
+behind-value : (two : ℕ → Shape) {v : Value} → Readable v → (x : List ℕ) {z : List ℕ} → encode v ++ x ≡ z
+    → behind two (outcome (readValue z)) ≡ two (1 + size v)
 unfolding behind outcome
 behind-value two {v} h x e = ap (λ (l : List ℕ). behind two (outcome (readValue l))) (sym e) ∙ rw (read-back h x)
 
@@ -123,11 +138,13 @@ front-shape : {f : Value} → Readable f → (x : List ℕ) → shapeOf (3 ∷ (
 unfolding shapeOf shapeAs kindOf
 front-shape h x = behind-value Front h x refl
 
-pub passes-front : (t : ℕ) {f : Value} (r : Values) → Readable f → (more : List ℕ) → passesBytes t (3 ∷ (encode f ++ (restByte r ∷ more))) ≡ holds t (list (cons f r))
+pub passes-front : (t : ℕ) {f : Value} (r : Values) → Readable f → (more : List ℕ)
+    → passesBytes t (3 ∷ (encode f ++ (restByte r ∷ more))) ≡ holds t (list (cons f r))
 unfolding kinds restKind kindBehind
 passes-front t {f} r h more =
     by-kinds t (list (cons f r)) (3 ∷ (encode f ++ (restByte r ∷ more))) refl
-    (ap (kindBehind (3 ∷ (encode f ++ (restByte r ∷ more)))) (front-shape h (restByte r ∷ more)) ∙ rw one-add (getD-at (encode f) (restByte r) more 255 (size f) (size-encode f)))
+    (ap (kindBehind (3 ∷ (encode f ++ (restByte r ∷ more)))) (front-shape h (restByte r ∷ more))
+    ∙ rw one-add (getD-at (encode f) (restByte r) more 255 (size f) (size-encode f)))
 
 -- the bytes of a value, whatever stands behind them, give the value's answer
 pub passes-encode : (t : ℕ) {v : Value} → Readable v → (more : List ℕ) → passesBytes t (encode v ++ more) ≡ holds t v

@@ -120,7 +120,8 @@ unfolding mapResult
 map-id (ok vs) = refl
 map-id (refusal c) = refl
 
-map-map : (vs : List Value) (v : Value) (r : Result (List Value)) → mapResult (λ ws. vs ++ ws) (mapResult (λ ws. v ∷ ws) r) ≡ mapResult (λ ws. (vs ++ (v ∷ [])) ++ ws) r
+map-map : (vs : List Value) (v : Value) (r : Result (List Value))
+    → mapResult (λ ws. vs ++ ws) (mapResult (λ ws. v ∷ ws) r) ≡ mapResult (λ ws. (vs ++ (v ∷ [])) ++ ws) r
 unfolding mapResult
 map-map vs v (ok ws) = ap ok (sym (append-snoc vs v ws))
 map-map vs v (refusal c) = refl
@@ -129,7 +130,17 @@ pub at-start : (k : ℕ) (s : List ℕ) → Progress k s (replicate 16 0) (repli
 unfolding flat places starts
 at-start k s =
     let e : k - 0 ≡ k = omega arith in
-    record { vs = []; count = refl; ends = refl; goes = rw e (map-id (readPlan k s)); ss-are = refl; ls-are = refl; inside = omega arith; small = omega arith; few = omega arith }
+    record {
+      vs = [];
+      count = refl;
+      ends = refl;
+      goes = rw e (map-id (readPlan k s));
+      ss-are = refl;
+      ls-are = refl;
+      inside = omega arith;
+      small = omega arith;
+      few = omega arith;
+    }
 
 pub too-many : (k : ℕ) (s : List ℕ) → 16 < k → spans (refusal 13) ≡ spansOf k s
 unfolding spansOf within16

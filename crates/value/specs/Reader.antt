@@ -11,7 +11,40 @@ use lib.ListN.{length, getD, take, drop, length-append, length-drop, List·getD-
 use lib.Seq.{drop-cons, drop-drop, take-all, getD-drop}
 use Rattle.value.specs.Value.{vfalse, vtrue, list, number, nil, encode, size}
 use Rattle.value.specs.Encoding.{size-encode}
-use Rattle.value.specs.Reading.{Owed, value, rest, byte, Things, nothing, aValue, aRest, aByte, Found, whole, malformed, tooLong, onWhole, kindOf, Kind, kFalse, kTrue, kEmpty, kFront, kNumber, kPair, unknown, makeFront, makeNumber, makePair, makeRest, beginValue, beginRest, beginByte, read, readValue}
+use Rattle.value.specs.Reading.{
+  Owed,
+  value,
+  rest,
+  byte,
+  Things,
+  nothing,
+  aValue,
+  aRest,
+  aByte,
+  Found,
+  whole,
+  malformed,
+  tooLong,
+  onWhole,
+  kindOf,
+  Kind,
+  kFalse,
+  kTrue,
+  kEmpty,
+  kFront,
+  kNumber,
+  kPair,
+  unknown,
+  makeFront,
+  makeNumber,
+  makePair,
+  makeRest,
+  beginValue,
+  beginRest,
+  beginByte,
+  read,
+  readValue,
+}
 use Rattle.value.specs.Laws.{Names, names, is0, is1, is2, is3, is4, is5, isOther, composed, made-of-two, nothing-owed, read-sound}
 use Rattle.value.specs.declared.Read.{Read}
 use Rattle.value.specs.declared.Read.the-variants.{Whole, Malformed, TooLong}
@@ -88,7 +121,8 @@ pub reads-full : {o : Owed} {s : List ℕ} {room : ℕ} → (length s ≡ 0 → 
 reads-full {s} {room} h e = rTooLong (λ os. full s room os h e)
 
 -- the first byte is there and may be taken: b, the bytes behind it, and one less room
-begins : (s : List ℕ) (room : ℕ) {b : ℕ} → (length s ≡ 0 → ⊥) → (room ≡ 0 → ⊥) → getD s 0 0 ≡ b → (os : List Owed) → read s room os ≡ read (b ∷ drop 1 s) (suc (room - 1)) os
+begins : (s : List ℕ) (room : ℕ) {b : ℕ} → (length s ≡ 0 → ⊥) → (room ≡ 0 → ⊥) → getD s 0 0 ≡ b → (os : List Owed)
+    → read s room os ≡ read (b ∷ drop 1 s) (suc (room - 1)) os
 begins s room hs hr e os =
     let d : s ≡ getD s 0 0 ∷ drop 1 s = drop-cons s 0 0 (omega arith) in
     let n : room ≡ suc (room - 1) = omega arith in
@@ -158,10 +192,12 @@ module _ {s : List ℕ} {room : ℕ} (hs : length s ≡ 0 → ⊥) (hr : room �
   reads-list h k w = go w
     where
       as-list : (os : List Owed) → read s room (value ∷ os) ≡ onWhole asValue (read s room (rest ∷ os))
-      as-list os = begins s room hs hr refl (value ∷ os) ∙ list-value (names (getD s 0 0)) h k os (read (drop 1 s) (room - 1)) ∙ ap (onWhole asValue) (sym (begins s room hs hr refl (rest ∷ os)))
+      as-list os = begins s room hs hr refl (value ∷ os) ∙ list-value (names (getD s 0 0)) h k os (read (drop 1 s) (room - 1))
+          ∙ ap (onWhole asValue) (sym (begins s room hs hr refl (rest ∷ os)))
 
       go : {r : Read} → Reads rest s room r → Reads value s room r
-      go (rWhole {n} f l m e) = rWhole (λ os t. asValue (f os t)) l m (λ os. as-list os ∙ ap (onWhole asValue) (e os) ∙ composed asValue (f os) (λ t. asValue (f os t)) (λ t. refl) (read (drop n s) (room - n) os))
+      go (rWhole {n} f l m e) = rWhole (λ os t. asValue (f os t)) l m
+          (λ os. as-list os ∙ ap (onWhole asValue) (e os) ∙ composed asValue (f os) (λ t. asValue (f os t)) (λ t. refl) (read (drop n s) (room - n) os))
       go (rMalformed e) = rMalformed (λ os. as-list os ∙ ap (onWhole asValue) (e os))
       go (rTooLong e) = rTooLong (λ os. as-list os ∙ ap (onWhole asValue) (e os))
 
@@ -208,19 +244,22 @@ module _ {s : List ℕ} {room : ℕ} (p : NumberBegins s room) where
 
   pub high-full : (length s ≤ 1 → ⊥) → room ≤ 1 → Reads value s room TooLong
   unfolding onWhole
-  high-full hs h = rTooLong (λ os. kind-taken os ∙ ap (onWhole makeNumber) (full (drop 1 s) (room - 1) (byte ∷ os) (rw length-drop (λ e. hs (omega arith))) (omega arith)))
+  high-full hs h = rTooLong
+      (λ os. kind-taken os ∙ ap (onWhole makeNumber) (full (drop 1 s) (room - 1) (byte ∷ os) (rw length-drop (λ e. hs (omega arith))) (omega arith)))
 
   pub low-ended : length s ≡ 2 → 2 ≤ room → Reads value s room Malformed
   unfolding onWhole
   low-ended hs hr =
       let l : length (drop 1 (drop 1 s)) ≡ 0 = rw (length-drop, length-drop) (omega arith) in
-      rMalformed (λ os. high-taken os (omega arith) hr ∙ ap (λ (x : Found (byte ∷ os)). onWhole makeNumber (onWhole (aByte (getD s 1 0)) x)) (ended (drop 1 (drop 1 s)) (room - 1 - 1) os l))
+      rMalformed (λ os. high-taken os (omega arith) hr ∙ ap (λ (x : Found (byte ∷ os)). onWhole makeNumber (onWhole (aByte (getD s 1 0)) x))
+      (ended (drop 1 (drop 1 s)) (room - 1 - 1) os l))
 
   pub low-full : 3 ≤ length s → room ≡ 2 → Reads value s room TooLong
   unfolding onWhole
   low-full hs hr =
       let l : (length (drop 1 (drop 1 s)) ≡ 0 → ⊥) = rw (length-drop, length-drop) (λ e. omega arith) in
-      rTooLong (λ os. high-taken os (omega arith) (omega arith) ∙ ap (λ (x : Found (byte ∷ os)). onWhole makeNumber (onWhole (aByte (getD s 1 0)) x)) (full (drop 1 (drop 1 s)) (room - 1 - 1) os l (omega arith)))
+      rTooLong (λ os. high-taken os (omega arith) (omega arith) ∙ ap (λ (x : Found (byte ∷ os)). onWhole makeNumber (onWhole (aByte (getD s 1 0)) x))
+      (full (drop 1 (drop 1 s)) (room - 1 - 1) os l (omega arith)))
 
   pub reads-number : 3 ≤ length s → 3 ≤ room → Reads value s room (Whole 3)
   unfolding makeNumber
@@ -231,8 +270,10 @@ module _ {s : List ℕ} {room : ℕ} (p : NumberBegins s room) where
       let m : room - 1 - 1 - 1 ≡ room - 3 = omega arith in
       rWhole (λ os. aValue (number (256 * getD s 1 0 + getD s 2 0))) hs hr
       (λ os. high-taken os (omega arith) (omega arith)
-      ∙ ap (λ (x : Found (byte ∷ os)). onWhole makeNumber (onWhole (aByte (getD s 1 0)) x)) (byte-taken (drop 1 (drop 1 s)) (room - 1 - 1) os l (λ e. omega arith) (rw g (p .low)))
-      ∙ made-of-two makeNumber (aByte (getD s 1 0)) (aByte (getD (drop 1 (drop 1 s)) 0 0)) (aValue (number (256 * getD s 1 0 + getD (drop 1 (drop 1 s)) 0 0))) (λ t. refl) (read (drop 1 (drop 1 (drop 1 s))) (room - 1 - 1 - 1) os)
+      ∙ ap (λ (x : Found (byte ∷ os)). onWhole makeNumber (onWhole (aByte (getD s 1 0)) x))
+      (byte-taken (drop 1 (drop 1 s)) (room - 1 - 1) os l (λ e. omega arith) (rw g (p .low)))
+      ∙ made-of-two makeNumber (aByte (getD s 1 0)) (aByte (getD (drop 1 (drop 1 s)) 0 0)) (aValue (number (256 * getD s 1 0 + getD (drop 1 (drop 1 s)) 0 0)))
+      (λ t. refl) (read (drop 1 (drop 1 (drop 1 s))) (room - 1 - 1 - 1) os)
       ∙ rw (g, d, drop-drop 1 2 s, m))
 
 -- what is read of one value says what reading finds

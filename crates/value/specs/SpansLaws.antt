@@ -32,7 +32,8 @@ codes c (suc k) (b ∷ bs) = go (λ more. codes c k more) (readValue (b ∷ bs))
     after v cOk = cOk
     after v (cRefusal h) = cRefusal h
 
-    go : ((more : List ℕ) → Codes c (readValues c k more)) → (x : Found (value ∷ [])) → Codes c (onValue c x λ v more. mapResult (λ vs. v ∷ vs) (readValues c k more))
+    go : ((more : List ℕ) → Codes c (readValues c k more)) → (x : Found (value ∷ []))
+        → Codes c (onValue c x λ v more. mapResult (λ vs. v ∷ vs) (readValues c k more))
     go next (whole (aValue v nothing) more) = after v (next more)
     go next malformed = cRefusal {d = c} (omega arith)
     go next tooLong = cRefusal {d = c + 1} (omega arith)

@@ -8,7 +8,28 @@ use lib.ListN.{length, getD, drop, replicate, length-drop}
 use lib.Seq.{drop-drop, getD-drop}
 use Rattle.value.specs.Reading.{Owed, value, rest, Things, Found, whole, malformed, tooLong, onWhole, read}
 use Rattle.value.specs.Laws.{composed}
-use Rattle.value.specs.Reader.{Reads, rWhole, rMalformed, rTooLong, Refused, isMalformed, isTooLong, PartBegins, answer, answer-whole, from, from-drop, reads-ended, reads-full, reads-plain, reads-empty, reads-no-list, TwoParts, pair-begins, front-begins}
+use Rattle.value.specs.Reader.{
+  Reads,
+  rWhole,
+  rMalformed,
+  rTooLong,
+  Refused,
+  isMalformed,
+  isTooLong,
+  PartBegins,
+  answer,
+  answer-whole,
+  from,
+  from-drop,
+  reads-ended,
+  reads-full,
+  reads-plain,
+  reads-empty,
+  reads-no-list,
+  TwoParts,
+  pair-begins,
+  front-begins,
+}
 use Rattle.value.specs.declared.Read.{Read}
 use Rattle.value.specs.declared.Read.the-variants.{Whole, Malformed, TooLong}
 
@@ -41,7 +62,8 @@ module _ {o p : Owed} {s : List ℕ} {room at : ℕ} {ps : List Owed} (b : Begun
       let q : room - at - n ≡ room - (at + n) = omega arith in
       record {
         make = λ os t. b .make os (f (ps ++ os) t);
-        goes = λ os. b .goes os ∙ ap (onWhole (b .make os)) (e (ps ++ os)) ∙ composed (b .make os) (f (ps ++ os)) (λ t. b .make os (f (ps ++ os) t)) (λ t. refl) _ ∙ rw (drop-drop n at s, q);
+        goes = λ os. b .goes os ∙ ap (onWhole (b .make os)) (e (ps ++ os)) ∙ composed (b .make os) (f (ps ++ os)) (λ t. b .make os (f (ps ++ os) t))
+            (λ t. refl) _ ∙ rw (drop-drop n at s, q);
         inside = omega (arith, b .inside, l, length-drop at s);
         fits = omega (arith, b .fits, k);
       }
@@ -52,7 +74,8 @@ module _ {o p : Owed} {s : List ℕ} {room at : ℕ} {ps : List Owed} (b : Begun
       let q : room - at - 1 ≡ room - (at + 1) = omega arith in
       record {
         make = λ os x. b .make os (t .make (ps ++ os) x);
-        goes = λ os. b .goes os ∙ ap (onWhole (b .make os)) (t .begun (ps ++ os)) ∙ composed (b .make os) (t .make (ps ++ os)) (λ x. b .make os (t .make (ps ++ os) x)) (λ x. refl) _ ∙ rw (drop-drop 1 at s, q);
+        goes = λ os. b .goes os ∙ ap (onWhole (b .make os)) (t .begun (ps ++ os))
+            ∙ composed (b .make os) (t .make (ps ++ os)) (λ x. b .make os (t .make (ps ++ os) x)) (λ x. refl) _ ∙ rw (drop-drop 1 at s, q);
         inside = omega (arith, t .byte, length-drop at s);
         fits = omega (arith, t .some);
       }
@@ -85,9 +108,16 @@ kind : (s : List ℕ) (at : ℕ) → getD (drop at s) 0 0 ≡ getD s at 0
 kind s at = getD-drop at s 0 0 ∙ rw add-zero
 
 -- a list or a number, or no value, stands there
-pub part-begins : (s : List ℕ) (room at : ℕ) → at < length s → at < room → room ≤ 256 → 2 ≤ getD s at 0 → (getD s at 0 ≡ 5 → ⊥) → PartBegins (from at s) (room - at)
+pub part-begins : (s : List ℕ) (room at : ℕ) → at < length s → at < room → room ≤ 256 → 2 ≤ getD s at 0 → (getD s at 0 ≡ 5 → ⊥)
+    → PartBegins (from at s) (room - at)
 part-begins s room at hs hr m k l =
-    rw from-drop record { byte = rw length-drop (omega arith); some = omega arith; most = omega arith; kind = rw (kind s at) k; no-pair = λ e. l (sym (kind s at) ∙ e) }
+    rw from-drop record {
+      byte = rw length-drop (omega arith);
+      some = omega arith;
+      most = omega arith;
+      kind = rw (kind s at) k;
+      no-pair = λ e. l (sym (kind s at) ∙ e);
+    }
 
 -- so many values are owed: as many as bytes were read and one more at most, and one where no byte was
 pub record Values (s : List ℕ) (room at owed : ℕ) : Type 0 where

@@ -10,6 +10,7 @@ use lib.Seq.{getD-set-same, getD-set-other, getD-append-seam}
 use Rattle.value.specs.Value.{Value, vfalse, encode, size}
 use Rattle.value.specs.Encoding.{size-pos}
 use Rattle.value.specs.Laws.{Readable}
+use Rattle.rules.specs.Numbers.{STACK}
 use Rattle.step.specs.declared.Scope.{Scope}
 use Rattle.step.specs.Step.{picked}
 use Rattle.walk.specs.Scope.{pushed}
@@ -18,7 +19,7 @@ use Rattle.walk.specs.Parts.{part, Kept, part-kept}
 -- bytes that a walk at `top` leaves alone: in the plan, or on the stack below `top`
 pub data Below (top start len : ℕ) : Type 0 where
   inPlan : start + len ≤ 4096 → Below top start len
-  onStack : 32256 ≤ start → start + len ≤ top → Below top start len
+  onStack : STACK ≤ start → start + len ≤ top → Below top start len
 
 -- the value v stands in the arena from `start`, in `len` bytes
 pub record Held (a : List ℕ) (top start len : ℕ) (v : Value) : Type 0 where
@@ -34,7 +35,7 @@ pub record Scoped (a : List ℕ) (s : Scope) (top : ℕ) (μ : List Value) : Typ
   pub lens-long : length (s .lens) ≡ 110
   pub each : (i : ℕ) → i < length μ → Held a top (getD (s .starts) i 0) (getD (s .lens) i 0 + 1) (getD μ i vfalse)
 
-pub below-ends : {top start len : ℕ} → Below top start len → 32256 ≤ top → start + len ≤ top
+pub below-ends : {top start len : ℕ} → Below top start len → STACK ≤ top → start + len ≤ top
 below-ends (inPlan h) b = omega arith
 below-ends (onStack h k) b = k
 
@@ -53,7 +54,7 @@ below-part i n h (inPlan p) = inPlan (omega arith)
 below-part i n h (onStack p q) = onStack (omega arith) (omega arith)
 
 -- a change that leaves the bytes below `top` alone leaves what stands below `top`
-module _ {b a : List ℕ} {top : ℕ} (kept : Kept top b a) (base : 32256 ≤ top) (top′ : ℕ) (p : top ≤ top′) where
+module _ {b a : List ℕ} {top : ℕ} (kept : Kept top b a) (base : STACK ≤ top) (top′ : ℕ) (p : top ≤ top′) where
   pub held-later : {start len : ℕ} {v : Value} → Held b top start len v → Held a top′ start len v
   held-later {start} {len} h = record {
     place = below-later top′ p (h .place);
@@ -79,11 +80,13 @@ env-push {a} {s} {top} {start} {len} {μ} {v} w h lt = record {
         → Held a top (getD (set (s .starts) (s .count) start) i 0) (getD (set (s .lens) (s .count) (len - 1)) i 0 + 1) (getD (μ ++ (v ∷ [])) i vfalse)
     go i k (yes y) =
         let ne : i ≡ s .count → ⊥ = λ e. omega (arith, w .count) in
-        rw (getD-set-other (s .starts) (s .count) i start 0 ne, getD-set-other (s .lens) (s .count) i (len - 1) 0 ne, List·getD-append μ (v ∷ []) vfalse i y) (w .each i y)
+        rw (getD-set-other (s .starts) (s .count) i start 0 ne, getD-set-other (s .lens) (s .count) i (len - 1) 0 ne, List·getD-append μ (v ∷ []) vfalse i y)
+        (w .each i y)
     go i k (no n) =
         let e : i ≡ length μ = omega arith in
         let e′ : i ≡ s .count = e ∙ sym (w .count) in
-        let p : getD (set (s .starts) (s .count) start) i 0 ≡ start = ap (λ (j : ℕ). getD (set (s .starts) (s .count) start) j 0) e′ ∙ getD-set-same (s .starts) (s .count) start 0 (omega (arith, w .starts-long)) in
+        let p : getD (set (s .starts) (s .count) start) i 0 ≡ start = ap (λ (j : ℕ). getD (set (s .starts) (s .count) start) j 0) e′
+        ∙ getD-set-same (s .starts) (s .count) start 0 (omega (arith, w .starts-long)) in
         let some : 1 ≤ len = omega (arith, h .long, size-pos v) in
         let q : getD (set (s .lens) (s .count) (len - 1)) i 0 ≡ len - 1
         = ap (λ (j : ℕ). getD (set (s .lens) (s .count) (len - 1)) j 0) e′ ∙ getD-set-same (s .lens) (s .count) (len - 1) 0 (omega (arith, w .lens-long)) in
@@ -107,7 +110,8 @@ env-pick {a} {s} {top} {x} {y} {μ} w hx hy = record {
     second : (l : List ℕ) (u v : ℕ) → length l ≡ 110 → getD (set (set l 0 u) 1 v) 1 0 ≡ v
     second l u v e = getD-set-same (set l 0 u) 1 v 0 (simp length-set (omega arith))
 
-    go : (i : ℕ) → i < 2 → Held a top (getD (picked s x y .starts) i 0) (getD (picked s x y .lens) i 0 + 1) (getD (getD μ x vfalse ∷ getD μ y vfalse ∷ []) i vfalse)
+    go : (i : ℕ) → i < 2 → Held a top (getD (picked s x y .starts) i 0) (getD (picked s x y .lens) i 0 + 1)
+        (getD (getD μ x vfalse ∷ getD μ y vfalse ∷ []) i vfalse)
     go zero h = rw (first (s .starts) _ _ (w .starts-long), first (s .lens) _ _ (w .lens-long)) (w .each x hx)
     go (suc zero) h = rw (second (s .starts) _ _ (w .starts-long), second (s .lens) _ _ (w .lens-long)) (w .each y hy)
     go (suc (suc i)) h = absurd (omega arith)

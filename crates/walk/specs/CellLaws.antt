@@ -8,10 +8,24 @@ use native.Mathlib.Numerals.{add-one}
 use native.Mathlib.Decide.{decLt}
 use native.Mathlib.Omega.{arith}
 use lib.ListN.{length, take, drop, getD, set, length-set, length-append, List·getD-append}
-use lib.Seq.{getD-set-same, getD-set-other, getD-append-add, getD-take, length-take-le, take-length, drop-drop, take-at, drop-at, paste, length-paste, drop-paste}
+use lib.Seq.{
+  getD-set-same,
+  getD-set-other,
+  getD-append-add,
+  getD-take,
+  length-take-le,
+  take-length,
+  drop-drop,
+  take-at,
+  drop-at,
+  paste,
+  length-paste,
+  drop-paste,
+}
 use Rattle.value.specs.Value.{Value, encode, size}
 use Rattle.value.specs.Laws.{Readable}
 use Rattle.rules.specs.Rules.{Cells, two}
+use Rattle.rules.specs.Numbers.{STACK}
 use Rattle.walk.specs.Parts.{part, Kept, part-kept, kept-below}
 use Rattle.walk.specs.Cells.{Frame, Slot, blank, full, Written, Named}
 
@@ -51,7 +65,8 @@ either n i h = go (decLt i n) (decLt i (n + 1))
     go (no p) (no q) = second (omega arith)
 
 -- two blank cells more
-pub written-more : {a slots : List ℕ} {n : ℕ} {W : Cells} → Written a slots n W → n + 2 ≤ 110 → Written a (set (set slots n 0) (n + 1) 0) (n + 2) (W ++ two none none)
+pub written-more : {a slots : List ℕ} {n : ℕ} {W : Cells} → Written a slots n W → n + 2 ≤ 110
+    → Written a (set (set slots n 0) (n + 1) 0) (n + 2) (W ++ two none none)
 written-more {a} {slots} {n} {W} w h = record {
   count = length-append W (two none none) ∙ omega (arith, w .count);
   few = h;
@@ -76,7 +91,8 @@ written-less {a} {slots} {n} {X} w = record {
   each = λ i l. rw (getD-take n X i none l) (w .each i (omega arith));
 }
 
-pub named-more : {cs : List ℕ} {n k : ℕ} {σ : List ℕ} → Named cs n σ → k ≡ length σ → k + 2 ≤ 110 → Named (set (set cs k n) (k + 1) (n + 1)) (n + 2) (σ ++ two n (suc n))
+pub named-more : {cs : List ℕ} {n k : ℕ} {σ : List ℕ} → Named cs n σ → k ≡ length σ → k + 2 ≤ 110
+    → Named (set (set cs k n) (k + 1) (n + 1)) (n + 2) (σ ++ two n (suc n))
 named-more {cs} {n} {k} {σ} w e h = record {
   long = simp length-set (w .long);
   each = λ i l. go i (either k i (let z : i < length σ + 2 = rw length-append at l in omega arith));
@@ -103,7 +119,8 @@ named-pick {cs} {n} {x} {y} {σ} w hx hy = record {
 }
   where
     go : (i : ℕ) → i < 2 → getD (set (set cs 0 (getD cs x 0)) 1 (getD cs y 0)) i 0 ≡ getD (two (getD σ x 0) (getD σ y 0)) i 0
-    go zero h = getD-set-other (set cs 0 (getD cs x 0)) 1 0 (getD cs y 0) 0 (λ q. omega arith) ∙ getD-set-same cs 0 (getD cs x 0) 0 (omega (arith, w .long)) ∙ w .each x hx
+    go zero h = getD-set-other (set cs 0 (getD cs x 0)) 1 0 (getD cs y 0) 0 (λ q. omega arith) ∙ getD-set-same cs 0 (getD cs x 0) 0 (omega (arith, w .long))
+        ∙ w .each x hx
     go (suc zero) h = getD-set-same (set cs 0 (getD cs x 0)) 1 (getD cs y 0) 0 (simp length-set (omega (arith, w .long))) ∙ w .each y hy
     go (suc (suc i)) h = absurd (omega arith)
 
@@ -123,7 +140,8 @@ pub record Filled (at n : ℕ) (s b a : List ℕ) : Type 0 where
 pub filled : (b s : List ℕ) (at : ℕ) → at + length s ≤ length b → Filled at (length s) s b (paste b at s (length s))
 filled b s at h =
     let l : length (take at b) ≡ at = length-take-le at b (omega arith) in
-    let q : paste b at s (length s) ≡ take at b ++ (take (length s) s ++ drop (at + length s) b) = append-assoc (take at b) (take (length s) s) (drop (at + length s) b) in
+    let q : paste b at s (length s) ≡ take at b ++ (take (length s) s ++ drop (at + length s) b) = append-assoc (take at b) (take (length s) s)
+    (drop (at + length s) b) in
     record {
       below = record { same = ap (take at) q ∙ take-at (take at b) _ at l; long = length-paste b at s (length s) h (le-refl _) };
       above = drop-paste b at s (length s) (omega arith) (le-refl _);
@@ -141,7 +159,7 @@ module _ {b a s : List ℕ} {n c : ℕ} (f : Filled (4096 + 256 * c) n s b a) (s
   pub filled-frame : (top : ℕ) → c < 110 → Frame top b a
   filled-frame top h = record {
     plan = kept-below (f .below) 4096 (omega arith) .same;
-    stack = filled-above f 32256 (top - 32256) (omega arith);
+    stack = filled-above f STACK (top - STACK) (omega arith);
     long = f .below .long;
   }
 
@@ -154,7 +172,8 @@ module _ {b a s : List ℕ} {n c : ℕ} (f : Filled (4096 + 256 * c) n s b a) (s
       go (no h) = full z (filled-above f (4096 + 256 * i) len (let k : c < i = omega arith in omega arith) ∙ p) r
 
   -- v was written to the cell c
-  pub written-set : {slots : List ℕ} {m : ℕ} {W : Cells} {v : Value} → Written b slots m W → c < m → n ≡ size v → s ≡ encode v → Readable v → Written a (set slots c n) m (set W c (some v))
+  pub written-set : {slots : List ℕ} {m : ℕ} {W : Cells} {v : Value} → Written b slots m W → c < m → n ≡ size v → s ≡ encode v → Readable v
+      → Written a (set slots c n) m (set W c (some v))
   written-set {slots} {m} {W} {v} w h z e r = record {
     count = length-set W c (some v) ∙ w .count;
     few = w .few;
@@ -166,7 +185,8 @@ module _ {b a s : List ℕ} {n c : ℕ} (f : Filled (4096 + 256 * c) n s b a) (s
       other i l ne = rw (getD-set-other slots c i n 0 ne, getD-set-other W c i (some v) none ne) (slot-other ne (w .each i l))
 
       here : (i : ℕ) → i ≡ c → Slot a (4096 + 256 * i) (getD (set slots c n) i 0) (getD (set W c (some v)) i none)
-      here i q = rw (q, getD-set-same slots c n 0 (omega (arith, w .long, w .few)), getD-set-same W c (some v) none (omega (arith, w .count))) (full z (f .bytes ∙ e) r)
+      here i q = rw (q, getD-set-same slots c n 0 (omega (arith, w .long, w .few)), getD-set-same W c (some v) none (omega (arith, w .count)))
+          (full z (f .bytes ∙ e) r)
 
       go : (i : ℕ) → i < m → Dec (i < c) → Dec (c < i) → Slot a (4096 + 256 * i) (getD (set slots c n) i 0) (getD (set W c (some v)) i none)
       go i l (yes p) q = other i l (λ k. omega arith)

@@ -8,12 +8,13 @@ use lib.Seq.{paste}
 use Rattle.value.specs.Value.{Value, encode, size}
 use Rattle.value.specs.Laws.{Readable}
 use Rattle.rules.specs.Rules.{Cells}
+use Rattle.rules.specs.Numbers.{STACK}
 use Rattle.walk.specs.Parts.{part}
 
 -- the bytes of the plan and of the stack below `top` are left alone
 pub record Frame (top : ℕ) (b a : List ℕ) : Type 0 where
   pub plan : take 4096 a ≡ take 4096 b
-  pub stack : part a 32256 (top - 32256) ≡ part b 32256 (top - 32256)
+  pub stack : part a STACK (top - STACK) ≡ part b STACK (top - STACK)
   pub long : length a ≡ length b
 
 -- the slot of a cell holds what was written: a length of 0 where nothing was

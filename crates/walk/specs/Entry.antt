@@ -22,6 +22,7 @@ use Rattle.rules.specs.Outcome.{Out, done, refused, mapOut, reading}
 use Rattle.rules.specs.Allowance.{within}
 use Rattle.rules.specs.Rules.{get}
 use Rattle.rules.specs.Answer.{getWalk, getBytes}
+use Rattle.rules.specs.Numbers.{ALLOWANCE, SCRATCH, STACK}
 use Rattle.step.specs.declared.Scope.{Scope}
 use Rattle.walk.specs.declared.Walked.{Walked}
 use Rattle.walk.specs.declared.Walked.the-variants.{Done, Refused}
@@ -37,16 +38,16 @@ use Rattle.walk.specs.GetAt.{Brought, AtTop, at-top}
 
 -- the result r and the arena a say the outcome: its bytes, at most `most`, stand at 32,256
 pub data Says (most : ℕ) (a : List ℕ) (r : Walked) : Out (List ℕ) → Type 0 where
-  says-done : {bs : List ℕ} {n : ℕ} (len : ℕ) → r ≡ Done len n → len ≡ length bs → len ≤ most → part a 32256 len ≡ bs → Says most a r (done bs n)
+  says-done : {bs : List ℕ} {n : ℕ} (len : ℕ) → r ≡ Done len n → len ≡ length bs → len ≤ most → part a STACK len ≡ bs → Says most a r (done bs n)
   says-refused : {c n : ℕ} → r ≡ Refused c → Says most a r (refused c n)
 
 -- a call whose outcome is w, with the arena b before and a behind it
 pub record WalkCall (most : ℕ) (w : Out (List ℕ)) (allowance : ℕ) (b a : List ℕ) (r : Walked) : Type 0 where
   pub long : length a ≡ length b
-  pub behind : drop 65536 a ≡ drop 65536 b
-  pub short : length b < 65536 → (r ≡ Refused 2) × (a ≡ b)
-  pub too-many : 65536 ≤ length b → 1000000 < allowance → (r ≡ Refused 3) × (a ≡ b)
-  pub says : 65536 ≤ length b → allowance ≤ 1000000 → Says most a r w
+  pub behind : drop SCRATCH a ≡ drop SCRATCH b
+  pub short : length b < SCRATCH → (r ≡ Refused 2) × (a ≡ b)
+  pub too-many : SCRATCH ≤ length b → ALLOWANCE < allowance → (r ≡ Refused 3) × (a ≡ b)
+  pub says : SCRATCH ≤ length b → allowance ≤ ALLOWANCE → Says most a r w
 
 -- the sheet and the plan are read, and the scope has the plan's variables
 pub record Planned (sheet plan : List ℕ) (table : Table) (sc : Scope) (allowance : ℕ) (b : List ℕ) : Type 0 where
@@ -56,8 +57,8 @@ pub record Planned (sheet plan : List ℕ) (table : Table) (sc : Scope) (allowan
   pub is : table ≡ tableOf (ok sh)
   pub values : readPlan (sh .k) plan ≡ ok μ
   pub spanned : Spanned (sh .k) (places (starts 0 μ)) (places (map size μ)) sc
-  pub few : allowance ≤ 1000000
-  pub long : length b ≡ 65536
+  pub few : allowance ≤ ALLOWANCE
+  pub long : length b ≡ SCRATCH
 
 pub record PlanWalked (most : ℕ) (w : Out (List ℕ)) (b a : List ℕ) (r : Walked) : Type 0 where
   pub long : length a ≡ length b
@@ -89,7 +90,7 @@ module _ {sheet plan : List ℕ} {table : Table} {sc : Scope} {allowance : ℕ} 
   get-is = rw (w .read, w .values) (ap (λ (x : ℕ). mapOut encode (within allowance (get 48 (w .sh) x (w .μ)))) (sym root-is))
 
   module _ {m : List ℕ} (c : CopiedIn plan b m) where
-    pub plan-env : Scoped m sc 32256 (w .μ)
+    pub plan-env : Scoped m sc STACK (w .μ)
     plan-env = record {
       count = w .spanned .count ∙ sym (plan-read .count);
       starts-long = w .spanned .starts-long;
@@ -97,7 +98,7 @@ module _ {sheet plan : List ℕ} {table : Table} {sc : Scope} {allowance : ℕ} 
       each = λ i h. go i h;
     }
       where
-        go : (i : ℕ) → i < length (w .μ) → Held m 32256 (getD (sc .starts) i 0) (getD (sc .lens) i 0 + 1) (getD (w .μ) i vfalse)
+        go : (i : ℕ) → i < length (w .μ) → Held m STACK (getD (sc .starts) i 0) (getD (sc .lens) i 0 + 1) (getD (w .μ) i vfalse)
         go i h =
             let r = plan-read in
             let k : i < w .sh .k = omega (arith, r .count) in
@@ -114,7 +115,7 @@ module _ {sheet plan : List ℕ} {table : Table} {sc : Scope} {allowance : ℕ} 
 
     -- the place of the walk
     abbrev pub at-root : Here
-    at-root = record { sheet = sheet; table = table .starts; arena = m; scope = sc; top = 32256; left = allowance; levels = 48 }
+    at-root = record { sheet = sheet; table = table .starts; arena = m; scope = sc; top = STACK; left = allowance; levels = 48 }
 
     pub plan-ready : Asks at-root (table .root)
     unfolding tableOf
@@ -131,7 +132,7 @@ module _ {sheet plan : List ℕ} {table : Table} {sc : Scope} {allowance : ℕ} 
     }
 
     -- the root was got, and its value brought to the top
-    module _ {a a₂ : List ℕ} {g r : ℕ} (told : ToldOf at-root a g (table .root)) (sized : Sized 32256 allowance 48 g) (brought : Brought 32256 g a a₂ r) where
+    module _ {a a₂ : List ℕ} {g r : ℕ} (told : ToldOf at-root a g (table .root)) (sized : Sized STACK allowance 48 g) (brought : Brought STACK g a a₂ r) where
       top : AtTop at-root a₂ r (table .root)
       top = at-top plan-ready told sized brought
 
@@ -148,7 +149,7 @@ module _ {sheet plan : List ℕ} {table : Table} {sc : Scope} {allowance : ℕ} 
           let d = had (top .gives .told (w .sh) (w .read) (w .μ) plan-env) (said-done r e) in
           let h = d .that .held in
           let z : getBytes sheet plan allowance ≡ done (encode (d .value)) n = get-is ∙ ap (mapOut encode) (d .is) ∙ ap (done (encode (d .value))) (sym q) in
-          let y : part a₂ 32256 len ≡ encode (d .value) = ap₂ (part a₂) (sym (top .there e)) f ∙ h .bytes in
+          let y : part a₂ STACK len ≡ encode (d .value) = ap₂ (part a₂) (sym (top .there e)) f ∙ h .bytes in
           let few : len ≤ 256 = omega (arith, f, held-short h) in
           record { long = top .gives .kept .long ∙ c .long; says = rw z (says-done len refl (f ∙ h .long ∙ sym (size-encode (d .value))) few y) }
 
@@ -174,8 +175,8 @@ spanned-as : {k k′ : ℕ} {ss ss′ ls ls′ : List ℕ} {sc : Scope} → k �
 spanned-as e f g s = rw (e, f, g) at s
 
 pub planned : {sheet plan : List ℕ} {allowance : ℕ} {table : Table} {sc : Scope} {sp : Spans} (b : List ℕ)
-    → 65536 ≤ length b → allowance ≤ 1000000 → TableRead sheet table
-    → sp ≡ spansOf (table .k) plan → sp .refusal ≡ 0 → Spanned (table .k) (sp .starts) (sp .lens) sc → Planned sheet plan table sc allowance (take 65536 b)
+    → SCRATCH ≤ length b → allowance ≤ ALLOWANCE → TableRead sheet table
+    → sp ≡ spansOf (table .k) plan → sp .refusal ≡ 0 → Spanned (table .k) (sp .starts) (sp .lens) sc → Planned sheet plan table sc allowance (take SCRATCH b)
 planned {plan = plan} {table = table} b room few t read z s =
     let w = spread (table .k) plan (t .few) read z in
     record {
@@ -186,36 +187,36 @@ planned {plan = plan} {table = table} b room few t read z s =
       values = ap (λ (k : ℕ). readPlan k plan) (sym (t .k-is)) ∙ w .values;
       spanned = spanned-as (t .k-is) (w .starts-are) (w .lens-are) s;
       few = few;
-      long = length-take-le 65536 b room;
+      long = length-take-le SCRATCH b room;
     }
 
 -- what stands in the front stands in the whole
-says-whole : (x : List ℕ) {most : ℕ} {a : List ℕ} {r : Walked} {o : Out (List ℕ)} → most ≤ 4096 → length a ≡ 65536 → Says most a r o → Says most (a ++ x) r o
+says-whole : (x : List ℕ) {most : ℕ} {a : List ℕ} {r : Walked} {o : Out (List ℕ)} → most ≤ 4096 → length a ≡ SCRATCH → Says most a r o → Says most (a ++ x) r o
 says-whole x {a = a} t l (says-done {bs = bs} len e q h p) =
-    let z : part (a ++ x) 32256 len ≡ part a 32256 len
-    = rw (drop-append-le 32256 a x (omega arith)) (take-append-le len (drop 32256 a) x (rw length-drop (omega arith))) in
+    let z : part (a ++ x) STACK len ≡ part a STACK len
+    = rw (drop-append-le STACK a x (omega arith)) (take-append-le len (drop STACK a) x (rw length-drop (omega arith))) in
     says-done len e q h (z ∙ p)
 says-whole x t l (says-refused e) = says-refused e
 
 module _ {most : ℕ} {w : Out (List ℕ)} {allowance : ℕ} {b : List ℕ} where
-  pub call-2 : length b < 65536 → WalkCall most w allowance b b (Refused 2)
+  pub call-2 : length b < SCRATCH → WalkCall most w allowance b b (Refused 2)
   call-2 h = record { long = refl; behind = refl; short = λ _. (refl, refl); too-many = λ k _. absurd (omega arith); says = λ k _. absurd (omega arith) }
 
-  module _ (room : 65536 ≤ length b) where
-    pub call-3 : 1000000 < allowance → WalkCall most w allowance b b (Refused 3)
+  module _ (room : SCRATCH ≤ length b) where
+    pub call-3 : ALLOWANCE < allowance → WalkCall most w allowance b b (Refused 3)
     call-3 h = record { long = refl; behind = refl; short = λ k. absurd (omega arith); too-many = λ _ _. (refl, refl); says = λ _ k. absurd (omega arith) }
 
-    module _ (few : allowance ≤ 1000000) where
-      answered : {a : List ℕ} {r : Walked} → length a ≡ length b → drop 65536 a ≡ drop 65536 b → Says most a r w → WalkCall most w allowance b a r
+    module _ (few : allowance ≤ ALLOWANCE) where
+      answered : {a : List ℕ} {r : Walked} → length a ≡ length b → drop SCRATCH a ≡ drop SCRATCH b → Says most a r w → WalkCall most w allowance b a r
       answered l d s = record { long = l; behind = d; short = λ k. absurd (omega arith); too-many = λ _ k. absurd (omega arith); says = λ _ _. s }
 
       pub call-refused : {c n : ℕ} → w ≡ refused c n → WalkCall most w allowance b b (Refused c)
       call-refused e = answered refl refl (rw e (says-refused refl))
 
-      pub call-done : {a : List ℕ} {r : Walked} → most ≤ 4096 → PlanWalked most w (take 65536 b) a r → WalkCall most w allowance b (a ++ drop 65536 b) r
+      pub call-done : {a : List ℕ} {r : Walked} → most ≤ 4096 → PlanWalked most w (take SCRATCH b) a r → WalkCall most w allowance b (a ++ drop SCRATCH b) r
       call-done {a} {r} t g =
-          let l : length a ≡ 65536 = g .long ∙ length-take-le 65536 b room in
-          answered (rw (length-append, length-drop) (omega arith)) (drop-at a (drop 65536 b) 65536 l) (says-whole (drop 65536 b) t l (g .says))
+          let l : length a ≡ SCRATCH = g .long ∙ length-take-le SCRATCH b room in
+          answered (rw (length-append, length-drop) (omega arith)) (drop-at a (drop SCRATCH b) SCRATCH l) (says-whole (drop SCRATCH b) t l (g .says))
 
 -- a refusal of the sheet, and of the plan
 pub sheet-refusal : (sheet : List ℕ) {table : Table} → table ≡ tableOf (readSheet sheet) → (table .refusal ≡ 0 → ⊥) → readSheet sheet ≡ refusal (table .refusal)

@@ -9,6 +9,7 @@ use lib.ListN.{take, drop}
 use lib.Seq.{take-take, drop-drop}
 use Rattle.value.specs.Value.{Value}
 use Rattle.rules.specs.Rules.{Env, Cells}
+use Rattle.rules.specs.Numbers.{STACK}
 use Rattle.step.specs.declared.Scope.{Scope}
 use Rattle.walk.specs.Parts.{part, Kept, part-kept, kept-below, take-drop}
 use Rattle.walk.specs.Arena.{Below, inPlan, onStack, Held, Scoped, below-later}
@@ -26,20 +27,21 @@ frame-refl top b = record { plan = refl; stack = refl; long = refl }
 pub frame-part : {top : ℕ} {b a : List ℕ} {start len : ℕ} → Frame top b a → Below top start len → part a start len ≡ part b start len
 frame-part {top} {b} {a} {start} {len} f (inPlan h) = part-kept {k = 4096} {b = b} {a = a} (record { same = f .plan; long = f .long }) start len h
 frame-part {top} {b} {a} {start} {len} f (onStack h k) =
-    let z : 32256 + (start - 32256) ≡ start = omega arith in
-    let p : (l : List ℕ) → part (part l 32256 (top - 32256)) (start - 32256) len ≡ part l start len
-    = λ l. part-part l 32256 (top - 32256) (start - 32256) len (omega arith) ∙ ap (λ (i : ℕ). part l i len) z in
-    sym (p a) ∙ ap (λ (l : List ℕ). part l (start - 32256) len) (f .stack) ∙ p b
+    let z : STACK + (start - STACK) ≡ start = omega arith in
+    let p : (l : List ℕ) → part (part l STACK (top - STACK)) (start - STACK) len ≡ part l start len
+    = λ l. part-part l STACK (top - STACK) (start - STACK) len (omega arith) ∙ ap (λ (i : ℕ). part l i len) z in
+    sym (p a) ∙ ap (λ (l : List ℕ). part l (start - STACK) len) (f .stack) ∙ p b
 
-pub frame-below : {top top′ : ℕ} {b a : List ℕ} → Frame top′ b a → 32256 ≤ top → top ≤ top′ → Frame top b a
-frame-below {top} {top′} {b} {a} f h p = record { plan = f .plan; stack = frame-part {len = top - 32256} f (onStack (le-refl 32256) (omega arith)); long = f .long }
+pub frame-below : {top top′ : ℕ} {b a : List ℕ} → Frame top′ b a → STACK ≤ top → top ≤ top′ → Frame top b a
+frame-below {top} {top′} {b} {a} f h p =
+    record { plan = f .plan; stack = frame-part {len = top - STACK} f (onStack (le-refl STACK) (omega arith)); long = f .long }
 
 -- one change after another
-pub frame-then : {top top′ : ℕ} {c b a : List ℕ} → Frame top c b → Frame top′ b a → 32256 ≤ top → top ≤ top′ → Frame top c a
+pub frame-then : {top top′ : ℕ} {c b a : List ℕ} → Frame top c b → Frame top′ b a → STACK ≤ top → top ≤ top′ → Frame top c a
 frame-then f g h p = let k = frame-below g h p in record { plan = k .plan ∙ f .plan; stack = k .stack ∙ f .stack; long = k .long ∙ f .long }
 
-pub kept-frame : {top : ℕ} {b a : List ℕ} → Kept top b a → 32256 ≤ top → Frame top b a
-kept-frame {top} {b} {a} k h = record { plan = kept-below k 4096 (omega arith) .same; stack = part-kept k 32256 (top - 32256) (omega arith); long = k .long }
+pub kept-frame : {top : ℕ} {b a : List ℕ} → Kept top b a → STACK ≤ top → Frame top b a
+kept-frame {top} {b} {a} k h = record { plan = kept-below k 4096 (omega arith) .same; stack = part-kept k STACK (top - STACK) (omega arith); long = k .long }
 
 module _ {b a : List ℕ} {top : ℕ} (f : Frame top b a) (top′ : ℕ) (p : top ≤ top′) where
   pub held-framed : {start len : ℕ} {v : Value} → Held b top start len v → Held a top′ start len v
@@ -56,5 +58,5 @@ slot-kept : {b a : List ℕ} {k start len : ℕ} {o : Option Value} → Kept k b
 slot-kept e h (blank z) = blank z
 slot-kept {start = start} {len = len} e h (full z p r) = full z (part-kept e start len (omega (arith, r .fits)) ∙ p) r
 
-pub written-kept : {b a slots : List ℕ} {k n : ℕ} {W : Cells} → Kept k b a → 32256 ≤ k → Written b slots n W → Written a slots n W
+pub written-kept : {b a slots : List ℕ} {k n : ℕ} {W : Cells} → Kept k b a → STACK ≤ k → Written b slots n W → Written a slots n W
 written-kept e h w = record { count = w .count; few = w .few; long = w .long; each = λ i l. slot-kept e (omega (arith, w .few)) (w .each i l) }

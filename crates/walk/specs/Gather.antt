@@ -8,6 +8,7 @@ use native.Mathlib.Omega.{arith}
 use lib.ListN.{length, take, getD}
 use lib.Seq.{take-suc}
 use Rattle.value.specs.Value.{Value, vfalse, encode, flat}
+use Rattle.rules.specs.Numbers.{SCRATCH, STACK}
 use Rattle.step.specs.declared.Scope.{Scope}
 use Rattle.step.specs.declared.Span.{Span}
 use Rattle.step.specs.Step.{When, placeOf, nowhere}
@@ -18,13 +19,13 @@ use Rattle.walk.specs.Scope.{Spanning}
 pub record Rests (a : List ℕ) (p : Span) (v : Value) : Type 0 where
   pub bytes : part a (p .start) (p .len) ≡ encode v
   pub short : p .len ≤ 256
-  pub inside : p .start + p .len ≤ 32256
+  pub inside : p .start + p .len ≤ STACK
 
 -- the variables now stand for ws
 pub record Placed (a slots : List ℕ) (sc : Scope) (ws : List Value) : Type 0 where
   pub count : sc .count ≡ length ws
   pub few : length ws ≤ 16
-  pub long : length a ≡ 65536
+  pub long : length a ≡ SCRATCH
   pub each : (i : ℕ) → i < length ws → Rests a (placeOf (getD slots i 0) i (getD (sc .starts) i 0) (getD (sc .lens) i 0 + 1)) (getD ws i vfalse)
 
 pub record SomePlaced (a slots : List ℕ) (sc : Scope) : Type 0 where
@@ -33,13 +34,13 @@ pub record SomePlaced (a slots : List ℕ) (sc : Scope) : Type 0 where
 
 -- i of them are gathered, in `len` bytes
 pub record Gathered (i : ℕ) (slots : List ℕ) (sc : Scope) (b a : List ℕ) (len : ℕ) : Type 0 where
-  pub kept : Kept 32256 b a
+  pub kept : Kept STACK b a
   pub short : len ≤ 256 * i
-  pub told : {ws : List Value} → Placed b slots sc ws → part a 32256 len ≡ flat (take i ws)
+  pub told : {ws : List Value} → Placed b slots sc ws → part a STACK len ≡ flat (take i ws)
 
 pub gathered-none : {slots : List ℕ} {sc : Scope} (b : List ℕ) → Gathered 0 slots sc b b 0
 unfolding flat
-gathered-none b = record { kept = kept-refl 32256 b; short = omega arith; told = λ _. refl }
+gathered-none b = record { kept = kept-refl STACK b; short = omega arith; told = λ _. refl }
 
 flat-snoc : (ws : List Value) (v : Value) → flat (ws ++ (v ∷ [])) ≡ flat ws ++ encode v
 unfolding flat
@@ -54,27 +55,27 @@ module _ {i : ℕ} {slots : List ℕ} {sc : Scope} {b a : List ℕ} {len : ℕ} 
       rw is (w .each i (omega (arith, w .count)))
 
   -- what the copy of the next one asks
-  pub gather-fits : (p .start + p .len ≤ length a) × (32256 + len + p .len ≤ length a)
+  pub gather-fits : (p .start + p .len ≤ length a) × (STACK + len + p .len ≤ length a)
   gather-fits =
       let w = s .placed in
       let r = rests w in
       (omega (arith, r .inside, g .kept .long, w .long), omega (arith, r .short, g .short, g .kept .long, w .long, w .few, w .count))
 
-  pub gathered-more : {a′ : List ℕ} → Copied (p .start) (32256 + len) (p .len) a a′ → Gathered (i + 1) slots sc b a′ (len + p .len)
+  pub gathered-more : {a′ : List ℕ} → Copied (p .start) (STACK + len) (p .len) a a′ → Gathered (i + 1) slots sc b a′ (len + p .len)
   gathered-more {a′} c = record {
     kept = kept-then (g .kept) (c .kept) (omega arith);
     short = omega (arith, g .short, rests (s .placed) .short);
     told = go;
   }
     where
-      go : {ws : List Value} → Placed b slots sc ws → part a′ 32256 (len + p .len) ≡ flat (take (i + 1) ws)
+      go : {ws : List Value} → Placed b slots sc ws → part a′ STACK (len + p .len) ≡ flat (take (i + 1) ws)
       go {ws} w =
           let r = rests w in
-          let x : part a′ 32256 len ≡ flat (take i ws) = part-kept (c .kept) 32256 len (le-refl _) ∙ g .told w in
-          let y : part a′ (32256 + len) (p .len) ≡ encode (getD ws i vfalse) = c .bytes ∙ part-kept (g .kept) (p .start) (p .len) (r .inside) ∙ r .bytes in
+          let x : part a′ STACK len ≡ flat (take i ws) = part-kept (c .kept) STACK len (le-refl _) ∙ g .told w in
+          let y : part a′ (STACK + len) (p .len) ≡ encode (getD ws i vfalse) = c .bytes ∙ part-kept (g .kept) (p .start) (p .len) (r .inside) ∙ r .bytes in
           let z : take (i + 1) ws ≡ take i ws ++ (getD ws i vfalse ∷ [])
           = ap (λ (j : ℕ). take j ws) (add-one i) ∙ take-suc ws i vfalse (omega (arith, w .count)) in
-          part-join a′ 32256 len (p .len) ∙ ap₂ _++_ x y ∙ sym (flat-snoc (take i ws) (getD ws i vfalse)) ∙ sym (ap flat z)
+          part-join a′ STACK len (p .len) ∙ ap₂ _++_ x y ∙ sym (flat-snoc (take i ws) (getD ws i vfalse)) ∙ sym (ap flat z)
 
 pub gathered-all : {i k : ℕ} {slots : List ℕ} {sc : Scope} {b a : List ℕ} {len : ℕ} → Gathered i slots sc b a len → i ≡ k → Gathered k slots sc b a len
 gathered-all g e = rw e at g

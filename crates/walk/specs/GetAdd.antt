@@ -13,6 +13,7 @@ use Rattle.value.specs.declared.Shape.the-variants as shapes
 use Rattle.rules.specs.Text
 use Rattle.rules.specs.Rules.{getNode}
 use Rattle.rules.specs.Readable.{number-readable}
+use Rattle.rules.specs.Numbers.{SCRATCH}
 use Rattle.walk.specs.Parts.{part, kept-then, kept-set}
 use Rattle.walk.specs.Arena.{Held, onStack}
 use Rattle.walk.specs.Seen.{held-head, held-shape}
@@ -37,7 +38,8 @@ pub record Addable (a : List ℕ) (got top : ℕ) : Type 0 where
 pub data Added (amount got top : ℕ) (b a : List ℕ) (r : ℕ) : Type 0 where
   passed-on : isRefusal got ≡ true → r ≡ got → a ≡ b → Added amount got top b a r
   other : isRefusal got ≡ false → ((m : ℕ) → shapes.Number m ≡ shapeOf (part b (startOf got) (lenOf got)) → ⊥) → r ≡ 43 → a ≡ b → Added amount got top b a r
-  over : {m : ℕ} → isRefusal got ≡ false → shapes.Number m ≡ shapeOf (part b (startOf got) (lenOf got)) → 65535 < m + amount → r ≡ 45 → a ≡ b → Added amount got top b a r
+  over : {m : ℕ} → isRefusal got ≡ false → shapes.Number m ≡ shapeOf (part b (startOf got) (lenOf got)) → 65535 < m + amount → r ≡ 45 → a ≡ b
+      → Added amount got top b a r
   sums : {m : ℕ} → isRefusal got ≡ false → shapes.Number m ≡ shapeOf (part b (startOf got) (lenOf got)) → m + amount ≤ 65535 → r ≡ got
       → a ≡ set (set b (top + 1) ((m + amount) / 256)) (top + 2) ((m + amount) % 256) → Added amount got top b a r
 
@@ -55,7 +57,7 @@ module _ {h : Here} {k n : ℕ} (w : Asked h k n) (add : k ≡ 0x1B) where
     addable e =
         let d = had (t .gives .told (w .sheet .sh) (w .sheet .read) (w .env) (w .scoped)) (said-done g e) in
         let s = t .sized .at e in
-        let z : h .top + 257 * suc (h .levels) ≤ 65536 = w .room in
+        let z : h .top + 257 * suc (h .levels) ≤ SCRATCH = w .room in
         record {
           there = t .there e;
           inside = omega (arith, t .gives .kept .long, w .long);
@@ -89,8 +91,8 @@ module _ {h : Here} {k n : ℕ} (w : Asked h k n) (add : k ≡ 0x1B) where
     add-told {a₂} {r} (sums {m = i} e num le is f) =
         let top = h .top in
         let sum = i + amountAt (h .sheet) n in
-        let z : top + 257 * suc (h .levels) ≤ 65536 = w .room in
-        let long : length a ≡ 65536 = t .gives .kept .long ∙ w .long in
+        let z : top + 257 * suc (h .levels) ≤ SCRATCH = w .room in
+        let long : length a ≡ SCRATCH = t .gives .kept .long ∙ w .long in
         let p = t .there e in
         rw (is, add) (record {
           kept = rw f (kept-then (kept-then (t .gives .kept) (kept-set top a (top + 1) (sum / 256) (omega arith)) (le-refl top))
@@ -99,11 +101,17 @@ module _ {h : Here} {k n : ℕ} (w : Asked h k n) (add : k ≡ 0x1B) where
               let d = had (t .gives .told sh es μ m) (said-done g e) in
               let v = the-number num (d .that .held) in
               let three : lenOf g ≡ 3 = d .that .held .long ∙ ap size (v .whole) in
-              let head : getD a top 0 ≡ 4 = ap (λ (j : ℕ). getD a j 0) (sym p) ∙ held-head (d .that .held) ∙ ap (λ (y : Value). getD (encode y) 0 0) (v .whole) in
+              let head : getD a top 0 ≡ 4 = ap (λ (j : ℕ). getD a j 0) (sym p) ∙ held-head (d .that .held)
+              ∙ ap (λ (y : Value). getD (encode y) 0 0) (v .whole) in
               let y : stepsOf g + 0 ≡ stepsOf g = omega arith in
               let x : said g ≡ Done top 3 (stepsOf g + 0) = said-done g e ∙ rw (p, three, y) in
               then-done _ _ {q = Done top 3 0} (d .is) (give _ _ (v .seen) (give-yes _ _ _ le (λ _. finish refl (record {
                 low = le-refl top;
-                held = record { place = onStack (w .base) (le-refl _); long = refl; bytes = rw f (number-bytes a top sum (omega arith) head); readable = number-readable le };
+                held = record {
+                  place = onStack (w .base) (le-refl _);
+                  long = refl;
+                  bytes = rw f (number-bytes a top sum (omega arith) head);
+                  readable = number-readable le;
+                };
               })))) x;
         })

@@ -7,6 +7,7 @@ use native.Mathlib.Nat.{le-refl}
 use native.Mathlib.Omega.{arith}
 use lib.ListN.{length}
 use Rattle.answer.specs.Answer.{Said, Done, said, isRefusal, doneAs, lenOf, startOf, stepsOf, len-small, steps-small, said-refused, said-done, done-said}
+use Rattle.rules.specs.Numbers.{SCRATCH}
 use Rattle.step.specs.declared.Scope.{Scope}
 use Rattle.walk.specs.declared.at.At.{At}
 use Rattle.walk.specs.Parts.{kept-then, Copied}
@@ -19,12 +20,12 @@ use Rattle.walk.specs.GetReady.{Sized}
 pub record Movable (a : List ℕ) (top g : ℕ) : Type 0 where
   pub inside : startOf g + lenOf g ≤ length a
   pub room : top + lenOf g ≤ length a
-  pub low : top < 65536
+  pub low : top < SCRATCH
 
 -- it was brought there, and r tells so
 pub record Moved (top g : ℕ) (b a : List ℕ) (r : ℕ) : Type 0 where
   pub is : r ≡ doneAs top (lenOf g) (stepsOf g)
-  pub low : top < 65536
+  pub low : top < SCRATCH
   pub copied : Copied (startOf g) top (lenOf g) b a
 
 pub record Brought (top g : ℕ) (b a : List ℕ) (r : ℕ) : Type 0 where
@@ -42,7 +43,7 @@ module _ {h : Here} {a : List ℕ} {g x : ℕ} (w : Asks h x) (t : ToldOf h a g 
   pub movable : isRefusal g ≡ false → Movable a (h .top) g
   movable n =
       let s = z .at n in
-      let l : length a ≡ 65536 = t .kept .long ∙ w .long in
+      let l : length a ≡ SCRATCH = t .kept .long ∙ w .long in
       let r = w .room in
       record { inside = omega arith; room = omega arith; low = omega arith }
 
@@ -56,7 +57,12 @@ module _ {h : Here} {a : List ℕ} {g x : ℕ} (w : Asks h x) (t : ToldOf h a g 
               let q = had (t .told sh es μ e) (said-done g n) in
               as-done (q .is) d (record {
                 low = le-refl _;
-                held = record { place = onStack (w .base) (le-refl _); long = q .that .held .long; bytes = m .copied .bytes ∙ q .that .held .bytes; readable = q .that .held .readable };
+                held = record {
+                  place = onStack (w .base) (le-refl _);
+                  long = q .that .held .long;
+                  bytes = m .copied .bytes ∙ q .that .held .bytes;
+                  readable = q .that .held .readable;
+                };
               });
         };
         sized = record {
@@ -75,7 +81,9 @@ module _ {h : Here} {a : List ℕ} {g x : ℕ} (w : Asks h x) (t : ToldOf h a g 
   at-top {a₂} {r} b = go (isRefusal g) refl
     where
       go : (p : Bool) → isRefusal g ≡ p → AtTop h a₂ r x
-      go true e = let q = b .refused e in rw (q .0, q .1) (record { gives = t; sized = z; there = λ n. absurd (let y : true ≡ false = cc in let u : _≡_ {A = ℕ} 0 1 = cc in omega arith) })
+      go true e =
+          let q = b .refused e in
+          rw (q .0, q .1) (record { gives = t; sized = z; there = λ n. absurd (let y : true ≡ false = cc in let u : _≡_ {A = ℕ} 0 1 = cc in omega arith) })
       go false e = let m = b .moved e in brought e m (ap said (m .is) ∙ done-said _ _ _ (m .low) (len-small g) (steps-small g))
 
 pub brought-as : {at at′ : At} {g r : ℕ} {b a : List ℕ} → at ≡ at′ → Brought (at .top) g b a r → Brought (at′ .top) g b a r

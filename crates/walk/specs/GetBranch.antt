@@ -6,12 +6,30 @@ use lib.ListN.{length}
 use Prim.Native.Nat.{ℕ, _+_, _-_, _*_, _≤_, _<_}
 use native.Mathlib.Nat.{le-refl}
 use native.Mathlib.Omega.{arith}
-use Rattle.answer.specs.Answer.{Done, Refused, said, after, isRefusal, doneAs, lenOf, startOf, stepsOf, len-small, start-small, steps-small, said-refused, said-done, done-said, refused-said}
+use Rattle.answer.specs.Answer.{
+  Done,
+  Refused,
+  said,
+  after,
+  isRefusal,
+  doneAs,
+  lenOf,
+  startOf,
+  stepsOf,
+  len-small,
+  start-small,
+  steps-small,
+  said-refused,
+  said-done,
+  done-said,
+  refused-said,
+}
 use Rattle.value.specs.Value.{Value}
 use Rattle.value.specs.Tests.{passes, holds}
 use Rattle.value.specs.Parts.{passesBytes}
 use Rattle.rules.specs.Text
 use Rattle.rules.specs.Rules.{tested}
+use Rattle.rules.specs.Numbers.{STACK}
 use Rattle.step.specs.declared.Scope.{Scope}
 use Rattle.walk.specs.Parts.{part, Kept, kept-refl, kept-below, kept-then, Copied}
 use Rattle.walk.specs.Arena.{onStack, below-within}
@@ -29,7 +47,8 @@ abbrev pub saysOf : (test g : ℕ) → List ℕ → Bool
 saysOf test g a = passesBytes test (part a (startOf g) (lenOf g))
 
 -- as the code asks the test, of the bytes from its start to its end
-pub says-part : (test g : ℕ) (b : List ℕ) {start len : ℕ} {p q : Bool} → start ≡ startOf g → len ≡ lenOf g → p ≡ passesBytes test (part b start (start + len - start)) → p ≡ q → saysOf test g b ≡ q
+pub says-part : (test g : ℕ) (b : List ℕ) {start len : ℕ} {p q : Bool} → start ≡ startOf g → len ≡ lenOf g
+    → p ≡ passesBytes test (part b start (start + len - start)) → p ≡ q → saysOf test g b ≡ q
 says-part test g b {start} {len} e f is h =
     let z : start + len - start ≡ len = omega arith in
     rw (← e, ← f) (ap (λ (n : ℕ). passesBytes test (part b start n)) (sym z) ∙ sym is ∙ h)
@@ -39,9 +58,11 @@ pub data Judged (test top g : ℕ) (b a : List ℕ) (r : ℕ) : Type 0 where
   passed-on : isRefusal g ≡ true → r ≡ g → a ≡ b → Judged test top g b a r
   fails : isRefusal g ≡ false → saysOf test g b ≡ false → r ≡ 46 → a ≡ b → Judged test top g b a r
   stays : isRefusal g ≡ false → saysOf test g b ≡ true → startOf g ≤ top → r ≡ g → a ≡ b → Judged test top g b a r
-  moves : isRefusal g ≡ false → saysOf test g b ≡ true → top < startOf g → r ≡ doneAs top (lenOf g) (stepsOf g) → Copied (startOf g) top (lenOf g) b a → Judged test top g b a r
+  moves : isRefusal g ≡ false → saysOf test g b ≡ true → top < startOf g → r ≡ doneAs top (lenOf g) (stepsOf g) → Copied (startOf g) top (lenOf g) b a
+      → Judged test top g b a r
 
-module _ {b a s : List ℕ} {sc : Scope} {from top left test x l g : ℕ} (base : 32256 ≤ top) (down : top ≤ from) (h : Gives b a s sc from from left g l (enter x)) where
+module _ {b a s : List ℕ} {sc : Scope} {from top left test x l g : ℕ} (base : STACK ≤ top) (down : top ≤ from)
+    (h : Gives b a s sc from from left g l (enter x)) where
   branch-refused : isRefusal g ≡ true → Gives b a s sc from top left g l (branch test x)
   unfolding run Text.tested
   branch-refused n = let e = said-refused g n in
@@ -67,7 +88,8 @@ module _ {b a s : List ℕ} {sc : Scope} {from top left test x l g : ℕ} (base 
       told = λ sh es μ w.
           let d = had (h .told sh es μ w) (said-done g n) in
           let z : stepsOf g + 0 ≡ stepsOf g = omega arith in
-          then-done _ _ {q = Done start (lenOf g) 0} (d .is) (give-yes _ _ _ (sym (held-passes (d .that .held) test) ∙ f) (λ _. finish refl (stands _ (d .that))))
+          then-done _ _ {q = Done start (lenOf g) 0} (d .is)
+          (give-yes _ _ _ (sym (held-passes (d .that .held) test) ∙ f) (λ _. finish refl (stands _ (d .that))))
           (e ∙ ap (Done start (lenOf g)) (sym z));
     }
 
@@ -76,7 +98,8 @@ stands-lower {top = top} {len = len} v low s =
     let w = s .held in
     record { low = low; held = record { place = below-within (top + len) (omega arith) (w .place); long = w .long; bytes = w .bytes; readable = w .readable } }
 
-stands-moved : {a a₂ : List ℕ} {from top start len : ℕ} (v : Value) → 32256 ≤ top → Copied start top len a a₂ → Stands a from start len v → Stands a₂ top top len v
+stands-moved : {a a₂ : List ℕ} {from top start len : ℕ} (v : Value) → STACK ≤ top → Copied start top len a a₂ → Stands a from start len v
+    → Stands a₂ top top len v
 stands-moved {top = top} v base m s =
     let w = s .held in
     record { low = le-refl top; held = record { place = onStack base (le-refl _); long = w .long; bytes = m .bytes ∙ w .bytes; readable = w .readable } }
@@ -88,7 +111,8 @@ judgeable {g = g} w t s n =
     record { inside = omega (arith, t .kept .long, w .long, w .room) }
 
 -- and what it gives
-pub judge-gives : {b a a₂ s : List ℕ} {sc : Scope} {from top left test x l g r : ℕ} → 32256 ≤ top → top ≤ from → Gives b a s sc from from left g l (enter x) → Judged test top g a a₂ r
+pub judge-gives : {b a a₂ s : List ℕ} {sc : Scope} {from top left test x l g r : ℕ} → STACK ≤ top → top ≤ from → Gives b a s sc from from left g l (enter x)
+    → Judged test top g a a₂ r
     → Gives b a₂ s sc from top left r l (branch test x)
 judge-gives base down h (passed-on n e f) = rw (e, f) (branch-refused base down h n)
 judge-gives base down h (fails n p e f) = rw f (branch-46 base down h n (ap said e ∙ refused-said (omega arith) (omega arith)) p)

@@ -13,6 +13,7 @@ use Rattle.sheet.specs.Table.{sectionAt}
 use Rattle.sheet.specs.Laws.{sheet-ranges, section-read}
 use Rattle.rules.specs.Text
 use Rattle.rules.specs.Rules.{Env, two, getNode}
+use Rattle.rules.specs.Numbers.{SCRATCH}
 use Rattle.step.specs.declared.Scope.{Scope}
 use Rattle.step.specs.Step.{picked}
 use Rattle.walk.specs.Parts.{kept-refl}
@@ -24,9 +25,11 @@ use Rattle.walk.specs.GetReady.{ready-in}
 use Rattle.walk.specs.GetEnter.{same-sheet}
 
 -- the section's root, and its node
-module _ {s table : List ℕ} (t : Tabled s table) (n : ℕ) {k root : ℕ} (call : k ≡ 0x1A) (known : Known (t .sh) (own k s n)) (is : root ≡ sectionAt s (getD s (n + 1) 0)) where
+module _ {s table : List ℕ} (t : Tabled s table) (n : ℕ) {k root : ℕ} (call : k ≡ 0x1A) (known : Known (t .sh) (own k s n))
+    (is : root ≡ sectionAt s (getD s (n + 1) 0)) where
   pub root-read : {sh : Sheet} → readSheet s ≡ ok sh → root ≡ getD (sh .sections) (getD s (n + 1) 0) 0
-  root-read e = is ∙ section-read s (t .read) (getD s (n + 1) 0) (rw call at (known .1) .0) ∙ ap (λ (y : Sheet). getD (y .sections) (getD s (n + 1) 0) 0) (same-sheet t e)
+  root-read e = is ∙ section-read s (t .read) (getD s (n + 1) 0) (rw call at (known .1) .0) ∙ ap (λ (y : Sheet). getD (y .sections) (getD s (n + 1) 0) 0)
+      (same-sheet t e)
 
   pub root-known : root < length (t .sh .nodes)
   root-known = rw (root-read (t .read)) (sheet-ranges s (t .read) .section (getD s (n + 1) 0) (rw call at (known .1) .0))
@@ -69,7 +72,7 @@ module _ {h : Here} {k n root : ℕ} (w : Looked h k n root) where
   call-asks =
       let a = w .asked in
       let y : h .scope .count + 2 * suc (h .levels) ≤ 112 = a .variables in
-      let z : h .top + 257 * suc (h .levels) ≤ 65536 = a .room in
+      let z : h .top + 257 * suc (h .levels) ≤ SCRATCH = a .room in
       ready-in a (kept-refl _ _) (h .top) (h .levels) (h .left) (le-refl _) (omega (arith, a .few)) (omega arith) (omega (arith, w .first-in))
       (root-known (a .sheet) n (w .call) (a .known) (w .root-is)) _ (env-few (a .scoped))
 
@@ -77,6 +80,7 @@ module _ {h : Here} {k n root : ℕ} (w : Looked h k n root) where
   unfolding run Text.getNode
   call-told g = rw (w .call) (record {
     kept = g .kept;
-    told = λ sh es μ e. give _ _ (elem-at μ _ vfalse (omega (arith, e .count, w .first-in))) (give _ _ (elem-at μ _ vfalse (omega (arith, e .count, w .second-in)))
+    told = λ sh es μ e. give _ _ (elem-at μ _ vfalse (omega (arith, e .count, w .first-in)))
+        (give _ _ (elem-at μ _ vfalse (omega (arith, e .count, w .second-in)))
         (rw (← root-read (w .asked .sheet) n (w .call) (w .asked .known) (w .root-is) es) (g .told sh es _ (env-few e))));
   })

@@ -8,7 +8,23 @@ use native.Mathlib.Decide.{decLt}
 use native.Mathlib.Omega.{arith}
 use lib.Dec.{eqb}
 use lib.ListN.{length, getD}
-use Rattle.answer.specs.Answer.{Said, Done, Refused as Denied, said, after, isRefusal, laterAs, lenOf, startOf, stepsOf, start-small, said-refused, said-done, later-said, refused-said}
+use Rattle.answer.specs.Answer.{
+  Said,
+  Done,
+  Refused as Denied,
+  said,
+  after,
+  isRefusal,
+  laterAs,
+  lenOf,
+  startOf,
+  stepsOf,
+  start-small,
+  said-refused,
+  said-done,
+  later-said,
+  refused-said,
+}
 use Rattle.value.specs.Value.{Value, Values, vfalse, vtrue, list, number, pair, nil, cons, size}
 use Rattle.value.specs.Views.{asList, asPair, asTruth}
 use Rattle.value.specs.Tests.{passes, holds, table, class}
@@ -21,6 +37,7 @@ use Rattle.rules.specs.Outcome.{Out, done, refused, plus, when, _>>=_, given}
 use Rattle.rules.specs.Allowance.{within}
 use Rattle.rules.specs.Text
 use Rattle.rules.specs.Rules.{Env, Getter, two, getNode, get, tested, onList}
+use Rattle.rules.specs.Numbers.{SCRATCH}
 use Rattle.step.specs.declared.Scope.{Scope}
 use Rattle.step.specs.declared.Branch.{Branch}
 use Rattle.step.specs.declared.Branch.the-variants.{Plain, Parts, Switch, Refused}
@@ -101,7 +118,8 @@ untested (refused c s) = refl
 
 module _ (g : Getter) (s : List ℕ) (n : ℕ) (μ : Env) where
   list-rule : (o : Value)
-      → (given 43 (asList o) λ l. onList (l .0) (tested (getD s (n + 3) 0) (g (getD s (n + 2) 0) μ)) λ f r. tested (getD s (n + 5) 0) (g (getD s (n + 4) 0) (μ ++ two f (list r))))
+      → (given 43 (asList o) λ l. onList (l .0) (tested (getD s (n + 3) 0) (g (getD s (n + 2) 0) μ)) λ f r. tested (getD s (n + 5) 0)
+      (g (getD s (n + 4) 0) (μ ++ two f (list r))))
       ≡ getBranch g s n 0x17 μ o (fitOf 0x17 (shape o))
   unfolding getBranch testOf partsOf fitOf fitsKind where-so shape given asList onList
   list-rule vfalse = refl
@@ -112,7 +130,8 @@ module _ (g : Getter) (s : List ℕ) (n : ℕ) (μ : Env) where
   list-rule (pair a b) = refl
 
   truth-rule : (o : Value)
-      → (given 43 (asTruth o) λ b. tested (Text.pick (b .0) (getD s (n + 3) 0) (getD s (n + 5) 0)) (g (Text.pick (b .0) (getD s (n + 2) 0) (getD s (n + 4) 0)) μ))
+      → (given 43 (asTruth o) λ b. tested (Text.pick (b .0) (getD s (n + 3) 0) (getD s (n + 5) 0))
+      (g (Text.pick (b .0) (getD s (n + 2) 0) (getD s (n + 4) 0)) μ))
       ≡ getBranch g s n 0x18 μ o (fitOf 0x18 (shape o))
   unfolding getBranch testOf fitOf fitsKind where-so shape given asTruth
   truth-rule vfalse = refl
@@ -133,7 +152,8 @@ module _ (g : Getter) (s : List ℕ) (n : ℕ) (μ : Env) where
 
 -- once the subject is got
 module _ {P : (start len : ℕ) → Value → Type 0} {r : Said} {left k : ℕ} (case : Case k) (n l : ℕ) (s : List ℕ) (sh : Sheet) (μ : Env) where
-  case-done : {o : Value} {i : ℕ} {q : Said} → within left (get l sh (getD s (n + 1) 0) μ) ≡ done o i → Answers P q (left - i) (getBranch (get l sh) s n k μ o (fitOf k (shape o)))
+  case-done : {o : Value} {i : ℕ} {q : Said} → within left (get l sh (getD s (n + 1) 0) μ) ≡ done o i
+      → Answers P q (left - i) (getBranch (get l sh) s n k μ o (fitOf k (shape o)))
       → r ≡ after i q → Answers P r left (run l sh (own k s n) μ)
   unfolding run Text.getNode
   case-done {o} e t d = go case
@@ -161,7 +181,8 @@ pub record PartsHeld (a : List ℕ) (top start len mid : ℕ) (o : Value) : Type
   pub are : partsOf o ≡ two f r
   pub held : TwoHeld a top start len mid f r
 
-pub parts-held : {a : List ℕ} {top start len k i mid : ℕ} {q : Shape} (o : Value) → Fits k q (Parts i mid) → q ≡ shape o → Held a top start len o → PartsHeld a top start len mid o
+pub parts-held : {a : List ℕ} {top start len k i mid : ℕ} {q : Shape} (o : Value) → Fits k q (Parts i mid) → q ≡ shape o → Held a top start len o
+    → PartsHeld a top start len mid o
 unfolding partsOf
 parts-held o (front x) e h =
     let z = front-of o e in
@@ -228,19 +249,22 @@ module _ {h : Here} {k n g : ℕ} {a : List ℕ} {q : Shape} (w : Subject h k n 
   -- A BRANCH WITHOUT VARIABLES
   pub plain-asks : {i byte : ℕ} → Fits k q (Plain i byte) → Asks (behind-here h a g) (getD (h .sheet) (n + i) 0)
   plain-asks f =
-      let z : h .top + 257 * suc (h .levels) ≤ 65536 = w .asked .room in
+      let z : h .top + 257 * suc (h .levels) ≤ SCRATCH = w .asked .room in
       let s = w .sized .at (w .done) in
       let u = up in
-      ready-later (w .asked) (w .gives .kept) top′ (h .levels) (h .left - stepsOf g) (up .over) (omega (arith, w .asked .few)) (omega arith) (omega arith) (plain-known (h .sheet) (w .asked .sheet .sh) n f (w .asked .known))
+      ready-later (w .asked) (w .gives .kept) top′ (h .levels) (h .left - stepsOf g) (up .over) (omega (arith, w .asked .few)) (omega arith) (omega arith)
+      (plain-known (h .sheet) (w .asked .sheet .sh) n f (w .asked .known))
 
   -- the answer of a judged branch, after the subject's steps
-  later-told : {a₂ : List ℕ} {x t j r : ℕ} {sc : Scope} → Asks (within-scope (behind-here h a g) sc) x → Gives a a₂ (h .sheet) sc top′ (h .top) (h .left - stepsOf g) j (h .levels) (branch t x)
+  later-told : {a₂ : List ℕ} {x t j r : ℕ} {sc : Scope} → Asks (within-scope (behind-here h a g) sc) x
+      → Gives a a₂ (h .sheet) sc top′ (h .top) (h .left - stepsOf g) j (h .levels) (branch t x)
       → r ≡ laterAs j (stepsOf g) → said r ≡ after (stepsOf g) (said j)
   later-told {j = j} asks b e =
       let s = w .sized .at (w .done) in
       ap said e ∙ later-said j (stepsOf g) (λ f. let z = few-steps asks b f in omega (arith, w .asked .few))
 
-  pub plain-told : {i byte g₂ j r : ℕ} {a₂ a₃ : List ℕ} → Fits k q (Plain i byte) → Plain i byte ≡ fitOf k q → ToldOf (behind-here h a g) a₂ g₂ (getD (h .sheet) (n + i) 0)
+  pub plain-told : {i byte g₂ j r : ℕ} {a₂ a₃ : List ℕ} → Fits k q (Plain i byte) → Plain i byte ≡ fitOf k q
+      → ToldOf (behind-here h a g) a₂ g₂ (getD (h .sheet) (n + i) 0)
       → Judged (testOf k (h .sheet) n i) (h .top) g₂ a₂ a₃ j → r ≡ laterAs j (stepsOf g) → Tells h a₃ r k n
   unfolding run getBranch
   plain-told f e t v d =
@@ -249,7 +273,8 @@ module _ {h : Here} {k n g : ℕ} {a : List ℕ} {q : Shape} (w : Subject h k n 
         kept = kept-then (w .gives .kept) (b .kept) (le-refl _);
         told = λ sh es μ m.
             let o = had (w .gives .told sh es μ m) (said-done g (w .done)) in
-            case-done (w .case) n (h .levels) (h .sheet) sh μ (o .is) (rw (subject-is e (o .that .held)) (b .told sh es μ (env₂ m))) (later-told (plain-asks f) b d);
+            case-done (w .case) n (h .levels) (h .sheet) sh μ (o .is) (rw (subject-is e (o .that .held)) (b .told sh es μ (env₂ m)))
+            (later-told (plain-asks f) b d);
       }
 
   -- A BRANCH WITH TWO VARIABLES, the subject's parts
@@ -263,16 +288,21 @@ module _ {h : Here} {k n g : ℕ} {a : List ℕ} {q : Shape} (w : Subject h k n 
         let d = had (w .gives .told (w .asked .sheet .sh) (w .asked .sheet .read) (w .asked .env) (w .asked .scoped)) (said-done g (w .done)) in
         let p = the-parts (d .that .held) .held in
         let s = w .sized .at (w .done) in
-        let z : h .top + 257 * suc (h .levels) ≤ 65536 = w .asked .room in
+        let z : h .top + 257 * suc (h .levels) ≤ SCRATCH = w .asked .room in
         let y : h .scope .count + 2 * suc (h .levels) ≤ 112 = w .asked .variables in
         let one = held-some (p .first) in
-        let two = held-some (p .second) in
-        (omega arith, record { inside = omega arith; some = one; short = held-short (p .first); some′ = two; short′ = held-short (p .second) }, p .some, p .inside)
+        let two = held-some (p .second) in (
+          omega arith,
+          record { inside = omega arith; some = one; short = held-short (p .first); some′ = two; short′ = held-short (p .second) },
+          p .some,
+          p .inside,
+        )
 
     abbrev pub inner : Scope
     inner = withTwo (h .scope) (startOf g + 1) (mid - 1) (lenOf g - mid)
 
-    env-inner : {μ : Env} {o : Value} → Scoped (h .arena) (h .scope) (h .top) μ → (p : PartsHeld a top′ (startOf g) (lenOf g) mid o) → Scoped a inner top′ (μ ++ partsOf o)
+    env-inner : {μ : Env} {o : Value} → Scoped (h .arena) (h .scope) (h .top) μ → (p : PartsHeld a top′ (startOf g) (lenOf g) mid o)
+        → Scoped a inner top′ (μ ++ partsOf o)
     env-inner {μ} m p =
         let z : startOf g + 1 + (mid - 1) ≡ startOf g + mid = omega (arith, p .held .some) in
         let c = parts-stored .0 in
@@ -281,12 +311,13 @@ module _ {h : Here} {k n g : ℕ} {a : List ℕ} {q : Shape} (w : Subject h k n 
 
     pub parts-asks : Asks (within-scope (behind-here h a g) inner) (getD (h .sheet) (n + i) 0)
     parts-asks =
-        let z : h .top + 257 * suc (h .levels) ≤ 65536 = w .asked .room in
+        let z : h .top + 257 * suc (h .levels) ≤ SCRATCH = w .asked .room in
         let y : h .scope .count + 2 * suc (h .levels) ≤ 112 = w .asked .variables in
         let s = w .sized .at (w .done) in
         let u = up in
         let d = had (w .gives .told (w .asked .sheet .sh) (w .asked .sheet .read) (w .asked .env) (w .asked .scoped)) (said-done g (w .done)) in
-        ready-in (w .asked) (w .gives .kept) top′ (h .levels) (h .left - stepsOf g) (up .over) (omega (arith, w .asked .few)) (omega arith) (omega arith) (parts-known (h .sheet) (w .asked .sheet .sh) n f (w .asked .known)) _
+        ready-in (w .asked) (w .gives .kept) top′ (h .levels) (h .left - stepsOf g) (up .over) (omega (arith, w .asked .few)) (omega arith) (omega arith)
+        (parts-known (h .sheet) (w .asked .sheet .sh) n f (w .asked .known)) _
         (env-inner (w .asked .scoped) (the-parts (d .that .held)))
 
     pub parts-told : {g₂ j r : ℕ} {a₂ a₃ : List ℕ} → Parts i mid ≡ fitOf k q → ToldOf (within-scope (behind-here h a g) inner) a₂ g₂ (getD (h .sheet) (n + i) 0)
@@ -298,7 +329,8 @@ module _ {h : Here} {k n g : ℕ} {a : List ℕ} {q : Shape} (w : Subject h k n 
           kept = kept-then (w .gives .kept) (b .kept) (le-refl _);
           told = λ sh es μ m.
               let o = had (w .gives .told sh es μ m) (said-done g (w .done)) in
-              case-done (w .case) n (h .levels) (h .sheet) sh μ (o .is) (rw (subject-is e (o .that .held)) (b .told sh es _ (env-inner m (the-parts (o .that .held))))) (later-told parts-asks b d);
+              case-done (w .case) n (h .levels) (h .sheet) sh μ (o .is)
+              (rw (subject-is e (o .that .held)) (b .told sh es _ (env-inner m (the-parts (o .that .held))))) (later-told parts-asks b d);
         }
 
   -- NO BRANCH

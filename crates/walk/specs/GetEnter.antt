@@ -45,9 +45,11 @@ entry-code {r} levels left e n = go levels left refl refl
 
 pub enter-refused : {b s : List ℕ} {sc : Scope} {top left x levels r : ℕ} → EntryCode levels left r → Gives b b s sc top top left r levels (enter x)
 unfolding run Text.get
-enter-refused {b} {top = top} (no-level-left e) = rw e (record { kept = kept-refl top b; told = λ sh es μ w. refuse (refused-said (omega arith) (omega arith)) })
+enter-refused {b} {top = top} (no-level-left e) = rw e
+    (record { kept = kept-refl top b; told = λ sh es μ w. refuse (refused-said (omega arith) (omega arith)) })
 enter-refused {levels = zero} (no-step-left n e) = absurd (n refl)
-enter-refused {b} {top = top} {levels = suc l} (no-step-left n e) = record { kept = kept-refl top b; told = λ sh es μ w. no-step _ e (refused-said (omega arith) (omega arith)) }
+enter-refused {b} {top = top} {levels = suc l} (no-step-left n e) =
+    record { kept = kept-refl top b; told = λ sh es μ w. no-step _ e (refused-said (omega arith) (omega arith)) }
 
 -- no record is longer than 8 bytes, so that every start is small
 offset-small : (p : ℕ) (ns : List Node) (i : ℕ) → i < length ns → getD (offsets p ns) i 0 ≤ p + 8 * i
@@ -77,7 +79,8 @@ module _ {s table : List ℕ} (t : Tabled s table) where
   pub record-there : {i k : ℕ} → i < length (t .sh .nodes) → k ≡ getD s (getD table i 0 + 0) 0 → getD (t .sh .nodes) i False ≡ recordAt k s (getD table i 0)
   record-there h e = record-told (record-made h) e
 
-  pub record-known : {i : ℕ} {nd : Node} → i < length (t .sh .nodes) → getD (t .sh .nodes) i False ≡ nd → Ranged (length (t .sh .nodes)) (length (t .sh .sections)) i nd
+  pub record-known : {i : ℕ} {nd : Node} → i < length (t .sh .nodes) → getD (t .sh .nodes) i False ≡ nd
+      → Ranged (length (t .sh .nodes)) (length (t .sh .sections)) i nd
   record-known {i} h e = rw e at (sheet-ranges s (t .read) .node i h)
 
 -- AT A STAGE: a node is entered, a level and a step are there for it, and its record's kind byte is k
@@ -100,9 +103,11 @@ module _ {s table b : List ℕ} {sc : Scope} {top levels left x k : ℕ} (e : En
       let w = e .asked in
       let p : suc (levels - 1) ≡ levels = omega (arith, e .deep) in
       let q : suc (left - 1) ≡ left = omega (arith, e .paid) in
-      rw (p, q) (ready-later w (kept-refl top b) top levels left (le-refl top) (w .few) (w .room) (le-refl levels) (x, record-known (w .sheet) (w .known) its-node))
+      rw (p, q) (ready-later w (kept-refl top b) top levels left (le-refl top) (w .few) (w .room) (le-refl levels)
+      (x, record-known (w .sheet) (w .known) its-node))
 
-  entered-told : {a : List ℕ} {q r : ℕ} → said r ≡ after 1 (said q) → Gives b a s sc top top (left - 1) q (levels - 1) (own k s (getD table x 0)) → Gives b a s sc top top left r levels (enter x)
+  entered-told : {a : List ℕ} {q r : ℕ} → said r ≡ after 1 (said q) → Gives b a s sc top top (left - 1) q (levels - 1) (own k s (getD table x 0))
+      → Gives b a s sc top top left r levels (enter x)
   unfolding run Text.get
   entered-told {a} {q} {r} d g = go levels (omega (arith, e .deep)) g
     where
@@ -112,7 +117,8 @@ module _ {s table b : List ℕ} {sc : Scope} {top levels left x k : ℕ} (e : En
         kept = g .kept;
         told = λ sh es μ w.
             let z : suc l - 1 ≡ l = omega arith in
-            let n : getD (sh .nodes) x False ≡ recordAt k s (getD table x 0) = ap (λ (y : Sheet). getD (y .nodes) x False) (sym (same-sheet (e .asked .sheet) es)) ∙ its-node in
+            let n : getD (sh .nodes) x False ≡ recordAt k s (getD table x 0) = ap (λ (y : Sheet). getD (y .nodes) x False)
+            (sym (same-sheet (e .asked .sheet) es)) ∙ its-node in
             step _ (omega (arith, e .paid)) (rw (n, ← z) (g .told sh es μ w)) d;
       }
 
@@ -133,5 +139,6 @@ module _ {at at′ : At} {sc : Scope} (e : at ≡ at′) where
       → Gives b a s sc (at′ .top) (at′ .top) (at′ .left) r (at′ .levels) (own k s n)
   told-as g = rw e at g
 
-pub answer-as : {b a s : List ℕ} {sc : Scope} {top left r q l x : ℕ} → q ≡ r → Gives b a s sc top top left r l (enter x) → Gives b a s sc top top left q l (enter x)
+pub answer-as : {b a s : List ℕ} {sc : Scope} {top left r q l x : ℕ} → q ≡ r → Gives b a s sc top top left r l (enter x)
+    → Gives b a s sc top top left q l (enter x)
 answer-as e g = rw e g

@@ -18,6 +18,7 @@ use Rattle.rules.specs.Outcome.{done}
 use Rattle.rules.specs.Text
 use Rattle.rules.specs.Rules.{Env, getNode, get}
 use Rattle.rules.specs.Readable.{nil-readable, truth-readable, number-readable}
+use Rattle.rules.specs.Numbers.{SCRATCH}
 use Rattle.step.specs.declared.Scope.{Scope}
 use Rattle.step.specs.Step.{When}
 use Rattle.walk.specs.Parts.{part, kept-refl, kept-then, kept-set, part-one, part-cons, Marked, marked, marked-kept, marked-part}
@@ -36,7 +37,7 @@ pub record Childless (kind : ℕ) : Type 0 where
 -- where a variable stands
 record Place (sc : Scope) (x : ℕ) : Type 0 where
   few : x < 110
-  start-small : getD (sc .starts) x 0 < 65536
+  start-small : getD (sc .starts) x 0 < SCRATCH
   short : getD (sc .lens) x 0 + 1 ≤ 256
 
 place : {s table b : List ℕ} {sc : Scope} {top levels left x : ℕ} {t : Task} → Ready s table b sc top (suc levels) left t → x < sc .count → Place sc x
@@ -126,15 +127,18 @@ abbrev pub numbered : List ℕ → ℕ → ℕ → List ℕ
 numbered b top n = set (set (set b top 4) (top + 1) (n / 256)) (top + 2) (n % 256)
 
 -- the two bytes of a number, behind its kind byte
-pub number-bytes : (b : List ℕ) (top n : ℕ) → top + 3 ≤ length b → getD b top 0 ≡ 4 → part (set (set b (top + 1) (n / 256)) (top + 2) (n % 256)) top 3 ≡ encode (number n)
+pub number-bytes : (b : List ℕ) (top n : ℕ) → top + 3 ≤ length b → getD b top 0 ≡ 4
+    → part (set (set b (top + 1) (n / 256)) (top + 2) (n % 256)) top 3 ≡ encode (number n)
 unfolding encode
 number-bytes b top n h k =
     let c : List ℕ = set b (top + 1) (n / 256) in
     let a : List ℕ = set c (top + 2) (n % 256) in
     let lc : length c ≡ length b = length-set b (top + 1) (n / 256) in
     let la : length a ≡ length b = length-set c (top + 2) (n % 256) ∙ lc in
-    let e₀ : getD a top 0 ≡ 4 = getD-set-other c (top + 2) top (n % 256) 0 (λ q. omega arith) ∙ getD-set-other b (top + 1) top (n / 256) 0 (λ q. omega arith) ∙ k in
-    let e₁ : getD a (top + 1) 0 ≡ n / 256 = getD-set-other c (top + 2) (top + 1) (n % 256) 0 (λ q. omega arith) ∙ getD-set-same b (top + 1) (n / 256) 0 (omega arith) in
+    let e₀ : getD a top 0 ≡ 4 = getD-set-other c (top + 2) top (n % 256) 0 (λ q. omega arith) ∙ getD-set-other b (top + 1) top (n / 256) 0 (λ q. omega arith)
+    ∙ k in
+    let e₁ : getD a (top + 1) 0 ≡ n / 256 = getD-set-other c (top + 2) (top + 1) (n % 256) 0 (λ q. omega arith)
+    ∙ getD-set-same b (top + 1) (n / 256) 0 (omega arith) in
     let e₂ : getD a (top + 2) 0 ≡ n % 256 = getD-set-same c (top + 2) (n % 256) 0 (omega arith) in
     let z : top + 1 + 1 ≡ top + 2 = omega arith in
     part-cons a top 2 (omega arith) ∙ rw (part-cons a (top + 1) 1 (omega arith), z, part-one a (top + 2) (omega arith), e₀, e₁, e₂)

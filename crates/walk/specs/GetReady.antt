@@ -13,6 +13,7 @@ use Rattle.rules.specs.Outcome.{done, refused}
 use Rattle.rules.specs.AllowanceLaws.{within-done}
 use Rattle.rules.specs.Text
 use Rattle.rules.specs.Rules.{Env, get}
+use Rattle.rules.specs.Numbers.{ALLOWANCE, SCRATCH}
 use Rattle.step.specs.declared.Scope.{Scope}
 use Rattle.walk.specs.declared.at.At.{At}
 use Rattle.walk.specs.Parts.{Kept, kept-refl}
@@ -23,9 +24,10 @@ use Rattle.walk.specs.Gets.{Task, enter, run, Known, Ready, Gives, Here,
 
 -- a call further on: the arena is kept below the top, and the top is raised
 module _ {s table b : List ℕ} {sc : Scope} {top levels left : ℕ} {t : Task} (w : Ready s table b sc top levels left t) where
-  module _ {a : List ℕ} (kept : Kept top b a) (top′ levels′ left′ : ℕ) (p : top ≤ top′) (few : left′ ≤ 1000000) (room : top′ + 257 * levels′ ≤ 65536) where
+  module _ {a : List ℕ} (kept : Kept top b a) (top′ levels′ left′ : ℕ) (p : top ≤ top′) (few : left′ ≤ ALLOWANCE) (room : top′ + 257 * levels′ ≤ SCRATCH) where
     -- in another scope
-    pub ready-in : {sc′ : Scope} {t′ : Task} → sc′ .count + 2 * levels′ ≤ 112 → Known (w .sheet .sh) t′ → (μ : Env) → Scoped a sc′ top′ μ → Ready s table a sc′ top′ levels′ left′ t′
+    pub ready-in : {sc′ : Scope} {t′ : Task} → sc′ .count + 2 * levels′ ≤ 112 → Known (w .sheet .sh) t′ → (μ : Env) → Scoped a sc′ top′ μ
+        → Ready s table a sc′ top′ levels′ left′ t′
     ready-in variables known μ e = record {
       long = kept .long ∙ w .long;
       few = few;
@@ -45,7 +47,7 @@ module _ {s table b : List ℕ} {sc : Scope} {top levels left : ℕ} {t : Task} 
 -- the first call of a kind's function: as it was asked, in the level below
 pub first-asks : {h : Here} {k n x : ℕ} (w : Asked h k n) → x < length (w .sheet .sh .nodes) → Asks h x
 first-asks {h} w i =
-    let z : h .top + 257 * suc (h .levels) ≤ 65536 = w .room in
+    let z : h .top + 257 * suc (h .levels) ≤ SCRATCH = w .room in
     ready-later w (kept-refl _ _) (h .top) (h .levels) (h .left) (le-refl _) (omega (arith, w .few)) (omega arith) (omega arith) i
 
 -- a call was done: a value's bytes, and no more steps than were left
@@ -71,12 +73,19 @@ deep {l = suc l} sh x μ e = omega arith
 pub record Sized (top left levels r : ℕ) : Type 0 where
   pub at : isRefusal r ≡ false → Sizes top (startOf r) (lenOf r) (stepsOf r) left levels
 
-pub sized : {s table b a : List ℕ} {sc : Scope} {top levels left x r : ℕ} → Ready s table b sc top levels left (enter x) → Gives b a s sc top top left r levels (enter x) → Sized top left levels r
+pub sized : {s table b a : List ℕ} {sc : Scope} {top levels left x r : ℕ} → Ready s table b sc top levels left (enter x)
+    → Gives b a s sc top top left r levels (enter x) → Sized top left levels r
 sized {left = left} {r = r} w g = record {
   at = λ e.
       let d = had (g .told (w .sheet .sh) (w .sheet .read) (w .env) (w .scoped)) (said-done r e) in
       let q = within-done left _ (d .is) in
-      record { low = d .that .low; some = held-some (d .that .held); short = held-short (d .that .held); steps = q .1; deep = deep (w .sheet .sh) _ (w .env) (q .0) };
+      record {
+        low = d .that .low;
+        some = held-some (d .that .held);
+        short = held-short (d .that .held);
+        steps = q .1;
+        deep = deep (w .sheet .sh) _ (w .env) (q .0);
+      };
 }
 
 pub sized-as : {at at′ : At} {r : ℕ} → at ≡ at′ → Sized (at .top) (at .left) (at .levels) r → Sized (at′ .top) (at′ .left) (at′ .levels) r

@@ -7,7 +7,23 @@ use native.Mathlib.Nat.{le-refl}
 use native.Mathlib.Decide.{decLt}
 use native.Mathlib.Omega.{arith}
 use lib.ListN.{length, getD}
-use Rattle.answer.specs.Answer.{Said, Done, Refused, said, after, isRefusal, doneAs, lenOf, startOf, stepsOf, steps-small, said-refused, said-done, done-said, refused-said}
+use Rattle.answer.specs.Answer.{
+  Said,
+  Done,
+  Refused,
+  said,
+  after,
+  isRefusal,
+  doneAs,
+  lenOf,
+  startOf,
+  stepsOf,
+  steps-small,
+  said-refused,
+  said-done,
+  done-said,
+  refused-said,
+}
 use Rattle.value.specs.Result.{ok}
 use Rattle.value.specs.Value.{Value, encode, size}
 use Rattle.sheet.specs.Sheet.{Sheet, readSheet}
@@ -15,6 +31,7 @@ use Rattle.rules.specs.Outcome.{Out, done, refused, given}
 use Rattle.rules.specs.Allowance.{within}
 use Rattle.rules.specs.Text
 use Rattle.rules.specs.Rules.{Env, getNode, get, bounded}
+use Rattle.rules.specs.Numbers.{SCRATCH}
 use Rattle.step.specs.Step.{unfitRest, madeOf}
 use Rattle.step.specs.StepLaws.{made-front, made-pair}
 use Rattle.walk.specs.Parts.{part, Kept, part-kept, kept-then, part-join, Marked, marked-kept, marked-part}
@@ -43,14 +60,17 @@ two-made (aTwo e) = aPair (sym (made-pair (λ y. omega (arith, e, y)) (λ y. ome
 
 -- the rule, once both nodes are got
 module _ {P : (start len : ℕ) → Value → Type 0} {r : Said} {left k : ℕ} (two : Two k) (n l : ℕ) (s : List ℕ) (sh : Sheet) (μ : Env) where
-  two-done : {u v : Value} {i j : ℕ} {q : Said} → within left (get l sh (getD s (n + 1) 0) μ) ≡ done u i → within (left - i) (get l sh (getD s (n + 2) 0) μ) ≡ done v j
+  two-done : {u v : Value} {i j : ℕ} {q : Said} → within left (get l sh (getD s (n + 1) 0) μ) ≡ done u i
+      → within (left - i) (get l sh (getD s (n + 2) 0) μ) ≡ done v j
       → Answers P q (left - i - j) (given 43 (maker (madeOf k) u v) bounded) → r ≡ after i (after j q) → Answers P r left (run l sh (own k s n) μ)
   unfolding run Text.getNode
   two-done {u} {v} e f t d = go two
     where
       go : Two k → Answers P r left (run l sh (own k s n) μ)
       go (aFront x) = rw x (then-done _ _ e (then-done _ _ f (answer-by (rw (← made-front x) at t) (given-list u v bounded)) refl) d)
-      go (aTwo x) = rw x (then-done _ _ e (then-done _ _ f (answer-by (rw (← made-pair {kind = k} (λ y. omega (arith, x, y)) (λ y. omega (arith, x, y))) at t) (given-pair u v bounded)) refl) d)
+      go (aTwo x) = rw x (then-done _ _ e
+          (then-done _ _ f (answer-by (rw (← made-pair {kind = k} (λ y. omega (arith, x, y)) (λ y. omega (arith, x, y))) at t) (given-pair u v bounded)) refl)
+          d)
 
   two-none₁ : {c i : ℕ} → within left (get l sh (getD s (n + 1) 0) μ) ≡ refused c i → r ≡ Refused c → Answers P r left (run l sh (own k s n) μ)
   unfolding run Text.getNode
@@ -60,7 +80,8 @@ module _ {P : (start len : ℕ) → Value → Type 0} {r : Said} {left k : ℕ} 
       go (aFront x) = rw x (then-refused _ _ e d)
       go (aTwo x) = rw x (then-refused _ _ e d)
 
-  two-none₂ : {u : Value} {c i j : ℕ} → within left (get l sh (getD s (n + 1) 0) μ) ≡ done u i → within (left - i) (get l sh (getD s (n + 2) 0) μ) ≡ refused c j → r ≡ Refused c
+  two-none₂ : {u : Value} {c i j : ℕ} → within left (get l sh (getD s (n + 1) 0) μ) ≡ done u i
+      → within (left - i) (get l sh (getD s (n + 2) 0) μ) ≡ refused c j → r ≡ Refused c
       → Answers P r left (run l sh (own k s n) μ)
   unfolding run Text.getNode after
   two-none₂ {c = c} e f d = go two
@@ -73,17 +94,19 @@ module _ {P : (start len : ℕ) → Value → Type 0} {r : Said} {left k : ℕ} 
 
 pub record Joinable (a : List ℕ) (top first : ℕ) : Type 0 where
   pub inside : top + 1 + lenOf first < length a
-  pub few : top < 65536
+  pub few : top < SCRATCH
 
 pub data Joined (a : List ℕ) (kind top first second r : ℕ) : Type 0 where
   passed-on : isRefusal second ≡ true → r ≡ second → Joined a kind top first second r
   unfit : isRefusal second ≡ false → unfitRest kind (getD a (top + 1 + lenOf first) 0) ≡ true → r ≡ 43 → Joined a kind top first second r
-  long : isRefusal second ≡ false → unfitRest kind (getD a (top + 1 + lenOf first) 0) ≡ false → 256 < 1 + lenOf first + lenOf second → r ≡ 44 → Joined a kind top first second r
+  long : isRefusal second ≡ false → unfitRest kind (getD a (top + 1 + lenOf first) 0) ≡ false → 256 < 1 + lenOf first + lenOf second → r ≡ 44
+      → Joined a kind top first second r
   fits : isRefusal second ≡ false → unfitRest kind (getD a (top + 1 + lenOf first) 0) ≡ false → 1 + lenOf first + lenOf second ≤ 256
       → r ≡ doneAs top (1 + lenOf first + lenOf second) (stepsOf first + stepsOf second) → Joined a kind top first second r
 
 -- two values that stand one after the other behind a kind byte
-together : (a : List ℕ) (k top f r : ℕ) (u v : List ℕ) → part a top 1 ≡ k ∷ [] → part a (top + 1) f ≡ u → part a (top + 1 + f) r ≡ v → part a top (1 + f + r) ≡ k ∷ (u ++ v)
+together : (a : List ℕ) (k top f r : ℕ) (u v : List ℕ) → part a top 1 ≡ k ∷ [] → part a (top + 1) f ≡ u → part a (top + 1 + f) r ≡ v
+    → part a top (1 + f + r) ≡ k ∷ (u ++ v)
 together a k top f r u v e p q =
     let z : top + (1 + f) ≡ top + 1 + f = omega arith in
     part-join a top (1 + f) r ∙ rw (part-join a top 1 f, z, e, p, q)
@@ -111,8 +134,9 @@ module _ {h : Here} {k n : ℕ} {m : List ℕ} (w : TwoAsked h k n m) where
 
   pub one-asks : Asks one-here (getD (h .sheet) (n + 1) 0)
   one-asks =
-      let z : h .top + 257 * suc (h .levels) ≤ 65536 = w .asked .room in
-      ready-later (w .asked) (marked-kept (w .marked)) (h .top + 1) (h .levels) (h .left) (omega arith) (omega (arith, w .asked .few)) (omega arith) (omega arith) (children .0)
+      let z : h .top + 257 * suc (h .levels) ≤ SCRATCH = w .asked .room in
+      ready-later (w .asked) (marked-kept (w .marked)) (h .top + 1) (h .levels) (h .left) (omega arith) (omega (arith, w .asked .few)) (omega arith)
+      (omega arith) (children .0)
 
   env₁ : {μ : Env} → Scoped (h .arena) (h .scope) (h .top) μ → Scoped m (h .scope) (h .top + 1) μ
   env₁ e = env-later (marked-kept (w .marked)) (w .asked .base) (h .top + 1) (omega arith) e
@@ -131,14 +155,15 @@ module _ {h : Here} {k n : ℕ} {m : List ℕ} (w : TwoAsked h k n m) where
     module _ (e₁ : isRefusal f ≡ false) where
       pub two-asks : Asks (two-here a₁ f) (getD (h .sheet) (n + 2) 0)
       two-asks =
-          let z : h .top + 257 * suc (h .levels) ≤ 65536 = w .asked .room in
+          let z : h .top + 257 * suc (h .levels) ≤ SCRATCH = w .asked .room in
           let s = t₁ .sized .at e₁ in
-          ready-later (w .asked) kept₁ (h .top + 1 + lenOf f) (h .levels) (h .left - stepsOf f) (omega arith) (omega (arith, w .asked .few)) (omega arith) (omega arith) (children .1)
+          ready-later (w .asked) kept₁ (h .top + 1 + lenOf f) (h .levels) (h .left - stepsOf f) (omega arith) (omega (arith, w .asked .few)) (omega arith)
+          (omega arith) (children .1)
 
       -- what `joined` asks
       pub joinable : {a₂ : List ℕ} {g : ℕ} → AtTop (two-here a₁ f) a₂ g (getD (h .sheet) (n + 2) 0) → isRefusal g ≡ false → Joinable a₂ (h .top) f
       joinable t₂ e₂ =
-          let z : h .top + 257 * suc (h .levels) ≤ 65536 = w .asked .room in
+          let z : h .top + 257 * suc (h .levels) ≤ SCRATCH = w .asked .room in
           let s = t₁ .sized .at e₁ in
           let x = t₂ .gives .kept .long in
           let y = kept₁ .long in
@@ -188,7 +213,8 @@ module _ {h : Here} {k n : ℕ} {m : List ℕ} (w : TwoAsked h k n m) where
         made = two-made (w .two)
 
         whole-of : {sh : Sheet} {μ : Env} (d : Both sh μ) → unfitRest (madeOf k) (getD a₂ (h .top + 1 + lenOf f) 0) ≡ false → Whole (madeOf k) (d .u) (d .v)
-        whole-of d fit = whole _ _ made (ap (unfitRest (madeOf k)) (sym (d .head)) ∙ fit) (d .one .held .readable .encodable) (d .two .held .readable .encodable)
+        whole-of d fit = whole _ _ made (ap (unfitRest (madeOf k)) (sym (d .head)) ∙ fit) (d .one .held .readable .encodable)
+            (d .two .held .readable .encodable)
 
         -- what is told
         pub two-told : {r : ℕ} → Joined a₂ (madeOf k) (h .top) f g r → Tells h a₂ r k n
@@ -197,7 +223,8 @@ module _ {h : Here} {k n : ℕ} {m : List ℕ} (w : TwoAsked h k n m) where
           kept = kept₂;
           told = λ sh es μ m.
               let x = said-refused g e₂ in
-              two-none₂ (w .two) n (h .levels) (h .sheet) sh μ (had (t₁ .gives .told sh es μ (env₁ m)) (said-done f e₁) .is) (not-had (t₂ .gives .told sh es μ (env₂ m)) x .1) x;
+              two-none₂ (w .two) n (h .levels) (h .sheet) sh μ (had (t₁ .gives .told sh es μ (env₁ m)) (said-done f e₁) .is)
+              (not-had (t₂ .gives .told sh es μ (env₂ m)) x .1) x;
         })
         two-told {r} (unfit e₂ bad is) = record {
           kept = kept₂;
@@ -222,7 +249,7 @@ module _ {h : Here} {k n : ℕ} {m : List ℕ} (w : TwoAsked h k n m) where
               let d = both e₂ sh es μ m in
               let b = whole-of d fit in
               let z : stepsOf f + stepsOf g ≡ stepsOf f + (stepsOf g + 0) = omega arith in
-              let room : h .top + 257 * suc (h .levels) ≤ 65536 = w .asked .room in
+              let room : h .top + 257 * suc (h .levels) ≤ SCRATCH = w .asked .room in
               let s₁ = t₁ .sized .at e₁ in
               let s₂ = t₂ .sized .at e₂ in
               let x : said r ≡ Done (h .top) (1 + lenOf f + lenOf g) (stepsOf f + stepsOf g)

@@ -12,6 +12,7 @@ use Rattle.sheet.specs.Table.{tableOf}
 use Rattle.sheet.specs.Laws.{Ranged}
 use Rattle.rules.specs.Outcome.{Out}
 use Rattle.rules.specs.Rules.{Env, getNode, get, tested}
+use Rattle.rules.specs.Numbers.{ALLOWANCE, SCRATCH, STACK}
 use Rattle.step.specs.declared.Scope.{Scope}
 use Rattle.walk.specs.declared.at.At.{At}
 use Rattle.walk.specs.Parts.{Kept}
@@ -44,10 +45,10 @@ Known sh (branch t n) = n < length (sh .nodes)
 
 -- a level takes at most 257 bytes of the stack, and adds at most two variables
 pub record Ready (s table a : List ℕ) (sc : Scope) (top levels left : ℕ) (t : Task) : Type 0 where
-  pub long : length a ≡ 65536
-  pub few : left ≤ 1000000
-  pub base : 32256 ≤ top
-  pub room : top + 257 * levels ≤ 65536
+  pub long : length a ≡ SCRATCH
+  pub few : left ≤ ALLOWANCE
+  pub base : STACK ≤ top
+  pub room : top + 257 * levels ≤ SCRATCH
   pub variables : sc .count + 2 * levels ≤ 112
   pub sheet : Tabled s table
   pub known : Known (sheet .sh) t
@@ -107,21 +108,27 @@ pub levels-as : {at at′ : At} → at ≡ at′ → at .levels ≡ at′ .level
 levels-as e = ap (λ (x : At). x .levels) e
 
 module _ {at at′ : At} {sc sc′ : Scope} {x x′ : ℕ} (e : at ≡ at′) (f : sc ≡ sc′) (g : x ≡ x′) where
-  pub ready-as : {s table a : List ℕ} → Ready s table a sc′ (at′ .top) (at′ .levels) (at′ .left) (enter x′) → Ready s table a sc (at .top) (at .levels) (at .left) (enter x)
+  pub ready-as : {s table a : List ℕ} → Ready s table a sc′ (at′ .top) (at′ .levels) (at′ .left) (enter x′)
+      → Ready s table a sc (at .top) (at .levels) (at .left) (enter x)
   ready-as w = rw (e, f, g) w
 
-  pub gives-as : {b a s : List ℕ} {r : ℕ} → Gives b a s sc (at .top) (at .top) (at .left) r (at .levels) (enter x) → Gives b a s sc′ (at′ .top) (at′ .top) (at′ .left) r (at′ .levels) (enter x′)
+  pub gives-as : {b a s : List ℕ} {r : ℕ} → Gives b a s sc (at .top) (at .top) (at .left) r (at .levels) (enter x)
+      → Gives b a s sc′ (at′ .top) (at′ .top) (at′ .left) r (at′ .levels) (enter x′)
   gives-as w = rw (e, f, g) at w
 
 -- at the same place
-pub as-node : {b a s : List ℕ} {sc : Scope} {from top left r l x y : ℕ} → x ≡ y → Gives b a s sc from top left r l (enter x) → Gives b a s sc from top left r l (enter y)
+pub as-node : {b a s : List ℕ} {sc : Scope} {from top left r l x y : ℕ} → x ≡ y → Gives b a s sc from top left r l (enter x)
+    → Gives b a s sc from top left r l (enter y)
 as-node e g = rw e at g
 
-pub ready-node : {s table a : List ℕ} {sc : Scope} {top levels left x y : ℕ} → x ≡ y → Ready s table a sc top levels left (enter y) → Ready s table a sc top levels left (enter x)
+pub ready-node : {s table a : List ℕ} {sc : Scope} {top levels left x y : ℕ} → x ≡ y → Ready s table a sc top levels left (enter y)
+    → Ready s table a sc top levels left (enter x)
 ready-node e w = rw e w
 
-pub as-scope : {b a s : List ℕ} {sc sc′ : Scope} {from top left r l : ℕ} {t : Task} → sc ≡ sc′ → Gives b a s sc from top left r l t → Gives b a s sc′ from top left r l t
+pub as-scope : {b a s : List ℕ} {sc sc′ : Scope} {from top left r l : ℕ} {t : Task} → sc ≡ sc′ → Gives b a s sc from top left r l t
+    → Gives b a s sc′ from top left r l t
 as-scope e g = rw e at g
 
-pub ready-scope : {s table a : List ℕ} {sc sc′ : Scope} {top levels left : ℕ} {t : Task} → sc ≡ sc′ → Ready s table a sc′ top levels left t → Ready s table a sc top levels left t
+pub ready-scope : {s table a : List ℕ} {sc sc′ : Scope} {top levels left : ℕ} {t : Task} → sc ≡ sc′ → Ready s table a sc′ top levels left t
+    → Ready s table a sc top levels left t
 ready-scope e w = rw e w

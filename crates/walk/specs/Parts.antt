@@ -7,7 +7,28 @@ use native.Mathlib.Numerals.{add-one}
 use native.Mathlib.Omega.{arith}
 use native.Mathlib.Decide.{decLt}
 use lib.ListN.{length, take, drop, getD, set, length-set, length-drop}
-use lib.Seq.{take-nil, take-take, take-add, drop-drop, getD-append-add, getD-drop, getD-take, paste, paste-zero, paste-suc, length-paste, length-paste-head, length-take-le, take-at, drop-at, drop-cons, getD-set-same, getD-set-other, take-set-le, ext-getD}
+use lib.Seq.{
+  take-nil,
+  take-take,
+  take-add,
+  drop-drop,
+  getD-append-add,
+  getD-drop,
+  getD-take,
+  paste,
+  paste-zero,
+  paste-suc,
+  length-paste,
+  length-paste-head,
+  length-take-le,
+  take-at,
+  drop-at,
+  drop-cons,
+  getD-set-same,
+  getD-set-other,
+  take-set-le,
+  ext-getD,
+}
 
 -- the n bytes from index i
 abbrev pub part : List ℕ → ℕ → ℕ → List ℕ
@@ -106,7 +127,8 @@ module _ (b : List ℕ) (from to n : ℕ) (hf : from + n ≤ length b) (ht : to 
   copied-kept =
       let l : length (take to b) ≡ to = length-take-le to b (omega arith) in
       record {
-        same = ap (take to) (append-assoc (take to b) (take n (drop from b)) (drop (to + n) b)) ∙ take-at (take to b) (take n (drop from b) ++ drop (to + n) b) to l;
+        same = ap (take to) (append-assoc (take to b) (take n (drop from b)) (drop (to + n) b))
+            ∙ take-at (take to b) (take n (drop from b) ++ drop (to + n) b) to l;
         long = length-paste b to (drop from b) n ht (rw length-drop (omega arith));
       }
 
@@ -116,7 +138,8 @@ copying-none from to b = record { made = paste-zero b to (drop from b); long = r
 module _ {from to i : ℕ} {b a : List ℕ} (m : Copying from to i b a) (n : ℕ) (hf : from + n ≤ length b) (ht : to + n ≤ length b) where
   pub copying-more : to ≤ from → i < n → Copying from to (i + 1) b (set a (to + i) (getD a (from + i) 0))
   copying-more x h =
-      let s : getD a (from + i) 0 ≡ getD (drop from b) i 0 = ap (λ (l : List ℕ). getD l (from + i) 0) (m .made) ∙ copied-read b from to n hf ht i x h ∙ sym (getD-drop from b i 0) in
+      let s : getD a (from + i) 0 ≡ getD (drop from b) i 0 = ap (λ (l : List ℕ). getD l (from + i) 0) (m .made) ∙ copied-read b from to n hf ht i x h
+      ∙ sym (getD-drop from b i 0) in
       record {
         made = rw (s, m .made, add-one) (paste-suc b to (drop from b) i 0 (omega arith) (rw length-drop (omega arith)));
         long = length-set a (to + i) (getD a (from + i) 0) ∙ m .long;
@@ -129,7 +152,8 @@ module _ {from to i : ℕ} {b a : List ℕ} (m : Copying from to i b a) (n : ℕ
 
 -- A BACKWARD COPY of n bytes, up: it reads each before it is overwritten
 
-same-parts : (a b : List ℕ) (i j n : ℕ) → i + n ≤ length a → j + n ≤ length b → ((k : ℕ) → k < n → getD a (i + k) 0 ≡ getD b (j + k) 0) → part a i n ≡ part b j n
+same-parts : (a b : List ℕ) (i j n : ℕ) → i + n ≤ length a → j + n ≤ length b → ((k : ℕ) → k < n → getD a (i + k) 0 ≡ getD b (j + k) 0)
+    → part a i n ≡ part b j n
 same-parts a b i j n p q h =
     let la : length (part a i n) ≡ n = part-length a i n p in
     let lb : length (part b j n) ≡ n = part-length b j n q in

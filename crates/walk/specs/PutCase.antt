@@ -6,7 +6,21 @@ use Prim.Native.Nat.{ℕ, zero, suc, _+_, _-_, _*_, _≤_, _<_}
 use native.Mathlib.Nat.{le-refl}
 use native.Mathlib.Omega.{arith}
 use lib.ListN.{length, getD}
-use Rattle.answer.specs.Answer.{Said, Refused as Denied, said, after, isRefusal, laterAs, lenOf, startOf, stepsOf, said-refused, said-done, later-said, refused-said}
+use Rattle.answer.specs.Answer.{
+  Said,
+  Refused as Denied,
+  said,
+  after,
+  isRefusal,
+  laterAs,
+  lenOf,
+  startOf,
+  stepsOf,
+  said-refused,
+  said-done,
+  later-said,
+  refused-said,
+}
 use Rattle.value.specs.Value.{Value, vfalse, vtrue, list, number, pair as aPairOf, nil, cons, encode, encodes, size, sizes, truth, eFalse, eTrue, eList, eNil}
 use Rattle.value.specs.Views.{asList, asPair, asTruth}
 use Rattle.value.specs.Tests.{passes, holds}
@@ -19,6 +33,7 @@ use Rattle.rules.specs.Outcome.{Out, done, refused, given, choose}
 use Rattle.rules.specs.Allowance.{within}
 use Rattle.rules.specs.Text
 use Rattle.rules.specs.Rules.{Env, Cells, two, get, put, putNode, both, under, onList, mkList, mkPair}
+use Rattle.rules.specs.Numbers.{SCRATCH}
 use Rattle.step.specs.declared.Branch.{Branch}
 use Rattle.step.specs.declared.Branch.the-variants.{Plain, Parts, Switch, Refused}
 use Rattle.step.specs.Step.{where-so, fitsKind, fitOf, otherOf, choice, takenFrom, takeOf, madeOf}
@@ -36,7 +51,29 @@ use Rattle.walk.specs.Gets as gets
 use Rattle.walk.specs.Gets.{Here, Stands, Asks, ToldOf}
 use Rattle.walk.specs.GetReady.{Sized}
 use Rattle.walk.specs.GetCase.{Case, lists, truths, splits, partsOf, PartsHeld, parts-held, held-above, parts-known}
-use Rattle.walk.specs.Puts.{Task, enter, own, pair, inside, switch, switchAt, withDefaults, run, Known, Wrote, PartsAt, SomeView, Given, Inner, PutHere, put-further, PutAsked, PutAsks, PutTold, PutTells}
+use Rattle.walk.specs.Puts.{
+  Task,
+  enter,
+  own,
+  pair,
+  inside,
+  switch,
+  switchAt,
+  withDefaults,
+  run,
+  Known,
+  Wrote,
+  PartsAt,
+  SomeView,
+  Given,
+  Inner,
+  PutHere,
+  put-further,
+  PutAsked,
+  PutAsks,
+  PutTold,
+  PutTells,
+}
 use Rattle.walk.specs.PutReady.{ready-for, get-ready, given-later, few}
 use Rattle.walk.specs.PutUnder.{Under}
 use Rattle.walk.specs.PutSwitch.{Switching}
@@ -94,7 +131,8 @@ module _ (l : ℕ) (sh : Sheet) (s : List ℕ) (n : ℕ) (μ : Env) (σ : List �
       onList (m .0)
       (choose (passes (getD s (n + 3) 0) v) (passes (getD s (n + 5) 0) v) (both (put l sh) μ σ W (getD s (n + 2) 0) v (getD s (n + 1) 0) (list nil))
       (withDefaults l sh (getD s (n + 6) 0) (getD s (n + 7) 0) λ f r. under (put l sh) μ σ W (getD s (n + 4) 0) v (getD s (n + 1) 0) mkList f r))
-      (λ f r. choose (passes (getD s (n + 5) 0) v) (passes (getD s (n + 3) 0) v) (under (put l sh) μ σ W (getD s (n + 4) 0) v (getD s (n + 1) 0) mkList f (list r))
+      (λ f r. choose (passes (getD s (n + 5) 0) v) (passes (getD s (n + 3) 0) v)
+      (under (put l sh) μ σ W (getD s (n + 4) 0) v (getD s (n + 1) 0) mkList f (list r))
       (both (put l sh) μ σ W (getD s (n + 2) 0) v (getD s (n + 1) 0) (list nil))))
       ≡ putBranch l sh s n 0x17 μ σ v W o (takeOf 0x17 (shape o) (holds (getD s (n + 3) 0) v) (holds (getD s (n + 5) 0) v))
   unfolding putBranch byteValue onTwo partsOf maker madeOf takeOf takenFrom otherOf fitOf fitsKind where-so shape given asList onList
@@ -199,13 +237,16 @@ module _ (s : List ℕ) (sh : Sheet) (n : ℕ) where
   plain-known (affirmed e) r = rw e at (r .1) .1 .1 .1 .0 .inside
 
   switch-known : {k : ℕ} {q : Shape} → Took k q Switch → Known sh (own k s n) → Known sh (switchAt s n)
-  switch-known (switched e f) r = let z = rw e at (r .1) in ((z .1 .1 .1 .0 .inside, z .0 .inside), (z .1 .1 .1 .1 .1 .0 .inside, z .1 .1 .1 .1 .1 .1 .0 .inside))
+  switch-known (switched e f) r =
+      let z = rw e at (r .1) in
+      ((z .1 .1 .1 .0 .inside, z .0 .inside), (z .1 .1 .1 .1 .1 .0 .inside, z .1 .1 .1 .1 .1 .1 .0 .inside))
 
 module _ {h : PutHere} {view : List ℕ} {k n : ℕ} (w : PutAsked h (Shown view) k n) (case : Case k) where
   pub subject-asks : Asks (get-here h) (getD (h .sheet) (n + 1) 0)
   subject-asks = get-ready w (subject-known (h .sheet) (w .sheet .sh) n case (w .known)) (omega arith) (omega arith)
 
-  pub subject-refused : {a : List ℕ} {g : ℕ} → ToldOf (get-here h) a g (getD (h .sheet) (n + 1) 0) → isRefusal g ≡ true → PutTells h (Shown view) a (h .slots) g k n
+  pub subject-refused : {a : List ℕ} {g : ℕ} → ToldOf (get-here h) a g (getD (h .sheet) (n + 1) 0) → isRefusal g ≡ true
+      → PutTells h (Shown view) a (h .slots) g k n
   unfolding gets.run
   subject-refused {g = g} t e = let x = said-refused g e in record {
     frame = kept-frame (t .kept) (w .base);
@@ -234,10 +275,11 @@ module _ {h : PutHere} {view : List ℕ} {k n g : ℕ} {a : List ℕ} {q : Shape
   -- a task behind the subject
   behind-asks : {t : Task} → Known (w .asked .sheet .sh) t → PutAsks (put-behind h a g) (Shown view) t
   behind-asks known =
-      let z : h .top + 513 * suc (h .levels) ≤ 65536 = w .asked .room in
+      let z : h .top + 513 * suc (h .levels) ≤ SCRATCH = w .asked .room in
       let s = w .sized .at (w .done) in
       let u = up in
-      ready-for (w .asked) known (given-later (w .asked .given) (w .gives .kept) (w .asked .base) top′ (up .over)) (w .gives .kept .long) (omega arith) (omega arith) (up .over) (omega arith)
+      ready-for (w .asked) known (given-later (w .asked .given) (w .gives .kept) (w .asked .base) top′ (up .over)) (w .gives .kept .long) (omega arith)
+      (omega arith) (up .over) (omega arith)
 
   pub inner : Inner (h .scope) (h .count) (h .levels)
   inner =
@@ -247,11 +289,13 @@ module _ {h : PutHere} {view : List ℕ} {k n g : ℕ} {a : List ℕ} {q : Shape
 
   takes-of : {o v : Value} {top : ℕ} → Held a top (startOf g) (lenOf g) o → Shown view v
       → d ≡ takeOf k (shape o) (holds (getD (h .sheet) (n + 3) 0) v) (holds (getD (h .sheet) (n + 5) 0) v)
-  takes-of e m = w .takes ∙ ap (λ (y : Shape). takeOf k y (passesBytes (getD (h .sheet) (n + 3) 0) view) (passesBytes (getD (h .sheet) (n + 5) 0) view)) (held-shape e (w .shape))
+  takes-of e m = w .takes ∙ ap (λ (y : Shape). takeOf k y (passesBytes (getD (h .sheet) (n + 3) 0) view) (passesBytes (getD (h .sheet) (n + 5) 0) view))
+      (held-shape e (w .shape))
       ∙ ap₂ (takeOf k _) (shown-says _ m) (shown-says _ m)
 
   -- what is told of the branch, with the task's answer p: the rule for the subject o
-  told-by : {a₂ slots : List ℕ} {p r : ℕ} {t : Task} → PutAsks (put-behind h a g) (Shown view) t → PutTold (put-behind h a g) (Shown view) a₂ slots p t → r ≡ laterAs p (stepsOf g)
+  told-by : {a₂ slots : List ℕ} {p r : ℕ} {t : Task} → PutAsks (put-behind h a g) (Shown view) t → PutTold (put-behind h a g) (Shown view) a₂ slots p t
+      → r ≡ laterAs p (stepsOf g)
       → ((sh : Sheet) (μ : Env) (σ : List ℕ) (v : Value) (W : Cells) (o : Value) → Held a (h .top + lenOf g) (startOf g) (lenOf g) o
       → Given a (h .slots) (h .sheet) (Shown view) (h .scope) (h .cells) (h .count) (h .count) top′ sh μ σ v W
       → Answers (Wrote a₂ slots (h .count)) (said p) (h .left - stepsOf g) (putBranch (h .levels) sh (h .sheet) n k μ σ v W o d))
@@ -266,36 +310,47 @@ module _ {h : PutHere} {view : List ℕ} {k n g : ℕ} {a : List ℕ} {q : Shape
         told = λ {sh} {μ} {σ} {v} {W} m.
             let o = had (w .gives .told sh (m .read) μ (m .scoped)) (said-done g (w .done)) in
             case-done (h .levels) sh (h .sheet) n μ σ v W (w .case) (h .count) (o .is)
-            (rw (← takes-of (o .that .held) (m .shown)) (rule sh μ σ v W (o .value) (o .that .held) (given-later m (w .gives .kept) (w .asked .base) top′ (up .over)))) x;
+            (rw (← takes-of (o .that .held) (m .shown))
+            (rule sh μ σ v W (o .value) (o .that .held) (given-later m (w .gives .kept) (w .asked .base) top′ (up .over)))) x;
       }
 
 -- A BRANCH WITHOUT VARIABLES
 module _ {h : PutHere} {view : List ℕ} {k n g i byte : ℕ} {a : List ℕ} {q : Shape} (w : PutSubject h view k n g a q (Plain i byte)) where
   pub plain-asks : PutAsks (put-behind h a g) (Shown view) (pair (getD (h .sheet) (n + i) 0) (getD (h .sheet) (n + 1) 0) vfalse)
-  plain-asks = behind-asks w (plain-known (h .sheet) (w .asked .sheet .sh) n (w .took) (w .asked .known), subject-known (h .sheet) (w .asked .sheet .sh) n (w .case) (w .asked .known))
+  plain-asks = behind-asks w
+      (plain-known (h .sheet) (w .asked .sheet .sh) n (w .took) (w .asked .known), subject-known (h .sheet) (w .asked .sheet .sh) n (w .case) (w .asked .known))
 
   pub plain-view : SomeView (byte ∷ [])
   plain-view = record { value = byteValue byte; shown = byte-shown (w .took) }
 
   pub plain-told : {a₂ slots : List ℕ} {p r : ℕ}
-      → ((u : Value) → Shown (byte ∷ []) u → PutTold (put-behind h a g) (Shown view) a₂ slots p (pair (getD (h .sheet) (n + i) 0) (getD (h .sheet) (n + 1) 0) u))
+      → ((u : Value) → Shown (byte ∷ []) u
+      → PutTold (put-behind h a g) (Shown view) a₂ slots p (pair (getD (h .sheet) (n + i) 0) (getD (h .sheet) (n + 1) 0) u))
       → r ≡ laterAs p (stepsOf g) → PutTells h (Shown view) a₂ slots r k n
   unfolding run putBranch
   plain-told t is =
       let z = t _ (byte-shown (w .took)) in
-      told-by w (behind-asks w (plain-known (h .sheet) (w .asked .sheet .sh) n (w .took) (w .asked .known), subject-known (h .sheet) (w .asked .sheet .sh) n (w .case) (w .asked .known))) z is
+      told-by w (behind-asks w (
+        plain-known (h .sheet) (w .asked .sheet .sh) n (w .took) (w .asked .known),
+        subject-known (h .sheet) (w .asked .sheet .sh) n (w .case)
+            (w .asked .known),
+      )) z is
       (λ sh μ σ v W o _ m. z .told m)
 
 -- A BRANCH WITH TWO VARIABLES, the subject's parts
 module _ {h : PutHere} {view : List ℕ} {k n g i mid : ℕ} {a : List ℕ} {q : Shape} (w : PutSubject h view k n g a q (Parts i mid)) where
-  the-parts : {o : Value} → Held a (h .top + lenOf g) (startOf g) (lenOf g) o → PartsHeld a (topAfter (h .top) (startOf g) (lenOf g)) (startOf g) (lenOf g) mid o
+  the-parts : {o : Value} → Held a (h .top + lenOf g) (startOf g) (lenOf g) o
+      → PartsHeld a (topAfter (h .top) (startOf g) (lenOf g)) (startOf g) (lenOf g) mid o
   the-parts {o} e = parts-held o (took-fits (w .took)) (held-shape e (w .shape)) (held-above (up w) e)
 
   parts-at : {o : Value} → (p : PartsHeld a (topAfter (h .top) (startOf g) (lenOf g)) (startOf g) (lenOf g) mid o)
       → PartsAt a (topAfter (h .top) (startOf g) (lenOf g)) (startOf g + 1) (mid - 1) (lenOf g - mid) (p .f) (p .r)
-  parts-at p = let z : startOf g + 1 + (mid - 1) ≡ startOf g + mid = omega (arith, p .held .some) in record { one = p .held .first; two = rw z (p .held .second) }
+  parts-at p =
+      let z : startOf g + 1 + (mid - 1) ≡ startOf g + mid = omega (arith, p .held .some) in
+      record { one = p .held .first; two = rw z (p .held .second) }
 
-  old-subject : Had (Stands a (h .top)) (startOf g) (lenOf g) (stepsOf g) (within (h .left) (gets.run (h .levels) (w .asked .sheet .sh) (gets.enter (getD (h .sheet) (n + 1) 0)) (w .asked .env)))
+  old-subject : Had (Stands a (h .top)) (startOf g) (lenOf g) (stepsOf g)
+      (within (h .left) (gets.run (h .levels) (w .asked .sheet .sh) (gets.enter (getD (h .sheet) (n + 1) 0)) (w .asked .env)))
   old-subject = had (w .gives .told (w .asked .sheet .sh) (w .asked .sheet .read) (w .asked .env) (w .asked .given .scoped)) (said-done g (w .done))
 
   old : PartsHeld a (topAfter (h .top) (startOf g) (lenOf g)) (startOf g) (lenOf g) mid (old-subject .value)
@@ -307,10 +362,13 @@ module _ {h : PutHere} {view : List ℕ} {k n g i mid : ℕ} {a : List ℕ} {q :
 
   parts-task : Known (w .asked .sheet .sh) (inside (madeOf k) (getD (h .sheet) (n + i) 0) (getD (h .sheet) (n + 1) 0) vfalse vfalse)
   parts-task =
-      let f = took-fits (w .took) in
-      ((parts-known (h .sheet) (w .asked .sheet .sh) n f (w .asked .known), subject-known (h .sheet) (w .asked .sheet .sh) n (w .case) (w .asked .known)), made-of f)
+      let f = took-fits (w .took) in (
+        (parts-known (h .sheet) (w .asked .sheet .sh) n f (w .asked .known), subject-known (h .sheet) (w .asked .sheet .sh) n (w .case) (w .asked .known)),
+        made-of f,
+      )
 
-  pub parts-under : Under (put-behind h a g) (Shown view) (madeOf k) (getD (h .sheet) (n + i) 0) (getD (h .sheet) (n + 1) 0) (startOf g + 1) (mid - 1) (lenOf g - mid)
+  pub parts-under : Under (put-behind h a g) (Shown view) (madeOf k) (getD (h .sheet) (n + i) 0) (getD (h .sheet) (n + 1) 0) (startOf g + 1) (mid - 1)
+      (lenOf g - mid)
   parts-under = record { asked = behind-asks w parts-task; inner = inner w; parts = record { f = _; r = _; parts = parts-at old } }
 
   pub parts-told : {a₂ slots : List ℕ} {p r : ℕ}
@@ -328,14 +386,20 @@ module _ {h : PutHere} {view : List ℕ} {k n g : ℕ} {a : List ℕ} {q : Shape
   unfolding size sizes
   switch-asks =
       let d = had (w .gives .told (w .asked .sheet .sh) (w .asked .sheet .read) (w .asked .env) (w .asked .given .scoped)) (said-done g (w .done)) in
-      let z : h .top + 513 * suc (h .levels) ≤ 65536 = w .asked .room in
+      let z : h .top + 513 * suc (h .levels) ≤ SCRATCH = w .asked .room in
       let e = empty-of (d .value) (sym (was-empty (w .took)) ∙ held-shape (d .that .held) (w .shape)) in
       let one = rw e at (d .that .held .long) in
-      record { asked = behind-asks w (switch-known (h .sheet) (w .asked .sheet .sh) n (w .took) (w .asked .known)); inner = inner w; room = omega (arith, up w .near) }
+      record {
+        asked = behind-asks w (switch-known (h .sheet) (w .asked .sheet .sh) n (w .took) (w .asked .known));
+        inner = inner w;
+        room = omega (arith, up w .near);
+      }
 
-  pub switch-told : {a₂ slots : List ℕ} {p r : ℕ} → PutTold (put-behind h a g) (Shown view) a₂ slots p (switchAt (h .sheet) n) → r ≡ laterAs p (stepsOf g) → PutTells h (Shown view) a₂ slots r k n
+  pub switch-told : {a₂ slots : List ℕ} {p r : ℕ} → PutTold (put-behind h a g) (Shown view) a₂ slots p (switchAt (h .sheet) n) → r ≡ laterAs p (stepsOf g)
+      → PutTells h (Shown view) a₂ slots r k n
   unfolding run putBranch
-  switch-told t is = told-by w (behind-asks w (switch-known (h .sheet) (w .asked .sheet .sh) n (w .took) (w .asked .known))) t is (λ sh μ σ v W o _ m. t .told m)
+  switch-told t is = told-by w (behind-asks w (switch-known (h .sheet) (w .asked .sheet .sh) n (w .took) (w .asked .known))) t is
+      (λ sh μ σ v W o _ m. t .told m)
 
 -- NO BRANCH
 module _ {h : PutHere} {view : List ℕ} {k n g c : ℕ} {a : List ℕ} {q : Shape} (w : PutSubject h view k n g a q (Refused c)) where
@@ -348,5 +412,6 @@ module _ {h : PutHere} {view : List ℕ} {k n g c : ℕ} {a : List ℕ} {q : Sha
         long = refl;
         told = λ {sh} {μ} {σ} {v} {W} m.
             let o = had (w .gives .told sh (m .read) μ (m .scoped)) (said-done g (w .done)) in
-            case-done (h .levels) sh (h .sheet) n μ σ v W (w .case) (h .count) {q = Denied c} (o .is) (rw (← takes-of w (o .that .held) (m .shown)) (refuse refl)) x;
+            case-done (h .levels) sh (h .sheet) n μ σ v W (w .case) (h .count) {q = Denied c} (o .is)
+            (rw (← takes-of w (o .that .held) (m .shown)) (refuse refl)) x;
       }

@@ -26,6 +26,7 @@ use Rattle.rules.specs.Allowance.{within}
 use Rattle.rules.specs.Text
 use Rattle.rules.specs.Rules.{Env, Cells, orOld, put}
 use Rattle.rules.specs.Answer.{count, newPlan, putWalk, putBytes}
+use Rattle.rules.specs.Numbers.{SCRATCH, STACK}
 use Rattle.step.specs.declared.Scope.{Scope}
 use Rattle.step.specs.Step.{placeOf}
 use Rattle.step.specs.StepLaws.{was-written}
@@ -104,15 +105,15 @@ new-at [] (v ∷ μ) i e h = absurd (omega arith)
 new-at (o ∷ X) (v ∷ μ) zero e h = refl
 new-at (o ∷ X) (v ∷ μ) (suc i) e h = new-at X μ i (omega arith) (omega arith)
 
-rests : {a : List ℕ} {start len c w : ℕ} {o : Option Value} {v : Value} → Slot a (4096 + 256 * c) w o → c < 110 → Held a 32256 start len v
+rests : {a : List ℕ} {start len c w : ℕ} {o : Option Value} {v : Value} → Slot a (4096 + 256 * c) w o → c < 110 → Held a STACK start len v
     → Rests a (placeOf w c start len) (orOld o v)
 unfolding placeOf Text.orOld
-rests (blank z) h k = rw z (record { bytes = k .bytes; short = held-short k; inside = below-ends (k .place) (le-refl 32256) })
+rests (blank z) h k = rw z (record { bytes = k .bytes; short = held-short k; inside = below-ends (k .place) (le-refl STACK) })
 rests {start = start} {len = len} {c = c} {w = w} (full {v = u} z p r) h k =
     let n : w ≡ 0 → ⊥ = λ e. omega (arith, size-pos u) in
     rw (← was-written w c start len n) (record { bytes = p; short = omega (arith, r .fits); inside = omega (arith, r .fits) })
 
-new-placed : {a slots : List ℕ} {sc : Scope} {n : ℕ} {μ : Env} {X : Cells} → length a ≡ 65536 → length μ ≤ 16 → n ≡ length μ → Scoped a sc 32256 μ
+new-placed : {a slots : List ℕ} {sc : Scope} {n : ℕ} {μ : Env} {X : Cells} → length a ≡ SCRATCH → length μ ≤ 16 → n ≡ length μ → Scoped a sc STACK μ
     → Written a slots n X → Placed a slots sc (newPlan X μ)
 new-placed {a} {slots} {sc} {n} {μ} {X} long few e w x =
     let l : length X ≡ length μ = x .count ∙ e in
@@ -144,7 +145,7 @@ module _ {sheet plan view : List ℕ} {table : Table} {sc : Scope} {allowance : 
       (within allowance (put 48 (w .sh) x (w .μ) (count 0 (length (w .μ))) (s .value) (replicate (length (w .μ)) none)))) (sym (root-is w)))
 
   module _ {m cells : List ℕ} (c : CopiedIn plan b m) (n : Counted (sc .count) cells) where
-    put-given : Given m (replicate 110 0) sheet (Shown view) sc cells (sc .count) (sc .count) 32256
+    put-given : Given m (replicate 110 0) sheet (Shown view) sc cells (sc .count) (sc .count) STACK
         (w .sh) (w .μ) (count 0 (length (w .μ))) (s .value) (replicate (length (w .μ)) none)
     put-given = record {
       read = w .read;
@@ -165,7 +166,7 @@ module _ {sheet plan view : List ℕ} {table : Table} {sc : Scope} {allowance : 
       scope = sc;
       cells = cells;
       count = sc .count;
-      top = 32256;
+      top = STACK;
       left = allowance;
       levels = 48;
     }
@@ -203,7 +204,7 @@ module _ {sheet plan view : List ℕ} {table : Table} {sc : Scope} {allowance : 
 
         placed-new : Placed a slots sc (newPlan (wrote .value) (w .μ))
         placed-new =
-            let v = env-framed (g .frame) 32256 (le-refl 32256) (plan-env w c) in
+            let v = env-framed (g .frame) STACK (le-refl STACK) (plan-env w c) in
             new-placed (g .frame .long ∙ c .long ∙ w .long) (plan-small w .0) (v .count) v (wrote .that .written)
 
         pub put-placed : SomePlaced a slots sc
@@ -217,9 +218,9 @@ module _ {sheet plan view : List ℕ} {table : Table} {sc : Scope} {allowance : 
             let z : putBytes sheet plan view allowance ≡ done (flat ws) n
             = put-is ∙ ap (mapOut (λ X. flat (newPlan X (w .μ)))) (wrote .is) ∙ ap (done (flat ws)) (sym q) in
             let p = placed-new in
-            let y : part a′ 32256 len ≡ flat ws = h .told p ∙ ap flat (ap (λ (i : ℕ). take i ws) (p .count) ∙ take-length ws) in
+            let y : part a′ STACK len ≡ flat ws = h .told p ∙ ap flat (ap (λ (i : ℕ). take i ws) (p .count) ∙ take-length ws) in
             let few : len ≤ 4096 = omega (arith, h .short, few-variables) in
-            let l : length (part a′ 32256 len) ≡ len = part-length a′ 32256 len (omega (arith, h .kept .long, p .long)) in
+            let l : length (part a′ STACK len) ≡ len = part-length a′ STACK len (omega (arith, h .kept .long, p .long)) in
             record { long = h .kept .long ∙ g .frame .long ∙ c .long; says = rw z (says-done len refl (sym l ∙ ap length y) few y) }
 
 -- THE REFUSALS

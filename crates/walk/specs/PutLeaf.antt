@@ -16,6 +16,7 @@ use Rattle.value.specs.PartsLaws.{same-values, other-values}
 use Rattle.sheet.specs.Sheet.{Sheet}
 use Rattle.rules.specs.Text
 use Rattle.rules.specs.Rules.{Env, Cells, putNode, constant, write}
+use Rattle.rules.specs.Numbers.{SCRATCH}
 use Rattle.step.specs.declared.Scope.{Scope}
 use Rattle.step.specs.Step.{judged}
 use Rattle.walk.specs.Parts.{part}
@@ -49,12 +50,14 @@ unfolding judged Text.constant
 same-constant u v {q = true} h e w = give-yes 50 _ _ (same-values v u (rw (h .bytes) at (sym e))) λ _. finish nothing (record { written = w })
 same-constant u v {q = false} h e w = give-no 50 _ _ (other-values v u (rw (h .bytes) at (sym e))) (refused-said (omega arith) (omega arith))
 
-constant-gives : {h : PutHere} {view bytes : List ℕ} {kind n r : ℕ} → PutAsked h (Shown view) kind n → Constant kind (h .sheet) n bytes → r ≡ judged 50 (sameBytes view bytes)
+constant-gives : {h : PutHere} {view bytes : List ℕ} {kind n r : ℕ} → PutAsked h (Shown view) kind n → Constant kind (h .sheet) n bytes
+    → r ≡ judged 50 (sameBytes view bytes)
     → PutTells h (Shown view) (h .arena) (h .slots) r kind n
 constant-gives {h} {view} {bytes} _ k is = record {
   frame = frame-refl (h .top) (h .arena);
   long = refl;
-  told = λ {sh} {μ} {σ} {v} {W} w. rw is (answer-by (same-constant (k .value) v (w .shown) (ap (sameBytes view) (k .are)) (w .written)) (k .rule (h .levels) sh (h .count) μ σ v W));
+  told = λ {sh} {μ} {σ} {v} {W} w.
+      rw is (answer-by (same-constant (k .value) v (w .shown) (ap (sameBytes view) (k .are)) (w .written)) (k .rule (h .levels) sh (h .count) μ σ v W));
 }
 
 constants : (kind : ℕ) (s : List ℕ) (n i : ℕ) → kind ≡ 0x11 + i → i ≤ 2 → Constant kind s n ((kind - 0x11) ∷ [])
@@ -65,7 +68,8 @@ constants kind s n (suc (suc zero)) e h = rw e (record { value = list nil; are =
 constants kind s n (suc (suc (suc i))) e h = absurd (omega arith)
 
 module _ {h : PutHere} {view : List ℕ} {kind n r : ℕ} (w : PutAsked h (Shown view) kind n) where
-  pub constant-told : Childless kind → (kind ≡ 0x10 → ⊥) → (kind ≡ 0x14 → ⊥) → r ≡ judged 50 (sameBytes view ((kind - 0x11) ∷ [])) → PutTells h (Shown view) (h .arena) (h .slots) r kind n
+  pub constant-told : Childless kind → (kind ≡ 0x10 → ⊥) → (kind ≡ 0x14 → ⊥) → r ≡ judged 50 (sameBytes view ((kind - 0x11) ∷ []))
+      → PutTells h (Shown view) (h .arena) (h .slots) r kind n
   constant-told c v m is = constant-gives w (constants kind (h .sheet) n (kind - 0x11) (omega (arith, c .low)) (omega (arith, c .high))) is
 
   pub number-told : kind ≡ 0x14 → r ≡ judged 50 (sameBytes view (numberBytes (h .sheet) n)) → PutTells h (Shown view) (h .arena) (h .slots) r kind n
@@ -77,14 +81,16 @@ module _ {h : PutHere} {view : List ℕ} {kind n r : ℕ} (w : PutAsked h (Shown
 -- what `write` asks and gives
 pub record Writable (a slots : List ℕ) (c : ℕ) (view : List ℕ) : Type 0 where
   pub cell : c < 110
-  pub long : length a ≡ 65536
+  pub long : length a ≡ SCRATCH
   pub slots-long : length slots ≡ 110
   pub short : getD slots c 0 ≤ 256
   pub view-short : length view ≤ 256
 
 pub data Write (c : ℕ) (view b a slots slots′ : List ℕ) (r : ℕ) : Type 0 where
-  first : getD slots c 0 ≡ 0 → a ≡ paste b (4096 + 256 * c) view (length view) → slots′ ≡ set slots c (length view) → r ≡ doneAs 0 0 0 → Write c view b a slots slots′ r
-  again : (getD slots c 0 ≡ 0 → ⊥) → a ≡ b → slots′ ≡ slots → r ≡ judged 54 (sameBytes (part b (4096 + 256 * c) (getD slots c 0)) view) → Write c view b a slots slots′ r
+  first : getD slots c 0 ≡ 0 → a ≡ paste b (4096 + 256 * c) view (length view) → slots′ ≡ set slots c (length view) → r ≡ doneAs 0 0 0
+      → Write c view b a slots slots′ r
+  again : (getD slots c 0 ≡ 0 → ⊥) → a ≡ b → slots′ ≡ slots → r ≡ judged 54 (sameBytes (part b (4096 + 256 * c) (getD slots c 0)) view)
+      → Write c view b a slots slots′ r
 
 -- the same for a cell by another name
 pub writable-as : {a slots view : List ℕ} {c d : ℕ} → c ≡ d → Writable a slots d view → Writable a slots c view
@@ -126,7 +132,8 @@ record Cell (n x c : ℕ) (a slots σ : List ℕ) (W : Cells) : Type 0 where
   there : getElem? W c ≡ some (getD W c none)
   slot : Slot a (4096 + 256 * c) (getD slots c 0) (getD W c none)
 
-cell : {b slots s cells : List ℕ} {P : Value → Type 0} {sc : Scope} {count top x : ℕ} {sh : Sheet} {μ : Env} {σ : List ℕ} {v : Value} {W : Cells} → x < sc .count
+cell : {b slots s cells : List ℕ} {P : Value → Type 0} {sc : Scope} {count top x : ℕ} {sh : Sheet} {μ : Env} {σ : List ℕ} {v : Value} {W : Cells}
+    → x < sc .count
     → Given b slots s P sc cells count count top sh μ σ v W → Cell count x (getD cells x 0) b slots σ W
 cell {cells = cells} {count = count} {x = x} {σ = σ} {W = W} lt w =
     let h : x < length σ = omega (arith, w .as-many, w .scoped .count) in
@@ -166,7 +173,13 @@ module _ {h : PutHere} {view : List ℕ} {kind n : ℕ} (w : PutAsked h (Shown v
     var-writable =
         let q = cell lt (w .given) in
         let g = w .given .written in
-        record { cell = omega (arith, q .inside, g .few); long = w .long; slots-long = g .long; short = slot-short (q .slot); view-short = shown-short (w .given .shown) }
+        record {
+          cell = omega (arith, q .inside, g .few);
+          long = w .long;
+          slots-long = g .long;
+          short = slot-short (q .slot);
+          view-short = shown-short (w .given .shown);
+        }
 
     pub var-told : {a slots : List ℕ} {r : ℕ} → Write c view (h .arena) a (h .slots) slots r → PutTells h (Shown view) a slots r kind n
     unfolding run Text.putNode Text.write
@@ -180,11 +193,13 @@ module _ {h : PutHere} {view : List ℕ} {kind n : ℕ} (w : PutAsked h (Shown v
               let q = cell lt g in
               let len : length view ≡ size v = rw (g .shown .bytes) (size-encode v) in
               give 42 _ (q .named) (give 42 _ (q .there ∙ ap some (slot-none (q .slot) z))
-              (finish (ap said is ∙ nothing) (record { written = written-set fill (u .view-short) (g .written) (q .inside) len (g .shown .bytes) (g .shown .readable) })));
+              (finish (ap said is ∙ nothing)
+              (record { written = written-set fill (u .view-short) (g .written) (q .inside) len (g .shown .bytes) (g .shown .readable) })));
         })
     var-told {r = r} (again z e f is) = rw (e, f, var) (by (sameBytes (part (h .arena) (4096 + 256 * c) (getD (h .slots) c 0)) view) refl)
       where
-        compared : (u v : Value) (p : Bool) → sameBytes (part (h .arena) (4096 + 256 * c) (getD (h .slots) c 0)) view ≡ p → part (h .arena) (4096 + 256 * c) (getD (h .slots) c 0) ≡ encode u
+        compared : (u v : Value) (p : Bool) → sameBytes (part (h .arena) (4096 + 256 * c) (getD (h .slots) c 0)) view ≡ p
+            → part (h .arena) (4096 + 256 * c) (getD (h .slots) c 0) ≡ encode u
             → Shown view v → sameBytes (encode u) (encode v) ≡ p
         compared u v p i q s = rw (q, s .bytes) at i
 
@@ -206,5 +221,6 @@ module _ {h : PutHere} {view : List ℕ} {kind n : ℕ} (w : PutAsked h (Shown v
               let q = cell lt g in
               let k = slot-full (q .slot) z in
               give 42 _ (q .named) (give 42 _ (q .there ∙ ap some (k .is))
-              (give-no 54 _ _ (other-values (k .value) v (compared _ _ false i (k .bytes) (g .shown))) (ap said (is ∙ judged-not i) ∙ refused-said (omega arith) (omega arith))));
+              (give-no 54 _ _ (other-values (k .value) v (compared _ _ false i (k .bytes) (g .shown)))
+              (ap said (is ∙ judged-not i) ∙ refused-said (omega arith) (omega arith))));
         }

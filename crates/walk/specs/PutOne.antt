@@ -14,6 +14,7 @@ use Rattle.sheet.specs.Table.{sectionAt}
 use Rattle.rules.specs.Text
 use Rattle.rules.specs.Rules.{Env, Cells, two, putNode}
 use Rattle.rules.specs.Readable.{number-readable}
+use Rattle.rules.specs.Numbers.{SCRATCH}
 use Rattle.step.specs.Step.{picked, pickedTwo}
 use Rattle.walk.specs.Arena.{env-pick}
 use Rattle.walk.specs.Seen.{elem-at, elem-none}
@@ -39,7 +40,8 @@ module _ {h : PutHere} {P : Value → Type 0} {k n : ℕ} (_ : PutAsked h P k n)
     told = λ {μ = μ} m. give-none 42 _ (elem-none μ _ (omega (arith, m .scoped .count))) (ap said e ∙ refused-said (omega arith) (omega arith));
   })
 
-  pub call-42₂ : {r : ℕ} → getD (h .sheet) (n + 2) 0 < h .scope .count → h .scope .count ≤ getD (h .sheet) (n + 3) 0 → r ≡ 42 → PutTells h P (h .arena) (h .slots) r k n
+  pub call-42₂ : {r : ℕ} → getD (h .sheet) (n + 2) 0 < h .scope .count → h .scope .count ≤ getD (h .sheet) (n + 3) 0 → r ≡ 42
+      → PutTells h P (h .arena) (h .slots) r k n
   unfolding run Text.putNode
   call-42₂ f g e = rw call (record {
     frame = frame-refl _ _;
@@ -60,11 +62,14 @@ pub record PutLooked (h : PutHere) (P : Value → Type 0) (k n root : ℕ) : Typ
 module _ {h : PutHere} {P : Value → Type 0} {k n root : ℕ} (w : PutLooked h P k n root) where
   -- the section's scope, and the caller's cells
   abbrev pub section-here : PutHere
-  section-here = put-within h (picked (h .scope) (getD (h .sheet) (n + 2) 0) (getD (h .sheet) (n + 3) 0)) (pickedTwo (h .cells) (getD (h .sheet) (n + 2) 0) (getD (h .sheet) (n + 3) 0)) (h .slots) (h .count)
+  section-here = put-within h (picked (h .scope) (getD (h .sheet) (n + 2) 0) (getD (h .sheet) (n + 3) 0))
+      (pickedTwo (h .cells) (getD (h .sheet) (n + 2) 0) (getD (h .sheet) (n + 3) 0)) (h .slots) (h .count)
 
-  given-few : {sh : Sheet} {μ : Env} {σ : List ℕ} {v : Value} {W : Cells} → Given (h .arena) (h .slots) (h .sheet) P (h .scope) (h .cells) (h .count) (h .count) (h .top) sh μ σ v W
+  given-few : {sh : Sheet} {μ : Env} {σ : List ℕ} {v : Value} {W : Cells}
+      → Given (h .arena) (h .slots) (h .sheet) P (h .scope) (h .cells) (h .count) (h .count) (h .top) sh μ σ v W
       → Given (h .arena) (h .slots) (h .sheet) P (section-here .scope) (section-here .cells) (h .count) (h .count) (h .top) sh
-      (two (getD μ (getD (h .sheet) (n + 2) 0) vfalse) (getD μ (getD (h .sheet) (n + 3) 0) vfalse)) (two (getD σ (getD (h .sheet) (n + 2) 0) 0) (getD σ (getD (h .sheet) (n + 3) 0) 0)) v W
+      (two (getD μ (getD (h .sheet) (n + 2) 0) vfalse) (getD μ (getD (h .sheet) (n + 3) 0) vfalse))
+      (two (getD σ (getD (h .sheet) (n + 2) 0) 0) (getD σ (getD (h .sheet) (n + 3) 0) 0)) v W
   given-few g = record {
     read = g .read;
     scoped = env-pick (g .scoped) (omega (arith, g .scoped .count, w .first-in)) (omega (arith, g .scoped .count, w .second-in));
@@ -79,7 +84,7 @@ module _ {h : PutHere} {P : Value → Type 0} {k n root : ℕ} (w : PutLooked h 
       let a = w .asked in
       let x : h .scope .count + 2 * suc (h .levels) ≤ 112 = a .variables in
       let y : h .count + 2 * suc (h .levels) ≤ 112 = a .more-cells in
-      let z : h .top + 513 * suc (h .levels) ≤ 65536 = a .room in
+      let z : h .top + 513 * suc (h .levels) ≤ SCRATCH = a .room in
       record {
         long = a .long;
         few = omega (arith, a .few);
@@ -102,8 +107,10 @@ module _ {h : PutHere} {P : Value → Type 0} {k n root : ℕ} (w : PutLooked h 
     frame = g .frame;
     long = g .long;
     told = λ {μ = μ} {σ = σ} m.
-        give 42 _ (elem-at μ _ vfalse (omega (arith, m .scoped .count, w .first-in))) (give 42 _ (elem-at σ _ 0 (omega (arith, m .as-many, m .scoped .count, w .first-in)))
-        (give 42 _ (elem-at μ _ vfalse (omega (arith, m .scoped .count, w .second-in))) (give 42 _ (elem-at σ _ 0 (omega (arith, m .as-many, m .scoped .count, w .second-in)))
+        give 42 _ (elem-at μ _ vfalse (omega (arith, m .scoped .count, w .first-in)))
+        (give 42 _ (elem-at σ _ 0 (omega (arith, m .as-many, m .scoped .count, w .first-in)))
+        (give 42 _ (elem-at μ _ vfalse (omega (arith, m .scoped .count, w .second-in)))
+        (give 42 _ (elem-at σ _ 0 (omega (arith, m .as-many, m .scoped .count, w .second-in)))
         (rw (← root-read (w .asked .sheet) n (w .call) (w .asked .known) (w .root-is) (m .read)) (g .told (given-few m))))));
   })
 
@@ -118,7 +125,8 @@ module _ {h : PutHere} {view : List ℕ} {k n : ℕ} (w : PutAsked h (Shown view
   add-51 other e = rw add (record {
     frame = frame-refl _ _;
     long = refl;
-    told = λ {v = v} m. give-none 51 _ (no-number v (λ i q. other i (q ∙ sym (shown-shape (m .shown) refl)))) (ap said e ∙ refused-said (omega arith) (omega arith));
+    told = λ {v = v} m. give-none 51 _ (no-number v (λ i q. other i (q ∙ sym (shown-shape (m .shown) refl))))
+        (ap said e ∙ refused-said (omega arith) (omega arith));
   })
 
   module _ {i : ℕ} (num : shapes.Number i ≡ shapeOf view) where
@@ -140,10 +148,11 @@ module _ {h : PutHere} {view : List ℕ} {k n : ℕ} (w : PutAsked h (Shown view
 
     pub add-asks : PutAsks h (Shown lessView) (enter (getD (h .sheet) (n + 1) 0))
     add-asks =
-        let z : h .top + 513 * suc (h .levels) ≤ 65536 = w .room in
+        let z : h .top + 513 * suc (h .levels) ≤ SCRATCH = w .room in
         ready-for w (rw add at (w .known .1) .0 .inside) (given-shown (w .given) less) refl (omega arith) (omega arith) (le-refl _) (omega arith)
 
-    pub add-told : {a slots : List ℕ} {r : ℕ} → amountAt (h .sheet) n ≤ i → PutTold h (Shown lessView) a slots r (enter (getD (h .sheet) (n + 1) 0)) → PutTells h (Shown view) a slots r k n
+    pub add-told : {a slots : List ℕ} {r : ℕ} → amountAt (h .sheet) n ≤ i → PutTold h (Shown lessView) a slots r (enter (getD (h .sheet) (n + 1) 0))
+        → PutTells h (Shown view) a slots r k n
     unfolding run Text.putNode
     add-told le g = rw add (record {
       frame = g .frame;

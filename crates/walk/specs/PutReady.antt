@@ -12,6 +12,7 @@ use Rattle.sheet.specs.Sheet.{Sheet}
 use Rattle.rules.specs.Outcome.{Out, choose}
 use Rattle.rules.specs.AllowanceLaws.{within-done}
 use Rattle.rules.specs.Rules.{Env, Cells}
+use Rattle.rules.specs.Numbers.{SCRATCH, STACK}
 use Rattle.step.specs.declared.Scope.{Scope}
 use Rattle.walk.specs.declared.at.At.{At}
 use Rattle.walk.specs.Parts.{Kept}
@@ -45,7 +46,7 @@ module _ {A : Type 0} {P : (start len : ℕ) → A → Type 0} {r : Said} {left 
 module _ {b slots s cells : List ℕ} {P : Value → Type 0} {sc : Scope} {count m top : ℕ} {sh : Sheet} {μ : Env} {σ : List ℕ} {v : Value} {W : Cells}
     (w : Given b slots s P sc cells count m top sh μ σ v W) where
   -- after a get
-  pub given-later : {a : List ℕ} → Kept top b a → 32256 ≤ top → (top′ : ℕ) → top ≤ top′ → Given a slots s P sc cells count m top′ sh μ σ v W
+  pub given-later : {a : List ℕ} → Kept top b a → STACK ≤ top → (top′ : ℕ) → top ≤ top′ → Given a slots s P sc cells count m top′ sh μ σ v W
   given-later k h top′ p = record {
     read = w .read;
     scoped = env-later k h top′ p (w .scoped);
@@ -56,7 +57,8 @@ module _ {b slots s cells : List ℕ} {P : Value → Type 0} {sc : Scope} {count
   }
 
   -- after a put
-  pub given-after : {a slots′ : List ℕ} {Q : Value → Type 0} {n : ℕ} {u : Value} {X : Cells} → Frame top b a → Written a slots′ n X → Q u → Given a slots′ s Q sc cells count n top sh μ σ u X
+  pub given-after : {a slots′ : List ℕ} {Q : Value → Type 0} {n : ℕ} {u : Value} {X : Cells} → Frame top b a → Written a slots′ n X → Q u
+      → Given a slots′ s Q sc cells count n top sh μ σ u X
   given-after f x q = record {
     read = w .read;
     scoped = env-framed f top (le-refl top) (w .scoped);
@@ -71,10 +73,11 @@ module _ {b slots s cells : List ℕ} {P : Value → Type 0} {sc : Scope} {count
   given-shown q = record { read = w .read; scoped = w .scoped; named = w .named; as-many = w .as-many; written = w .written; shown = q }
 
 -- the same things ready for another task
-pub ready-for : {s table b a slots slots′ cells : List ℕ} {P Q : Value → Type 0} {sc : Scope} {count m m′ top top′ levels levels′ left left′ : ℕ} {t t′ : Task} {u : Value} {X : Cells}
+pub ready-for : {s table b a slots slots′ cells : List ℕ} {P Q : Value
+    → Type 0} {sc : Scope} {count m m′ top top′ levels levels′ left left′ : ℕ} {t t′ : Task} {u : Value} {X : Cells}
     (w : Ready s table b slots P sc cells count m top levels left t) → Known (w .sheet .sh) t′
     → Given a slots′ s Q sc cells count m′ top′ (w .sheet .sh) (w .env) (w .names) u X → length a ≡ length b
-    → left′ ≤ left → levels′ ≤ levels → top ≤ top′ → top′ + 513 * levels′ ≤ 65536 → Ready s table a slots′ Q sc cells count m′ top′ levels′ left′ t′
+    → left′ ≤ left → levels′ ≤ levels → top ≤ top′ → top′ + 513 * levels′ ≤ SCRATCH → Ready s table a slots′ Q sc cells count m′ top′ levels′ left′ t′
 ready-for w k g l h p q z = record {
   long = l ∙ w .long;
   few = omega (arith, w .few);
@@ -92,7 +95,8 @@ ready-for w k g l h p q z = record {
 }
 
 -- what a get asks, of what a put was asked
-pub get-ready : {s table b slots cells : List ℕ} {P : Value → Type 0} {sc : Scope} {count m top levels left levels′ left′ : ℕ} {t : Task} {t′ : gets.Task} (w : Ready s table b slots P sc cells count m top levels left t)
+pub get-ready : {s table b slots cells : List ℕ} {P : Value → Type 0} {sc : Scope} {count m top levels left levels′ left′ : ℕ} {t : Task} {t′ : gets.Task}
+    (w : Ready s table b slots P sc cells count m top levels left t)
     → gets.Known (w .sheet .sh) t′ → levels′ ≤ levels → left′ ≤ left → gets.Ready s table b sc top levels′ left′ t′
 get-ready w k h l = record {
   long = w .long;
@@ -107,27 +111,32 @@ get-ready w k h l = record {
 }
 
 -- no more steps were taken than were left
-pub few : {s table b a slots slots′ cells : List ℕ} {P : Value → Type 0} {sc : Scope} {count m top levels left left′ l r : ℕ} {t t′ : Task} → Ready s table b slots P sc cells count m top levels left t
+pub few : {s table b a slots slots′ cells : List ℕ} {P : Value → Type 0} {sc : Scope} {count m top levels left left′ l r : ℕ} {t t′ : Task}
+    → Ready s table b slots P sc cells count m top levels left t
     → Gives b a slots slots′ s P sc cells count m top left′ r l t′ → Few left′ r
 few {left′ = left′} {r = r} w g = record { at = λ e. within-done left′ _ (had (g .told (w .given)) (said-done r e) .is) .1 }
 
 -- THE SAME at a place, with cells, in a scope and for a node by other names
 module _ {at at′ : At} {sc sc′ : Scope} {cells cells′ : List ℕ} {x x′ : ℕ} (e : at ≡ at′) (f : sc ≡ sc′) (c : cells ≡ cells′) (g : x ≡ x′) where
-  pub ready-as : {s table a slots : List ℕ} {P : Value → Type 0} → Ready s table a slots P sc′ cells′ (at′ .cells) (at′ .cells) (at′ .top) (at′ .levels) (at′ .left) (enter x′)
+  pub ready-as : {s table a slots : List ℕ} {P : Value → Type 0}
+      → Ready s table a slots P sc′ cells′ (at′ .cells) (at′ .cells) (at′ .top) (at′ .levels) (at′ .left) (enter x′)
       → Ready s table a slots P sc cells (at .cells) (at .cells) (at .top) (at .levels) (at .left) (enter x)
   ready-as w = rw (e, f, c, g) w
 
-  pub gives-as : {b a slots slots′ s : List ℕ} {P : Value → Type 0} {r : ℕ} → Gives b a slots slots′ s P sc cells (at .cells) (at .cells) (at .top) (at .left) r (at .levels) (enter x)
+  pub gives-as : {b a slots slots′ s : List ℕ} {P : Value → Type 0} {r : ℕ}
+      → Gives b a slots slots′ s P sc cells (at .cells) (at .cells) (at .top) (at .left) r (at .levels) (enter x)
       → Gives b a slots slots′ s P sc′ cells′ (at′ .cells) (at′ .cells) (at′ .top) (at′ .left) r (at′ .levels) (enter x′)
   gives-as w = rw (e, f, c, g) at w
 
 -- the same at a place by another name, whatever the task
 module _ {at at′ : At} (e : at ≡ at′) where
-  pub ready-at : {s table a slots cells : List ℕ} {P : Value → Type 0} {sc : Scope} {t : Task} → Ready s table a slots P sc cells (at′ .cells) (at′ .cells) (at′ .top) (at′ .levels) (at′ .left) t
+  pub ready-at : {s table a slots cells : List ℕ} {P : Value → Type 0} {sc : Scope} {t : Task}
+      → Ready s table a slots P sc cells (at′ .cells) (at′ .cells) (at′ .top) (at′ .levels) (at′ .left) t
       → Ready s table a slots P sc cells (at .cells) (at .cells) (at .top) (at .levels) (at .left) t
   ready-at w = rw e w
 
-  pub gives-at : {b a slots slots′ s cells : List ℕ} {P : Value → Type 0} {sc : Scope} {r : ℕ} {t : Task} → Gives b a slots slots′ s P sc cells (at .cells) (at .cells) (at .top) (at .left) r (at .levels) t
+  pub gives-at : {b a slots slots′ s cells : List ℕ} {P : Value → Type 0} {sc : Scope} {r : ℕ} {t : Task}
+      → Gives b a slots slots′ s P sc cells (at .cells) (at .cells) (at .top) (at .left) r (at .levels) t
       → Gives b a slots slots′ s P sc cells (at′ .cells) (at′ .cells) (at′ .top) (at′ .left) r (at′ .levels) t
   gives-at w = rw e at w
 
@@ -139,10 +148,12 @@ module _ {at at′ : At} (e : at ≡ at′) where
 
 -- the same of a view by another name
 module _ {v v′ : List ℕ} (e : v ≡ v′) where
-  pub ready-view : {s table a slots cells : List ℕ} {sc : Scope} {count m top levels left : ℕ} {t : Task} → Ready s table a slots (Shown v′) sc cells count m top levels left t
+  pub ready-view : {s table a slots cells : List ℕ} {sc : Scope} {count m top levels left : ℕ} {t : Task}
+      → Ready s table a slots (Shown v′) sc cells count m top levels left t
       → Ready s table a slots (Shown v) sc cells count m top levels left t
   ready-view w = rw e w
 
-  pub gives-view : {b a slots slots′ s cells : List ℕ} {sc : Scope} {count m top left r l : ℕ} {t : Task} → Gives b a slots slots′ s (Shown v) sc cells count m top left r l t
+  pub gives-view : {b a slots slots′ s cells : List ℕ} {sc : Scope} {count m top left r l : ℕ} {t : Task}
+      → Gives b a slots slots′ s (Shown v) sc cells count m top left r l t
       → Gives b a slots slots′ s (Shown v′) sc cells count m top left r l t
   gives-view w = rw e at w

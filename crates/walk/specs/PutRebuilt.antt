@@ -16,6 +16,7 @@ use Rattle.value.specs.Laws.{Readable}
 use Rattle.sheet.specs.Sheet.{Sheet}
 use Rattle.rules.specs.Text
 use Rattle.rules.specs.Rules.{Env, Cells, orOld}
+use Rattle.rules.specs.Numbers.{SCRATCH, STACK}
 use Rattle.step.specs.declared.Span.{Span}
 use Rattle.step.specs.Step.{placeOf, unfitRest}
 use Rattle.step.specs.StepLaws.{was-written}
@@ -36,12 +37,14 @@ record Stands (a : List ℕ) (p : Span) (v : Value) : Type 0 where
   long : p .len ≡ size v
   bytes : part a (p .start) (p .len) ≡ encode v
   readable : Readable v
-  inside : p .start + p .len ≤ 65536
+  inside : p .start + p .len ≤ SCRATCH
 
-stands : {a : List ℕ} {top start len c w : ℕ} {o : Option Value} {v : Value} → Slot a (4096 + 256 * c) w o → c < 110 → Held a top start len v → 32256 ≤ top → top ≤ 65536
+stands : {a : List ℕ} {top start len c w : ℕ} {o : Option Value} {v : Value} → Slot a (4096 + 256 * c) w o → c < 110 → Held a top start len v → STACK ≤ top
+    → top ≤ SCRATCH
     → Stands a (placeOf w c start len) (orOld o v)
 unfolding placeOf Text.orOld
-stands {start = start} {len = len} (blank z) h k base most = rw z (record { long = k .long; bytes = k .bytes; readable = k .readable; inside = omega (arith, below-ends (k .place) base) })
+stands {start = start} {len = len} (blank z) h k base most = rw z
+    (record { long = k .long; bytes = k .bytes; readable = k .readable; inside = omega (arith, below-ends (k .place) base) })
 stands {start = start} {len = len} {c = c} {w = w} (full {v = u} z p r) h k base most =
     let n : w ≡ 0 → ⊥ = λ e. omega (arith, size-pos u) in
     rw (← was-written w c start len n) (record { long = z; bytes = p; readable = r; inside = omega (arith, r .fits) })
@@ -51,13 +54,14 @@ stands-head : {a : List ℕ} {p : Span} {v : Value} → Stands a p v → getD a 
 stands-head {a} {p} {v} h =
     let z : p .start + 0 ≡ p .start = omega arith in
     let n : 0 < p .len = omega (arith, h .long, size-pos v) in
-    ap (λ (i : ℕ). getD a i 0) (sym z) ∙ sym (getD-drop (p .start) a 0 0) ∙ sym (getD-take (p .len) (drop (p .start) a) 0 0 n) ∙ ap (λ (l : List ℕ). getD l 0 0) (h .bytes)
+    ap (λ (i : ℕ). getD a i 0) (sym z) ∙ sym (getD-drop (p .start) a 0 0) ∙ sym (getD-take (p .len) (drop (p .start) a) 0 0 n)
+    ∙ ap (λ (l : List ℕ). getD l 0 0) (h .bytes)
 
 stands-some : {a : List ℕ} {p : Span} {v : Value} → Stands a p v → 1 ≤ p .len
 stands-some {v = v} h = omega (arith, h .long, size-pos v)
 
 -- the bytes that are built
-built-bytes : (a : List ℕ) (k : ℕ) (f r : Span) (x y : Value) → Stands a f x → Stands a r y → length a ≡ 65536 → 1 + f .len + r .len ≤ 256
+built-bytes : (a : List ℕ) (k : ℕ) (f r : Span) (x y : Value) → Stands a f x → Stands a r y → length a ≡ SCRATCH → 1 + f .len + r .len ≤ 256
     → take (1 + f .len + r .len) (rebuiltBytes a k (f .start) (f .len) (r .start) (r .len)) ≡ k ∷ (encode x ++ encode y)
 unfolding rebuiltIn
 built-bytes a k f r x y p q l h =
@@ -77,7 +81,8 @@ record Both (a : List ℕ) (n : ℕ) (X : Cells) (f r : Span) (x y : Value) : Ty
   two : Stands a r (orOld (getD X (suc n) none) y)
 
 both : {a slots : List ℕ} {n top start first second : ℕ} {f r : Span} {X : Cells} {x y : Value} → f ≡ placeOf (getD slots n 0) n start first
-    → r ≡ placeOf (getD slots (n + 1) 0) (n + 1) (start + first) second → 32256 ≤ top → top ≤ 65536 → Written a slots (n + 2) X → PartsAt a top start first second x y → Both a n X f r x y
+    → r ≡ placeOf (getD slots (n + 1) 0) (n + 1) (start + first) second → STACK ≤ top → top ≤ SCRATCH → Written a slots (n + 2) X
+    → PartsAt a top start first second x y → Both a n X f r x y
 both {a} {slots} {n} {start = start} {first = first} {second = second} {X = X} p q base most w t =
     let m : n + 1 ≡ suc n = add-one n in
     let s : Slot a (4096 + 256 * (n + 1)) (getD slots (n + 1) 0) (getD X (n + 1) none) = w .each (n + 1) (omega arith) in
@@ -89,12 +94,13 @@ both {a} {slots} {n} {start = start} {first = first} {second = second} {X = X} p
     }
 
 -- two values below the top end by it
-pub parts-end : {a : List ℕ} {top start first second : ℕ} → SomeParts a top start first second → 32256 ≤ top → top ≤ 65536 → start + first ≤ 65536
+pub parts-end : {a : List ℕ} {top start first second : ℕ} → SomeParts a top start first second → STACK ≤ top → top ≤ SCRATCH → start + first ≤ SCRATCH
 parts-end p base most = omega (arith, below-ends (p .parts .two .place) base)
 
 -- AT A STAGE: it is known where the two values stand
 pub record Rebuilding (h : PutHere) (k y start first second : ℕ) (f r : Span) : Type 0 where
-  pub asked : Ready (h .sheet) (h .table) (h .arena) (h .slots) Any (h .scope) (h .cells) (h .count) (h .count + 2) (h .top) (h .levels) (h .left) (rebuilt k y vfalse vfalse)
+  pub asked : Ready (h .sheet) (h .table) (h .arena) (h .slots) Any (h .scope) (h .cells) (h .count) (h .count + 2) (h .top) (h .levels) (h .left)
+      (rebuilt k y vfalse vfalse)
   pub parts : SomeParts (h .arena) (h .top) start first second
   pub one : f ≡ placeOf (getD (h .slots) (h .count) 0) (h .count) start first
   pub two : r ≡ placeOf (getD (h .slots) (h .count + 1) 0) (h .count + 1) (start + first) second
@@ -108,11 +114,12 @@ module _ {h : PutHere} {k y start first second : ℕ} {f r : Span} (w : Rebuildi
   made : Made k
   made = w .asked .known .1
 
-  both-of : {X : Cells} {x₁ x₂ : Value} → Written (h .arena) (h .slots) (h .count + 2) X → PartsAt (h .arena) (h .top) start first second x₁ x₂ → Both (h .arena) (h .count) X f r x₁ x₂
+  both-of : {X : Cells} {x₁ x₂ : Value} → Written (h .arena) (h .slots) (h .count + 2) X → PartsAt (h .arena) (h .top) start first second x₁ x₂
+      → Both (h .arena) (h .count) X f r x₁ x₂
   both-of g t = both (w .one) (w .two) (w .asked .base) (omega (arith, w .asked .room)) g t
 
   -- where the values stand, for the code's indices
-  pub rebuilt-places : (f .start + f .len ≤ 65536) × (r .start + r .len ≤ 65536) × (f .len ≤ 256) × (r .len ≤ 256) × (1 ≤ r .len)
+  pub rebuilt-places : (f .start + f .len ≤ SCRATCH) × (r .start + r .len ≤ SCRATCH) × (f .len ≤ 256) × (r .len ≤ 256) × (1 ≤ r .len)
   rebuilt-places =
       let o = both-of (w .asked .given .written) (w .parts .parts) in
       let a = o .one in
@@ -126,7 +133,8 @@ module _ {h : PutHere} {k y start first second : ℕ} {f r : Span} (w : Rebuildi
     long = refl;
     told = λ g.
         let o = both-of (g .written) t in
-        give 42 _ (o .named) (give 42 _ (o .named′) (give-none 43 _ (no-whole _ _ made (ap (unfitRest k) (sym (stands-head (o .two))) ∙ n)) (ap said e ∙ refused-said (omega arith) (omega arith))));
+        give 42 _ (o .named) (give 42 _ (o .named′)
+        (give-none 43 _ (no-whole _ _ made (ap (unfitRest k) (sym (stands-head (o .two))) ∙ n)) (ap said e ∙ refused-said (omega arith) (omega arith))));
   }
 
   module _ (n : unfitRest k (getD (h .arena) (r .start) 0) ≡ false) where
@@ -152,7 +160,8 @@ module _ {h : PutHere} {k y start first second : ℕ} {f r : Span} (w : Rebuildi
       abbrev pub rebuiltView : List ℕ
       rebuiltView = take (1 + f .len + r .len) bytes
 
-      built : {X : Cells} {x₁ x₂ : Value} (g : Written (h .arena) (h .slots) (h .count + 2) X) (t : PartsAt (h .arena) (h .top) start first second x₁ x₂) → Shown rebuiltView (the-whole g t .value)
+      built : {X : Cells} {x₁ x₂ : Value} (g : Written (h .arena) (h .slots) (h .count + 2) X) (t : PartsAt (h .arena) (h .top) start first second x₁ x₂)
+          → Shown rebuiltView (the-whole g t .value)
       built g t =
           let o = both-of g t in
           let b = the-whole g t in
@@ -170,13 +179,16 @@ module _ {h : PutHere} {k y start first second : ℕ} {f r : Span} (w : Rebuildi
           let b = the-whole g t in
           sym (ap length (built g t .bytes) ∙ size-encode (b .value) ∙ omega (arith, b .long, o .one .long, o .two .long))
 
-      given-whole : {sh : Sheet} {μ : Env} {σ : List ℕ} {v : Value} {X : Cells} {x₁ x₂ : Value} (g : Given (h .arena) (h .slots) (h .sheet) Any (h .scope) (h .cells) (h .count) (h .count + 2) (h .top) sh μ σ v X)
+      given-whole : {sh : Sheet} {μ : Env} {σ : List ℕ} {v : Value} {X : Cells} {x₁ x₂ : Value}
+          (g : Given (h .arena) (h .slots) (h .sheet) Any (h .scope) (h .cells) (h .count) (h .count + 2) (h .top) sh μ σ v X)
           (t : PartsAt (h .arena) (h .top) start first second x₁ x₂)
-          → Given (h .arena) (h .slots) (h .sheet) (Shown rebuiltView) (h .scope) (h .cells) (h .count) (h .count) (h .top) sh μ σ (the-whole (g .written) t .value) (take (h .count) X)
+          → Given (h .arena) (h .slots) (h .sheet) (Shown rebuiltView) (h .scope) (h .cells) (h .count) (h .count) (h .top) sh μ σ
+          (the-whole (g .written) t .value) (take (h .count) X)
       given-whole g t = given-after g (frame-refl _ _) (written-less (g .written)) (built (g .written) t)
 
       pub rebuilt-asks : PutAsks h (Shown rebuiltView) (enter y)
-      rebuilt-asks = ready-for (w .asked) (w .asked .known .0) (given-whole (w .asked .given) (w .parts .parts)) refl (le-refl _) (le-refl _) (le-refl _) (w .asked .room)
+      rebuilt-asks = ready-for (w .asked) (w .asked .known .0) (given-whole (w .asked .given) (w .parts .parts)) refl (le-refl _) (le-refl _) (le-refl _)
+          (w .asked .room)
 
       pub rebuilt-told : {a slots : List ℕ} {q : ℕ} → PutTold h (Shown rebuiltView) a slots q (enter y) → RebuiltTold h k y start first second a slots q
       unfolding run rebuild
@@ -186,5 +198,6 @@ module _ {h : PutHere} {k y start first second : ℕ} {f r : Span} (w : Rebuildi
         told = λ g.
             let o = both-of (g .written) t in
             let b = the-whole (g .written) t in
-            give 42 _ (o .named) (give 42 _ (o .named′) (give 43 _ (b .is) (give-yes 44 _ _ (omega (arith, b .long, o .one .long, o .two .long)) λ _. p .told (given-whole g t))));
+            give 42 _ (o .named) (give 42 _ (o .named′)
+            (give 43 _ (b .is) (give-yes 44 _ _ (omega (arith, b .long, o .one .long, o .two .long)) λ _. p .told (given-whole g t))));
       }

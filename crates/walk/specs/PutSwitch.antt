@@ -6,7 +6,25 @@ use Prim.Native.Nat.{ℕ, _+_, _-_, _*_, _≤_, _<_}
 use native.Mathlib.Nat.{le-refl}
 use native.Mathlib.Omega.{arith}
 use lib.ListN.{length, getD}
-use Rattle.answer.specs.Answer.{Said, Done, Refused, said, after, after-twice, isRefusal, doneAs, laterAs, lenOf, startOf, stepsOf, said-refused, said-done, done-said, refused-said, later-said}
+use Rattle.answer.specs.Answer.{
+  Said,
+  Done,
+  Refused,
+  said,
+  after,
+  after-twice,
+  isRefusal,
+  doneAs,
+  laterAs,
+  lenOf,
+  startOf,
+  stepsOf,
+  said-refused,
+  said-done,
+  done-said,
+  refused-said,
+  later-said,
+}
 use Rattle.value.specs.Result.{ok}
 use Rattle.value.specs.Value.{Value, vfalse}
 use Rattle.value.specs.Views.{asList}
@@ -14,6 +32,7 @@ use Rattle.sheet.specs.Sheet.{Sheet, readSheet}
 use Rattle.rules.specs.Outcome.{Out, done}
 use Rattle.rules.specs.Allowance.{within}
 use Rattle.rules.specs.Rules.{Cells, get, mkList}
+use Rattle.rules.specs.Numbers.{ALLOWANCE, SCRATCH, STACK}
 use Rattle.step.specs.Step.{unfitRest}
 use Rattle.walk.specs.declared.at.At.{At}
 use Rattle.walk.specs.Parts.{Kept, kept-then}
@@ -26,7 +45,23 @@ use Rattle.walk.specs.Wholes.{maker, aList}
 use Rattle.walk.specs.Gets as gets
 use Rattle.walk.specs.Gets.{Tabled, Here, Asks, ToldOf}
 use Rattle.walk.specs.GetAt.{AtTop}
-use Rattle.walk.specs.Puts.{Task, inside, switch, switchAt, withDefaults, run, Wrote, PartsAt, SomeParts, Given, Inner, PutHere, put-further, PutAsks, PutTold}
+use Rattle.walk.specs.Puts.{
+  Task,
+  inside,
+  switch,
+  switchAt,
+  withDefaults,
+  run,
+  Wrote,
+  PartsAt,
+  SomeParts,
+  Given,
+  Inner,
+  PutHere,
+  put-further,
+  PutAsks,
+  PutTold,
+}
 use Rattle.walk.specs.PutReady.{ready-for, given-later}
 use Rattle.walk.specs.PutUnder.{Under}
 
@@ -37,10 +72,10 @@ env-none a top = record { count = refl; starts-long = refl; lens-long = refl; ea
 -- WHAT `defaults` ASKS AND GIVES
 
 pub record DefaultsAsked (s table a : List ℕ) (n top levels left : ℕ) : Type 0 where
-  pub long : length a ≡ 65536
-  pub few : left ≤ 1000000
-  pub base : 32256 ≤ top
-  pub room : top + 512 + 257 * levels ≤ 65536
+  pub long : length a ≡ SCRATCH
+  pub few : left ≤ ALLOWANCE
+  pub base : STACK ≤ top
+  pub room : top + 512 + 257 * levels ≤ SCRATCH
   pub deep : 2 * levels ≤ 112
   pub sheet : Tabled s table
   pub known : (getD s (n + 6) 0 < length (sheet .sh .nodes)) × (getD s (n + 7) 0 < length (sheet .sh .nodes))
@@ -50,7 +85,8 @@ pub record TwoDefaults (s : List ℕ) (n : ℕ) (a : List ℕ) (top levels left 
   pub f : Value
   pub u : Value
   pub parts : PartsAt a (top + startOf r + lenOf r) top (startOf r) (lenOf r) f u
-  pub goes-on : (a₂ slots : List ℕ) (count : ℕ) {p q : Said} (k : Value → Value → Out Cells) → Answers (Wrote a₂ slots count) p (left - stepsOf r) (k f u) → q ≡ after (stepsOf r) p
+  pub goes-on : (a₂ slots : List ℕ) (count : ℕ) {p q : Said} (k : Value → Value → Out Cells) → Answers (Wrote a₂ slots count) p (left - stepsOf r) (k f u)
+      → q ≡ after (stepsOf r) p
       → Answers (Wrote a₂ slots count) q left (withDefaults levels sh (getD s (n + 6) 0) (getD s (n + 7) 0) k)
 
 pub record Defaults (s : List ℕ) (n : ℕ) (b a : List ℕ) (top levels left r : ℕ) : Type 0 where
@@ -62,10 +98,12 @@ pub record Defaults (s : List ℕ) (n : ℕ) (b a : List ℕ) (top levels left r
 
 -- where each is got
 abbrev pub default-here : {s table a : List ℕ} {n top levels left : ℕ} → DefaultsAsked s table a n top levels left → Here
-default-here {s} {table} {a} {n} {top} {levels} {left} w = record { sheet = s; table = table; arena = a; scope = noVariable; top = top; left = left; levels = levels }
+default-here {s} {table} {a} {n} {top} {levels} {left} w =
+    record { sheet = s; table = table; arena = a; scope = noVariable; top = top; left = left; levels = levels }
 
 abbrev pub rest-here : {s table a : List ℕ} {n top levels left : ℕ} → DefaultsAsked s table a n top levels left → List ℕ → ℕ → Here
-rest-here {s} {table} {a} {n} {top} {levels} {left} w a₁ f = record { sheet = s; table = table; arena = a₁; scope = noVariable; top = top + lenOf f; left = left - stepsOf f; levels = levels }
+rest-here {s} {table} {a} {n} {top} {levels} {left} w a₁ f =
+    record { sheet = s; table = table; arena = a₁; scope = noVariable; top = top + lenOf f; left = left - stepsOf f; levels = levels }
 
 module _ {s table b : List ℕ} {n top levels left : ℕ} (w : DefaultsAsked s table b n top levels left) where
   pub default-asks₁ : Asks (default-here w) (getD s (n + 6) 0)
@@ -117,7 +155,8 @@ module _ {s table b : List ℕ} {n top levels left : ℕ} (w : DefaultsAsked s t
           kept = kept₂;
           refused = λ _ sh es a₃ slots count k.
               let d = had (t₁ .gives .told sh es [] (env-none b top)) (said-done f e₁) in
-              then-done _ _ {q = said g} (d .is) (then-refused _ _ (not-had (t₂ .gives .told sh es [] (env-none a₁ (top + lenOf f))) x .1) x) (x ∙ sym (ap (after (stepsOf f)) x));
+              then-done _ _ {q = said g} (d .is) (then-refused _ _ (not-had (t₂ .gives .told sh es [] (env-none a₁ (top + lenOf f))) x .1) x)
+              (x ∙ sym (ap (after (stepsOf f)) x));
           done = λ i. absurd (let z : true ≡ false = cc in let y : _≡_ {A = ℕ} 0 1 = cc in omega arith);
           sizes = λ i. absurd (let z : true ≡ false = cc in let y : _≡_ {A = ℕ} 0 1 = cc in omega arith);
         }
@@ -144,12 +183,14 @@ module _ {s table b : List ℕ} {n top levels left : ℕ} (w : DefaultsAsked s t
                 sizes = λ i. absurd (let q = said-done r i in let y : _≡_ {A = ℕ} 0 1 = cc in omega arith);
               }
 
-          pub defaults-done : {r : ℕ} → unfitRest 3 (getD a₂ (top + lenOf f) 0) ≡ false → r ≡ doneAs (lenOf f) (lenOf g) (stepsOf f + stepsOf g) → Defaults s n b a₂ top levels left r
+          pub defaults-done : {r : ℕ} → unfitRest 3 (getD a₂ (top + lenOf f) 0) ≡ false → r ≡ doneAs (lenOf f) (lenOf g) (stepsOf f + stepsOf g)
+              → Defaults s n b a₂ top levels left r
           unfolding gets.run withDefaults after
           defaults-done {r} fit is =
               let z₁ = t₁ .sized .at e₁ in
               let z₂ = t₂ .sized .at e₂ in
-              let x : said r ≡ Done (lenOf f) (lenOf g) (stepsOf f + stepsOf g) = ap said is ∙ done-said _ _ _ (omega arith) (omega arith) (omega (arith, w .few)) in
+              let x : said r ≡ Done (lenOf f) (lenOf g) (stepsOf f + stepsOf g) = ap said is
+              ∙ done-said _ _ _ (omega arith) (omega arith) (omega (arith, w .few)) in
               record {
                 kept = kept₂;
                 refused = λ i. absurd (let q = said-refused r i in let y : _≡_ {A = ℕ} 0 1 = cc in omega arith);
@@ -170,8 +211,10 @@ module _ {s table b : List ℕ} {n top levels left : ℕ} (w : DefaultsAsked s t
               }
             where
               two-defaults : {r : ℕ} (sh : Sheet) → startOf r ≡ lenOf f → lenOf r ≡ lenOf g → stepsOf r ≡ stepsOf f + stepsOf g → (u v : Value)
-                  → within left (get levels sh (getD s (n + 6) 0) []) ≡ done u (stepsOf f) → within (left - stepsOf f) (get levels sh (getD s (n + 7) 0) []) ≡ done v (stepsOf g)
-                  → Held a₁ (top + lenOf f) (startOf f) (lenOf f) u → Held a₂ (top + lenOf f + lenOf g) (startOf g) (lenOf g) v → unfitRest 3 (getD a₂ (top + lenOf f) 0) ≡ false
+                  → within left (get levels sh (getD s (n + 6) 0) []) ≡ done u (stepsOf f)
+                  → within (left - stepsOf f) (get levels sh (getD s (n + 7) 0) []) ≡ done v (stepsOf g)
+                  → Held a₁ (top + lenOf f) (startOf f) (lenOf f) u → Held a₂ (top + lenOf f + lenOf g) (startOf g) (lenOf g) v
+                  → unfitRest 3 (getD a₂ (top + lenOf f) 0) ≡ false
                   → TwoDefaults s n a₂ top levels left r sh
               two-defaults {r} sh p₁ p₂ p₃ u v is₁ is₂ h₁ h₂ fit = record {
                 f = u;
@@ -191,13 +234,21 @@ module _ {s table b : List ℕ} {n top levels left : ℕ} (w : DefaultsAsked s t
 pub record Switching (h : PutHere) (P : Value → Type 0) (n : ℕ) : Type 0 where
   pub asked : PutAsks h P (switchAt (h .sheet) n)
   pub inner : Inner (h .scope) (h .count) (h .levels)
-  pub room : h .top + 512 + 513 * h .levels ≤ 65536
+  pub room : h .top + 512 + 513 * h .levels ≤ SCRATCH
 
 module _ {h : PutHere} {P : Value → Type 0} {n : ℕ} (w : Switching h P n) where
   pub defaults-asked : DefaultsAsked (h .sheet) (h .table) (h .arena) n (h .top) (h .levels) (h .left)
   defaults-asked =
       let a = w .asked in
-      record { long = a .long; few = a .few; base = a .base; room = omega (arith, w .room); deep = omega (arith, a .variables); sheet = a .sheet; known = a .known .1 }
+      record {
+        long = a .long;
+        few = a .few;
+        base = a .base;
+        room = omega (arith, w .room);
+        deep = omega (arith, a .variables);
+        sheet = a .sheet;
+        known = a .known .1;
+      }
 
   module _ {a₁ : List ℕ} {g : ℕ} (d : Defaults (h .sheet) n (h .arena) a₁ (h .top) (h .levels) (h .left) g) where
     pub switch-refused : isRefusal g ≡ true → PutTold h P a₁ (h .slots) g (switchAt (h .sheet) n)
@@ -217,7 +268,8 @@ module _ {h : PutHere} {P : Value → Type 0} {n : ℕ} (w : Switching h P n) wh
           let a = w .asked in
           let z = d .sizes e in
           record {
-            asked = ready-for a (a .known .0, aList refl) (given-later (a .given) (d .kept) (a .base) (h .top + (startOf g + lenOf g)) (omega arith)) (d .kept .long)
+            asked = ready-for a (a .known .0, aList refl) (given-later (a .given) (d .kept) (a .base) (h .top + (startOf g + lenOf g)) (omega arith))
+                (d .kept .long)
                 (omega arith) (le-refl _) (omega arith) (omega (arith, w .room));
             inner = w .inner;
             parts = record { f = _; r = _; parts = parts-of (a .sheet .read) (d .done e (a .sheet .sh) (a .sheet .read)) };
@@ -243,5 +295,5 @@ module _ {h : PutHere} {P : Value → Type 0} {n : ℕ} (w : Switching h P n) wh
           }
 
 -- the same at a place by another name
-pub switch-room : {at at′ : At} → at ≡ at′ → at′ .top + 512 + 513 * at′ .levels ≤ 65536 → at .top + 512 + 513 * at .levels ≤ 65536
+pub switch-room : {at at′ : At} → at ≡ at′ → at′ .top + 512 + 513 * at′ .levels ≤ SCRATCH → at .top + 512 + 513 * at .levels ≤ SCRATCH
 switch-room e w = rw e w

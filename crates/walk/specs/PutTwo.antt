@@ -18,6 +18,7 @@ use Rattle.rules.specs.Outcome.{Out, done, refused, given}
 use Rattle.rules.specs.Allowance.{within}
 use Rattle.rules.specs.Text
 use Rattle.rules.specs.Rules.{Env, Cells, putNode, put, both}
+use Rattle.rules.specs.Numbers.{SCRATCH}
 use Rattle.step.specs.declared.Apart.{Apart}
 use Rattle.step.specs.declared.Apart.the-variants.{At, Other}
 use Rattle.step.specs.Step.{where-so, apartOf}
@@ -28,7 +29,25 @@ use Rattle.walk.specs.Cells.{Shown}
 use Rattle.walk.specs.Frames.{frame-refl, frame-then}
 use Rattle.walk.specs.Shapes.{front-of, no-front, pair-of, no-pair}
 use Rattle.walk.specs.GetTwo.{Two, aFront, aTwo}
-use Rattle.walk.specs.Puts.{Task, enter, own, pair, run, Known, Given, Ready, Gives, Few, SomeView, PutHere, put-further, PutAsked, PutAsks, PutTold, PutTells}
+use Rattle.walk.specs.Puts.{
+  Task,
+  enter,
+  own,
+  pair,
+  run,
+  Known,
+  Given,
+  Ready,
+  Gives,
+  Few,
+  SomeView,
+  PutHere,
+  put-further,
+  PutAsked,
+  PutAsks,
+  PutTold,
+  PutTells,
+}
 use Rattle.walk.specs.PutReady.{ready-for, given-after, given-shown}
 
 -- ONE AFTER THE OTHER
@@ -49,10 +68,12 @@ module _ {h : PutHere} {P : Value → Type 0} {x y : ℕ} {u₀ : Value} (w : Pu
     module _ (e₁ : isRefusal r₁ ≡ false) where
       pub both-asks₂ : {other : List ℕ} → SomeView other → PutAsks (after-here h a₁ slots₁ r₁) (Shown other) (enter y)
       both-asks₂ q =
-          ready-for w (w .known .1) (given-after (w .given) (g₁ .frame) (had (g₁ .told (w .given)) (said-done r₁ e₁) .that .written) (q .shown)) (g₁ .frame .long)
+          ready-for w (w .known .1) (given-after (w .given) (g₁ .frame) (had (g₁ .told (w .given)) (said-done r₁ e₁) .that .written) (q .shown))
+          (g₁ .frame .long)
           (omega arith) (le-refl _) (le-refl _) (w .room)
 
-      module _ {Q : Value → Type 0} {a₂ slots₂ : List ℕ} {r₂ r : ℕ} (few₁ : Few (h .left) r₁) (few₂ : Few (h .left - stepsOf r₁) r₂) (g₂ : PutTold (after-here h a₁ slots₁ r₁) Q a₂ slots₂ r₂ (enter y)) where
+      module _ {Q : Value → Type 0} {a₂ slots₂ : List ℕ} {r₂ r : ℕ} (few₁ : Few (h .left) r₁) (few₂ : Few (h .left - stepsOf r₁) r₂)
+          (g₂ : PutTold (after-here h a₁ slots₁ r₁) Q a₂ slots₂ r₂ (enter y)) where
         later-is : r ≡ laterAs r₂ (stepsOf r₁) → said r ≡ after (stepsOf r₁) (said r₂)
         later-is e = ap said e ∙ later-said r₂ (stepsOf r₁) (λ n. let y = few₂ .at n in let x = few₁ .at e₁ in omega (arith, w .few))
 
@@ -68,7 +89,8 @@ module _ {h : PutHere} {P : Value → Type 0} {x y : ℕ} {u₀ : Value} (w : Pu
 
 -- the same at a place and for nodes by other names
 module _ {at at′ : Where} {x x′ y y′ : ℕ} (e : at ≡ at′) (f : x ≡ x′) (g : y ≡ y′) where
-  pub pair-ready : {s table a slots cells : List ℕ} {P : Value → Type 0} {sc : Scope} {u : Value} → Ready s table a slots P sc cells (at′ .cells) (at′ .cells) (at′ .top) (at′ .levels) (at′ .left) (pair x′ y′ u)
+  pub pair-ready : {s table a slots cells : List ℕ} {P : Value → Type 0} {sc : Scope} {u : Value}
+      → Ready s table a slots P sc cells (at′ .cells) (at′ .cells) (at′ .top) (at′ .levels) (at′ .left) (pair x′ y′ u)
       → Ready s table a slots P sc cells (at .cells) (at .cells) (at .top) (at .levels) (at .left) (pair x y u)
   pair-ready w = rw (e, f, g) w
 
@@ -112,9 +134,11 @@ record ViewParts (k : ℕ) (s : List ℕ) (n : ℕ) (left right : List ℕ) (v :
   r : Value
   one : Shown left f
   two : Shown right r
-  rule : (l : ℕ) (sh : Sheet) (c : ℕ) (μ : Env) (σ : List ℕ) (W : Cells) → run l sh c (own k s n) μ σ v W ≡ both (put l sh) μ σ W (getD s (n + 1) 0) f (getD s (n + 2) 0) r
+  rule : (l : ℕ) (sh : Sheet) (c : ℕ) (μ : Env) (σ : List ℕ) (W : Cells)
+      → run l sh c (own k s n) μ σ v W ≡ both (put l sh) μ σ W (getD s (n + 1) 0) f (getD s (n + 2) 0) r
 
-module _ {n mid : ℕ} {s view left right : List ℕ} {q : Shape} {v : Value} (e : q ≡ shapeOf view) (e₁ : left ≡ firstPart view mid) (e₂ : right ≡ secondPart view mid) (h : Shown view v) where
+module _ {n mid : ℕ} {s view left right : List ℕ} {q : Shape} {v : Value} (e : q ≡ shapeOf view) (e₁ : left ≡ firstPart view mid)
+    (e₂ : right ≡ secondPart view mid) (h : Shown view v) where
   front-parts : Front mid ≡ q → ViewParts 0x15 s n left right v
   unfolding run Text.putNode given
   front-parts i =
@@ -169,13 +193,15 @@ module _ {h : PutHere} {view left right : List ℕ} {k n mid : ℕ} (w : TakenAp
   -- what is asked of its two parts, one after the other
   pub two-asks : PutAsks h (Shown left) (pair (getD (h .sheet) (n + 1) 0) (getD (h .sheet) (n + 2) 0) vfalse)
   two-asks =
-      let z : h .top + 513 * suc (h .levels) ≤ 65536 = w .asked .room in
-      ready-for (w .asked) children (given-shown (w .asked .given) (parts (w .asked .given .shown) .one)) refl (omega arith) (omega arith) (le-refl _) (omega arith)
+      let z : h .top + 513 * suc (h .levels) ≤ SCRATCH = w .asked .room in
+      ready-for (w .asked) children (given-shown (w .asked .given) (parts (w .asked .given .shown) .one)) refl (omega arith) (omega arith) (le-refl _)
+      (omega arith)
 
   pub right-view : SomeView right
   right-view = record { value = _; shown = parts (w .asked .given .shown) .two }
 
-  pub two-told : {a slots : List ℕ} {r : ℕ} → ((u : Value) → Shown right u → PutTold h (Shown left) a slots r (pair (getD (h .sheet) (n + 1) 0) (getD (h .sheet) (n + 2) 0) u))
+  pub two-told : {a slots : List ℕ} {r : ℕ}
+      → ((u : Value) → Shown right u → PutTold h (Shown left) a slots r (pair (getD (h .sheet) (n + 1) 0) (getD (h .sheet) (n + 2) 0) u))
       → PutTells h (Shown view) a slots r k n
   unfolding run
   two-told g =
@@ -189,7 +215,8 @@ module _ {h : PutHere} {view left right : List ℕ} {k n mid : ℕ} (w : TakenAp
       }
 
 -- it could not be
-pub two-51 : {h : PutHere} {view : List ℕ} {k n r : ℕ} → PutAsked h (Shown view) k n → Two k → Other ≡ apartOf k (shapeOf view) → r ≡ 51 → PutTells h (Shown view) (h .arena) (h .slots) r k n
+pub two-51 : {h : PutHere} {view : List ℕ} {k n r : ℕ} → PutAsked h (Shown view) k n → Two k → Other ≡ apartOf k (shapeOf view) → r ≡ 51
+    → PutTells h (Shown view) (h .arena) (h .slots) r k n
 unfolding run Text.putNode apartOf where-so there
 two-51 {h} {view} {k} {n} {r} w two o is = go two
   where

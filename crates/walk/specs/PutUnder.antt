@@ -24,7 +24,26 @@ use Rattle.walk.specs.Answers.{answer-by, then-done, then-refused, had, 
 use Rattle.walk.specs.Frames.{frame-then, parts-framed}
 use Rattle.walk.specs.CellLaws.{written-more, named-more}
 use Rattle.walk.specs.Wholes.{maker}
-use Rattle.walk.specs.Puts.{Task, enter, inside, rebuilt, rebuild, run, Any, PartsAt, SomeParts, Given, Ready, Gives, Few, Inner, PutHere, put-within, PutAsks, PutTold}
+use Rattle.walk.specs.Puts.{
+  Task,
+  enter,
+  inside,
+  rebuilt,
+  rebuild,
+  run,
+  Any,
+  PartsAt,
+  SomeParts,
+  Given,
+  Ready,
+  Gives,
+  Few,
+  Inner,
+  PutHere,
+  put-within,
+  PutAsks,
+  PutTold,
+}
 use Rattle.walk.specs.PutReady.{ready-for, given-after}
 use Rattle.walk.specs.PutTwo.{after-here}
 
@@ -43,7 +62,8 @@ pub record Under (h : PutHere) (P : Value → Type 0) (k x y start first second 
 module _ {h : PutHere} {P : Value → Type 0} {k x y start first second : ℕ} (w : Under h P k x y start first second) where
   -- the branch: two variables and two blank cells more
   abbrev pub inner-here : PutHere
-  inner-here = put-within h (withTwo (h .scope) start first second) (addedTwo (h .cells) (h .scope .count) (h .count) (h .count + 1)) (addedTwo (h .slots) (h .count) 0 0) (h .count + 2)
+  inner-here = put-within h (withTwo (h .scope) start first second) (addedTwo (h .cells) (h .scope .count) (h .count) (h .count + 1))
+      (addedTwo (h .slots) (h .count) 0 0) (h .count + 2)
 
   -- there is room for them
   pub under-stored : (h .scope .count + 2 ≤ 110) × Stored start first second
@@ -52,17 +72,23 @@ module _ {h : PutHere} {P : Value → Type 0} {k x y start first second : ℕ} (
       let p = w .parts .parts in
       let b = below-ends (p .two .place) (w .asked .base) in
       let r = w .asked .room in
-      let s = held-some (p .two) in
-      (omega (arith, i .variables, i .some), record { inside = omega arith; some = held-some (p .one); short = held-short (p .one); some′ = s; short′ = held-short (p .two) })
+      let s = held-some (p .two) in (
+        omega (arith, i .variables, i .some),
+        record { inside = omega arith; some = held-some (p .one); short = held-short (p .one); some′ = s; short′ = held-short (p .two) },
+      )
 
-  given-inner : {sh : Sheet} {μ : Env} {σ : List ℕ} {v f u : Value} {W : Cells} → Given (h .arena) (h .slots) (h .sheet) P (h .scope) (h .cells) (h .count) (h .count) (h .top) sh μ σ v W
+  given-inner : {sh : Sheet} {μ : Env} {σ : List ℕ} {v f u : Value} {W : Cells}
+      → Given (h .arena) (h .slots) (h .sheet) P (h .scope) (h .cells) (h .count) (h .count) (h .top) sh μ σ v W
       → PartsAt (h .arena) (h .top) start first second f u
-      → Given (h .arena) (inner-here .slots) (h .sheet) P (inner-here .scope) (inner-here .cells) (h .count + 2) (h .count + 2) (h .top) sh (μ ++ two f u) (σ ++ two (h .count) (suc (h .count))) v (W ++ two none none)
+      → Given (h .arena) (inner-here .slots) (h .sheet) P (inner-here .scope) (inner-here .cells) (h .count + 2) (h .count + 2) (h .top) sh (μ ++ two f u)
+      (σ ++ two (h .count) (suc (h .count))) v (W ++ two none none)
   given-inner g t =
       let i = w .inner in
       record {
         read = g .read;
-        scoped = rw (two-pushed (h .scope) start first second) (rw append-assoc at (env-push (env-push (g .scoped) (t .one) (omega (arith, i .variables, i .some))) (t .two) (omega (arith, i .variables, i .some))));
+        scoped = rw (two-pushed (h .scope) start first second)
+            (rw append-assoc at (env-push (env-push (g .scoped) (t .one) (omega (arith, i .variables, i .some))) (t .two)
+            (omega (arith, i .variables, i .some))));
         named = named-more (g .named) (g .scoped .count ∙ sym (g .as-many)) (omega (arith, i .variables, i .some));
         as-many = rw (length-append, length-append) (omega (arith, g .as-many));
         written = written-more (g .written) (omega (arith, i .more-cells, i .some));
@@ -104,15 +130,18 @@ module _ {h : PutHere} {P : Value → Type 0} {k x y start first second : ℕ} (
 
     module _ (e₁ : isRefusal r₁ ≡ false) where
       -- what is given to the rest
-      given-rest : {sh : Sheet} {μ : Env} {σ : List ℕ} {v f u : Value} {W : Cells} (g : Given (h .arena) (h .slots) (h .sheet) P (h .scope) (h .cells) (h .count) (h .count) (h .top) sh μ σ v W)
+      given-rest : {sh : Sheet} {μ : Env} {σ : List ℕ} {v f u : Value} {W : Cells}
+          (g : Given (h .arena) (h .slots) (h .sheet) P (h .scope) (h .cells) (h .count) (h .count) (h .top) sh μ σ v W)
           (t : PartsAt (h .arena) (h .top) start first second f u)
-          → Given a₁ slots₁ (h .sheet) Any (h .scope) (h .cells) (h .count) (h .count + 2) (h .top) sh μ σ v (had (g₁ .told (given-inner g t)) (said-done r₁ e₁) .value)
+          → Given a₁ slots₁ (h .sheet) Any (h .scope) (h .cells) (h .count) (h .count + 2) (h .top) sh μ σ v
+          (had (g₁ .told (given-inner g t)) (said-done r₁ e₁) .value)
       given-rest g t = given-after g (g₁ .frame) (had (g₁ .told (given-inner g t)) (said-done r₁ e₁) .that .written) tt
 
       abbrev pub rest-here : PutHere
       rest-here = after-here h a₁ slots₁ r₁
 
-      pub under-asks₂ : Ready (h .sheet) (h .table) a₁ slots₁ Any (h .scope) (h .cells) (h .count) (h .count + 2) (h .top) (h .levels) (h .left - stepsOf r₁) (rebuilt k y vfalse vfalse)
+      pub under-asks₂ : Ready (h .sheet) (h .table) a₁ slots₁ Any (h .scope) (h .cells) (h .count) (h .count + 2) (h .top) (h .levels) (h .left - stepsOf r₁)
+          (rebuilt k y vfalse vfalse)
       under-asks₂ =
           let a = w .asked in
           ready-for a (a .known .0 .1, a .known .1) (given-rest (a .given) (w .parts .parts)) (g₁ .frame .long) (omega arith) (le-refl _) (le-refl _) (a .room)
@@ -122,7 +151,8 @@ module _ {h : PutHere} {P : Value → Type 0} {k x y start first second : ℕ} (
 
       pub under-told : {a₂ slots₂ : List ℕ} {r₂ r : ℕ} → Few (h .left) r₁ → Few (h .left - stepsOf r₁) r₂
           → ((f u : Value) → PartsAt a₁ (h .top) start first second f u
-          → Gives a₁ a₂ slots₁ slots₂ (h .sheet) Any (h .scope) (h .cells) (h .count) (h .count + 2) (h .top) (h .left - stepsOf r₁) r₂ (h .levels) (rebuilt k y f u))
+          → Gives a₁ a₂ slots₁ slots₂ (h .sheet) Any (h .scope) (h .cells) (h .count) (h .count + 2) (h .top) (h .left - stepsOf r₁) r₂ (h .levels)
+          (rebuilt k y f u))
           → r ≡ laterAs r₂ (stepsOf r₁) → (f u : Value) → PartsAt (h .arena) (h .top) start first second f u → PutTold h P a₂ slots₂ r (inside k x y f u)
       unfolding run
       under-told {r₂ = r₂} {r = r} few₁ few₂ g₂ e f u t =
@@ -133,16 +163,19 @@ module _ {h : PutHere} {P : Value → Type 0} {k x y start first second : ℕ} (
             frame = frame-then (g₁ .frame) (g .frame) (w .asked .base) (le-refl _);
             long = g .long ∙ long₁;
             told = λ {sh} {μ} {σ} {v} {W} m.
-                answer-by (then-done _ _ (had (g₁ .told (given-inner m t)) (said-done r₁ e₁) .is) (g .told (given-rest m t)) d) (under-run _ μ σ W x v y (maker k) f u (h .count) (m .written .count));
+                answer-by (then-done _ _ (had (g₁ .told (given-inner m t)) (said-done r₁ e₁) .is) (g .told (given-rest m t)) d)
+                (under-run _ μ σ W x v y (maker k) f u (h .count) (m .written .count));
           }
 
 -- the same parts at a place, by another name
-pub some-at : {at at′ : At} {p p′ : Parts} {a : List ℕ} → at ≡ at′ → p ≡ p′ → SomeParts a (at′ .top) (p′ .start) (p′ .first) (p′ .second) → SomeParts a (at .top) (p .start) (p .first) (p .second)
+pub some-at : {at at′ : At} {p p′ : Parts} {a : List ℕ} → at ≡ at′ → p ≡ p′ → SomeParts a (at′ .top) (p′ .start) (p′ .first) (p′ .second)
+    → SomeParts a (at .top) (p .start) (p .first) (p .second)
 some-at e i w = rw (e, i) w
 
 -- the same at a place, of a kind, for nodes and of parts by other names
 module _ {at at′ : At} {k k′ x x′ y y′ : ℕ} {p p′ : Parts} (e : at ≡ at′) (d : k ≡ k′) (f : x ≡ x′) (g : y ≡ y′) (i : p ≡ p′) where
-  pub under-ready : {s table a slots cells : List ℕ} {P : Value → Type 0} {sc : Scope} → Ready s table a slots P sc cells (at′ .cells) (at′ .cells) (at′ .top) (at′ .levels) (at′ .left) (inside k′ x′ y′ vfalse vfalse)
+  pub under-ready : {s table a slots cells : List ℕ} {P : Value → Type 0} {sc : Scope}
+      → Ready s table a slots P sc cells (at′ .cells) (at′ .cells) (at′ .top) (at′ .levels) (at′ .left) (inside k′ x′ y′ vfalse vfalse)
       → Ready s table a slots P sc cells (at .cells) (at .cells) (at .top) (at .levels) (at .left) (inside k x y vfalse vfalse)
   under-ready w = rw (e, d, f, g) w
 
@@ -155,7 +188,8 @@ module _ {at at′ : At} {k k′ x x′ y y′ : ℕ} {p p′ : Parts} (e : at �
 
 -- and of what is rebuilt
 module _ {at at′ : At} (e : at ≡ at′) where
-  pub rest-ready : {s table a slots cells : List ℕ} {sc : Scope} {t : Task} → Ready s table a slots Any sc cells (at′ .cells) (at′ .cells + 2) (at′ .top) (at′ .levels) (at′ .left) t
+  pub rest-ready : {s table a slots cells : List ℕ} {sc : Scope} {t : Task}
+      → Ready s table a slots Any sc cells (at′ .cells) (at′ .cells + 2) (at′ .top) (at′ .levels) (at′ .left) t
       → Ready s table a slots Any sc cells (at .cells) (at .cells + 2) (at .top) (at .levels) (at .left) t
   rest-ready w = rw e w
 

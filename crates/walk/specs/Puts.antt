@@ -15,6 +15,7 @@ use Rattle.sheet.specs.Sheet.{Sheet, readSheet}
 use Rattle.sheet.specs.Laws.{Ranged}
 use Rattle.rules.specs.Outcome.{Out, when, _>>=_, given}
 use Rattle.rules.specs.Rules.{Env, Cells, Putter, get, putNode, put, orOld, both, under, mkList}
+use Rattle.rules.specs.Numbers.{ALLOWANCE, SCRATCH, STACK}
 use Rattle.step.specs.declared.Scope.{Scope}
 use Rattle.walk.specs.declared.at.At.{At}
 use Rattle.walk.specs.Arena.{Scoped, Held}
@@ -81,7 +82,8 @@ pub record SomeView (view : List ℕ) : Type 0 where
 
 -- the sheet that was read; what the variables in scope stand for, the cell of each, of `count`, what was written to the m cells so far
 -- (`slots` has how long each is), and a value that P holds of (that the view shows it)
-pub record Given (a slots s : List ℕ) (P : Value → Type 0) (sc : Scope) (cells : List ℕ) (count m top : ℕ) (sh : Sheet) (μ : Env) (σ : List ℕ) (v : Value) (W : Cells) : Type 0 where
+pub record Given (a slots s : List ℕ) (P : Value → Type 0) (sc : Scope) (cells : List ℕ) (count m top : ℕ) (sh : Sheet) (μ : Env) (σ : List ℕ) (v : Value)
+    (W : Cells) : Type 0 where
   pub read : readSheet s ≡ ok sh
   pub scoped : Scoped a sc top μ
   pub named : Named cells count σ
@@ -91,10 +93,10 @@ pub record Given (a slots s : List ℕ) (P : Value → Type 0) (sc : Scope) (cel
 
 -- a level takes at most 513 bytes of the stack, and adds at most two variables and two cells
 pub record Ready (s table a slots : List ℕ) (P : Value → Type 0) (sc : Scope) (cells : List ℕ) (count m top levels left : ℕ) (t : Task) : Type 0 where
-  pub long : length a ≡ 65536
-  pub few : left ≤ 1000000
-  pub base : 32256 ≤ top
-  pub room : top + 513 * levels ≤ 65536
+  pub long : length a ≡ SCRATCH
+  pub few : left ≤ ALLOWANCE
+  pub base : STACK ≤ top
+  pub room : top + 513 * levels ≤ SCRATCH
   pub variables : sc .count + 2 * levels ≤ 112
   pub more-cells : count + 2 * levels ≤ 112
   pub sheet : Tabled s table
@@ -152,23 +154,47 @@ put-here {s} {table} {a} {slots} {cells} {P} {sc} {count} {top} {l} {left} w =
     record { sheet = s; table = table; arena = a; slots = slots; scope = sc; cells = cells; count = count; top = top; left = left; levels = l }
 
 -- where a function is that was asked another task
-abbrev pub put-there : {s table a slots cells : List ℕ} {P : Value → Type 0} {sc : Scope} {count m top l left : ℕ} {t : Task} → Ready s table a slots P sc cells count m top l left t → PutHere
+abbrev pub put-there : {s table a slots cells : List ℕ} {P : Value → Type 0} {sc : Scope} {count m top l left : ℕ} {t : Task}
+    → Ready s table a slots P sc cells count m top l left t → PutHere
 put-there {s} {table} {a} {slots} {cells} {P} {sc} {count} {m} {top} {l} {left} w =
     record { sheet = s; table = table; arena = a; slots = slots; scope = sc; cells = cells; count = count; top = top; left = left; levels = l }
 
 -- further on, with another arena, other slots, another top and allowance
 abbrev pub put-further : PutHere → (arena slots : List ℕ) (top left : ℕ) → PutHere
 put-further h a slots top left =
-    record { sheet = h .sheet; table = h .table; arena = a; slots = slots; scope = h .scope; cells = h .cells; count = h .count; top = top; left = left; levels = h .levels }
+    record {
+      sheet = h .sheet;
+      table = h .table;
+      arena = a;
+      slots = slots;
+      scope = h .scope;
+      cells = h .cells;
+      count = h .count;
+      top = top;
+      left = left;
+      levels = h .levels;
+    }
 
 -- in another scope, with the cells of its variables
 abbrev pub put-within : PutHere → Scope → (cells slots : List ℕ) (count : ℕ) → PutHere
 put-within h sc cells slots count =
-    record { sheet = h .sheet; table = h .table; arena = h .arena; slots = slots; scope = sc; cells = cells; count = count; top = h .top; left = h .left; levels = h .levels }
+    record {
+      sheet = h .sheet;
+      table = h .table;
+      arena = h .arena;
+      slots = slots;
+      scope = sc;
+      cells = cells;
+      count = count;
+      top = h .top;
+      left = h .left;
+      levels = h .levels;
+    }
 
 -- what the function of a kind is asked, and what a task asks there
 abbrev pub PutAsked : PutHere → (Value → Type 0) → (kind n : ℕ) → Type 0
-PutAsked h P k n = Ready (h .sheet) (h .table) (h .arena) (h .slots) P (h .scope) (h .cells) (h .count) (h .count) (h .top) (suc (h .levels)) (suc (h .left)) (own k (h .sheet) n)
+PutAsked h P k n = Ready (h .sheet) (h .table) (h .arena) (h .slots) P (h .scope) (h .cells) (h .count) (h .count) (h .top) (suc (h .levels)) (suc (h .left))
+    (own k (h .sheet) n)
 
 abbrev pub PutAsks : PutHere → (Value → Type 0) → Task → Type 0
 PutAsks h P t = Ready (h .sheet) (h .table) (h .arena) (h .slots) P (h .scope) (h .cells) (h .count) (h .count) (h .top) (h .levels) (h .left) t

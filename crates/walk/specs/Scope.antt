@@ -6,6 +6,7 @@ use native.Mathlib.Decide.{decLt}
 use native.Mathlib.Omega.{arith}
 use lib.ListN.{length, getD, set, replicate, length-set}
 use lib.Seq.{getD-set-same, getD-set-other}
+use Rattle.rules.specs.Numbers.{SCRATCH}
 use Rattle.step.specs.declared.Scope.{Scope}
 
 abbrev pub noVariable : Scope
@@ -28,7 +29,7 @@ two-pushed s start first second = let z : s .count + 2 ≡ s .count + 1 + 1 = om
 
 -- two values that a scope can store
 pub record Stored (start first second : ℕ) : Type 0 where
-  pub inside : start + first < 65536
+  pub inside : start + first < SCRATCH
   pub some : 1 ≤ first
   pub short : first ≤ 256
   pub some′ : 1 ≤ second
@@ -58,5 +59,6 @@ spanning-more {i} {x} {P} {xs} h m p = record { long = length-set xs i x ∙ m .
     go j lt (no n) = let e : j ≡ i = omega arith in rw (e, getD-set-same xs i x 0 (omega (arith, m .long))) p
 
 -- by another start and length
-pub stored-as : (mid : ℕ) {start start′ len len′ : ℕ} → start ≡ start′ → len ≡ len′ → Stored (start′ + 1) (mid - 1) (len′ - mid) → Stored (start + 1) (mid - 1) (len - mid)
+pub stored-as : (mid : ℕ) {start start′ len len′ : ℕ} → start ≡ start′ → len ≡ len′ → Stored (start′ + 1) (mid - 1) (len′ - mid)
+    → Stored (start + 1) (mid - 1) (len - mid)
 stored-as mid e f s = rw (e, f) s

@@ -43,7 +43,8 @@ module _ {a : List ℕ} {top start len : ℕ} {v : Value} (h : Held a top start 
   held-head =
       let p = held-some in
       let z : start + 0 ≡ start = omega arith in
-      ap (λ (i : ℕ). getD a i 0) (sym z) ∙ sym (getD-drop start a 0 0) ∙ sym (getD-take len (drop start a) 0 0 (omega arith)) ∙ ap (λ (l : List ℕ). getD l 0 0) (h .bytes)
+      ap (λ (i : ℕ). getD a i 0) (sym z) ∙ sym (getD-drop start a 0 0) ∙ sym (getD-take len (drop start a) 0 0 (omega arith))
+      ∙ ap (λ (l : List ℕ). getD l 0 0) (h .bytes)
 
   pub held-shape : {q : Shape} → q ≡ shapeOf (part a start len) → q ≡ shape v
   held-shape e = e ∙ ap shapeOf (h .bytes) ∙ shape-whole (h .readable)
@@ -81,7 +82,8 @@ fit-list {v = v} h e = go v (ap (unfitRest 3) (sym (held-head h)) ∙ e)
     go (number k) e = absurd (false≢true (sym e))
     go (pair x y) e = absurd (false≢true (sym e))
 
-parts : (a : List ℕ) (top len k n m : ℕ) (x y : List ℕ) → part a top len ≡ k ∷ (x ++ y) → length x ≡ n → len ≡ 1 + n + m → (part a (top + 1) n ≡ x) × (part a (top + 1 + n) m ≡ y)
+parts : (a : List ℕ) (top len k n m : ℕ) (x y : List ℕ) → part a top len ≡ k ∷ (x ++ y) → length x ≡ n → len ≡ 1 + n + m
+    → (part a (top + 1) n ≡ x) × (part a (top + 1 + n) m ≡ y)
 parts a top len k n m x y e l z =
     let s : len ≡ 1 + (n + m) = omega arith in
     let p = part-split a (k ∷ []) (x ++ y) top 1 (n + m) (rw s at e) refl in

@@ -2,6 +2,7 @@
 ghost use mathlib.Core.Path.{_≡_};
 ghost use Prim.Native.Nat.{_+_, _≤_};
 ghost use Rattle.answer.specs.Answer.{lenOf, startOf, stepsOf};
+ghost use Rattle.rules.specs.Numbers.{SCRATCH};
 ghost use Rattle.walk.specs.Places.{belowOf, raisedOf, afterOf, behindOf, widerOf};
 use answer::len_of;
 use answer::start_of;
@@ -31,7 +32,7 @@ impl At {
 
     /// With the top raised by n bytes.
     pub fn raised(self, n: usize) -> At
-        requires { ⌜ self .top + n ≤ 65536 ⌝ }
+        requires { ⌜ self .top + n ≤ SCRATCH ⌝ }
         ensures { λ r. ⌜ r ≡ raisedOf self n ⌝ }
     {
         At {

@@ -4,6 +4,7 @@ ghost use mathlib.Core.Path.{_≡_};
 ghost use Prim.Native.Nat.{suc, _+_, _*_, _≤_, _<_};
 ghost use lib.ListN.{length, getD};
 ghost use Rattle.answer.specs.Answer.{doneAs};
+ghost use Rattle.rules.specs.Numbers.{SCRATCH};
 ghost use Rattle.walk.specs.Gets.{Ready, Gives, enter, own};
 ghost use Rattle.walk.specs.GetReady.{Sized};
 ghost use Rattle.walk.specs.GetTwo.{Two};
@@ -29,7 +30,7 @@ use step::Scope;
 
 // The number of a constant (14).
 fn get_number(sheet: &[u8], arena: &mut [u8], n: u16, top: usize) -> usize
-    requires { ⌜ (top + 3 ≤ length (now arena)) × (top < 65536) ⌝ }
+    requires { ⌜ (top + 3 ≤ length (now arena)) × (top < SCRATCH) ⌝ }
     ensures { λ r. ⌜ (now (arena .exit) ≡ numbered (now (arena .entry)) top (256 * getD (now (sheet .entry)) (n + 1) 0 + getD (now (sheet .entry)) (n + 2) 0)) × (r ≡ doneAs top 3 0) ⌝ }
 {
     let number = value::number(sheet::byte_of(sheet, n, 1), sheet::byte_of(sheet, n, 2));

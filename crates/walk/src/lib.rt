@@ -52,11 +52,11 @@ fn get_plan(
     let at = At {
         levels: rules::LEVELS,
         left: allowance,
-        top: 32256,
+        top: rules::STACK,
         cells: 0,
     };
     let got = get_node(sheet, &table.starts, arena, scope, table.root, at);
-    let got = bring(arena, got, 32256);
+    let got = bring(arena, got, rules::STACK);
     if is_refused(got) {
         return Walked::Refused(code_of(got));
     }
@@ -105,7 +105,7 @@ fn gather(arena: &mut [u8], slots: &[u16; 110], scope: Scope) -> usize
     while i < scope.count as usize {
         let stood = step::length_of(scope.lens[i]);
         let from = step::place_of(slots[i], i, scope.starts[i] as usize, stood);
-        copy(arena, from.start, 32256 + len, from.len);
+        copy(arena, from.start, rules::STACK + len, from.len);
         len += from.len;
         i += 1;
     }
@@ -133,7 +133,7 @@ fn put_plan(
     let at = At {
         levels: rules::LEVELS,
         left: allowance,
-        top: 32256,
+        top: rules::STACK,
         cells: k,
     };
     let put = put_node(

@@ -5,6 +5,7 @@ ghost use Prim.Native.Nat.{ℕ, suc, _+_, _*_, _≤_, _<_};
 ghost use lib.ListN.{length, getD};
 ghost use Rattle.value.specs.Value.{Value, vfalse};
 ghost use Rattle.value.specs.Parts.{sameBytes};
+ghost use Rattle.rules.specs.Numbers.{SCRATCH};
 ghost use Rattle.step.specs.Step.{judged};
 ghost use Rattle.walk.specs.Cells.{Shown};
 ghost use Rattle.walk.specs.GetTwo.{Two};
@@ -419,7 +420,7 @@ fn put_switch(
 ) -> usize
     requires { ⌜ Ready (now sheet) (now table) (now arena) (now slots) (Shown (now view)) scope (now cells) (at .cells) (at .cells) (at .top) (at .levels) (at .left) (switchAt (now sheet) n) ⌝ }
     requires { ⌜ Inner scope (at .cells) (at .levels) ⌝ }
-    requires { ⌜ at .top + 512 + 513 * at .levels ≤ 65536 ⌝ }
+    requires { ⌜ at .top + 512 + 513 * at .levels ≤ SCRATCH ⌝ }
     ensures { λ r. ⌜ Gives (now (arena .entry)) (now (arena .exit)) (now (slots .entry)) (now (slots .exit)) (now (sheet .entry)) (Shown (now (view .entry))) scope (now (cells .entry)) (at .cells) (at .cells) (at .top) (at .left) r (at .levels) (switchAt (now (sheet .entry)) n) ⌝ }
 {
     let got = defaults(sheet, table, arena, n, at);

@@ -20,4 +20,5 @@ returns-2 c =
     c .done .ensures ∙ rw (s .start-of .ensures, c .before .before .len-of .ensures, c .before .steps-of .ensures) (sym (later-done _ _ e))
 
 pub later-spec : {M : Type 1} → statement M
-later-spec = tie.close (tie.spec (λ c κs. search needs) returns (λ c κs. search needs) (λ c κs. search needs) (λ c κs. search needs) add-done (λ c κs. search needs) returns-2)
+later-spec = tie.close
+    (tie.spec (λ c κs. search needs) returns (λ c κs. search needs) (λ c κs. search needs) (λ c κs. search needs) add-done (λ c κs. search needs) returns-2)

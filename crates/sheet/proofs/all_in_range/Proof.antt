@@ -11,7 +11,8 @@ nodes-in-range-requires : tie.Need-nodes-in-range-requires
 nodes-in-range-requires c κs = few-nodes (c .before .before .before .before .before .args .s .now) (c .before .before .before .before .before .pre)
 
 returns : tie.Need-returns
-returns c = sheet-judged (c .before .before .before .before .before .before .args .s .now) (c .before .before .before .before .before .before .pre) (c .before .roots-in-range .ensures) (c .nodes-in-range .ensures)
+returns c = sheet-judged (c .before .before .before .before .before .before .args .s .now) (c .before .before .before .before .before .before .pre)
+    (c .before .roots-in-range .ensures) (c .nodes-in-range .ensures)
 
 pub all-in-range-spec : {M : Type 1} → statement M
 all-in-range-spec = tie.close (tie.spec roots-in-range-requires nodes-in-range-requires returns)

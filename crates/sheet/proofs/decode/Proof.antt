@@ -86,7 +86,9 @@ pair-at-requires-2 c κs = search needs
 
 returns : tie.Need-returns
 unfolding formOf make
-returns c = rw (c .at .ensures) (sym (decoded (c .before .before .before .before .args .r .now) (c .before .before .byte-at .ensures) (c .before .match .keys1) refl (c .before .before .before .before .pre .1)))
+returns c = rw (c .at .ensures)
+    (sym (decoded (c .before .before .before .before .args .r .now) (c .before .before .byte-at .ensures) (c .before .match .keys1) refl
+    (c .before .before .before .before .pre .1)))
 
 returns-2 : tie.Need-returns-2
 unfolding formOf make
@@ -102,38 +104,75 @@ returns-4 c = sym (decoded (c .before .before .before .args .r .now) (c .before 
 
 returns-5 : tie.Need-returns-5
 unfolding formOf make
-returns-5 c = rw (c .pair-at .ensures) (sym (decoded (c .before .before .before .before .args .r .now) (c .before .before .byte-at .ensures) (c .before .match .keys5) refl (c .before .before .before .before .pre .1)))
+returns-5 c = rw (c .pair-at .ensures)
+    (sym (decoded (c .before .before .before .before .args .r .now) (c .before .before .byte-at .ensures) (c .before .match .keys5) refl
+    (c .before .before .before .before .pre .1)))
 
 returns-6 : tie.Need-returns-6
 unfolding formOf make
-returns-6 c = rw (c .before .at2 .ensures, c .at3 .ensures) (sym (decoded (c .before .before .before .before .before .args .r .now) (c .before .before .before .byte-at .ensures) (c .before .before .match .keys6) refl (c .before .before .before .before .before .pre .1)))
+returns-6 c = rw (c .before .at2 .ensures, c .at3 .ensures)
+    (sym (decoded (c .before .before .before .before .before .args .r .now) (c .before .before .before .byte-at .ensures)
+    (c .before .before .match .keys6) refl (c .before .before .before .before .before .pre .1)))
 
 returns-7 : tie.Need-returns-7
 unfolding formOf make
-returns-7 c = rw (c .before .at4 .ensures, c .at5 .ensures) (sym (decoded (c .before .before .before .before .before .args .r .now) (c .before .before .before .byte-at .ensures) (c .before .before .match .keys7) refl (c .before .before .before .before .before .pre .1)))
+returns-7 c = rw (c .before .at4 .ensures, c .at5 .ensures)
+    (sym (decoded (c .before .before .before .before .before .args .r .now) (c .before .before .before .byte-at .ensures)
+    (c .before .before .match .keys7) refl (c .before .before .before .before .before .pre .1)))
 
 returns-8 : tie.Need-returns-8
 unfolding formOf make
-returns-8 c = rw (c .before .before .before .before .before .before .at6 .ensures, c .before .before .before .before .before .at7 .ensures, c .before .before .before .before .byte-at2 .ensures, c .before .before .before .at8 .ensures, c .before .before .byte-at3 .ensures, c .before .at9 .ensures, c .at10 .ensures) (sym (decoded (c .before .before .before .before .before .before .before .before .before .before .args .r .now) (c .before .before .before .before .before .before .before .before .byte-at .ensures) (c .before .before .before .before .before .before .before .match .keys8) refl (c .before .before .before .before .before .before .before .before .before .before .pre .1)))
+returns-8 c = rw (
+  c .before .before .before .before .before .before .at6 .ensures,
+  c .before .before .before .before .before .at7 .ensures,
+  c .before .before .before .before .byte-at2 .ensures,
+  c .before .before .before .at8 .ensures,
+  c .before .before .byte-at3 .ensures,
+  c .before .at9 .ensures,
+  c .at10 .ensures,
+)
+    (sym (decoded (c .before .before .before .before .before .before .before .before .before .before .args .r .now)
+    (c .before .before .before .before .before .before .before .before .byte-at .ensures)
+    (c .before .before .before .before .before .before .before .match .keys8) refl
+    (c .before .before .before .before .before .before .before .before .before .before .pre .1)))
 
 returns-9 : tie.Need-returns-9
 unfolding formOf make
-returns-9 c = rw (c .before .before .before .before .at11 .ensures, c .before .before .before .at12 .ensures, c .before .before .byte-at4 .ensures, c .before .at13 .ensures, c .byte-at5 .ensures) (sym (decoded (c .before .before .before .before .before .before .before .before .args .r .now) (c .before .before .before .before .before .before .byte-at .ensures) (c .before .before .before .before .before .match .keys9) refl (c .before .before .before .before .before .before .before .before .pre .1)))
+returns-9 c = rw (
+  c .before .before .before .before .at11 .ensures,
+  c .before .before .before .at12 .ensures,
+  c .before .before .byte-at4 .ensures,
+  c .before .at13 .ensures,
+  c .byte-at5 .ensures,
+)
+    (sym (decoded (c .before .before .before .before .before .before .before .before .args .r .now)
+    (c .before .before .before .before .before .before .byte-at .ensures) (c .before .before .before .before .before .match .keys9) refl
+    (c .before .before .before .before .before .before .before .before .pre .1)))
 
 returns-10 : tie.Need-returns-10
 unfolding formOf make
-returns-10 c = rw (c .before .at14 .ensures, c .at15 .ensures) (sym (decoded (c .before .before .before .before .before .args .r .now) (c .before .before .before .byte-at .ensures) (c .before .before .match .keys10) refl (c .before .before .before .before .before .pre .1)))
+returns-10 c = rw (c .before .at14 .ensures, c .at15 .ensures)
+    (sym (decoded (c .before .before .before .before .before .args .r .now) (c .before .before .before .byte-at .ensures)
+    (c .before .before .match .keys10) refl (c .before .before .before .before .before .pre .1)))
 
 returns-11 : tie.Need-returns-11
 unfolding formOf make
-returns-11 c = rw (c .before .before .at16 .ensures, c .before .at17 .ensures, c .at18 .ensures) (sym (decoded (c .before .before .before .before .before .before .args .r .now) (c .before .before .before .before .byte-at .ensures) (c .before .before .before .match .keys11) refl (c .before .before .before .before .before .before .pre .1)))
+returns-11 c = rw (c .before .before .at16 .ensures, c .before .at17 .ensures, c .at18 .ensures)
+    (sym (decoded (c .before .before .before .before .before .before .args .r .now) (c .before .before .before .before .byte-at .ensures)
+    (c .before .before .before .match .keys11) refl (c .before .before .before .before .before .before .pre .1)))
 
 returns-12 : tie.Need-returns-12
 unfolding formOf make
-returns-12 c = rw (c .before .at19 .ensures, c .pair-at2 .ensures) (sym (decoded (c .before .before .before .before .before .args .r .now) (c .before .before .before .byte-at .ensures) (c .before .before .match .keys12) refl (c .before .before .before .before .before .pre .1)))
+returns-12 c = rw (c .before .at19 .ensures, c .pair-at2 .ensures)
+    (sym (decoded (c .before .before .before .before .before .args .r .now) (c .before .before .before .byte-at .ensures)
+    (c .before .before .match .keys12) refl (c .before .before .before .before .before .pre .1)))
 
 returns-13 : tie.Need-returns-13
 returns-13 c = sym (node-unknown (c .before .before .before .args .r .now) (rw (c .before .byte-at .ensures) at (no-form _ (beyond 12 (c .match .rest)))))
 
 pub decode-spec : {M : Type 1} → statement M
-decode-spec = tie.close (tie.spec byte-at-requires at-requires pair-at-requires at-requires-2 at-requires-3 at-requires-4 at-requires-5 at-requires-6 at-requires-7 byte-at-requires-2 at-requires-8 byte-at-requires-3 at-requires-9 at-requires-10 at-requires-11 at-requires-12 byte-at-requires-4 at-requires-13 byte-at-requires-5 at-requires-14 at-requires-15 at-requires-16 at-requires-17 at-requires-18 at-requires-19 pair-at-requires-2 returns returns-2 returns-3 returns-4 returns-5 returns-6 returns-7 returns-8 returns-9 returns-10 returns-11 returns-12 returns-13)
+decode-spec = tie.close
+    (tie.spec byte-at-requires at-requires pair-at-requires at-requires-2 at-requires-3 at-requires-4 at-requires-5 at-requires-6 at-requires-7
+    byte-at-requires-2 at-requires-8 byte-at-requires-3 at-requires-9 at-requires-10 at-requires-11 at-requires-12 byte-at-requires-4 at-requires-13
+    byte-at-requires-5 at-requires-14 at-requires-15 at-requires-16 at-requires-17 at-requires-18 at-requires-19 pair-at-requires-2 returns returns-2
+    returns-3 returns-4 returns-5 returns-6 returns-7 returns-8 returns-9 returns-10 returns-11 returns-12 returns-13)

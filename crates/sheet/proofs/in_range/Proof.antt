@@ -104,11 +104,26 @@ returns-7 c = simp (c .before .before .n3 .given .1, c .both-below2 .ensures, an
 
 returns-8 : tie.Need-returns-8
 unfolding nodeInRange
-returns-8 c = simp (c .before .before .before .before .before .n4 .given .1, c .before .before .before .is-below .ensures, c .before .before .is-branch .ensures, c .before .is-branch2 .ensures, c .both-below3 .ensures, and-true, and-assoc)
+returns-8 c = simp (
+  c .before .before .before .before .before .n4 .given .1,
+  c .before .before .before .is-below .ensures,
+  c .before .before .is-branch .ensures,
+  c .before .is-branch2 .ensures,
+  c .both-below3 .ensures,
+  and-true,
+  and-assoc,
+)
 
 returns-9 : tie.Need-returns-9
 unfolding nodeInRange
-returns-9 c = simp (c .before .before .before .before .n5 .given .1, c .before .before .is-below2 .ensures, c .before .is-branch3 .ensures, c .is-branch4 .ensures, and-true, and-assoc)
+returns-9 c = simp (
+  c .before .before .before .before .n5 .given .1,
+  c .before .before .is-below2 .ensures,
+  c .before .is-branch3 .ensures,
+  c .is-branch4 .ensures,
+  and-true,
+  and-assoc,
+)
 
 returns-10 : tie.Need-returns-10
 unfolding nodeInRange

@@ -33,13 +33,21 @@ refused-requires : tie.Need-refused-requires Inv-loop μ-loop
 refused-requires c κs = search needs
 
 returns : tie.Need-returns Inv-loop μ-loop
-returns c = let a = c .before .before .before .before .before .before .before .args in refused-table (a .s .now) (a .k) (a .root) (a .sections) (c .refused .ensures) (run-unknown (c .before .before .before .before .before .loop .inv) (c .before .before .record-width .ensures) (c .before .before .before .before .loop-test .taken) (c .before .if1 .taken))
+returns c =
+    let a = c .before .before .before .before .before .before .before .args in
+    refused-table (a .s .now) (a .k) (a .root) (a .sections) (c .refused .ensures)
+    (run-unknown (c .before .before .before .before .before .loop .inv) (c .before .before .record-width .ensures)
+    (c .before .before .before .before .loop-test .taken) (c .before .if1 .taken))
 
 refused-requires-2 : tie.Need-refused-requires-2 Inv-loop μ-loop
 refused-requires-2 c κs = search needs
 
 returns-2 : tie.Need-returns-2 Inv-loop μ-loop
-returns-2 c = let a = c .before .before .before .before .before .before .before .before .args in refused-table (a .s .now) (a .k) (a .root) (a .sections) (c .refused2 .ensures) (run-full (c .before .before .before .before .before .before .loop .inv) (c .before .before .before .record-width .ensures) (c .before .before .before .before .before .loop-test .taken) (c .before .before .if1 .left) (c .before .if2 .taken))
+returns-2 c =
+    let a = c .before .before .before .before .before .before .before .before .args in
+    refused-table (a .s .now) (a .k) (a .root) (a .sections) (c .refused2 .ensures)
+    (run-full (c .before .before .before .before .before .before .loop .inv) (c .before .before .before .record-width .ensures)
+    (c .before .before .before .before .before .loop-test .taken) (c .before .before .if1 .left) (c .before .if2 .taken))
 
 sub-if3 : tie.Need-sub-if3 Inv-loop μ-loop
 sub-if3 c = search needs
@@ -48,10 +56,20 @@ refused-requires-3 : tie.Need-refused-requires-3 Inv-loop μ-loop
 refused-requires-3 c κs = search needs
 
 returns-3 : tie.Need-returns-3 Inv-loop μ-loop
-returns-3 c = let a = c .before .before .before .before .before .before .before .before .before .args in refused-table (a .s .now) (a .k) (a .root) (a .sections) (c .refused3 .ensures) (run-cut (c .before .before .before .before .before .before .before .loop .inv) (c .before .before .before .before .record-width .ensures) (c .before .before .before .before .before .before .loop-test .taken) (c .before .before .before .if1 .left) (c .before .before .if2 .left) (c .before .if3 .taken))
+returns-3 c =
+    let a = c .before .before .before .before .before .before .before .before .before .args in
+    refused-table (a .s .now) (a .k) (a .root) (a .sections) (c .refused3 .ensures)
+    (run-cut (c .before .before .before .before .before .before .before .loop .inv) (c .before .before .before .before .record-width .ensures)
+    (c .before .before .before .before .before .before .loop-test .taken) (c .before .before .before .if1 .left) (c .before .before .if2 .left)
+    (c .before .if3 .taken))
 
 cast-starts : tie.Need-cast-starts Inv-loop μ-loop
-cast-starts c = omega (arith, (c .before .before .before .before .before .before .loop .inv) .near, (c .before .before .before .before .before .before .loop .inv) .few, c .before .before .before .before .before .before .before .before .pre)
+cast-starts c = omega (
+  arith,
+  (c .before .before .before .before .before .before .loop .inv) .near,
+  (c .before .before .before .before .before .before .loop .inv) .few,
+  c .before .before .before .before .before .before .before .before .pre,
+)
 
 mul-starts : tie.Need-mul-starts Inv-loop μ-loop
 mul-starts c = search needs
@@ -69,16 +87,19 @@ loop-less : tie.Need-loop-less Inv-loop μ-loop
 loop-less c = omega (arith, c .before .before .if1 .left)
 
 loop-again : tie.Need-loop-again Inv-loop μ-loop
-loop-again c = run-more (c .before .before .before .before .before .before .loop .inv) (c .before .before .before .record-width .ensures) (c .before .before .before .before .before .loop-test .taken) (c .before .before .if1 .left) (c .before .if2 .left) (c .if3 .left)
+loop-again c = run-more (c .before .before .before .before .before .before .loop .inv) (c .before .before .before .record-width .ensures)
+    (c .before .before .before .before .before .loop-test .taken) (c .before .before .if1 .left) (c .before .if2 .left) (c .if3 .left)
 
 refused-requires-4 : tie.Need-refused-requires-4 Inv-loop μ-loop
 refused-requires-4 c κs = search needs
 
 returns-4 : tie.Need-returns-4 Inv-loop μ-loop
-returns-4 c = run-none-table (c .before .before .before .before .before .args .k) (c .before .before .before .before .before .args .root) (c .before .before .before .loop .inv) (c .before .before .loop-test .left) (c .refused4 .ensures) (c .before .if4 .taken)
+returns-4 c = run-none-table (c .before .before .before .before .before .args .k) (c .before .before .before .before .before .args .root)
+    (c .before .before .before .loop .inv) (c .before .before .loop-test .left) (c .refused4 .ensures) (c .before .if4 .taken)
 
 returns-5 : tie.Need-returns-5 Inv-loop μ-loop
-returns-5 c = run-table (c .before .before .before .before .args .k) (c .before .before .before .before .args .root) (c .before .before .loop .inv) (c .before .loop-test .left) (c .if4 .left)
+returns-5 c = run-table (c .before .before .before .before .args .k) (c .before .before .before .before .args .root) (c .before .before .loop .inv)
+    (c .before .loop-test .left) (c .if4 .left)
 
 pub read-nodes-spec : {M : Type 1} → statement M
 read-nodes-spec =

@@ -19,19 +19,24 @@ refused-requires-2 : tie.Need-refused-requires-2
 refused-requires-2 c κs = search needs
 
 returns-2 : tie.Need-returns-2
-returns-2 c = c .refused2 .ensures ∙ ap tableOf (sym (header-kind (c .before .before .before .before .before .args .s .now) (c .before .before .before .if1 .left) (c .before .if2 .taken)))
+returns-2 c = c .refused2 .ensures
+    ∙ ap tableOf (sym (header-kind (c .before .before .before .before .before .args .s .now) (c .before .before .before .if1 .left) (c .before .if2 .taken)))
 
 refused-requires-3 : tie.Need-refused-requires-3
 refused-requires-3 c κs = search needs
 
 returns-3 : tie.Need-returns-3
-returns-3 c = c .refused3 .ensures ∙ ap tableOf (sym (header-cut (c .before .before .before .before .before .before .args .s .now) (c .before .before .before .before .if1 .left) (c .before .before .if2 .left) (c .before .if3 .taken)))
+returns-3 c = c .refused3 .ensures
+    ∙ ap tableOf (sym (header-cut (c .before .before .before .before .before .before .args .s .now) (c .before .before .before .before .if1 .left)
+    (c .before .before .if2 .left) (c .before .if3 .taken)))
 
 read-sections-requires : tie.Need-read-sections-requires
 read-sections-requires c κs = search needs
 
 returns-4 : tie.Need-returns-4
-returns-4 c = c .read-sections .ensures ∙ ap tableOf (sym (header-body (c .before .before .before .before .before .before .args .s .now) (c .before .before .before .before .if1 .left) (c .before .before .if2 .left)))
+returns-4 c = c .read-sections .ensures
+    ∙ ap tableOf (sym (header-body (c .before .before .before .before .before .before .args .s .now) (c .before .before .before .before .if1 .left)
+    (c .before .before .if2 .left)))
 
 pub read-records-spec : {M : Type 1} → statement M
 read-records-spec =

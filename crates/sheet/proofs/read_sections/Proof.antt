@@ -25,7 +25,11 @@ wide-requires-2 : tie.Need-wide-requires-2 Inv-loop μ-loop
 wide-requires-2 c κs = search needs
 
 loop-holds : tie.Need-loop-holds Inv-loop μ-loop
-loop-holds c = (whole-header (c .before .before .before .before .before .args .s .now) (c .before .before .before .before .before .pre) (c .before .before .wide .ensures) (c .wide2 .ensures), run-none (c .before .before .before .before .before .args .s .now))
+loop-holds c = (
+  whole-header (c .before .before .before .before .before .args .s .now) (c .before .before .before .before .before .pre)
+      (c .before .before .wide .ensures) (c .wide2 .ensures),
+  run-none (c .before .before .before .before .before .args .s .now),
+)
 
 shared-slice-read-if1 : tie.Need-shared-slice-read-if1 Inv-loop μ-loop
 shared-slice-read-if1 c = search needs
@@ -34,13 +38,16 @@ read-nodes-requires : tie.Need-read-nodes-requires Inv-loop μ-loop
 read-nodes-requires c κs = c .before .before .before .loop .inv .1 .few
 
 returns : tie.Need-returns Inv-loop μ-loop
-returns c = nodes-table (c .before .before .before .before .loop .inv .0) (c .before .before .before .before .loop .inv .1) (c .before .before .before .loop-test .taken) (c .before .if1 .taken) (c .read-nodes .ensures)
+returns c = nodes-table (c .before .before .before .before .loop .inv .0) (c .before .before .before .before .loop .inv .1)
+    (c .before .before .before .loop-test .taken) (c .before .if1 .taken) (c .read-nodes .ensures)
 
 refused-requires : tie.Need-refused-requires Inv-loop μ-loop
 refused-requires c κs = search needs
 
 returns-2 : tie.Need-returns-2 Inv-loop μ-loop
-returns-2 c = refused-table (c .before .before .before .before .before .loop .inv .0) (c .refused .ensures) (run-full (c .before .before .before .before .before .loop .inv .1) (c .before .before .before .before .loop-test .taken) (c .before .before .if1 .left) (c .before .if2 .taken))
+returns-2 c = refused-table (c .before .before .before .before .before .loop .inv .0) (c .refused .ensures)
+    (run-full (c .before .before .before .before .before .loop .inv .1) (c .before .before .before .before .loop-test .taken) (c .before .before .if1 .left)
+    (c .before .if2 .taken))
 
 sub-if3 : tie.Need-sub-if3 Inv-loop μ-loop
 sub-if3 c = search needs
@@ -49,7 +56,9 @@ refused-requires-2 : tie.Need-refused-requires-2 Inv-loop μ-loop
 refused-requires-2 c κs = search needs
 
 returns-3 : tie.Need-returns-3 Inv-loop μ-loop
-returns-3 c = refused-table (c .before .before .before .before .before .before .loop .inv .0) (c .refused2 .ensures) (run-cut (c .before .before .before .before .before .before .loop .inv .1) (c .before .before .before .before .before .loop-test .taken) (c .before .before .before .if1 .left) (c .before .before .if2 .left) (c .before .if3 .taken))
+returns-3 c = refused-table (c .before .before .before .before .before .before .loop .inv .0) (c .refused2 .ensures)
+    (run-cut (c .before .before .before .before .before .before .loop .inv .1) (c .before .before .before .before .before .loop-test .taken)
+    (c .before .before .before .if1 .left) (c .before .before .if2 .left) (c .before .if3 .taken))
 
 add-n : tie.Need-add-n Inv-loop μ-loop
 add-n c = search needs
@@ -61,7 +70,11 @@ loop-less : tie.Need-loop-less Inv-loop μ-loop
 loop-less c = search needs
 
 loop-again : tie.Need-loop-again Inv-loop μ-loop
-loop-again c = (c .before .before .before .before .before .loop .inv .0, run-more (c .before .before .before .before .before .loop .inv .1) (c .before .before .before .before .loop-test .taken) (c .before .before .if1 .left) (c .before .if2 .left) (c .if3 .left))
+loop-again c = (
+  c .before .before .before .before .before .loop .inv .0,
+  run-more (c .before .before .before .before .before .loop .inv .1)
+      (c .before .before .before .before .loop-test .taken) (c .before .before .if1 .left) (c .before .if2 .left) (c .if3 .left),
+)
 
 refused-requires-3 : tie.Need-refused-requires-3 Inv-loop μ-loop
 refused-requires-3 c κs = search needs

@@ -14,13 +14,16 @@ all-in-range-requires : tie.Need-all-in-range-requires
 all-in-range-requires c κs = search needs
 
 returns-2 : tie.Need-returns-2
-returns-2 c = read-in (c .before .before .before .before .before .before .args .s .now) (c .before .before .before .before .read-records .ensures) (c .before .before .if1 .left) (c .before .all-in-range .ensures) (c .if2 .taken)
+returns-2 c = read-in (c .before .before .before .before .before .before .args .s .now) (c .before .before .before .before .read-records .ensures)
+    (c .before .before .if1 .left) (c .before .all-in-range .ensures) (c .if2 .taken)
 
 refused-requires : tie.Need-refused-requires
 refused-requires c κs = search needs
 
 returns-3 : tie.Need-returns-3
-returns-3 c = read-out (c .before .before .before .before .before .before .before .args .s .now) (c .before .before .before .before .before .read-records .ensures) (c .before .before .before .if1 .left) (c .before .before .all-in-range .ensures) (c .before .if2 .left) (c .refused .ensures)
+returns-3 c = read-out (c .before .before .before .before .before .before .before .args .s .now)
+    (c .before .before .before .before .before .read-records .ensures) (c .before .before .before .if1 .left) (c .before .before .all-in-range .ensures)
+    (c .before .if2 .left) (c .refused .ensures)
 
 pub read-sheet-spec : {M : Type 1} → statement M
 read-sheet-spec =

@@ -50,7 +50,8 @@ same-length : tie.Need-same-length Inv-loop μ-loop
 same-length c = c .before .loop .inv .2 .long
 
 returns-3 : tie.Need-returns-3 Inv-loop μ-loop
-returns-3 c = when-in (c .before .loop .inv .1) (let e : c .before .loop .i ≡ length (now (c .before .before .before .before .args .from)) = omega arith in rw e at (c .before .loop .inv .2 .made))
+returns-3 c = when-in (c .before .loop .inv .1)
+    (let e : c .before .loop .i ≡ length (now (c .before .before .before .before .args .from)) = omega arith in rw e at (c .before .loop .inv .2 .made))
 
 pub store-spec : {M : Type 1} → statement M
 store-spec =

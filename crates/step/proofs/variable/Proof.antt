@@ -9,7 +9,8 @@ use Rattle.step.proofs.variable.Statement.{statement}
 use Rattle.step.proofs.variable.Tie as tie
 
 returns-3 : tie.Need-returns-3
-returns-3 c = when-in (omega (arith, c .before .before .before .before .before .if1 .left), omega (arith, c .before .before .before .before .if2 .left)) (c .done .ensures ∙ rw (c .before .length-of .ensures))
+returns-3 c = when-in (omega (arith, c .before .before .before .before .before .if1 .left), omega (arith, c .before .before .before .before .if2 .left))
+    (c .done .ensures ∙ rw (c .before .length-of .ensures))
 
 pub variable-spec : {M : Type 1} → statement M
 variable-spec = tie.close (tie.spec

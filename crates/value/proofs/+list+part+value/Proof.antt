@@ -8,7 +8,30 @@ use lib.ListN.{length}
 use denote.Ref.{now}
 use Rattle.value.specs.Reading.{rest}
 use Rattle.value.specs.Reader.{isMalformed, isTooLong, reads-list, reads-unknown}
-use Rattle.value.specs.Turns.{Begun, Values, at-first, taken, refused, is-malformed, is-too-long, is-whole, part-begins, one-value, all-values, value-ended, value-full, value-taken, value-refused, value-plain, value-pair, list-ended, list-full, list-empty, no-list-there, member-owed}
+use Rattle.value.specs.Turns.{
+  Begun,
+  Values,
+  at-first,
+  taken,
+  refused,
+  is-malformed,
+  is-too-long,
+  is-whole,
+  part-begins,
+  one-value,
+  all-values,
+  value-ended,
+  value-full,
+  value-taken,
+  value-refused,
+  value-plain,
+  value-pair,
+  list-ended,
+  list-full,
+  list-empty,
+  no-list-there,
+  member-owed,
+}
 use borrow.Fn.Kinds.{In}
 use borrow.Fn.PlainCycle.{Measures, is, falls, and}
 use Rattle.value.proofs.list.Reads as list
@@ -101,7 +124,8 @@ list-returns-2 :
     list.Post
     list-Inv-loop
     list-μ-loop
-list-returns-2 t c = list-empty (c .before .before .before .before .loop .inv) (c .before .before .before .loop-test .taken) (omega arith) (c .before .before .before .before .before .before .pre .1) (c .if2 .taken)
+list-returns-2 t c = list-empty (c .before .before .before .before .loop .inv) (c .before .before .before .loop-test .taken) (omega arith)
+    (c .before .before .before .before .before .before .pre .1) (c .if2 .taken)
 
 list-returns-3 :
     (t : ℕ) →
@@ -111,7 +135,8 @@ list-returns-3 :
     list.Post
     list-Inv-loop
     list-μ-loop
-list-returns-3 t c = no-list-there (c .before .before .before .before .before .loop .inv) (c .before .before .before .before .loop-test .taken) (omega arith) (c .before .if2 .left) (c .if3 .taken)
+list-returns-3 t c = no-list-there (c .before .before .before .before .before .loop .inv) (c .before .before .before .before .loop-test .taken) (omega arith)
+    (c .before .if2 .left) (c .if3 .taken)
 
 list-add-at :
     (t : ℕ) →
@@ -181,7 +206,11 @@ list-returns-4 :
     list.Post
     list-Inv-loop
     list-μ-loop
-list-returns-4 t c = refused (member-owed (c .before .before .before .before .before .before .before .before .loop .inv) (c .before .before .before .before .before .before .before .loop-test .taken) (omega arith) (c .before .before .before .if3 .left)) isMalformed (is-malformed (now (c .before .before .before .before .before .before .before .before .before .before .args .s)) (c .before .before .before .before .before .before .before .before .loop .at + 1) (c .before .value .ensures) (c .if4 .taken))
+list-returns-4 t c = refused
+    (member-owed (c .before .before .before .before .before .before .before .before .loop .inv)
+    (c .before .before .before .before .before .before .before .loop-test .taken) (omega arith) (c .before .before .before .if3 .left)) isMalformed
+    (is-malformed (now (c .before .before .before .before .before .before .before .before .before .before .args .s))
+    (c .before .before .before .before .before .before .before .before .loop .at + 1) (c .before .value .ensures) (c .if4 .taken))
 
 list-returns-5 :
     (t : ℕ) →
@@ -191,7 +220,11 @@ list-returns-5 :
     list.Post
     list-Inv-loop
     list-μ-loop
-list-returns-5 t c = refused (member-owed (c .before .before .before .before .before .before .before .before .before .loop .inv) (c .before .before .before .before .before .before .before .before .loop-test .taken) (omega arith) (c .before .before .before .before .if3 .left)) isTooLong (is-too-long (now (c .before .before .before .before .before .before .before .before .before .before .before .args .s)) (c .before .before .before .before .before .before .before .before .before .loop .at + 1) (c .before .before .value .ensures) (c .if5 .taken))
+list-returns-5 t c = refused
+    (member-owed (c .before .before .before .before .before .before .before .before .before .loop .inv)
+    (c .before .before .before .before .before .before .before .before .loop-test .taken) (omega arith) (c .before .before .before .before .if3 .left))
+    isTooLong (is-too-long (now (c .before .before .before .before .before .before .before .before .before .before .before .args .s))
+    (c .before .before .before .before .before .before .before .before .before .loop .at + 1) (c .before .before .value .ensures) (c .if5 .taken))
 
 list-add-at-2 :
     (t : ℕ) →
@@ -201,7 +234,14 @@ list-add-at-2 :
     list.Post
     list-Inv-loop
     list-μ-loop
-list-add-at-2 t c = omega (arith, taken (member-owed (c .before .before .before .before .before .before .before .before .before .loop .inv) (c .before .before .before .before .before .before .before .before .loop-test .taken) (omega arith) (c .before .before .before .before .if3 .left)) (is-whole (now (c .before .before .before .before .before .before .before .before .before .before .before .args .s)) (c .before .before .before .before .before .before .before .before .before .loop .at + 1) (c .before .before .value .ensures) (c .before .if4 .left) (c .if5 .left)) .inside)
+list-add-at-2 t c = omega (
+  arith,
+  taken (member-owed (c .before .before .before .before .before .before .before .before .before .loop .inv)
+      (c .before .before .before .before .before .before .before .before .loop-test .taken) (omega arith) (c .before .before .before .before .if3 .left))
+      (is-whole (now (c .before .before .before .before .before .before .before .before .before .before .before .args .s))
+      (c .before .before .before .before .before .before .before .before .before .loop .at + 1) (c .before .before .value .ensures) (c .before .if4 .left)
+      (c .if5 .left)) .inside,
+)
 
 list-loop-less :
     (t : ℕ) →
@@ -221,7 +261,12 @@ list-loop-again :
     list.Post
     list-Inv-loop
     list-μ-loop
-list-loop-again t c = taken (member-owed (c .before .before .before .before .before .before .before .before .before .loop .inv) (c .before .before .before .before .before .before .before .before .loop-test .taken) (omega arith) (c .before .before .before .before .if3 .left)) (is-whole (now (c .before .before .before .before .before .before .before .before .before .before .before .args .s)) (c .before .before .before .before .before .before .before .before .before .loop .at + 1) (c .before .before .value .ensures) (c .before .if4 .left) (c .if5 .left))
+list-loop-again t c = taken
+    (member-owed (c .before .before .before .before .before .before .before .before .before .loop .inv)
+    (c .before .before .before .before .before .before .before .before .loop-test .taken) (omega arith) (c .before .before .before .before .if3 .left))
+    (is-whole (now (c .before .before .before .before .before .before .before .before .before .before .before .args .s))
+    (c .before .before .before .before .before .before .before .before .before .loop .at + 1) (c .before .before .value .ensures) (c .before .if4 .left)
+    (c .if5 .left))
 
 list-returns-6 :
     (t : ℕ) →
@@ -247,7 +292,13 @@ part-body-requires : (t : ℕ) → part-lts.Need-body-requires (
   list-below t,
   list.Post,
 ) (part-at t) part.Post
-part-body-requires t c κs = record { kind = c .if1 .taken; high = omega (arith, c .before .before .shared-slice-known .given 1); low = omega (arith, c .before .before .shared-slice-known .given 2); some = c .before .before .before .pre .1 .some }
+part-body-requires t c κs =
+    record {
+      kind = c .if1 .taken;
+      high = omega (arith, c .before .before .shared-slice-known .given 1);
+      low = omega (arith, c .before .before .shared-slice-known .given 2);
+      some = c .before .before .before .pre .1 .some;
+    }
 
 part-returns : (t : ℕ) → part-lts.Need-returns (
   body-reads.Asked,
@@ -271,7 +322,9 @@ part-returns-2 : (t : ℕ) → part-lts.Need-returns-2 (
   list-below t,
   list.Post,
 ) (part-at t) part.Post
-part-returns-2 t c = reads-list (λ e. omega (arith, c .before .before .before .before .before .pre .1 .byte)) (λ e. omega (arith, c .before .before .before .before .before .pre .1 .some)) (c .before .before .before .before .before .pre .1 .kind) (c .before .if2 .taken) (c .list .ensures)
+part-returns-2 t c = reads-list (λ e. omega (arith, c .before .before .before .before .before .pre .1 .byte))
+    (λ e. omega (arith, c .before .before .before .before .before .pre .1 .some)) (c .before .before .before .before .before .pre .1 .kind)
+    (c .before .if2 .taken) (c .list .ensures)
 
 part-returns-3 : (t : ℕ) → part-lts.Need-returns-3 (
   body-reads.Asked,
@@ -279,7 +332,8 @@ part-returns-3 : (t : ℕ) → part-lts.Need-returns-3 (
   list-below t,
   list.Post,
 ) (part-at t) part.Post
-part-returns-3 t c = reads-unknown (λ e. omega (arith, c .before .before .before .before .pre .1 .byte)) (λ e. omega (arith, c .before .before .before .before .pre .1 .some)) (omega (arith, c .before .before .before .before .pre .1 .no-pair))
+part-returns-3 t c = reads-unknown (λ e. omega (arith, c .before .before .before .before .pre .1 .byte))
+    (λ e. omega (arith, c .before .before .before .before .pre .1 .some)) (omega (arith, c .before .before .before .before .pre .1 .no-pair))
 
 abbrev value-Inv-loop : value-lts.InvT-loop
 value-Inv-loop s room at₀ owed₀ at owed = Values s room at owed
@@ -361,7 +415,8 @@ value-loop-again :
     value.Post
     value-Inv-loop
     value-μ-loop
-value-loop-again t c = value-plain (c .before .before .before .before .before .loop .inv) (c .before .before .before .before .loop-test .taken) (omega arith) (omega arith) (c .if3 .taken)
+value-loop-again t c = value-plain (c .before .before .before .before .before .loop .inv) (c .before .before .before .before .loop-test .taken) (omega arith)
+    (omega arith) (c .if3 .taken)
 
 value-add-at-2 :
     (t : ℕ) →
@@ -401,7 +456,8 @@ value-loop-again-2 :
     value.Post
     value-Inv-loop
     value-μ-loop
-value-loop-again-2 t c = value-pair (c .before .before .before .before .before .before .loop .inv) (c .before .before .before .before .before .loop-test .taken) (omega arith) (omega arith) (c .if4 .taken)
+value-loop-again-2 t c = value-pair (c .before .before .before .before .before .before .loop .inv)
+    (c .before .before .before .before .before .loop-test .taken) (omega arith) (omega arith) (c .if4 .taken)
 
 value-sub-part :
     (t : ℕ) →
@@ -451,7 +507,13 @@ value-part-requires :
     value.Post
     value-Inv-loop
     value-μ-loop
-value-part-requires t c κs = (search needs, part-begins (now (c .before .before .before .before .before .before .before .before .before .args .s)) (c .before .before .before .before .before .before .before .before .before .args .room) (c .before .before .before .before .before .before .before .loop .at) (omega arith) (omega arith) (c .before .before .before .before .before .before .before .before .before .pre .1) (omega arith) (c .before .if4 .left))
+value-part-requires t c κs = (
+  search needs,
+  part-begins (now (c .before .before .before .before .before .before .before .before .before .args .s))
+      (c .before .before .before .before .before .before .before .before .before .args .room)
+      (c .before .before .before .before .before .before .before .loop .at) (omega arith) (omega arith)
+      (c .before .before .before .before .before .before .before .before .before .pre .1) (omega arith) (c .before .if4 .left),
+)
 
 value-returns-3 :
     (t : ℕ) →
@@ -461,7 +523,10 @@ value-returns-3 :
     value.Post
     value-Inv-loop
     value-μ-loop
-value-returns-3 t c = value-refused (c .before .before .before .before .before .before .before .before .before .loop .inv) (c .before .before .before .before .before .before .before .before .loop-test .taken) isMalformed (is-malformed (now (c .before .before .before .before .before .before .before .before .before .before .before .args .s)) (c .before .before .before .before .before .before .before .before .before .loop .at) (c .before .part .ensures) (c .if5 .taken))
+value-returns-3 t c = value-refused (c .before .before .before .before .before .before .before .before .before .loop .inv)
+    (c .before .before .before .before .before .before .before .before .loop-test .taken) isMalformed
+    (is-malformed (now (c .before .before .before .before .before .before .before .before .before .before .before .args .s))
+    (c .before .before .before .before .before .before .before .before .before .loop .at) (c .before .part .ensures) (c .if5 .taken))
 
 value-returns-4 :
     (t : ℕ) →
@@ -471,7 +536,10 @@ value-returns-4 :
     value.Post
     value-Inv-loop
     value-μ-loop
-value-returns-4 t c = value-refused (c .before .before .before .before .before .before .before .before .before .before .loop .inv) (c .before .before .before .before .before .before .before .before .before .loop-test .taken) isTooLong (is-too-long (now (c .before .before .before .before .before .before .before .before .before .before .before .before .args .s)) (c .before .before .before .before .before .before .before .before .before .before .loop .at) (c .before .before .part .ensures) (c .if6 .taken))
+value-returns-4 t c = value-refused (c .before .before .before .before .before .before .before .before .before .before .loop .inv)
+    (c .before .before .before .before .before .before .before .before .before .loop-test .taken) isTooLong
+    (is-too-long (now (c .before .before .before .before .before .before .before .before .before .before .before .before .args .s))
+    (c .before .before .before .before .before .before .before .before .before .before .loop .at) (c .before .before .part .ensures) (c .if6 .taken))
 
 value-add-at-3 :
     (t : ℕ) →
@@ -481,7 +549,14 @@ value-add-at-3 :
     value.Post
     value-Inv-loop
     value-μ-loop
-value-add-at-3 t c = omega (arith, value-taken (c .before .before .before .before .before .before .before .before .before .before .loop .inv) (c .before .before .before .before .before .before .before .before .before .loop-test .taken) (is-whole (now (c .before .before .before .before .before .before .before .before .before .before .before .before .args .s)) (c .before .before .before .before .before .before .before .before .before .before .loop .at) (c .before .before .part .ensures) (c .before .if5 .left) (c .if6 .left)) (omega arith) .begun .inside)
+value-add-at-3 t c = omega (
+  arith,
+  value-taken (c .before .before .before .before .before .before .before .before .before .before .loop .inv)
+      (c .before .before .before .before .before .before .before .before .before .loop-test .taken)
+      (is-whole (now (c .before .before .before .before .before .before .before .before .before .before .before .before .args .s))
+      (c .before .before .before .before .before .before .before .before .before .before .loop .at) (c .before .before .part .ensures) (c .before .if5 .left)
+      (c .if6 .left)) (omega arith) .begun .inside,
+)
 
 value-sub-owed-2 :
     (t : ℕ) →
@@ -511,7 +586,11 @@ value-loop-again-3 :
     value.Post
     value-Inv-loop
     value-μ-loop
-value-loop-again-3 t c = value-taken (c .before .before .before .before .before .before .before .before .before .before .loop .inv) (c .before .before .before .before .before .before .before .before .before .loop-test .taken) (is-whole (now (c .before .before .before .before .before .before .before .before .before .before .before .before .args .s)) (c .before .before .before .before .before .before .before .before .before .before .loop .at) (c .before .before .part .ensures) (c .before .if5 .left) (c .if6 .left)) (omega arith)
+value-loop-again-3 t c = value-taken (c .before .before .before .before .before .before .before .before .before .before .loop .inv)
+    (c .before .before .before .before .before .before .before .before .before .loop-test .taken)
+    (is-whole (now (c .before .before .before .before .before .before .before .before .before .before .before .before .args .s))
+    (c .before .before .before .before .before .before .before .before .before .before .loop .at) (c .before .before .part .ensures) (c .before .if5 .left)
+    (c .if6 .left)) (omega arith)
 
 value-returns-5 :
     (t : ℕ) →

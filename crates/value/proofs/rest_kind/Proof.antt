@@ -16,13 +16,16 @@ middle-requires : tie.Need-middle-requires
 middle-requires c κs = search needs
 
 returns-2 : tie.Need-returns-2
-returns-2 c = rest-lost (now (c .before .before .before .before .before .args .v)) (sym (c .before .before .before .kind-at .ensures) ∙ c .before .before .if1 .left) (c .before .middle .ensures) (c .if2 .taken)
+returns-2 c = rest-lost (now (c .before .before .before .before .before .args .v))
+    (sym (c .before .before .before .kind-at .ensures) ∙ c .before .before .if1 .left) (c .before .middle .ensures) (c .if2 .taken)
 
 kind-at-requires-2 : tie.Need-kind-at-requires-2
 kind-at-requires-2 c κs = search needs
 
 returns-3 : tie.Need-returns-3
-returns-3 c = c .kind-at2 .ensures ∙ rest-found (now (c .before .before .before .before .before .before .args .v)) (sym (c .before .before .before .before .kind-at .ensures) ∙ c .before .before .before .if1 .left) (c .before .before .middle .ensures) (c .before .if2 .left)
+returns-3 c = c .kind-at2 .ensures ∙ rest-found (now (c .before .before .before .before .before .before .args .v))
+    (sym (c .before .before .before .before .kind-at .ensures) ∙ c .before .before .before .if1 .left) (c .before .before .middle .ensures)
+    (c .before .if2 .left)
 
 pub rest-kind-spec : {M : Type 1} → statement M
 rest-kind-spec =

@@ -34,7 +34,8 @@ loop-less : tie.Need-loop-less Inv-loop μ-loop
 loop-less c = omega arith
 
 loop-again : tie.Need-loop-again Inv-loop μ-loop
-loop-again c = ⊎-elim (λ w. same-not (c .before .before .before .before .loop .inv) (omega arith) (omega arith) (w .0 .taken) (w .1)) (λ w. same-more (c .before .before .before .before .loop .inv) (omega arith) (omega arith) (w .0 .left) (w .1)) (c .if2 .came)
+loop-again c = ⊎-elim (λ w. same-not (c .before .before .before .before .loop .inv) (omega arith) (omega arith) (w .0 .taken) (w .1))
+    (λ w. same-more (c .before .before .before .before .loop .inv) (omega arith) (omega arith) (w .0 .left) (w .1)) (c .if2 .came)
 
 returns-2 : tie.Need-returns-2 Inv-loop μ-loop
 returns-2 c = same-done (c .before .loop .inv) (omega arith) (omega arith)

@@ -22,11 +22,13 @@ middle-requires : tie.Need-middle-requires
 middle-requires c κs = search needs
 
 returns-2 : tie.Need-returns-2
-returns-2 c = front-lost (now (c .before .before .before .before .before .before .args .v)) (c .before .before .before .before .if1 .left) (c .before .before .match .keys4) (c .before .middle .ensures) (c .if2 .taken)
+returns-2 c = front-lost (now (c .before .before .before .before .before .before .args .v)) (c .before .before .before .before .if1 .left)
+    (c .before .before .match .keys4) (c .before .middle .ensures) (c .if2 .taken)
 
 returns-3 : tie.Need-returns-3
 unfolding kindOf shapeAs
-returns-3 c = sym (shape-at (now (c .before .before .before .before .before .args .v)) (c .before .before .before .if1 .left) (c .before .match .keys5) ∙ number-short (now (c .before .before .before .before .before .args .v)) (c .if3 .taken))
+returns-3 c = sym (shape-at (now (c .before .before .before .before .before .args .v)) (c .before .before .before .if1 .left) (c .before .match .keys5)
+    ∙ number-short (now (c .before .before .before .before .before .args .v)) (c .if3 .taken))
 
 shared-slice-read-number : tie.Need-shared-slice-read-number
 shared-slice-read-number c = search needs
@@ -41,7 +43,8 @@ middle-requires-2 : tie.Need-middle-requires-2
 middle-requires-2 c κs = search needs
 
 returns-4 : tie.Need-returns-4
-returns-4 c = pair-lost (now (c .before .before .before .before .before .before .args .v)) (c .before .before .before .before .if1 .left) (c .before .before .match .keys6) (c .before .middle2 .ensures) (c .if4 .taken)
+returns-4 c = pair-lost (now (c .before .before .before .before .before .before .args .v)) (c .before .before .before .before .if1 .left)
+    (c .before .before .match .keys6) (c .before .middle2 .ensures) (c .if4 .taken)
 
 returns-5 : tie.Need-returns-5
 unfolding kindOf shapeAs
@@ -56,18 +59,34 @@ unfolding kindOf shapeAs
 returns-7 c = sym (shape-at (now (c .before .before .before .before .args .v)) (c .before .before .if1 .left) (c .match .keys3))
 
 returns-8 : tie.Need-returns-8
-returns-8 c = front-found (now (c .before .before .before .before .before .before .args .v)) (c .before .before .before .before .if1 .left) (c .before .before .match .keys4) (c .before .middle .ensures) (c .if2 .left)
+returns-8 c = front-found (now (c .before .before .before .before .before .before .args .v)) (c .before .before .before .before .if1 .left)
+    (c .before .before .match .keys4) (c .before .middle .ensures) (c .if2 .left)
 
 returns-9 : tie.Need-returns-9
 unfolding kindOf shapeAs
-returns-9 c = ap Number (c .number .ensures) ∙ sym (shape-at (now (c .before .before .before .before .before .before .before .before .args .v)) (c .before .before .before .before .before .before .if1 .left) (c .before .before .before .before .match .keys5) ∙ number-there (now (c .before .before .before .before .before .before .before .before .args .v)) (omega arith))
+returns-9 c = ap Number (c .number .ensures)
+    ∙ sym (shape-at (now (c .before .before .before .before .before .before .before .before .args .v))
+    (c .before .before .before .before .before .before .if1 .left) (c .before .before .before .before .match .keys5)
+    ∙ number-there (now (c .before .before .before .before .before .before .before .before .args .v)) (omega arith))
 
 returns-10 : tie.Need-returns-10
-returns-10 c = pair-found (now (c .before .before .before .before .before .before .args .v)) (c .before .before .before .before .if1 .left) (c .before .before .match .keys6) (c .before .middle2 .ensures) (c .if4 .left)
+returns-10 c = pair-found (now (c .before .before .before .before .before .before .args .v)) (c .before .before .before .before .if1 .left)
+    (c .before .before .match .keys6) (c .before .middle2 .ensures) (c .if4 .left)
 
 returns-11 : tie.Need-returns-11
 unfolding kindOf shapeAs
-returns-11 c = sym (shape-at (now (c .before .before .before .before .args .v)) (c .before .before .if1 .left) refl ∙ ap (shapeAs (drop 1 (now (c .before .before .before .before .args .v)))) (unknown-kind (getD (now (c .before .before .before .before .args .v)) 0 0) (omega (arith, c .match .rest .1, c .match .rest .0 .1, c .match .rest .0 .0 .1, c .match .rest .0 .0 .0 .1, c .match .rest .0 .0 .0 .0 .1, c .match .rest .0 .0 .0 .0 .0 .1))))
+returns-11 c = sym (shape-at (now (c .before .before .before .before .args .v)) (c .before .before .if1 .left) refl
+    ∙ ap (shapeAs (drop 1 (now (c .before .before .before .before .args .v))))
+    (unknown-kind (getD (now (c .before .before .before .before .args .v)) 0 0)
+    (omega (
+      arith,
+      c .match .rest .1,
+      c .match .rest .0 .1,
+      c .match .rest .0 .0 .1,
+      c .match .rest .0 .0 .0 .1,
+      c .match .rest .0 .0 .0 .0 .1,
+      c .match .rest .0 .0 .0 .0 .0 .1,
+    ))))
 
 pub shape-of-spec : {M : Type 1} → statement M
 shape-of-spec =

@@ -30,7 +30,11 @@ loop-less : tie.Need-loop-less Inv-loop μ-loop
 loop-less c = search needs
 
 loop-again : tie.Need-loop-again Inv-loop μ-loop
-loop-again c = (omega (arith, c .before .loop-test .taken), copying-in-more (c .before .before .loop .inv .1) (omega (arith, c .before .loop-test .taken, c .before .before .before .pre)))
+loop-again c = (
+  omega (arith, c .before .loop-test .taken),
+  copying-in-more (c .before .before .loop .inv .1)
+      (omega (arith, c .before .loop-test .taken, c .before .before .before .pre)),
+)
 
 same-length : tie.Need-same-length Inv-loop μ-loop
 same-length c = c .before .loop .inv .1 .long

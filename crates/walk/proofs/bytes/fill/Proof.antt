@@ -37,7 +37,11 @@ loop-less : tie.Need-loop-less Inv-loop μ-loop
 loop-less c = omega arith
 
 loop-again : tie.Need-loop-again Inv-loop μ-loop
-loop-again c = (omega arith, pasting-part (c .before .before .before .args .start) (now (c .before .before .before .args .arena)) (c .before .before .loop .inv .1) (omega arith) (omega arith))
+loop-again c = (
+  omega arith,
+  pasting-part (c .before .before .before .args .start) (now (c .before .before .before .args .arena))
+      (c .before .before .loop .inv .1) (omega arith) (omega arith),
+)
 
 returns : tie.Need-returns Inv-loop μ-loop
 returns c = let e : c .before .loop .i ≡ c .before .before .args .len = omega arith in (rw e at (c .before .loop .inv .1 .made), c .before .loop .inv .1 .long)

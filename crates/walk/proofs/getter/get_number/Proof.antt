@@ -16,7 +16,8 @@ slice-write-arena-3 c = simp length-set (omega (arith, c .before .before .before
 
 returns : tie.Need-returns
 returns c =
-    let e = sum-as (c .before .before .before .number .ensures) (c .before .before .before .before .before .byte-of .ensures) (c .before .before .before .before .byte-of2 .ensures) in
+    let e = sum-as (c .before .before .before .number .ensures) (c .before .before .before .before .before .byte-of .ensures)
+    (c .before .before .before .before .byte-of2 .ensures) in
     rw (c .before .before .high .ensures, c .before .low .ensures, e) (refl, c .done .ensures)
 
 pub get-number-spec : {M : Type 1} → statement M

@@ -18,15 +18,21 @@ shape-at-requires c κs = let i = c .before in i .before .before .before .pre (s
 returns-2 : tie.Need-returns-2
 returns-2 c =
     let i = c .before .before .before .before in
-    other (sym (i .before .is-refused .ensures) ∙ i .if1 .left) (λ m e. not-number _ (c .before .match .keys2) m (c .before .before .shape-at .ensures ∙ sym e)) (c .refused .ensures) refl
+    other (sym (i .before .is-refused .ensures) ∙ i .if1 .left)
+    (λ m e. not-number _ (c .before .match .keys2) m (c .before .before .shape-at .ensures ∙ sym e)) (c .refused .ensures) refl
 
 returns-3 : tie.Need-returns-3
 returns-3 c =
     let i = c .before .before .before .before .before .before .before in
-    over (sym (i .before .is-refused .ensures) ∙ i .if1 .left) (sym (c .before .before .before .n .given .1) ∙ c .before .before .before .before .before .shape-at .ensures) (omega (arith, c .before .if2 .taken)) (c .refused2 .ensures) refl
+    over (sym (i .before .is-refused .ensures) ∙ i .if1 .left)
+    (sym (c .before .before .before .n .given .1) ∙ c .before .before .before .before .before .shape-at .ensures) (omega (arith, c .before .if2 .taken))
+    (c .refused2 .ensures) refl
 
 add-arena : tie.Need-add-arena
-add-arena c = let i = c .before .before .before .before .before .before .before in let m = i .before .before .before .pre (sym (i .before .is-refused .ensures) ∙ i .if1 .left) in record { fits = omega (arith, m .there) }
+add-arena c =
+    let i = c .before .before .before .before .before .before .before in
+    let m = i .before .before .before .pre (sym (i .before .is-refused .ensures) ∙ i .if1 .left) in
+    record { fits = omega (arith, m .there) }
 
 slice-write-arena : tie.Need-slice-write-arena
 slice-write-arena c =
@@ -36,7 +42,10 @@ slice-write-arena c =
     omega (arith, m .inside, m .there, s .1)
 
 add-arena-2 : tie.Need-add-arena-2
-add-arena-2 c = let i = c .before .before .before .before .before .before .before .before in let m = i .before .before .before .pre (sym (i .before .is-refused .ensures) ∙ i .if1 .left) in record { fits = omega (arith, m .there) }
+add-arena-2 c =
+    let i = c .before .before .before .before .before .before .before .before in
+    let m = i .before .before .before .pre (sym (i .before .is-refused .ensures) ∙ i .if1 .left) in
+    record { fits = omega (arith, m .there) }
 
 slice-write-arena-2 : tie.Need-slice-write-arena-2
 slice-write-arena-2 c =

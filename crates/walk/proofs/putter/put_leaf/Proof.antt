@@ -13,28 +13,40 @@ returns : tie.Need-returns
 returns c = number-told (c .before .before .before .before .before .pre .0) (c .before .if1 .taken) (c .put-number .ensures)
 
 returns-2 : tie.Need-returns-2
-returns-2 c = let w = c .before .before .before .before .before .before .pre in constant-told (w .0) (w .1) (c .before .if2 .taken) (c .before .before .if1 .left) (c .put-constant .ensures)
+returns-2 c =
+    let w = c .before .before .before .before .before .before .pre in
+    constant-told (w .0) (w .1) (c .before .if2 .taken) (c .before .before .if1 .left) (c .put-constant .ensures)
 
 returns-3 : tie.Need-returns-3
-returns-3 c = let w = c .before .before .before .before .before .before .before .before .before .pre in var-42 (w .0) (omega (arith, c .before .before .before .before .if2 .left)) (omega (arith, c .before .before .before .number-of .ensures, c .before .if3 .taken)) (c .refused .ensures)
+returns-3 c =
+    let w = c .before .before .before .before .before .before .before .before .before .pre in
+    var-42 (w .0) (omega (arith, c .before .before .before .before .if2 .left))
+    (omega (arith, c .before .before .before .number-of .ensures, c .before .if3 .taken)) (c .refused .ensures)
 
 cast-c : tie.Need-cast-c
 cast-c c =
     let x = c .before .before .before .number-of .ensures in
-    let w = writable-as (ap (λ (i : ℕ). getD (c .before .before .before .before .before .before .before .before .before .args .cells .now) i 0) x) (var-writable (c .before .before .before .before .before .before .before .before .before .pre .0) (omega (arith, c .before .before .before .before .if2 .left)) (omega (arith, x, c .before .if3 .left))) in
+    let w = writable-as (ap (λ (i : ℕ). getD (c .before .before .before .before .before .before .before .before .before .args .cells .now) i 0) x)
+    (var-writable (c .before .before .before .before .before .before .before .before .before .pre .0)
+    (omega (arith, c .before .before .before .before .if2 .left)) (omega (arith, x, c .before .if3 .left))) in
     record { fits = omega (arith, w .cell) }
 
 write-requires : tie.Need-write-requires
 write-requires c κs =
     let x = c .before .before .before .before .before .number-of .ensures in
     writable-as (ap (λ (i : ℕ). getD (c .before .before .before .before .before .before .before .before .before .before .before .args .cells .now) i 0) x)
-    (var-writable (c .before .before .before .before .before .before .before .before .before .before .before .pre .0) (omega (arith, c .before .before .before .before .before .before .if2 .left)) (omega (arith, x, c .before .before .before .if3 .left)))
+    (var-writable (c .before .before .before .before .before .before .before .before .before .before .before .pre .0)
+    (omega (arith, c .before .before .before .before .before .before .if2 .left)) (omega (arith, x, c .before .before .before .if3 .left)))
 
 returns-4 : tie.Need-returns-4
 returns-4 c =
     let x = c .before .before .before .before .before .before .before .before .number-of .ensures in
-    var-told (c .before .before .before .before .before .before .before .before .before .before .before .before .before .before .pre .0) (omega (arith, c .before .before .before .before .before .before .before .before .before .if2 .left)) (omega (arith, x, c .before .before .before .before .before .before .if3 .left))
-    (write-as (ap (λ (i : ℕ). getD (c .before .before .before .before .before .before .before .before .before .before .before .before .before .before .args .cells .now) i 0) x) (c .before .before .write .ensures))
+    var-told (c .before .before .before .before .before .before .before .before .before .before .before .before .before .before .pre .0)
+    (omega (arith, c .before .before .before .before .before .before .before .before .before .if2 .left))
+    (omega (arith, x, c .before .before .before .before .before .before .if3 .left))
+    (write-as (ap (λ (i : ℕ).
+    getD (c .before .before .before .before .before .before .before .before .before .before .before .before .before .before .args .cells .now) i 0) x)
+    (c .before .before .write .ensures))
 
 pub put-leaf-spec : {M : Type 1} → statement M
 put-leaf-spec = tie.close (tie.spec

@@ -7,7 +7,8 @@ use Rattle.walk.proofs.putter.put_number.Statement.{statement}
 use Rattle.walk.proofs.putter.put_number.Tie as tie
 
 returns : tie.Need-returns
-returns c = rw (sum-as (c .before .number .ensures) (c .before .before .before .byte-of .ensures) (c .before .before .byte-of2 .ensures)) at (c .put-number .ensures)
+returns c = rw (sum-as (c .before .number .ensures) (c .before .before .before .byte-of .ensures) (c .before .before .byte-of2 .ensures)) at
+    (c .put-number .ensures)
 
 pub put-number-spec : {M : Type 1} → statement M
 put-number-spec = tie.close (tie.spec

@@ -18,14 +18,20 @@ returns c =
     let e = c .before .before .before .before .before .before .before .before .before .before in
     let s = c .before .before .before .before .before .before .before .slot-of .ensures .inside (e .pre .cell) in
     let v = e .args .view .now in
-    first (c .before .before .before .before .before .if1 .taken) (c .before .before .before .store .ensures .inside (omega (arith, s, e .pre .cell, e .pre .long, e .pre .view-short)) ∙ ap (λ (i : ℕ). paste (e .args .arena .now) i v (length v)) s)
+    first (c .before .before .before .before .before .if1 .taken)
+    (c .before .before .before .store .ensures .inside (omega (arith, s, e .pre .cell, e .pre .long, e .pre .view-short))
+    ∙ ap (λ (i : ℕ). paste (e .args .arena .now) i v (length v)) s)
     refl (c .done .ensures)
 
 add-end : tie.Need-add-end
-add-end c = let p = c .before .before .before .before .before .pre in record { fits = omega (arith, c .before .before .slot-of .ensures .inside (p .cell), p .cell, p .short) }
+add-end c =
+    let p = c .before .before .before .before .before .pre in
+    record { fits = omega (arith, c .before .before .slot-of .ensures .inside (p .cell), p .cell, p .short) }
 
 part-put-again-end : tie.Need-part-put-again-end
-part-put-again-end c = let p = c .before .before .before .before .before .before .pre in omega (arith, c .before .before .before .slot-of .ensures .inside (p .cell), p .cell, p .short, p .long)
+part-put-again-end c =
+    let p = c .before .before .before .before .before .before .pre in
+    omega (arith, c .before .before .before .slot-of .ensures .inside (p .cell), p .cell, p .short, p .long)
 
 returns-2 : tie.Need-returns-2
 returns-2 c =

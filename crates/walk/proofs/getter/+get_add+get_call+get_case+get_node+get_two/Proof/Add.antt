@@ -21,7 +21,20 @@ use cycle.Lts-get_add as lts
 use cycle.Proof.Frame.{Places, node-below, kind-at}
 
 abbrev claims : ℕ → lts.Claims
-claims t = (number-of.Asked, number-of.Learnt, node-below t, get-node.Post, bring.Asked, bring.Learnt, byte-of.Asked, byte-of.Learnt, number.Asked, number.Learnt, added.Asked, added.Learnt)
+claims t = (
+  number-of.Asked,
+  number-of.Learnt,
+  node-below t,
+  get-node.Post,
+  bring.Asked,
+  bring.Learnt,
+  byte-of.Asked,
+  byte-of.Learnt,
+  number.Asked,
+  number.Learnt,
+  added.Asked,
+  added.Learnt,
+)
 
 module _ (t : ℕ) where
   abbrev At : Places lts.Claims → Type 0
@@ -35,18 +48,24 @@ module _ (t : ℕ) where
   got c = c .before .before .before .before
 
   -- WHAT IS KNOWN THERE: the value stands at the top
-  value : (c : At lts.After-bring) → let e = entry (got c) in AtTop (here (e .pre .1 .0)) (c .bring .last .0) (c .bring .result) (getD (e .args .sheet .now) (e .args .n + 1) 0)
+  value : (c : At lts.After-bring)
+      → let e = entry (got c) in AtTop (here (e .pre .1 .0)) (c .bring .last .0) (c .bring .result) (getD (e .args .sheet .now) (e .args .n + 1) 0)
   value c =
       let g = got c in
       let w = entry g .pre in
-      at-top (add-asks (w .1 .0) (w .1 .1)) (as-node (g .before .before .number-of .ensures) (g .get-node .ensures .0)) (g .get-node .ensures .1) (c .bring .ensures)
+      at-top (add-asks (w .1 .0) (w .1 .1)) (as-node (g .before .before .number-of .ensures) (g .get-node .ensures .0)) (g .get-node .ensures .1)
+      (c .bring .ensures)
 
   -- NEEDS
   get-node-requires : At lts.Need-get-node-requires
-  get-node-requires c κs = let w = c .before .before .before .before .pre in (omega (arith, w .0), ready-node (c .before .number-of .ensures) (add-asks (w .1 .0) (w .1 .1)))
+  get-node-requires c κs =
+      let w = c .before .before .before .before .pre in
+      (omega (arith, w .0), ready-node (c .before .number-of .ensures) (add-asks (w .1 .0) (w .1 .1)))
 
   bring-requires : At lts.Need-bring-requires
-  bring-requires c κs = let g = c .before .before .before in movable (get-node-requires (g .before) (g .get-node .lifetimes) .1) (g .get-node .ensures .0) (g .get-node .ensures .1)
+  bring-requires c κs =
+      let g = c .before .before .before in
+      movable (get-node-requires (g .before) (g .get-node .lifetimes) .1) (g .get-node .ensures .0) (g .get-node .ensures .1)
 
   added-requires : At lts.Need-added-requires
   added-requires c κs = let b = c .before .before .before .before .before .before in let w = entry (got b) .pre in addable (w .1 .0) (w .1 .1) (value b)
@@ -55,7 +74,9 @@ module _ (t : ℕ) where
   returns c =
       let b = c .before .before .before .before .before .before .before .before .before in
       let w = entry (got b) .pre in
-      add-told (w .1 .0) (w .1 .1) (value b) (rw (sum-as (c .before .before .before .before .number .ensures) (c .before .before .before .before .before .before .byte-of .ensures) (c .before .before .before .before .before .byte-of2 .ensures)) at (c .before .before .added .ensures))
+      add-told (w .1 .0) (w .1 .1) (value b)
+      (rw (sum-as (c .before .before .before .before .number .ensures) (c .before .before .before .before .before .before .byte-of .ensures)
+      (c .before .before .before .before .before .byte-of2 .ensures)) at (c .before .before .added .ensures))
 
 pub get-add-met : {M : Type 1} (t : ℕ) → lts.Closed (claims t) (kind-at t get-add.Pre) get-add.Post M
 get-add-met t = lts.spec (claims t) (kind-at t get-add.Pre) get-add.Post

@@ -20,7 +20,18 @@ use cycle.Lts-get_call as lts
 use cycle.Proof.Frame.{Places, node-below, kind-at}
 
 abbrev claims : ℕ → lts.Claims
-claims t = (number-of.Asked, number-of.Learnt, refused.Asked, refused.Learnt, section-root.Asked, section-root.Learnt, section.Asked, section.Learnt, node-below t, get-node.Post)
+claims t = (
+  number-of.Asked,
+  number-of.Learnt,
+  refused.Asked,
+  refused.Learnt,
+  section-root.Asked,
+  section-root.Learnt,
+  section.Asked,
+  section.Learnt,
+  node-below t,
+  get-node.Post,
+)
 
 module _ (t : ℕ) where
   abbrev At : Places lts.Claims → Type 0
@@ -51,19 +62,28 @@ module _ (t : ℕ) where
 
   -- NEEDS
   returns : At lts.Need-returns
-  returns c = let w = c .before .before .before .before .before .before .before .pre in call-42₁ (w .1 .0) (w .1 .1) (omega (arith, c .before .before .before .before .number-of .ensures, c .before .if1 .taken)) (c .refused .ensures)
+  returns c =
+      let w = c .before .before .before .before .before .before .before .pre in
+      call-42₁ (w .1 .0) (w .1 .1) (omega (arith, c .before .before .before .before .number-of .ensures, c .before .if1 .taken)) (c .refused .ensures)
 
   returns-2 : At lts.Need-returns-2
   returns-2 c =
       let w = c .before .before .before .before .before .before .before .before .pre in
-      call-42₂ (w .1 .0) (w .1 .1) (omega (arith, c .before .before .before .before .before .number-of .ensures, c .before .before .if1 .left)) (omega (arith, c .before .before .before .before .number-of2 .ensures, c .before .if2 .taken)) (c .refused2 .ensures)
+      call-42₂ (w .1 .0) (w .1 .1) (omega (arith, c .before .before .before .before .before .number-of .ensures, c .before .before .if1 .left))
+      (omega (arith, c .before .before .before .before .number-of2 .ensures, c .before .if2 .taken)) (c .refused2 .ensures)
 
   section-requires : At lts.Need-section-requires
-  section-requires c κs = let i = in-scope c in let w = entry i .pre .1 .0 in (omega (arith, w .variables, i .before .if1 .left), omega (arith, w .variables, i .if2 .left))
+  section-requires c κs =
+      let i = in-scope c in
+      let w = entry i .pre .1 .0 in
+      (omega (arith, w .variables, i .before .if1 .left), omega (arith, w .variables, i .if2 .left))
 
   section-is : (c : At lts.After-section) → let i = in-scope (found c) in let e = entry i in
       c .section .result ≡ picked (e .args .scope) (getD (e .args .sheet .now) (e .args .n + 2) 0) (getD (e .args .sheet .now) (e .args .n + 3) 0)
-  section-is c = let i = in-scope (found c) in c .section .ensures ∙ ap₂ (picked (entry i .args .scope)) (i .before .before .before .before .number-of .ensures) (i .before .before .before .number-of2 .ensures)
+  section-is c =
+      let i = in-scope (found c) in
+      c .section .ensures ∙ ap₂ (picked (entry i .args .scope)) (i .before .before .before .before .number-of .ensures)
+      (i .before .before .before .number-of2 .ensures)
 
   get-node-requires : At lts.Need-get-node-requires
   get-node-requires c κs = let s = c .before in (omega (arith, entry (in-scope (found s)) .pre .0), ready-scope (section-is s) (call-asks (looked (found s))))

@@ -34,7 +34,36 @@ use cycle.Lts-get_case as lts
 use cycle.Proof.Frame.{Places, node-below, kind-at}
 
 abbrev claims : ℕ → lts.Claims
-claims t = (number-of.Asked, number-of.Learnt, node-below t, get-node.Post, is-refused.Asked, is-refused.Learnt, behind.Asked, behind.Learnt, shape-at.Asked, shape-at.Learnt, fits.Asked, fits.Learnt, test-of.Asked, test-of.Learnt, judge.Asked, judge.Learnt, steps-of.Asked, steps-of.Learnt, later.Asked, later.Learnt, start-of.Asked, start-of.Learnt, len-of.Asked, len-of.Learnt, with-two.Asked, with-two.Learnt, refused.Asked, refused.Learnt)
+claims t = (
+  number-of.Asked,
+  number-of.Learnt,
+  node-below t,
+  get-node.Post,
+  is-refused.Asked,
+  is-refused.Learnt,
+  behind.Asked,
+  behind.Learnt,
+  shape-at.Asked,
+  shape-at.Learnt,
+  fits.Asked,
+  fits.Learnt,
+  test-of.Asked,
+  test-of.Learnt,
+  judge.Asked,
+  judge.Learnt,
+  steps-of.Asked,
+  steps-of.Learnt,
+  later.Asked,
+  later.Learnt,
+  start-of.Asked,
+  start-of.Learnt,
+  len-of.Asked,
+  len-of.Learnt,
+  with-two.Asked,
+  with-two.Learnt,
+  refused.Asked,
+  refused.Learnt,
+)
 
 module _ (t : ℕ) where
   abbrev At : Places lts.Claims → Type 0
@@ -85,13 +114,16 @@ module _ (t : ℕ) where
 
   -- NEEDS
   get-node-requires : At lts.Need-get-node-requires
-  get-node-requires c κs = let w = c .before .before .before .before .pre in (omega (arith, w .0), ready-node (c .before .number-of .ensures) (subject-asks (w .1 .0) (w .1 .1)))
+  get-node-requires c κs =
+      let w = c .before .before .before .before .pre in
+      (omega (arith, w .0), ready-node (c .before .number-of .ensures) (subject-asks (w .1 .0) (w .1 .1)))
 
   returns : At lts.Need-returns
   returns c =
       let g = c .before .before .before .before in
       let w = entry g .pre in
-      subject-refused (w .1 .0) (w .1 .1) (as-node (g .before .before .number-of .ensures) (g .get-node .ensures .0)) (sym (c .before .is-refused .ensures) ∙ c .if1 .taken)
+      subject-refused (w .1 .0) (w .1 .1) (as-node (g .before .before .number-of .ensures) (g .get-node .ensures .0))
+      (sym (c .before .is-refused .ensures) ∙ c .if1 .taken)
 
   behind-requires : At lts.Need-behind-requires
   behind-requires c κs = got c .get-node .ensures .1 .at (done c) .steps
@@ -113,11 +145,16 @@ module _ (t : ℕ) where
       let n = c .before .before in
       let s = shaped (plain n) in
       let e = beyond s .behind .ensures in
-      let l = levels-as e in
-      (omega (arith, entry (got (there (beyond s))) .pre .0), ready-as e refl (n .number-of2 .ensures) (plain-asks (subject s) (fits-as (told (plain n)) (n .before .before .i .given .1))))
+      let l = levels-as e in (
+        omega (arith, entry (got (there (beyond s))) .pre .0),
+        ready-as e refl (n .number-of2 .ensures)
+            (plain-asks (subject s) (fits-as (told (plain n)) (n .before .before .i .given .1))),
+      )
 
   judge-requires : At lts.Need-judge-requires
-  judge-requires c κs = let g = c .before .before .before in judgeable (get-node-requires-2 (g .before) (g .get-node2 .lifetimes) .1) (g .get-node2 .ensures .0) (g .get-node2 .ensures .1)
+  judge-requires c κs =
+      let g = c .before .before .before in
+      judgeable (get-node-requires-2 (g .before) (g .get-node2 .lifetimes) .1) (g .get-node2 .ensures .0) (g .get-node2 .ensures .1)
 
   returns-2 : At lts.Need-returns-2
   returns-2 c =
@@ -125,19 +162,24 @@ module _ (t : ℕ) where
       let n = g .before .before .before in
       let s = shaped (plain n) in
       let e = n .before .before .i .given .1 in
-      plain-told (subject s) (fits-as (told (plain n)) e) (sym e ∙ told (plain n)) (gives-as (beyond s .behind .ensures) refl (n .number-of2 .ensures) (g .get-node2 .ensures .0))
-      (judged-as (g .before .before .test-of .ensures) (c .before .before .before .before .judge .ensures)) (later-as _ (c .before .steps-of .ensures) (c .later .ensures))
+      plain-told (subject s) (fits-as (told (plain n)) e) (sym e ∙ told (plain n))
+      (gives-as (beyond s .behind .ensures) refl (n .number-of2 .ensures) (g .get-node2 .ensures .0))
+      (judged-as (g .before .before .test-of .ensures) (c .before .before .before .before .judge .ensures))
+      (later-as _ (c .before .steps-of .ensures) (c .later .ensures))
 
   -- a branch with two
   test-of-requires-2 : At lts.Need-test-of-requires-2
   test-of-requires-2 c κs = parts-low (fits-as (told (parts c)) (c .before .before .i2 .given .1))
 
-  stored : (c : At lts.After-number-of3) → let g = got (there (beyond (shaped (parts c)))) in let r = g .get-node .result in let m = c .before .before .i2 .given .0 .1 .0 in
+  stored : (c : At lts.After-number-of3) → let g = got (there (beyond (shaped (parts c)))) in let r = g .get-node .result in
+      let m = c .before .before .i2 .given .0 .1 .0 in
       (entry g .args .scope .count + 2 ≤ 110) × Stored (startOf r + 1) (m - 1) (lenOf r - m) × (1 ≤ m) × (m ≤ lenOf r)
   stored c = parts-stored (subject (shaped (parts c))) (fits-as (told (parts c)) (c .before .before .i2 .given .1))
 
   add-with-two : At lts.Need-add-with-two
-  add-with-two c = let z = start-small (got (there (beyond (shaped (parts (c .before .before))))) .get-node .result) in record { fits = omega (arith, c .start-of .ensures) }
+  add-with-two c =
+      let z = start-small (got (there (beyond (shaped (parts (c .before .before))))) .get-node .result) in
+      record { fits = omega (arith, c .start-of .ensures) }
 
   sub-with-two : At lts.Need-sub-with-two
   sub-with-two c = stored (c .before .before) .2
@@ -148,8 +190,10 @@ module _ (t : ℕ) where
   with-two-requires : At lts.Need-with-two-requires
   with-two-requires c κs = let s = stored (c .before .before .before) in (s .0, stored-as _ (c .before .start-of .ensures) (c .len-of .ensures) (s .1))
 
-  inner-is : (c : At lts.After-with-two) → let n = c .before .before .before .before in let g = got (there (beyond (shaped (parts n)))) in let r = g .get-node .result in
-      c .with-two .result ≡ withTwo (entry g .args .scope) (startOf r + 1) (n .before .before .i2 .given .0 .1 .0 - 1) (lenOf r - n .before .before .i2 .given .0 .1 .0)
+  inner-is : (c : At lts.After-with-two) → let n = c .before .before .before .before in let g = got (there (beyond (shaped (parts n)))) in
+      let r = g .get-node .result in
+      c .with-two .result ≡ withTwo (entry g .args .scope) (startOf r + 1) (n .before .before .i2 .given .0 .1 .0 - 1)
+      (lenOf r - n .before .before .i2 .given .0 .1 .0)
   inner-is c =
       let n = c .before .before .before .before in
       let sc = entry (got (there (beyond (shaped (parts n))))) .args .scope in
@@ -162,11 +206,16 @@ module _ (t : ℕ) where
       let n = w .before .before .before .before in
       let s = shaped (parts n) in
       let e = beyond s .behind .ensures in
-      let l = levels-as e in
-      (omega (arith, entry (got (there (beyond s))) .pre .0), ready-as e (inner-is w) (n .number-of3 .ensures) (parts-asks (subject s) (fits-as (told (parts n)) (n .before .before .i2 .given .1))))
+      let l = levels-as e in (
+        omega (arith, entry (got (there (beyond s))) .pre .0),
+        ready-as e (inner-is w) (n .number-of3 .ensures)
+            (parts-asks (subject s) (fits-as (told (parts n)) (n .before .before .i2 .given .1))),
+      )
 
   judge-requires-2 : At lts.Need-judge-requires-2
-  judge-requires-2 c κs = let g = c .before .before .before in judgeable (get-node-requires-3 (g .before) (g .get-node3 .lifetimes) .1) (g .get-node3 .ensures .0) (g .get-node3 .ensures .1)
+  judge-requires-2 c κs =
+      let g = c .before .before .before in
+      judgeable (get-node-requires-3 (g .before) (g .get-node3 .lifetimes) .1) (g .get-node3 .ensures .0) (g .get-node3 .ensures .1)
 
   returns-3 : At lts.Need-returns-3
   returns-3 c =
@@ -175,8 +224,10 @@ module _ (t : ℕ) where
       let n = w .before .before .before .before in
       let s = shaped (parts n) in
       let e = n .before .before .i2 .given .1 in
-      parts-told (subject s) (fits-as (told (parts n)) e) (sym e ∙ told (parts n)) (gives-as (beyond s .behind .ensures) (inner-is w) (n .number-of3 .ensures) (g .get-node3 .ensures .0))
-      (judged-as (w .before .before .before .test-of2 .ensures) (c .before .before .before .before .judge2 .ensures)) (later-as _ (c .before .steps-of2 .ensures) (c .later2 .ensures))
+      parts-told (subject s) (fits-as (told (parts n)) e) (sym e ∙ told (parts n))
+      (gives-as (beyond s .behind .ensures) (inner-is w) (n .number-of3 .ensures) (g .get-node3 .ensures .0))
+      (judged-as (w .before .before .before .test-of2 .ensures) (c .before .before .before .before .judge2 .ensures))
+      (later-as _ (c .before .steps-of2 .ensures) (c .later2 .ensures))
 
   -- no branch
   returns-4 : At lts.Need-returns-4

@@ -27,7 +27,28 @@ use cycle.Lts-get_node as lts
 use cycle.Proof.Frame.{NodePlaces as Places, node-at, kind-below}
 
 abbrev claims : ℕ → lts.Claims
-claims t = (entry.Asked, entry.Learnt, refused.Asked, refused.Learnt, below.Asked, below.Learnt, byte-of.Asked, byte-of.Learnt, get-leaf.Asked, get-leaf.Learnt, later.Asked, later.Learnt, kind-below t get-two.Pre, get-two.Post, kind-below t get-case.Pre, get-case.Post, kind-below t get-call.Pre, get-call.Post, kind-below t get-add.Pre, get-add.Post)
+claims t = (
+  entry.Asked,
+  entry.Learnt,
+  refused.Asked,
+  refused.Learnt,
+  below.Asked,
+  below.Learnt,
+  byte-of.Asked,
+  byte-of.Learnt,
+  get-leaf.Asked,
+  get-leaf.Learnt,
+  later.Asked,
+  later.Learnt,
+  kind-below t get-two.Pre,
+  get-two.Post,
+  kind-below t get-case.Pre,
+  get-case.Post,
+  kind-below t get-call.Pre,
+  get-call.Post,
+  kind-below t get-add.Pre,
+  get-add.Post,
+)
 
 module _ (t : ℕ) where
   abbrev At : Places lts.Claims → Type 0
@@ -75,15 +96,27 @@ module _ (t : ℕ) where
   get-two-requires c κs =
       let b = c .before .before .before in
       let d = left (allowed b) in
-      let l = levels-as (b .before .below .ensures) in
-      (omega (arith, start (allowed b) .pre .0, d .0), (own-as (b .before .below .ensures) (body-ready (entered b)), two-kind (omega (arith, c .before .before .if2 .left)) (omega (arith, c .before .if3 .taken))))
+      let l = levels-as (b .before .below .ensures) in (
+        omega (arith, start (allowed b) .pre .0, d .0),
+        (
+          own-as (b .before .below .ensures) (body-ready (entered b)),
+          two-kind (omega (arith, c .before .before .if2 .left))
+              (omega (arith, c .before .if3 .taken)),
+        ),
+      )
 
   get-case-requires : At lts.Need-get-case-requires
   get-case-requires c κs =
       let b = c .before .before .before .before in
       let d = left (allowed b) in
-      let l = levels-as (b .before .below .ensures) in
-      (omega (arith, start (allowed b) .pre .0, d .0), (own-as (b .before .below .ensures) (body-ready (entered b)), case-kind (omega (arith, c .before .before .if3 .left)) (omega (arith, c .before .if4 .taken))))
+      let l = levels-as (b .before .below .ensures) in (
+        omega (arith, start (allowed b) .pre .0, d .0),
+        (
+          own-as (b .before .below .ensures) (body-ready (entered b)),
+          case-kind (omega (arith, c .before .before .if3 .left))
+              (omega (arith, c .before .if4 .taken)),
+        ),
+      )
 
   get-call-requires : At lts.Need-get-call-requires
   get-call-requires c κs =
@@ -97,23 +130,35 @@ module _ (t : ℕ) where
       let b = c .before .before .before .before .before in
       let d = left (allowed b) in
       let k = its-kind (entered b) in
-      let l = levels-as (b .before .below .ensures) in
-      (omega (arith, start (allowed b) .pre .0, d .0), (own-as (b .before .below .ensures) (body-ready (entered b)), omega (arith, k .1, c .before .before .if4 .left, c .before .if5 .left)))
+      let l = levels-as (b .before .below .ensures) in (
+        omega (arith, start (allowed b) .pre .0, d .0),
+        (own-as (b .before .below .ensures) (body-ready (entered b)), omega (arith, k .1, c .before .before .if4 .left, c .before .if5 .left)),
+      )
 
   returns-2 : At lts.Need-returns-2
-  returns-2 c = let b = c .before .before .before .before .before .before in body-told (entered b) (c .later .ensures) (told-as (b .before .below .ensures) (c .before .before .before .get-leaf .ensures))
+  returns-2 c =
+      let b = c .before .before .before .before .before .before in
+      body-told (entered b) (c .later .ensures) (told-as (b .before .below .ensures) (c .before .before .before .get-leaf .ensures))
 
   returns-3 : At lts.Need-returns-3
-  returns-3 c = let b = c .before .before .before .before .before .before .before in body-told (entered b) (c .later2 .ensures) (told-as (b .before .below .ensures) (c .before .before .before .get-two .ensures))
+  returns-3 c =
+      let b = c .before .before .before .before .before .before .before in
+      body-told (entered b) (c .later2 .ensures) (told-as (b .before .below .ensures) (c .before .before .before .get-two .ensures))
 
   returns-4 : At lts.Need-returns-4
-  returns-4 c = let b = c .before .before .before .before .before .before .before .before in body-told (entered b) (c .later3 .ensures) (told-as (b .before .below .ensures) (c .before .before .before .get-case .ensures))
+  returns-4 c =
+      let b = c .before .before .before .before .before .before .before .before in
+      body-told (entered b) (c .later3 .ensures) (told-as (b .before .below .ensures) (c .before .before .before .get-case .ensures))
 
   returns-5 : At lts.Need-returns-5
-  returns-5 c = let b = c .before .before .before .before .before .before .before .before .before in body-told (entered b) (c .later4 .ensures) (told-as (b .before .below .ensures) (c .before .before .before .get-call .ensures))
+  returns-5 c =
+      let b = c .before .before .before .before .before .before .before .before .before in
+      body-told (entered b) (c .later4 .ensures) (told-as (b .before .below .ensures) (c .before .before .before .get-call .ensures))
 
   returns-6 : At lts.Need-returns-6
-  returns-6 c = let b = c .before .before .before .before .before .before .before .before .before in body-told (entered b) (c .later5 .ensures) (told-as (b .before .below .ensures) (c .before .before .before .get-add .ensures))
+  returns-6 c =
+      let b = c .before .before .before .before .before .before .before .before .before in
+      body-told (entered b) (c .later5 .ensures) (told-as (b .before .below .ensures) (c .before .before .before .get-add .ensures))
 
 pub get-node-met : {M : Type 1} (t : ℕ) → lts.Closed (claims t) (node-at t) get-node.Post M
 get-node-met t = lts.spec (claims t) (node-at t) get-node.Post

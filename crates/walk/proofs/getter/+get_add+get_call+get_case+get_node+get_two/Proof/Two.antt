@@ -28,7 +28,24 @@ use cycle.Lts-get_two as lts
 use cycle.Proof.Frame.{Places, node-below, kind-at}
 
 abbrev claims : ℕ → lts.Claims
-claims t = (made.Asked, made.Learnt, raised.Asked, raised.Learnt, number-of.Asked, number-of.Learnt, node-below t, get-node.Post, bring.Asked, bring.Learnt, is-refused.Asked, is-refused.Learnt, behind.Asked, behind.Learnt, joined.Asked, joined.Learnt)
+claims t = (
+  made.Asked,
+  made.Learnt,
+  raised.Asked,
+  raised.Learnt,
+  number-of.Asked,
+  number-of.Learnt,
+  node-below t,
+  get-node.Post,
+  bring.Asked,
+  bring.Learnt,
+  is-refused.Asked,
+  is-refused.Learnt,
+  behind.Asked,
+  behind.Learnt,
+  joined.Asked,
+  joined.Learnt,
+)
 
 module _ (t : ℕ) where
   abbrev At : Places lts.Claims → Type 0
@@ -54,7 +71,8 @@ module _ (t : ℕ) where
   two c = c .before .before .before .before
 
   -- WHAT IS KNOWN THERE: the kind byte is written; the first value stands behind it; the second behind that
-  asked : (c : At lts.After-raised) → let e = entry c in TwoAsked (here (e .pre .1 .0)) (e .args .kind) (e .args .n) (set (e .args .arena .now) (e .args .at .top) (c .before .made .result))
+  asked : (c : At lts.After-raised)
+      → let e = entry c in TwoAsked (here (e .pre .1 .0)) (e .args .kind) (e .args .n) (set (e .args .arena .now) (e .args .at .top) (c .before .made .result))
   asked c =
       let e = entry c in
       record { asked = e .pre .1 .0; two = e .pre .1 .1; marked = marked-by (c .before .made .ensures) (omega (arith, e .pre .1 .0 .long, e .pre .1 .0 .room)) }
@@ -64,7 +82,8 @@ module _ (t : ℕ) where
   value c =
       let g = one c in
       let r = up g in
-      at-top (one-asks (asked r)) (gives-as (r .raised .ensures) refl (g .before .before .number-of .ensures) (g .get-node .ensures .0)) (sized-as (r .raised .ensures) (g .get-node .ensures .1))
+      at-top (one-asks (asked r)) (gives-as (r .raised .ensures) refl (g .before .before .number-of .ensures) (g .get-node .ensures .0))
+      (sized-as (r .raised .ensures) (g .get-node .ensures .1))
       (brought-as (r .raised .ensures) (c .bring .ensures))
 
   done : (c : At lts.Else1) → isRefusal (first c .bring .result) ≡ false
@@ -72,14 +91,21 @@ module _ (t : ℕ) where
 
   -- where the second is got
   past : (c : At lts.After-behind) → let b = first (c .before) in let at = entry (up (one b)) .args .at in
-      c .behind .result ≡ record { levels = at .levels; left = at .left - stepsOf (b .bring .result); top = at .top + 1 + lenOf (b .bring .result); cells = at .cells }
+      c .behind .result ≡ record {
+        levels = at .levels;
+        left = at .left - stepsOf (b .bring .result);
+        top = at .top + 1 + lenOf (b .bring .result);
+        cells = at .cells;
+      }
   past c =
       let b = first (c .before) in
       let p = value b .there (done (c .before)) in
       let a = b .bring .result in
       let at = entry (up (one b)) .args .at in
-      let e : topAfter (at .top + 1) (startOf a) (lenOf a) ≡ at .top + 1 + lenOf a = top-above (at .top + 1) (startOf a) (lenOf a) (omega (arith, p)) ∙ ap (λ (i : ℕ). i + lenOf a) p in
-      c .behind .ensures ∙ ap (λ (x : Where). behindOf x a) (up (one b) .raised .ensures) ∙ ap (λ (i : ℕ). record { levels = at .levels; left = at .left - stepsOf a; top = i; cells = at .cells }) e
+      let e : topAfter (at .top + 1) (startOf a) (lenOf a) ≡ at .top + 1 + lenOf a = top-above (at .top + 1) (startOf a) (lenOf a) (omega (arith, p))
+      ∙ ap (λ (i : ℕ). i + lenOf a) p in
+      c .behind .ensures ∙ ap (λ (x : Where). behindOf x a) (up (one b) .raised .ensures)
+      ∙ ap (λ (i : ℕ). record { levels = at .levels; left = at .left - stepsOf a; top = i; cells = at .cells }) e
 
   second : (c : At lts.After-bring2) → let b = first (there (two c)) in let r = up (one b) in let e = entry r in
       AtTop (two-here (asked r) (b .bring .last .0) (b .bring .result)) (c .bring2 .last .0) (c .bring2 .result) (getD (e .args .sheet .now) (e .args .n + 2) 0)
@@ -87,7 +113,8 @@ module _ (t : ℕ) where
       let g = two c in
       let i = there g in
       let b = first i in
-      at-top (two-asks (asked (up (one b))) (value b) (done i)) (gives-as (past (g .before .before .before)) refl (g .before .before .number-of2 .ensures) (g .get-node2 .ensures .0))
+      at-top (two-asks (asked (up (one b))) (value b) (done i))
+      (gives-as (past (g .before .before .before)) refl (g .before .before .number-of2 .ensures) (g .get-node2 .ensures .0))
       (sized-as (past (g .before .before .before)) (g .get-node2 .ensures .1)) (brought-as (past (g .before .before .before)) (c .bring2 .ensures))
 
   -- NEEDS
@@ -104,13 +131,19 @@ module _ (t : ℕ) where
       (omega (arith, entry r .pre .0), ready-as (r .raised .ensures) refl (c .before .number-of .ensures) (one-asks (asked r)))
 
   bring-requires : At lts.Need-bring-requires
-  bring-requires c κs = let g = c .before .before .before in movable (get-node-requires (g .before) (g .get-node .lifetimes) .1) (g .get-node .ensures .0) (g .get-node .ensures .1)
+  bring-requires c κs =
+      let g = c .before .before .before in
+      movable (get-node-requires (g .before) (g .get-node .lifetimes) .1) (g .get-node .ensures .0) (g .get-node .ensures .1)
 
   returns : At lts.Need-returns
   returns c = let b = c .before .before .before .before in one-refused (asked (up (one b))) (value b) (sym (c .before .is-refused .ensures) ∙ c .if1 .taken)
 
   behind-requires : At lts.Need-behind-requires
-  behind-requires c κs = let b = first c in let l = ap (λ (x : Where). x .left) (up (one b) .raised .ensures) in let s = value b .sized .at (done c) .steps in omega arith
+  behind-requires c κs =
+      let b = first c in
+      let l = ap (λ (x : Where). x .left) (up (one b) .raised .ensures) in
+      let s = value b .sized .at (done c) .steps in
+      omega arith
 
   get-node-requires-2 : At lts.Need-get-node-requires-2
   get-node-requires-2 c κs =
@@ -121,10 +154,16 @@ module _ (t : ℕ) where
       (omega (arith, entry r .pre .0), ready-as (past d) refl (c .before .number-of2 .ensures) (two-asks (asked r) (value b) (done (d .before))))
 
   bring-requires-2 : At lts.Need-bring-requires-2
-  bring-requires-2 c κs = let g = c .before .before .before in movable (get-node-requires-2 (g .before) (g .get-node2 .lifetimes) .1) (g .get-node2 .ensures .0) (g .get-node2 .ensures .1)
+  bring-requires-2 c κs =
+      let g = c .before .before .before in
+      movable (get-node-requires-2 (g .before) (g .get-node2 .lifetimes) .1) (g .get-node2 .ensures .0) (g .get-node2 .ensures .1)
 
   joined-requires : At lts.Need-joined-requires
-  joined-requires c κs = let s = c .before .before .before in let i = there (two s) in let b = first i in joinable (asked (up (one b))) (value b) (done i) (second s)
+  joined-requires c κs =
+      let s = c .before .before .before in
+      let i = there (two s) in
+      let b = first i in
+      joinable (asked (up (one b))) (value b) (done i) (second s)
 
   returns-2 : At lts.Need-returns-2
   returns-2 c =

@@ -29,7 +29,24 @@ use cycle.Lts-put_add as lts
 use cycle.Proof.Frame.{KindPlaces as Places, kind-at, node-below}
 
 abbrev claims : ℕ → lts.Claims
-claims t = (shape-of.Asked, shape-of.Learnt, refused.Asked, refused.Learnt, byte-of.Asked, byte-of.Learnt, number.Asked, number.Learnt, high.Asked, high.Learnt, low.Asked, low.Learnt, number-of.Asked, number-of.Learnt, node-below t, put-node.Post)
+claims t = (
+  shape-of.Asked,
+  shape-of.Learnt,
+  refused.Asked,
+  refused.Learnt,
+  byte-of.Asked,
+  byte-of.Learnt,
+  number.Asked,
+  number.Learnt,
+  high.Asked,
+  high.Learnt,
+  low.Asked,
+  low.Learnt,
+  number-of.Asked,
+  number-of.Learnt,
+  node-below t,
+  put-node.Post,
+)
 
 module _ (t : ℕ) where
   abbrev At : Places lts.Claims → Type 0
@@ -60,13 +77,15 @@ module _ (t : ℕ) where
   less c =
       let r = read (enough c) in
       let i = number-is r .before .m .given .0 .0 in
-      ap₂ (λ (x y : ℕ). 4 ∷ x ∷ y ∷ []) (c .before .high .ensures ∙ ap (λ (x : ℕ). (i - x) / 256) (amount r)) (c .low .ensures ∙ ap (λ (x : ℕ). (i - x) % 256) (amount r))
+      ap₂ (λ (x y : ℕ). 4 ∷ x ∷ y ∷ []) (c .before .high .ensures ∙ ap (λ (x : ℕ). (i - x) / 256) (amount r))
+      (c .low .ensures ∙ ap (λ (x : ℕ). (i - x) % 256) (amount r))
 
   -- NEEDS
   returns : At lts.Need-returns
   returns c =
       let e = c .before .before .before .before .before .before in
-      add-51 (e .pre .1 .0) (e .pre .1 .1) (λ i q. not-number _ (c .before .match .keys2) i (c .before .before .shape-of .ensures ∙ sym q)) (c .refused .ensures)
+      add-51 (e .pre .1 .0) (e .pre .1 .1) (λ i q. not-number _ (c .before .match .keys2) i (c .before .before .shape-of .ensures ∙ sym q))
+      (c .refused .ensures)
 
   returns-2 : At lts.Need-returns-2
   returns-2 c =
@@ -79,8 +98,11 @@ module _ (t : ℕ) where
   put-node-requires c κs =
       let l = c .before .before .before .before in
       let n = number-is (read (enough l)) in
-      let e = entry n in
-      (omega (arith, e .pre .0), ready-view (less l) (ready-as {at = e .args .at} refl refl refl (c .before .before .before .number-of .ensures) (add-asks (e .pre .1 .0) (e .pre .1 .1) (numbered n))))
+      let e = entry n in (
+        omega (arith, e .pre .0),
+        ready-view (less l) (ready-as {at = e .args .at} refl refl refl (c .before .before .before .number-of .ensures)
+            (add-asks (e .pre .1 .0) (e .pre .1 .1) (numbered n))),
+      )
 
   returns-3 : At lts.Need-returns-3
   returns-3 c =
@@ -90,7 +112,8 @@ module _ (t : ℕ) where
       let n = number-is r in
       let e = entry n in
       add-told (e .pre .1 .0) (e .pre .1 .1) (numbered n) (omega (arith, amount r, i .if1 .left))
-      (gives-view (less l) (gives-as {at = e .args .at} refl refl refl (c .before .before .before .before .before .before .number-of .ensures) (c .before .before .put-node .ensures .0)))
+      (gives-view (less l) (gives-as {at = e .args .at} refl refl refl (c .before .before .before .before .before .before .number-of .ensures)
+      (c .before .before .put-node .ensures .0)))
 
 pub put-add-met : {M : Type 1} (t : ℕ) → lts.Closed (claims t) (kind-at t put-add.Pre) put-add.Post M
 put-add-met t = lts.spec (claims t) (kind-at t put-add.Pre) put-add.Post

@@ -20,7 +20,18 @@ use cycle.Lts-put_both as lts
 use cycle.Proof.Frame.{BothPlaces as Places, both-at, node-below}
 
 abbrev claims : ℕ → lts.Claims
-claims t = (node-below t, put-node.Post, is-refused.Asked, is-refused.Learnt, after.Asked, after.Learnt, steps-of.Asked, steps-of.Learnt, later.Asked, later.Learnt)
+claims t = (
+  node-below t,
+  put-node.Post,
+  is-refused.Asked,
+  is-refused.Learnt,
+  after.Asked,
+  after.Learnt,
+  steps-of.Asked,
+  steps-of.Learnt,
+  later.Asked,
+  later.Learnt,
+)
 
 module _ (t : ℕ) where
   abbrev At : Places lts.Claims → Type 0
@@ -42,7 +53,9 @@ module _ (t : ℕ) where
   put-node-requires c κs = let w = c .before .before .before .before .before .before .pre in (omega (arith, w .0), both-asks₁ (w .1 .0))
 
   returns : At lts.Need-returns
-  returns c = let p = c .before .before .before .before in λ u q. both-refused (entry p .pre .1 .0) (p .put-node .ensures .0) (sym (c .before .is-refused .ensures) ∙ c .if1 .taken) u
+  returns c =
+      let p = c .before .before .before .before in
+      λ u q. both-refused (entry p .pre .1 .0) (p .put-node .ensures .0) (sym (c .before .is-refused .ensures) ∙ c .if1 .taken) u
 
   after-requires : At lts.Need-after-requires
   after-requires c κs = one c .put-node .ensures .1 .at (done c)
@@ -62,7 +75,8 @@ module _ (t : ℕ) where
       let p = one i in
       let e = c .before .before .before .before .before .before .before .after .ensures in
       let o = c .before .before .before .before .put-node2 .ensures in
-      both-told (entry p .pre .1 .0) (p .put-node .ensures .0) (done i) (p .put-node .ensures .1) (few-at e (o .1)) (gives-at e (o .0)) (later-as _ (c .before .steps-of .ensures) (c .later .ensures))
+      both-told (entry p .pre .1 .0) (p .put-node .ensures .0) (done i) (p .put-node .ensures .1) (few-at e (o .1)) (gives-at e (o .0))
+      (later-as _ (c .before .steps-of .ensures) (c .later .ensures))
 
 pub put-both-met : {M : Type 1} (t : ℕ) → lts.Closed (claims t) (both-at t) put-both.Post M
 put-both-met t = lts.spec (claims t) (both-at t) put-both.Post

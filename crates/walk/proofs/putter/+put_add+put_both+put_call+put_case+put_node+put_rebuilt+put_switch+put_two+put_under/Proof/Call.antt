@@ -23,7 +23,20 @@ use cycle.Lts-put_call as lts
 use cycle.Proof.Frame.{KindPlaces as Places, kind-at, node-below}
 
 abbrev claims : ℕ → lts.Claims
-claims t = (number-of.Asked, number-of.Learnt, refused.Asked, refused.Learnt, section-root.Asked, section-root.Learnt, section.Asked, section.Learnt, pick-cells.Asked, pick-cells.Learnt, node-below t, put-node.Post)
+claims t = (
+  number-of.Asked,
+  number-of.Learnt,
+  refused.Asked,
+  refused.Learnt,
+  section-root.Asked,
+  section-root.Learnt,
+  section.Asked,
+  section.Learnt,
+  pick-cells.Asked,
+  pick-cells.Learnt,
+  node-below t,
+  put-node.Post,
+)
 
 module _ (t : ℕ) where
   abbrev At : Places lts.Claims → Type 0
@@ -43,7 +56,8 @@ module _ (t : ℕ) where
   scoped c = c .before
 
   -- WHAT IS KNOWN THERE
-  looked : (c : At lts.After-section-root) → let e = entry (in-scope c) in PutLooked (put-here (e .pre .1 .0)) (Shown (e .args .view .now)) (e .args .kind) (e .args .n) (c .section-root .result)
+  looked : (c : At lts.After-section-root) → let e = entry (in-scope c) in PutLooked (put-here (e .pre .1 .0)) (Shown (e .args .view .now)) (e .args .kind)
+      (e .args .n) (c .section-root .result)
   looked c =
       let i = in-scope c in
       let w = entry i .pre in
@@ -60,22 +74,29 @@ module _ (t : ℕ) where
 
   section-is : (c : At lts.After-section) → let i = in-scope (found c) in let e = entry i in
       c .section .result ≡ picked (e .args .scope) (getD (e .args .sheet .now) (e .args .n + 2) 0) (getD (e .args .sheet .now) (e .args .n + 3) 0)
-  section-is c = let i = in-scope (found c) in c .section .ensures ∙ ap₂ (picked (entry i .args .scope)) (i .before .before .before .before .number-of .ensures) (i .before .before .before .number-of2 .ensures)
+  section-is c =
+      let i = in-scope (found c) in
+      c .section .ensures ∙ ap₂ (picked (entry i .args .scope)) (i .before .before .before .before .number-of .ensures)
+      (i .before .before .before .number-of2 .ensures)
 
   cells-are : (c : At lts.After-pick-cells) → let i = in-scope (found (scoped c)) in let e = entry i in
       c .pick-cells .result ≡ pickedTwo (e .args .cells .now) (getD (e .args .sheet .now) (e .args .n + 2) 0) (getD (e .args .sheet .now) (e .args .n + 3) 0)
   cells-are c =
       let i = in-scope (found (scoped c)) in
-      c .pick-cells .ensures .inside (few i) ∙ ap₂ (pickedTwo (entry i .args .cells .now)) (i .before .before .before .before .number-of .ensures) (i .before .before .before .number-of2 .ensures)
+      c .pick-cells .ensures .inside (few i) ∙ ap₂ (pickedTwo (entry i .args .cells .now)) (i .before .before .before .before .number-of .ensures)
+      (i .before .before .before .number-of2 .ensures)
 
   -- NEEDS
   returns : At lts.Need-returns
-  returns c = let w = c .before .before .before .before .before .before .before .before .pre in call-42₁ (w .1 .0) (w .1 .1) (omega (arith, c .before .before .before .before .number-of .ensures, c .before .if1 .taken)) (c .refused .ensures)
+  returns c =
+      let w = c .before .before .before .before .before .before .before .before .pre in
+      call-42₁ (w .1 .0) (w .1 .1) (omega (arith, c .before .before .before .before .number-of .ensures, c .before .if1 .taken)) (c .refused .ensures)
 
   returns-2 : At lts.Need-returns-2
   returns-2 c =
       let w = c .before .before .before .before .before .before .before .before .before .pre in
-      call-42₂ (w .1 .0) (w .1 .1) (omega (arith, c .before .before .before .before .before .number-of .ensures, c .before .before .if1 .left)) (omega (arith, c .before .before .before .before .number-of2 .ensures, c .before .if2 .taken)) (c .refused2 .ensures)
+      call-42₂ (w .1 .0) (w .1 .1) (omega (arith, c .before .before .before .before .before .number-of .ensures, c .before .before .if1 .left))
+      (omega (arith, c .before .before .before .before .number-of2 .ensures, c .before .if2 .taken)) (c .refused2 .ensures)
 
   section-requires : At lts.Need-section-requires
   section-requires c κs = few (in-scope c)
@@ -91,7 +112,8 @@ module _ (t : ℕ) where
   returns-3 c =
       let p = c .before .before .before .before .before .before in
       let s = scoped p in
-      call-told (looked (found s)) (gives-as {at = entry (in-scope (found s)) .args .at} refl (section-is s) (cells-are p) refl (c .before .before .put-node .ensures .0))
+      call-told (looked (found s))
+      (gives-as {at = entry (in-scope (found s)) .args .at} refl (section-is s) (cells-are p) refl (c .before .before .put-node .ensures .0))
 
 pub put-call-met : {M : Type 1} (t : ℕ) → lts.Closed (claims t) (kind-at t put-call.Pre) put-call.Post M
 put-call-met t = lts.spec (claims t) (kind-at t put-call.Pre) put-call.Post

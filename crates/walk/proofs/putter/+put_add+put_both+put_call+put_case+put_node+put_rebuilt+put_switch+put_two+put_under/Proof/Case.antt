@@ -19,7 +19,20 @@ use Rattle.walk.specs.PutReady.{ready-at, gives-at, inner-at}
 use Rattle.walk.specs.PutTwo.{pair-ready, pair-told}
 use Rattle.walk.specs.PutUnder.{some-at, under-ready, under-as}
 use Rattle.walk.specs.PutSwitch.{switch-room}
-use Rattle.walk.specs.PutCase.{PutSubject, subject-asks, subject-refused, plain-asks, plain-view, plain-told, parts-inside, parts-under, parts-told, switch-asks, switch-told, none-told}
+use Rattle.walk.specs.PutCase.{
+  PutSubject,
+  subject-asks,
+  subject-refused,
+  plain-asks,
+  plain-view,
+  plain-told,
+  parts-inside,
+  parts-under,
+  parts-told,
+  switch-asks,
+  switch-told,
+  none-told,
+}
 use Rattle.walk.proofs.at.At.behind.Reads as behind
 use Rattle.sheet.proofs.byte_of.Reads as byte-of
 use Rattle.walk.proofs.getter.get_node.Reads as get-node
@@ -42,7 +55,40 @@ use cycle.Lts-put_case as lts
 use cycle.Proof.Frame.{KindPlaces as Places, kind-at, both-below, under-below, switch-below}
 
 abbrev claims : ℕ → lts.Claims
-claims t = (number-of.Asked, number-of.Learnt, get-node.Asked, get-node.Learnt, is-refused.Asked, is-refused.Learnt, behind.Asked, behind.Learnt, byte-of.Asked, byte-of.Learnt, shape-at.Asked, shape-at.Learnt, takes.Asked, takes.Learnt, both-below t, put-both.Post, steps-of.Asked, steps-of.Learnt, later.Asked, later.Learnt, made.Asked, made.Learnt, start-of.Asked, start-of.Learnt, len-of.Asked, len-of.Learnt, under-below t, put-under.Post, switch-below t, put-switch.Post, refused.Asked, refused.Learnt)
+claims t = (
+  number-of.Asked,
+  number-of.Learnt,
+  get-node.Asked,
+  get-node.Learnt,
+  is-refused.Asked,
+  is-refused.Learnt,
+  behind.Asked,
+  behind.Learnt,
+  byte-of.Asked,
+  byte-of.Learnt,
+  shape-at.Asked,
+  shape-at.Learnt,
+  takes.Asked,
+  takes.Learnt,
+  both-below t,
+  put-both.Post,
+  steps-of.Asked,
+  steps-of.Learnt,
+  later.Asked,
+  later.Learnt,
+  made.Asked,
+  made.Learnt,
+  start-of.Asked,
+  start-of.Learnt,
+  len-of.Asked,
+  len-of.Learnt,
+  under-below t,
+  put-under.Post,
+  switch-below t,
+  put-switch.Post,
+  refused.Asked,
+  refused.Learnt,
+)
 
 module _ (t : ℕ) where
   abbrev At : Places lts.Claims → Type 0
@@ -78,14 +124,16 @@ module _ (t : ℕ) where
   done c = sym (c .before .is-refused .ensures) ∙ c .if1 .left
 
   subject : (c : At lts.After-takes) {d : Branch} → c .takes .result ≡ d → let s = shaped c in let g = got (there (beyond s)) in let e = entry g in
-      PutSubject (put-here (e .pre .1 .0)) (e .args .view .now) (e .args .kind) (e .args .n) (g .get-node .result) (g .get-node .last .1 .1 .0) (s .shape-at .result) d
+      PutSubject (put-here (e .pre .1 .0)) (e .args .view .now) (e .args .kind) (e .args .n) (g .get-node .result) (g .get-node .last .1 .1 .0)
+      (s .shape-at .result) d
   subject c {d} is =
       let s = shaped c in
       let i = there (beyond s) in
       let g = got i in
       let e = entry g in
       let v = e .args .view .now in
-      let r = c .takes .ensures ∙ ap₂ (λ (x y : ℕ). takeOf (e .args .kind) (s .shape-at .result) (passesBytes x v) (passesBytes y v)) (s .before .before .before .byte-of .ensures) (s .before .before .byte-of2 .ensures) in
+      let r = c .takes .ensures ∙ ap₂ (λ (x y : ℕ). takeOf (e .args .kind) (s .shape-at .result) (passesBytes x v) (passesBytes y v))
+      (s .before .before .before .byte-of .ensures) (s .before .before .byte-of2 .ensures) in
       record {
         asked = e .pre .1 .0;
         case = e .pre .1 .1;
@@ -99,13 +147,16 @@ module _ (t : ℕ) where
 
   -- NEEDS
   get-node-requires : At lts.Need-get-node-requires
-  get-node-requires c κs = let w = c .before .before .before .before .before .pre in ready-node (c .before .number-of .ensures) (subject-asks (w .1 .0) (w .1 .1))
+  get-node-requires c κs =
+      let w = c .before .before .before .before .before .pre in
+      ready-node (c .before .number-of .ensures) (subject-asks (w .1 .0) (w .1 .1))
 
   returns : At lts.Need-returns
   returns c =
       let g = c .before .before .before .before in
       let w = entry g .pre in
-      subject-refused (w .1 .0) (w .1 .1) (as-node (g .before .before .number-of .ensures) (g .get-node .ensures .0)) (sym (c .before .is-refused .ensures) ∙ c .if1 .taken)
+      subject-refused (w .1 .0) (w .1 .1) (as-node (g .before .before .number-of .ensures) (g .get-node .ensures .0))
+      (sym (c .before .is-refused .ensures) ∙ c .if1 .taken)
 
   behind-requires : At lts.Need-behind-requires
   behind-requires c κs = got c .get-node .ensures .1 .at (done c) .steps
@@ -126,27 +177,39 @@ module _ (t : ℕ) where
       let b = beyond (shaped p) in
       let g = got (there b) in
       let s = subject p (n .before .before .i .given .1) in
-      let l = levels-as (b .behind .ensures) in
-      (omega (arith, entry g .pre .0), (pair-ready (b .behind .ensures) (n .number-of2 .ensures) (g .before .before .number-of .ensures) (plain-asks s), plain-view s))
+      let l = levels-as (b .behind .ensures) in (
+        omega (arith, entry g .pre .0),
+        (pair-ready (b .behind .ensures) (n .number-of2 .ensures) (g .before .before .number-of .ensures) (plain-asks s), plain-view s),
+      )
 
   returns-2 : At lts.Need-returns-2
   returns-2 c =
       let n = c .before .before .before .before .before .before .before .before in
       let p = plain n in
       let b = beyond (shaped p) in
-      plain-told (subject p (n .before .before .i .given .1)) (pair-told (b .behind .ensures) (n .number-of2 .ensures) (got (there b) .before .before .number-of .ensures) (c .before .before .before .before .put-both .ensures))
+      plain-told (subject p (n .before .before .i .given .1))
+      (pair-told (b .behind .ensures) (n .number-of2 .ensures) (got (there b) .before .before .number-of .ensures)
+      (c .before .before .before .before .put-both .ensures))
       (later-as _ (c .before .steps-of .ensures) (c .later .ensures))
 
   -- a branch with two
-  inside : (c : At lts.After-number-of3) → let g = got (there (beyond (shaped (c .before .before .before .before)))) in (1 ≤ c .before .before .i2 .given .0 .1 .0) × (c .before .before .i2 .given .0 .1 .0 ≤ lenOf (g .get-node .result))
+  inside : (c : At lts.After-number-of3)
+      → let g = got (there (beyond (shaped (c .before .before .before .before)))) in
+      (1 ≤ c .before .before .i2 .given .0 .1 .0) × (c .before .before .i2 .given .0 .1 .0 ≤ lenOf (g .get-node .result))
   inside c = parts-inside (subject (c .before .before .before .before) (c .before .before .i2 .given .1))
 
-  parts-are : (c : At lts.After-len-of) → let m = c .before .before .before .before .before .i2 .given .0 .1 .0 in let r = got (there (beyond (shaped (parts c)))) .get-node .result in
-      _≡_ {A = Parts} (record { start = c .before .start-of .result + 1; first = m - 1; second = c .len-of .result - m }) (record { start = startOf r + 1; first = m - 1; second = lenOf r - m })
-  parts-are c = let m = c .before .before .before .before .before .i2 .given .0 .1 .0 in ap₂ (λ (x y : ℕ). record { start = x + 1; first = m - 1; second = y - m }) (c .before .start-of .ensures) (c .len-of .ensures)
+  parts-are : (c : At lts.After-len-of) → let m = c .before .before .before .before .before .i2 .given .0 .1 .0 in
+      let r = got (there (beyond (shaped (parts c)))) .get-node .result in
+      _≡_ {A = Parts} (record { start = c .before .start-of .result + 1; first = m - 1; second = c .len-of .result - m })
+      (record { start = startOf r + 1; first = m - 1; second = lenOf r - m })
+  parts-are c =
+      let m = c .before .before .before .before .before .i2 .given .0 .1 .0 in
+      ap₂ (λ (x y : ℕ). record { start = x + 1; first = m - 1; second = y - m }) (c .before .start-of .ensures) (c .len-of .ensures)
 
   add-t44 : At lts.Need-add-t44
-  add-t44 c = let z = start-small (got (there (beyond (shaped (c .before .before .before .before .before .before)))) .get-node .result) in record { fits = omega (arith, c .start-of .ensures) }
+  add-t44 c =
+      let z = start-small (got (there (beyond (shaped (c .before .before .before .before .before .before)))) .get-node .result) in
+      record { fits = omega (arith, c .start-of .ensures) }
 
   sub-t45 : At lts.Need-sub-t45
   sub-t45 c = inside (c .before .before) .0
@@ -175,7 +238,8 @@ module _ (t : ℕ) where
       let p = parts n in
       let b = beyond (shaped p) in
       parts-told (subject p (n .before .before .before .before .before .i2 .given .1))
-      (under-as (b .behind .ensures) (n .before .before .made .ensures) (n .before .before .before .number-of3 .ensures) (got (there b) .before .before .number-of .ensures) (parts-are n) (c .before .before .before .before .put-under .ensures))
+      (under-as (b .behind .ensures) (n .before .before .made .ensures) (n .before .before .before .number-of3 .ensures)
+      (got (there b) .before .before .number-of .ensures) (parts-are n) (c .before .before .before .before .put-under .ensures))
       (later-as _ (c .before .steps-of2 .ensures) (c .later2 .ensures))
 
   -- a switch
@@ -194,7 +258,8 @@ module _ (t : ℕ) where
       let m = c .before .before .before .before .before .before .before in
       let p = switching m in
       let b = beyond (shaped p) in
-      switch-told (subject p (m .enum-told .given .1)) (gives-at (b .behind .ensures) (c .before .before .before .before .put-switch .ensures)) (later-as _ (c .before .steps-of3 .ensures) (c .later3 .ensures))
+      switch-told (subject p (m .enum-told .given .1)) (gives-at (b .behind .ensures) (c .before .before .before .before .put-switch .ensures))
+      (later-as _ (c .before .steps-of3 .ensures) (c .later3 .ensures))
 
   -- no branch
   returns-5 : At lts.Need-returns-5

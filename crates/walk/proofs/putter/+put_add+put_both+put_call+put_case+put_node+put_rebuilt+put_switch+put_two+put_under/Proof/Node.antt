@@ -29,7 +29,28 @@ use cycle.Lts-put_node as lts
 use cycle.Proof.Frame.{NodePlaces as Places, node-at, kind-below}
 
 abbrev claims : ℕ → lts.Claims
-claims t = (entry.Asked, entry.Learnt, refused.Asked, refused.Learnt, below.Asked, below.Learnt, byte-of.Asked, byte-of.Learnt, put-leaf.Asked, put-leaf.Learnt, later.Asked, later.Learnt, kind-below t put-two.Pre, put-two.Post, kind-below t put-case.Pre, put-case.Post, kind-below t put-call.Pre, put-call.Post, kind-below t put-add.Pre, put-add.Post)
+claims t = (
+  entry.Asked,
+  entry.Learnt,
+  refused.Asked,
+  refused.Learnt,
+  below.Asked,
+  below.Learnt,
+  byte-of.Asked,
+  byte-of.Learnt,
+  put-leaf.Asked,
+  put-leaf.Learnt,
+  later.Asked,
+  later.Learnt,
+  kind-below t put-two.Pre,
+  put-two.Post,
+  kind-below t put-case.Pre,
+  put-case.Post,
+  kind-below t put-call.Pre,
+  put-call.Post,
+  kind-below t put-add.Pre,
+  put-add.Post,
+)
 
 module _ (t : ℕ) where
   abbrev At : Places lts.Claims → Type 0
@@ -47,7 +68,8 @@ module _ (t : ℕ) where
   left c = both-left _ _ (c .before .entry .ensures) (c .if1 .left)
 
   entered : (c : At lts.After-byte-of) → let a = start (allowed c) .args in
-      PutEntered (a .sheet .now) (a .table .now) (a .arena .now) (a .slots .now) (Shown (a .view .now)) (a .scope) (a .cells .now) (a .at .cells) (a .at .top) (a .at .levels) (a .at .left) (a .node)
+      PutEntered (a .sheet .now) (a .table .now) (a .arena .now) (a .slots .now) (Shown (a .view .now)) (a .scope) (a .cells .now) (a .at .cells) (a .at .top)
+      (a .at .levels) (a .at .left) (a .node)
       (c .byte-of .result)
   entered c =
       let d = left (allowed c) in
@@ -71,22 +93,36 @@ module _ (t : ℕ) where
 
   put-leaf-requires : At lts.Need-put-leaf-requires
   put-leaf-requires c κs =
-      let b = c .before .before .before in
-      (own-as (b .before .below .ensures) (body-ready (entered b)), record { low = its-kind (entered b) .0; high = omega (arith, c .before .before .if2 .taken) })
+      let b = c .before .before .before in (
+        own-as (b .before .below .ensures) (body-ready (entered b)),
+        record { low = its-kind (entered b) .0; high = omega (arith, c .before .before .if2 .taken) },
+      )
 
   put-two-requires : At lts.Need-put-two-requires
   put-two-requires c κs =
       let b = c .before .before .before .before in
       let d = left (allowed b) in
-      let l = levels-as (b .before .below .ensures) in
-      (omega (arith, start (allowed b) .pre .0, d .0), (own-as (b .before .below .ensures) (body-ready (entered b)), two-kind (omega (arith, c .before .before .before .if2 .left)) (omega (arith, c .before .before .if3 .taken))))
+      let l = levels-as (b .before .below .ensures) in (
+        omega (arith, start (allowed b) .pre .0, d .0),
+        (
+          own-as (b .before .below .ensures) (body-ready (entered b)),
+          two-kind (omega (arith, c .before .before .before .if2 .left))
+              (omega (arith, c .before .before .if3 .taken)),
+        ),
+      )
 
   put-case-requires : At lts.Need-put-case-requires
   put-case-requires c κs =
       let b = c .before .before .before .before .before in
       let d = left (allowed b) in
-      let l = levels-as (b .before .below .ensures) in
-      (omega (arith, start (allowed b) .pre .0, d .0), (own-as (b .before .below .ensures) (body-ready (entered b)), case-kind (omega (arith, c .before .before .before .if3 .left)) (omega (arith, c .before .before .if4 .taken))))
+      let l = levels-as (b .before .below .ensures) in (
+        omega (arith, start (allowed b) .pre .0, d .0),
+        (
+          own-as (b .before .below .ensures) (body-ready (entered b)),
+          case-kind (omega (arith, c .before .before .before .if3 .left))
+              (omega (arith, c .before .before .if4 .taken)),
+        ),
+      )
 
   put-call-requires : At lts.Need-put-call-requires
   put-call-requires c κs =
@@ -100,23 +136,38 @@ module _ (t : ℕ) where
       let b = c .before .before .before .before .before .before in
       let d = left (allowed b) in
       let k = its-kind (entered b) in
-      let l = levels-as (b .before .below .ensures) in
-      (omega (arith, start (allowed b) .pre .0, d .0), (own-as (b .before .below .ensures) (body-ready (entered b)), omega (arith, k .1, c .before .before .before .if4 .left, c .before .before .if5 .left)))
+      let l = levels-as (b .before .below .ensures) in (
+        omega (arith, start (allowed b) .pre .0, d .0),
+        (
+          own-as (b .before .below .ensures) (body-ready (entered b)),
+          omega (arith, k .1, c .before .before .before .if4 .left, c .before .before .if5 .left),
+        ),
+      )
 
   returns-2 : At lts.Need-returns-2
-  returns-2 c = let b = c .before .before .before .before .before .before .before in body-told (entered b) (c .later .ensures) (told-as (b .before .below .ensures) (c .before .before .before .put-leaf .ensures))
+  returns-2 c =
+      let b = c .before .before .before .before .before .before .before in
+      body-told (entered b) (c .later .ensures) (told-as (b .before .below .ensures) (c .before .before .before .put-leaf .ensures))
 
   returns-3 : At lts.Need-returns-3
-  returns-3 c = let b = c .before .before .before .before .before .before .before .before in body-told (entered b) (c .later2 .ensures) (told-as (b .before .below .ensures) (c .before .before .before .put-two .ensures))
+  returns-3 c =
+      let b = c .before .before .before .before .before .before .before .before in
+      body-told (entered b) (c .later2 .ensures) (told-as (b .before .below .ensures) (c .before .before .before .put-two .ensures))
 
   returns-4 : At lts.Need-returns-4
-  returns-4 c = let b = c .before .before .before .before .before .before .before .before .before in body-told (entered b) (c .later3 .ensures) (told-as (b .before .below .ensures) (c .before .before .before .put-case .ensures))
+  returns-4 c =
+      let b = c .before .before .before .before .before .before .before .before .before in
+      body-told (entered b) (c .later3 .ensures) (told-as (b .before .below .ensures) (c .before .before .before .put-case .ensures))
 
   returns-5 : At lts.Need-returns-5
-  returns-5 c = let b = c .before .before .before .before .before .before .before .before .before .before in body-told (entered b) (c .later4 .ensures) (told-as (b .before .below .ensures) (c .before .before .before .put-call .ensures))
+  returns-5 c =
+      let b = c .before .before .before .before .before .before .before .before .before .before in
+      body-told (entered b) (c .later4 .ensures) (told-as (b .before .below .ensures) (c .before .before .before .put-call .ensures))
 
   returns-6 : At lts.Need-returns-6
-  returns-6 c = let b = c .before .before .before .before .before .before .before .before .before .before in body-told (entered b) (c .later5 .ensures) (told-as (b .before .below .ensures) (c .before .before .before .put-add .ensures))
+  returns-6 c =
+      let b = c .before .before .before .before .before .before .before .before .before .before in
+      body-told (entered b) (c .later5 .ensures) (told-as (b .before .below .ensures) (c .before .before .before .put-add .ensures))
 
 pub put-node-met : {M : Type 1} (t : ℕ) → lts.Closed (claims t) (node-at t) put-node.Post M
 put-node-met t = lts.spec (claims t) (node-at t) put-node.Post

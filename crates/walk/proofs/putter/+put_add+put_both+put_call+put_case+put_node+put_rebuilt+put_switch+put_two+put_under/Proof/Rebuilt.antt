@@ -21,7 +21,18 @@ use cycle.Lts-put_rebuilt as lts
 use cycle.Proof.Frame.{RebuiltPlaces as Places, rebuilt-at, node-below}
 
 abbrev claims : ℕ → lts.Claims
-claims t = (place-of.Asked, place-of.Learnt, unfit.Asked, unfit.Learnt, refused.Asked, refused.Learnt, rebuild.Asked, rebuild.Learnt, node-below t, put-node.Post)
+claims t = (
+  place-of.Asked,
+  place-of.Learnt,
+  unfit.Asked,
+  unfit.Learnt,
+  refused.Asked,
+  refused.Learnt,
+  rebuild.Asked,
+  rebuild.Learnt,
+  node-below t,
+  put-node.Post,
+)
 
 module _ (t : ℕ) where
   abbrev At : Places lts.Claims → Type 0
@@ -45,11 +56,17 @@ module _ (t : ℕ) where
   room c = c .pre .1 .0 .given .written .few
 
   places : (c : At lts.After-place-of2) → let e = entry c in let p = e .args .parts in
-      Rebuilding (put-there (e .pre .1 .0)) (e .args .kind) (e .args .node) (p .start) (p .first) (p .second) (c .before .before .place-of .result) (c .place-of2 .result)
+      Rebuilding (put-there (e .pre .1 .0)) (e .args .kind) (e .args .node) (p .start) (p .first) (p .second) (c .before .before .place-of .result)
+      (c .place-of2 .result)
   places c =
       let e = entry c in
       let r = room e in
-      record { asked = e .pre .1 .0; parts = e .pre .1 .1; one = c .before .before .place-of .ensures .inside (omega arith); two = c .place-of2 .ensures .inside (omega arith) }
+      record {
+        asked = e .pre .1 .0;
+        parts = e .pre .1 .1;
+        one = c .before .before .place-of .ensures .inside (omega arith);
+        two = c .place-of2 .ensures .inside (omega arith);
+      }
 
   fits : (c : At lts.Else1) → let p = placed c in unfitRest (entry p .args .kind) (getD (entry p .args .arena .now) (p .place-of2 .result .start) 0) ≡ false
   fits c = sym (c .before .unfit .ensures) ∙ c .if1 .left
@@ -74,7 +91,10 @@ module _ (t : ℕ) where
   add-place-of-2 c = let r = room (c .before .before .before .before .before) in record { fits = omega arith }
 
   add-place-of-3 : At lts.Need-add-place-of-3
-  add-place-of-3 c = let w = c .before .before .before .before .before .pre .1 in let z = parts-end (w .1) (w .0 .base) (omega (arith, w .0 .room)) in record { fits = omega arith }
+  add-place-of-3 c =
+      let w = c .before .before .before .before .before .pre .1 in
+      let z = parts-end (w .1) (w .0 .base) (omega (arith, w .0 .room)) in
+      record { fits = omega arith }
 
   slice-read-unfit : At lts.Need-slice-read-unfit
   slice-read-unfit c = let p = c .before in let z = rebuilt-places (places p) in omega (arith, entry p .pre .1 .0 .long, z .1, z .4)
@@ -138,4 +158,6 @@ put-rebuilt-met t = lts.spec (claims t) (rebuilt-at t) put-rebuilt.Post
     (mul-place-of t) (element-copy-out-place-of t) (λ c κs. search needs) (add-place-of t) (mul-place-of-2 t) (element-copy-out-place-of-2 t)
     (add-place-of-2 t) (add-place-of-3 t) (λ c κs. search needs) (slice-read-unfit t) (λ c κs. search needs) (λ c κs. search needs) (returns t)
     (add-size t) (add-size-2 t) (λ c κs. search needs) (returns-2 t) (rebuild-requires t) (array-share-prefix-whole t) (slice-aggregate-v t)
-    (put-node-requires t) (λ c. returns-3 t c .0 _ _ (entry t (placed t (fitting t (short t (c .before .before .before .before .before .before)))) .pre .1 .1 .parts) .frame .long) (returns-3 t)
+    (put-node-requires t)
+    (λ c. returns-3 t c .0 _ _
+    (entry t (placed t (fitting t (short t (c .before .before .before .before .before .before)))) .pre .1 .1 .parts) .frame .long) (returns-3 t)

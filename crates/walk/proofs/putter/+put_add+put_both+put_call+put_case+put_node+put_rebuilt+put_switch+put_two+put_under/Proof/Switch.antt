@@ -31,7 +31,28 @@ use cycle.Lts-put_switch as lts
 use cycle.Proof.Frame.{SwitchPlaces as Places, switch-at, under-below}
 
 abbrev claims : ℕ → lts.Claims
-claims t = (defaults.Asked, defaults.Learnt, is-refused.Asked, is-refused.Learnt, start-of.Asked, start-of.Learnt, len-of.Asked, len-of.Learnt, number-of.Asked, number-of.Learnt, after.Asked, after.Learnt, raised.Asked, raised.Learnt, under-below t, put-under.Post, steps-of.Asked, steps-of.Learnt, later.Asked, later.Learnt)
+claims t = (
+  defaults.Asked,
+  defaults.Learnt,
+  is-refused.Asked,
+  is-refused.Learnt,
+  start-of.Asked,
+  start-of.Learnt,
+  len-of.Asked,
+  len-of.Learnt,
+  number-of.Asked,
+  number-of.Learnt,
+  after.Asked,
+  after.Learnt,
+  raised.Asked,
+  raised.Learnt,
+  under-below t,
+  put-under.Post,
+  steps-of.Asked,
+  steps-of.Learnt,
+  later.Asked,
+  later.Learnt,
+)
 
 module _ (t : ℕ) where
   abbrev At : Places lts.Claims → Type 0
@@ -69,19 +90,25 @@ module _ (t : ℕ) where
       let at = entry (got (there s)) .args .at in
       let r = got (there s) .defaults .result in
       c .raised .ensures ∙ ap (λ (x : Where). raisedOf x (s .before .start-of .result + s .len-of .result)) (a .after .ensures)
-      ∙ ap₂ (λ (f l : ℕ). record { levels = at .levels; left = at .left - stepsOf r; top = at .top + (f + l); cells = at .cells }) (s .before .start-of .ensures) (s .len-of .ensures)
+      ∙ ap₂ (λ (f l : ℕ). record { levels = at .levels; left = at .left - stepsOf r; top = at .top + (f + l); cells = at .cells })
+      (s .before .start-of .ensures) (s .len-of .ensures)
 
   -- the defaults, as the parts of the subject
   parts-are : (c : At lts.After-len-of) → let g = got (there c) in let top = entry g .args .at .top in let r = g .defaults .result in
-      _≡_ {A = Parts} (record { start = top; first = c .before .start-of .result; second = c .len-of .result }) (record { start = top; first = startOf r; second = lenOf r })
-  parts-are c = let top = entry (got (there c)) .args .at .top in ap₂ (λ (f l : ℕ). record { start = top; first = f; second = l }) (c .before .start-of .ensures) (c .len-of .ensures)
+      _≡_ {A = Parts} (record { start = top; first = c .before .start-of .result; second = c .len-of .result })
+      (record { start = top; first = startOf r; second = lenOf r })
+  parts-are c =
+      let top = entry (got (there c)) .args .at .top in
+      ap₂ (λ (f l : ℕ). record { start = top; first = f; second = l }) (c .before .start-of .ensures) (c .len-of .ensures)
 
   -- NEEDS
   defaults-requires : At lts.Need-defaults-requires
   defaults-requires c κs = defaults-asked (switching (c .before .before .before .before))
 
   returns : At lts.Need-returns
-  returns c = let g = c .before .before .before .before in switch-refused (switching (entry g)) (g .defaults .ensures) (sym (c .before .is-refused .ensures) ∙ c .if1 .taken)
+  returns c =
+      let g = c .before .before .before .before in
+      switch-refused (switching (entry g)) (g .defaults .ensures) (sym (c .before .is-refused .ensures) ∙ c .if1 .taken)
 
   after-requires : At lts.Need-after-requires
   after-requires c κs = let i = there (c .before .before) in got i .defaults .ensures .sizes (done i) .2
@@ -122,9 +149,11 @@ module _ (t : ℕ) where
       let i = there s in
       let g = got i in
       let w = switching (entry g) in
-      let o = under-as (past r) refl (a .before .before .number-of .ensures) (a .before .number-of2 .ensures) (parts-are s) (c .before .before .before .before .put-under .ensures) in
+      let o = under-as (past r) refl (a .before .before .number-of .ensures) (a .before .number-of2 .ensures) (parts-are s)
+      (c .before .before .before .before .put-under .ensures) in
       let u = switch-under w (g .defaults .ensures) (done i) in
-      switch-told w (g .defaults .ensures) (done i) o (λ n. few (u .asked) (o _ _ (u .parts .parts)) .at n) (later-as _ (c .before .steps-of .ensures) (c .later .ensures))
+      switch-told w (g .defaults .ensures) (done i) o (λ n. few (u .asked) (o _ _ (u .parts .parts)) .at n)
+      (later-as _ (c .before .steps-of .ensures) (c .later .ensures))
 
 pub put-switch-met : {M : Type 1} (t : ℕ) → lts.Closed (claims t) (switch-at t) put-switch.Post M
 put-switch-met t = lts.spec (claims t) (switch-at t) put-switch.Post

@@ -31,7 +31,30 @@ use cycle.Lts-put_two as lts
 use cycle.Proof.Frame.{KindPlaces as Places, kind-at, node-below}
 
 abbrev claims : ℕ → lts.Claims
-claims t = (shape-of.Asked, shape-of.Learnt, take-apart.Asked, take-apart.Learnt, refused.Asked, refused.Learnt, first-part.Asked, first-part.Learnt, second-part.Asked, second-part.Learnt, number-of.Asked, number-of.Learnt, node-below t, put-node.Post, is-refused.Asked, is-refused.Learnt, after.Asked, after.Learnt, steps-of.Asked, steps-of.Learnt, later.Asked, later.Learnt)
+claims t = (
+  shape-of.Asked,
+  shape-of.Learnt,
+  take-apart.Asked,
+  take-apart.Learnt,
+  refused.Asked,
+  refused.Learnt,
+  first-part.Asked,
+  first-part.Learnt,
+  second-part.Asked,
+  second-part.Learnt,
+  number-of.Asked,
+  number-of.Learnt,
+  node-below t,
+  put-node.Post,
+  is-refused.Asked,
+  is-refused.Learnt,
+  after.Asked,
+  after.Learnt,
+  steps-of.Asked,
+  steps-of.Learnt,
+  later.Asked,
+  later.Learnt,
+)
 
 module _ (t : ℕ) where
   abbrev At : Places lts.Claims → Type 0
@@ -49,13 +72,15 @@ module _ (t : ℕ) where
 
   -- WHAT IS KNOWN THERE
   apart : (c : At lts.After-second-part) → let e = entry c in
-      TakenApart (put-here (e .pre .1 .0)) (e .args .view .now) (e .args .kind) (e .args .n) (c .before .before .before .mid .given .0 .0) (c .before .first-part .result .now) (c .second-part .result .now)
+      TakenApart (put-here (e .pre .1 .0)) (e .args .view .now) (e .args .kind) (e .args .n) (c .before .before .before .mid .given .0 .0)
+      (c .before .first-part .result .now) (c .second-part .result .now)
   apart c =
       let e = entry c in
       record {
         asked = e .pre .1 .0;
         two = e .pre .1 .1;
-        apart = sym (c .before .before .before .mid .given .1) ∙ c .before .before .before .before .before .take-apart .ensures ∙ ap (apartOf (e .args .kind)) (c .before .before .before .before .before .before .shape-of .ensures);
+        apart = sym (c .before .before .before .mid .given .1) ∙ c .before .before .before .before .before .take-apart .ensures
+            ∙ ap (apartOf (e .args .kind)) (c .before .before .before .before .before .before .shape-of .ensures);
         first = c .before .first-part .ensures;
         second = c .second-part .ensures;
       }
@@ -64,7 +89,8 @@ module _ (t : ℕ) where
   done c = sym (c .before .is-refused .ensures) ∙ c .if1 .left
 
   told : (c : At lts.After-put-node) → let s = parts c in let e = entry s in
-      PutTold (put-here (e .pre .1 .0)) (Shown (s .before .first-part .result .now)) (c .put-node .last .1 .1 .0) (c .put-node .last .1 .1 .1 .0) (c .put-node .result)
+      PutTold (put-here (e .pre .1 .0)) (Shown (s .before .first-part .result .now)) (c .put-node .last .1 .1 .0) (c .put-node .last .1 .1 .1 .0)
+      (c .put-node .result)
       (enter (getD (e .args .sheet .now) (e .args .n + 1) 0))
   told c = gives-as {at = entry (parts c) .args .at} refl refl refl (c .before .before .before .number-of .ensures) (c .put-node .ensures .0)
 
@@ -72,12 +98,17 @@ module _ (t : ℕ) where
   returns : At lts.Need-returns
   returns c =
       let e = c .before .before .before .before .before .before .before .before in
-      two-51 (e .pre .1 .0) (e .pre .1 .1) (sym (c .before .enum-told .given .1) ∙ c .before .before .before .take-apart .ensures ∙ ap (apartOf (e .args .kind)) (c .before .before .before .before .shape-of .ensures)) (c .refused .ensures)
+      two-51 (e .pre .1 .0) (e .pre .1 .1)
+      (sym (c .before .enum-told .given .1) ∙ c .before .before .before .take-apart .ensures
+      ∙ ap (apartOf (e .args .kind)) (c .before .before .before .before .shape-of .ensures)) (c .refused .ensures)
 
   put-node-requires : At lts.Need-put-node-requires
   put-node-requires c κs =
-      let s = c .before .before .before in
-      (omega (arith, entry s .pre .0), ready-as {at = entry s .args .at} refl refl refl (c .before .before .number-of .ensures) (both-asks₁ (two-asks (apart s))))
+      let s = c .before .before .before in (
+        omega (arith, entry s .pre .0),
+        ready-as {at = entry s .args .at} refl refl refl (c .before .before .number-of .ensures)
+            (both-asks₁ (two-asks (apart s))),
+      )
 
   returns-2 : At lts.Need-returns-2
   returns-2 c =
@@ -94,8 +125,11 @@ module _ (t : ℕ) where
       let p = one i in
       let s = apart (parts p) in
       let e = c .before .before .before .after .ensures in
-      let l = levels-as e in
-      (omega (arith, entry (parts p) .pre .0), ready-as e refl refl (c .before .before .number-of2 .ensures) (both-asks₂ (two-asks s) (told p) (done i) (right-view s)))
+      let l = levels-as e in (
+        omega (arith, entry (parts p) .pre .0),
+        ready-as e refl refl (c .before .before .number-of2 .ensures)
+            (both-asks₂ (two-asks s) (told p) (done i) (right-view s)),
+      )
 
   returns-3 : At lts.Need-returns-3
   returns-3 c =
@@ -105,7 +139,8 @@ module _ (t : ℕ) where
       let e = c .before .before .before .before .before .before .before .before .after .ensures in
       let o = c .before .before .before .before .put-node2 .ensures in
       let g = gives-as e refl refl (c .before .before .before .before .before .before .before .number-of2 .ensures) (o .0) in
-      two-told s (both-told (two-asks s) (told p) (done i) (p .put-node .ensures .1) (few-at e (o .1)) g (later-as _ (c .before .steps-of .ensures) (c .later .ensures)))
+      two-told s (both-told (two-asks s) (told p) (done i) (p .put-node .ensures .1) (few-at e (o .1)) g
+      (later-as _ (c .before .steps-of .ensures) (c .later .ensures)))
 
 pub put-two-met : {M : Type 1} (t : ℕ) → lts.Closed (claims t) (kind-at t put-two.Pre) put-two.Post M
 put-two-met t = lts.spec (claims t) (kind-at t put-two.Pre) put-two.Post

@@ -11,7 +11,19 @@ use Rattle.walk.specs.Cells.{Shown}
 use Rattle.walk.specs.Gets.{levels-as}
 use Rattle.walk.specs.Puts.{enter, put-there, PutTold, Few}
 use Rattle.walk.specs.PutReady.{ready-as, gives-as, few-at}
-use Rattle.walk.specs.PutUnder.{Under, inner-here, under-stored, under-asks₁, under-refused, under-asks₂, under-parts, under-told, some-at, rest-ready, rest-as}
+use Rattle.walk.specs.PutUnder.{
+  Under,
+  inner-here,
+  under-stored,
+  under-asks₁,
+  under-refused,
+  under-asks₂,
+  under-parts,
+  under-told,
+  some-at,
+  rest-ready,
+  rest-as,
+}
 use Rattle.step.proofs.add_cells.Reads as add-cells
 use Rattle.walk.proofs.at.At.after.Reads as after
 use Rattle.answer.proofs.is_refused.Reads as is-refused
@@ -27,7 +39,26 @@ use cycle.Lts-put_under as lts
 use cycle.Proof.Frame.{UnderPlaces as Places, under-at, node-below, rebuilt-below}
 
 abbrev claims : ℕ → lts.Claims
-claims t = (with-two.Asked, with-two.Learnt, add-cells.Asked, add-cells.Learnt, wider.Asked, wider.Learnt, node-below t, put-node.Post, is-refused.Asked, is-refused.Learnt, after.Asked, after.Learnt, rebuilt-below t, put-rebuilt.Post, steps-of.Asked, steps-of.Learnt, later.Asked, later.Learnt)
+claims t = (
+  with-two.Asked,
+  with-two.Learnt,
+  add-cells.Asked,
+  add-cells.Learnt,
+  wider.Asked,
+  wider.Learnt,
+  node-below t,
+  put-node.Post,
+  is-refused.Asked,
+  is-refused.Learnt,
+  after.Asked,
+  after.Learnt,
+  rebuilt-below t,
+  put-rebuilt.Post,
+  steps-of.Asked,
+  steps-of.Learnt,
+  later.Asked,
+  later.Learnt,
+)
 
 module _ (t : ℕ) where
   abbrev At : Places lts.Claims → Type 0
@@ -57,12 +88,17 @@ module _ (t : ℕ) where
   room : (c : At lts.Start) → (c .args .at .cells + 2 ≤ 110) × (c .args .scope .count + 2 ≤ 110)
   room c = let i = c .pre .1 .1 .0 in (omega (arith, i .more-cells, i .some), omega (arith, i .variables, i .some))
 
-  cells-are : (c : At lts.After-add-cells) → let a = entry (scoped c) .args in c .add-cells .last .0 ≡ addedTwo (a .cells .now) (a .scope .count) (a .at .cells) (a .at .cells + 1)
+  cells-are : (c : At lts.After-add-cells) → let a = entry (scoped c) .args in c .add-cells .last .0 ≡ addedTwo (a .cells .now) (a .scope .count)
+      (a .at .cells) (a .at .cells + 1)
   cells-are c = c .add-cells .ensures .inside (room (entry (scoped c)))
 
   told : (c : At lts.After-put-node) → let e = entry (scoped (deeper (made c))) in
-      PutTold (inner-here (asked e)) (Shown (e .args .view .now)) (c .put-node .last .1 .1 .0) (c .put-node .last .1 .1 .1 .0) (c .put-node .result) (enter (e .args .branch))
-  told c = let w = made c in let s = scoped (deeper w) in gives-as (w .wider .ensures) (s .with-two .ensures) (cells-are (deeper w)) refl (c .put-node .ensures .0)
+      PutTold (inner-here (asked e)) (Shown (e .args .view .now)) (c .put-node .last .1 .1 .0) (c .put-node .last .1 .1 .1 .0) (c .put-node .result)
+      (enter (e .args .branch))
+  told c =
+      let w = made c in
+      let s = scoped (deeper w) in
+      gives-as (w .wider .ensures) (s .with-two .ensures) (cells-are (deeper w)) refl (c .put-node .ensures .0)
 
   few : (c : At lts.After-put-node) → Few (entry (scoped (deeper (made c))) .args .at .left) (c .put-node .result)
   few c = few-at (made c .wider .ensures) (c .put-node .ensures .1)
@@ -100,7 +136,9 @@ module _ (t : ℕ) where
       (omega (arith, entry s .pre .0), ready-as (w .wider .ensures) (s .with-two .ensures) (cells-are (deeper w)) refl (under-asks₁ (asked (entry s))))
 
   returns : At lts.Need-returns
-  returns c = let p = c .before .before .before .before in under-refused (asked (entry (scoped (deeper (made p))))) (told p) (sym (c .before .is-refused .ensures) ∙ c .if1 .taken)
+  returns c =
+      let p = c .before .before .before .before in
+      under-refused (asked (entry (scoped (deeper (made p))))) (told p) (sym (c .before .is-refused .ensures) ∙ c .if1 .taken)
 
   after-requires : At lts.Need-after-requires
   after-requires c κs = few (one c) .at (done c)
@@ -119,12 +157,15 @@ module _ (t : ℕ) where
       let p = one (c .before .before .before .before .before .before .before .before) in
       let e = c .before .before .before .before .before .before .before .after .ensures in
       let o = c .before .before .before .before .put-rebuilt .ensures in
-      under-told (asked (entry (scoped (deeper (made p))))) (told p) (done (c .before .before .before .before .before .before .before .before)) (few p) (few-at e (o .1)) (rest-as e (o .0)) (later-as _ (c .before .steps-of .ensures) (c .later .ensures))
+      under-told (asked (entry (scoped (deeper (made p))))) (told p) (done (c .before .before .before .before .before .before .before .before)) (few p)
+      (few-at e (o .1)) (rest-as e (o .0)) (later-as _ (c .before .steps-of .ensures) (c .later .ensures))
 
 pub put-under-met : {M : Type 1} (t : ℕ) → lts.Closed (claims t) (under-at t) put-under.Post M
 put-under-met t = lts.spec (claims t) (under-at t) put-under.Post
     (mul-slots t) (element-write-slots t) (add-slots t) (mul-slots-2 t) (element-write-slots-2 t) (with-two-requires t) (λ c. search needs)
     (λ c κs. search needs) (wider-requires t) (put-node-requires t) (λ c κs. search needs)
-    (λ c. let p = entry t (scoped t (deeper t (made t (c .before .before .before .before)))) .pre .1 .1 .1 in returns t c _ _ (p .parts) .frame .long) (returns t) (after-requires t)
+    (λ c. let p = entry t (scoped t (deeper t (made t (c .before .before .before .before)))) .pre .1 .1 .1 in returns t c _ _ (p .parts) .frame .long)
+    (returns t) (after-requires t)
     (put-rebuilt-requires t) (λ c κs. search needs) (λ c κs. search needs)
-    (λ c. let p = entry t (scoped t (deeper t (made t (one t (c .before .before .before .before .before .before .before .before))))) .pre .1 .1 .1 in returns-2 t c _ _ (p .parts) .frame .long) (returns-2 t)
+    (λ c. let p = entry t (scoped t (deeper t (made t (one t (c .before .before .before .before .before .before .before .before))))) .pre .1 .1 .1 in
+    returns-2 t c _ _ (p .parts) .frame .long) (returns-2 t)
