@@ -6,7 +6,7 @@ use reference::{ALLOWANCE, PUT_OUT, SCRATCH};
 pub struct Row {
     pub name: &'static str,
     pub job: Job,
-    /// A walk of about 250,000 steps, which may take twice the time of the reference.
+    /// A walk of about 250,000 steps, which has a limit of its own (`WALKING_LIMIT`).
     pub walking: bool,
 }
 

@@ -16,8 +16,8 @@ const BATCHES: usize = 101;
 /// About how long a batch takes.
 const BATCH: Duration = Duration::from_millis(1);
 
-const LIMIT: f64 = 1.5;
-const WALKING_LIMIT: f64 = 2.0;
+const LIMIT: f64 = 1.7;
+const WALKING_LIMIT: f64 = 2.6;
 
 struct Buffers {
     out: Vec<u8>,
