@@ -1,7 +1,7 @@
 -- From the walk's answer to the call's, for get and for put.
 use mathlib.Core.Path.{_≡_, refl, sym, ap, _∙_}
 use mathlib.Core.List.{List}
-use Prim.Native.Nat.{ℕ, _+_, _≤_, _<_}
+use Prim.Native.Nat.{ℕ, _+_, _≤_}
 use native.Mathlib.Omega.{arith}
 use lib.ListN.{length, take, drop}
 use lib.Seq.{paste}
@@ -13,7 +13,6 @@ use Rattle.rules.specs.Refusals.{Lists, lists-get-bytes, lists-put-bytes}
 use Rattle.walk.specs.declared.Walked.{Walked}
 use Rattle.walk.specs.declared.Walked.the-variants.{Done as Walked·Done, Refused as Walked·Refused}
 use Rattle.walk.specs.Entry.{Says, says-done, says-refused, WalkCall}
-use Rattle.lens.specs.declared.Reply.{Reply}
 use Rattle.lens.specs.declared.Reply.the-variants.{Done, Refused}
 use Rattle.lens.specs.Buffers.{zeroed}
 use Rattle.lens.specs.Door.{shut}

@@ -1,7 +1,7 @@
 -- Explanations, worked out.
 use mathlib.Core.Path.{_≡_, refl}
 use mathlib.Core.Option.{Option, none, some}
-use mathlib.Core.List.{List, [], _∷_, map}
+use mathlib.Core.List.{List, [], _∷_}
 use Prim.Native.Nat.{ℕ}
 use native.Mathlib.Decide.{decLe, ℕ-discrete}
 use Rattle.value.specs.Result.{andThen, mapResult, orRefuse, unless}
@@ -30,7 +30,7 @@ use Rattle.rules.specs.Allowance.{cap, within}
 use Rattle.rules.specs.Text
 use Rattle.rules.specs.Rules.{bounded, tested, onList, getNode, get, orOld, constant, write, both, under, mkList, mkPair, putNode, put}
 use Rattle.rules.specs.Answer.{answer, door, getWalk, getBytes, getAnswer, count, newPlan, putWalk, putBytes, putAnswer}
-use Rattle.rules.specs.Explain.{Why, more, below, entered, choice, follow, next, wanted}
+use Rattle.rules.specs.Explain.{more, below, entered, choice, follow, next, wanted}
 use Rattle.rules.specs.Explanation.{Explanation, success, before, walked, explainGet, explainPut, explained, afterwards}
 use Rattle.rules.specs.Examples.{T}
 

@@ -1,23 +1,19 @@
 -- The explaining reading, its chains forgotten, is the counting one within the allowance.
 use mathlib.Core.Path.{_≡_, refl, ap, sym, _∙_}
-use mathlib.Core.Bool.{Bool, not}
 use mathlib.Core.Option.{Option, none, some, Option·map}
-use mathlib.Core.List.{List, [], _∷_, _++_, map, map-append}
-use Prim.Native.Nat.{ℕ, zero, suc, _+_, _-_, _≤_}
+use mathlib.Core.List.{List, [], _∷_, map, map-append}
+use Prim.Native.Nat.{ℕ, zero, suc, _-_, _≤_}
 use native.Mathlib.Omega.{arith}
-use native.Mathlib.Decide.{decLe}
-use lib.ListN.{length, length-map, getD, take, set, getElem?}
-use Rattle.value.specs.Value.{Value, Values, list, pair, number, nil, cons, size, truth, sameValue}
-use Rattle.value.specs.Views.{asList, asFront, asPair, asNumber, asTruth}
-use Rattle.value.specs.Tests.{passes}
+use lib.ListN.{length, length-map, take, set, getElem?}
+use Rattle.value.specs.Value.{Value, Values, nil, cons}
 use Rattle.sheet.specs.declared.Node.{Node}
 use Rattle.sheet.specs.declared.Node.the-variants.{Var, False, True, Empty, Number, Front, Pair, ListCase, TruthCase, Split, Call, Add}
 use Rattle.sheet.specs.Sheet.{Sheet}
-use Rattle.rules.specs.Outcome.{Out, done, refused, plus, steps, when, _>>=_, given, choose}
+use Rattle.rules.specs.Outcome.{Out, done, refused, plus, steps, _>>=_, given, choose}
 use Rattle.rules.specs.Allowance.{within}
 use Rattle.rules.specs.AllowanceLaws.{chain, within-yes, within-plus, within-none, within-bind, within-done}
 use Rattle.rules.specs.Text
-use Rattle.rules.specs.Text.{Env, two, pick, onList, mkList, mkPair}
+use Rattle.rules.specs.Text.{Env, two, onList}
 use Rattle.rules.specs.Rules as Count
 use Rattle.rules.specs.Rules.{counting}
 use Rattle.rules.specs.Explain as Explain

@@ -1,17 +1,15 @@
 -- The explanation of a whole call on bytes (request 9).
-use mathlib.Core.Path.{_≡_, refl, ap, sym, _∙_}
+use mathlib.Core.Path.{_≡_, refl, ap, _∙_}
 use mathlib.Core.Option.{Option, none, some}
 use mathlib.Core.List.{List, _∷_}
 use Prim.Native.Nat.{ℕ, zero, suc, _-_}
 use lib.ListN.{length, getD, replicate}
 use Rattle.value.specs.Result.{Result, ok, refusal}
-use Rattle.value.specs.Value.{Value, vfalse, encode, flat}
+use Rattle.value.specs.Value.{vfalse, encode, flat}
 use Rattle.value.specs.Reading.{readPlan, readView}
-use Rattle.sheet.specs.Sheet.{Sheet, readSheet}
+use Rattle.sheet.specs.Sheet.{readSheet}
 use Rattle.rules.specs.Numbers.{LEVELS}
 use Rattle.rules.specs.Outcome.{Out, done, refused, mapOut, reading}
-use Rattle.rules.specs.Allowance.{within}
-use Rattle.rules.specs.Rules.{Env}
 use Rattle.rules.specs.Answer.{count, newPlan, getWalk, getBytes, putWalk, putBytes}
 use Rattle.rules.specs.Explain.{Why, Told, got, met, get, put}
 use Rattle.rules.specs.Explain as Explain

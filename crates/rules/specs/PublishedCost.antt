@@ -1,5 +1,5 @@
 -- What a derivation of the published relations costs: its height, its nodes, and the longest value that it builds.
-use mathlib.Core.List.{List, [], _∷_}
+use mathlib.Core.List.{List, []}
 use Prim.Native.Nat.{ℕ, _+_, max}
 use Rattle.value.specs.Value.{Value, list, pair, cons, size}
 use Rattle.sheet.specs.Sheet.{Sheet}

@@ -1,15 +1,12 @@
 -- What a record says: the node that the body behind a kind byte makes, read off the row of its kind.
 use mathlib.Core.Path.{_≡_, sym, ap, _∙_}
-use mathlib.Core.Logic.{_⊎_, inl, inr}
 use mathlib.Core.Option.{Option, none, some}
 use mathlib.Core.List.{List}
-use Prim.Native.Nat.{ℕ, suc, _+_, _-_, _≤_, _<_}
-use native.Mathlib.Omega.{arith}
+use Prim.Native.Nat.{ℕ, suc, _+_}
 use lib.ListN.{getD}
-use Rattle.sheet.specs.Kinds.{Form, _is_, row, past, made, rolesOf, valuesOf, formAt, formOf, make}
-use Rattle.sheet.specs.Forms.{NoneFrom, beyond, fieldsOf, form-told, row-made, length-values}
+use Rattle.sheet.specs.Kinds.{Form, _is_, row, made, rolesOf, valuesOf, formAt, formOf, make}
+use Rattle.sheet.specs.Forms.{fieldsOf, form-told, row-made, length-values}
 use Rattle.sheet.specs.Reading.{Made}
-use Rattle.sheet.specs.Laws.{made-kind}
 use Rattle.sheet.specs.declared.Node.{Node}
 use Rattle.sheet.specs.declared.Node.the-variants.{False}
 
@@ -31,35 +28,6 @@ record-row k s n {f} e =
     let t = form-told k e in
     ap (λ (o : Option Form). row (ofBytes o g)) e ∙ row-made t (valuesOf (rolesOf f) g) (length-values (rolesOf f) g ∙ t .many)
 
--- by name
-module _ (s : List ℕ) (n : ℕ) where
-  abbrev pub varAt : Node
-  varAt = recordAt 0x10 s n
-
-  abbrev pub numberAt : Node
-  numberAt = recordAt 0x14 s n
-
-  abbrev pub frontAt : Node
-  frontAt = recordAt 0x15 s n
-
-  abbrev pub pairAt : Node
-  pairAt = recordAt 0x16 s n
-
-  abbrev pub listCaseAt : Node
-  listCaseAt = recordAt 0x17 s n
-
-  abbrev pub truthCaseAt : Node
-  truthCaseAt = recordAt 0x18 s n
-
-  abbrev pub splitAt : Node
-  splitAt = recordAt 0x19 s n
-
-  abbrev pub callAt : Node
-  callAt = recordAt 0x1A s n
-
-  abbrev pub addAt : Node
-  addAt = recordAt 0x1B s n
-
 -- A RECORD THAT STANDS THERE, of which k is the kind byte
 module _ {s : List ℕ} {p : ℕ} {nd : Node} (m : Made s p nd) {k : ℕ} (byte : k ≡ getD s (p + 0) 0) where
   its-form : formOf k ≡ some (m .form)
@@ -68,15 +36,3 @@ module _ {s : List ℕ} {p : ℕ} {nd : Node} (m : Made s p nd) {k : ℕ} (byte 
   pub record-told : nd ≡ recordAt k s p
   unfolding formOf make
   record-told = m .node ∙ ap (λ (o : Option Form). ofBytes o (λ i. getD s (p + suc i) 0)) (sym its-form)
-
-  -- an arm of a `match` on it: the kind is c
-  pub record-is : {c : ℕ} → k ≡ c → nd ≡ recordAt c s p
-  record-is e = record-told ∙ ap (λ (x : ℕ). recordAt x s p) e
-
-  -- its last arm: the kind is none of the others
-  pub record-last : NoneFrom 16 (past - 17) k → nd ≡ recordAt (past - 1) s p
-  record-last n = record-is (go (beyond (past - 17) n))
-    where
-      go : (k < 16) ⊎ (past - 17 + 16 ≤ k) → k ≡ past - 1
-      go (inl h) = absurd (omega (arith, byte, made-kind m .0))
-      go (inr h) = omega (arith, byte, made-kind m .1)

@@ -1,24 +1,24 @@
 -- Laws of every node, proved once over the table: a node made anew, renumbered, written and read again, and where its children stand.
 use mathlib.Core.Path.{_≡_, refl, sym, ap, _∙_, fun-ext}
-use mathlib.Core.Bool.{Bool, true, false, _&&_}
+use mathlib.Core.Bool.{Bool, true, false}
 use mathlib.Core.Logic.{inl, inr}
 use mathlib.Core.Option.{Option, none, some}
 use mathlib.Core.List.{List, [], _∷_, _++_, map, append-assoc}
-use Prim.Native.Nat.{ℕ, zero, suc, _+_, _*_, _/_, _%_, _≤_, _<_}
+use Prim.Native.Nat.{ℕ, zero, suc, _+_, _≤_, _<_}
 use native.Mathlib.Nat.{div-add-mod, mod-lt, div-lt-iff-lt-mul}
 use native.Mathlib.Omega.{arith}
 use native.Mathlib.Decide.{decLt}
-use lib.Dec.{leb, ltb, eqb}
+use lib.Dec.{eqb}
 use lib.ListN.{length, getD, drop, length-append}
 use lib.Seq.{getD-append-add, drop-at}
 use borrow.Author.Tests.{le-leb, lt-ltb, eqb-true, ne-eqb}
-use Rattle.value.specs.Result.{Result, ok, andThen, mapResult, orRefuse, unless}
+use Rattle.value.specs.Result.{ok, andThen, mapResult, orRefuse, unless}
 use Rattle.sheet.specs.Kinds.{Role, aNode, aSection, aVariable, aTest, aNumber, Field, _of_, Row, _is_, row, Form, past, formOf, made, rolesOf}
 use Rattle.sheet.specs.Kinds.{roles, values, valueOf, valuesOf, size, sizes, bytesOf, bodyBytes, bodyWidth, make, width, written}
 use Rattle.sheet.specs.Kinds.{place, keep, pick, children, calls, variables, anew, fieldAnew, ofKind, renumber, fits, allFit, nodeInRange}
 use Rattle.sheet.specs.Sheet.{Sheet, Records, readNodes, oneSection, ifSection, readRecords, withNodes, readBody, inRange, readHeader, readSheet}
 use Rattle.sheet.specs.Table.{nodeOf, ofForm, ifWhole}
-use Rattle.sheet.specs.Forms.{no-form, fieldsOf, Told, form-told, Built, built, roles-of, row-made}
+use Rattle.sheet.specs.Forms.{no-form, fieldsOf, Told, form-told, built, roles-of, row-made}
 use Rattle.sheet.specs.Laws.{Child, Fits, AllFit, Ranged}
 use Rattle.sheet.specs.declared.Node.{Node}
 

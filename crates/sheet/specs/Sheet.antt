@@ -2,7 +2,7 @@
 -- A sheet is HOBiT's residual program: a table of residual expressions, its nodes.
 use mathlib.Core.Bool.{Bool, true, false, _&&_}
 use mathlib.Core.List.{List, [], _∷_}
-use Prim.Native.Nat.{ℕ, zero, suc, _+_, _*_}
+use Prim.Native.Nat.{ℕ, zero, suc}
 use lib.Dec.{leb, ltb, eqb}
 use lib.ListN.{length, getD, drop}
 use Rattle.value.specs.Result.{Result, ok, refusal, andThen, mapResult, orRefuse, unless}

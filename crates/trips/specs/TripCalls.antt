@@ -1,18 +1,18 @@
 -- Each return of the two functions that make both calls.
-use mathlib.Core.Path.{_≡_, refl, sym, ap, _∙_}
+use mathlib.Core.Path.{_≡_, refl, sym}
 use mathlib.Core.List.{List}
 use Prim.Native.Nat.{ℕ, _*_, _≤_}
 use native.Mathlib.Nat.{le-trans, le-refl}
 use lib.ListN.{length, take}
 use lib.Seq.{length-take-le}
 use Rattle.rules.specs.Numbers.{ALLOWANCE, FACTOR, GET-OUTPUT, PUT-OUTPUT}
-use Rattle.rules.specs.Answer.{refusal, success, getAnswer, putAnswer}
+use Rattle.rules.specs.Answer.{success, getAnswer, putAnswer}
 use Rattle.rules.specs.AnswerLaws.{get-shows, put-shows, get-steps, put-steps}
 use Rattle.rules.specs.Trips.{consistency, acceptability}
 use Rattle.lens.specs.declared.Reply.{Reply}
 use Rattle.lens.specs.declared.Reply.the-variants.{Done, Refused}
 use Rattle.trips.specs.declared.Trip.{Trip}
-use Rattle.trips.specs.declared.Trip.the-variants.{Kept, Stopped}
+use Rattle.trips.specs.declared.Trip.the-variants.{Stopped}
 use Rattle.lens.specs.Calls.{Answered}
 use Rattle.lens.specs.Door.{shut, door-lent}
 use Rattle.lens.specs.Trips.{success-of}

@@ -1,10 +1,10 @@
 -- What an answer says of an outcome under an allowance: rules that follow the definitions of get and put step by step.
-use mathlib.Core.Path.{_≡_, refl, ap, _∙_}
+use mathlib.Core.Path.{_≡_, ap, _∙_}
 use mathlib.Core.Option.{Option, none, some}
-use Prim.Native.Nat.{ℕ, _+_, _-_, _<_}
+use Prim.Native.Nat.{ℕ, _-_, _<_}
 use native.Mathlib.Omega.{arith}
 use Rattle.answer.specs.Answer.{Said, Done, Refused, after}
-use Rattle.rules.specs.Outcome.{Out, done, refused, plus, steps, when, _>>=_, given, choose}
+use Rattle.rules.specs.Outcome.{Out, done, refused, plus, steps, when, _>>=_, given}
 use Rattle.rules.specs.Allowance.{within}
 use Rattle.rules.specs.AllowanceLaws.{within-yes, within-plus, within-none, within-bind, chain}
 
@@ -39,9 +39,6 @@ module _ {A : Type 0} {P : (start len : ℕ) → A → Type 0} where
     -- a call's answer is the answer
     pub as-done : {o : Out A} {v : A} {start len n : ℕ} → within left o ≡ done v n → r ≡ Done start len n → P start len v → Answers P r left o
     as-done e q p = record { told = rw e (serves q p) }
-
-    pub as-refused : {o : Out A} {c s : ℕ} → within left o ≡ refused c s → r ≡ Refused c → Answers P r left o
-    as-refused e d = record { told = rw e (denies d) }
 
     module _ {B : Type 0} where
       -- one call was done in k steps, and then the rest

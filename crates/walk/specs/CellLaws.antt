@@ -79,9 +79,6 @@ written-more {a} {slots} {n} {W} w h = record {
     go i (first e) = rw (two-first W none none none i (omega (arith, w .count))) (blank (set-two-first slots n i 0 0 0 e (omega (arith, w .long))))
     go i (second e) = rw (two-second W none none none i (omega (arith, w .count))) (blank (set-two-second slots n i 0 0 0 e (omega (arith, w .long))))
 
-pub written-at : {a slots : List ℕ} {n m : ℕ} {W : Cells} → n ≡ m → Written a slots n W → Written a slots m W
-written-at e w = rw e at w
-
 -- the last two dropped
 pub written-less : {a slots : List ℕ} {n : ℕ} {X : Cells} → Written a slots (n + 2) X → Written a slots n (take n X)
 written-less {a} {slots} {n} {X} w = record {

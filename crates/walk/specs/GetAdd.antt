@@ -7,7 +7,7 @@ use native.Mathlib.Nat.{le-refl}
 use native.Mathlib.Omega.{arith}
 use lib.ListN.{length, getD, set}
 use Rattle.answer.specs.Answer.{Done, Refused, said, after, isRefusal, lenOf, startOf, stepsOf, said-refused, said-done, refused-said}
-use Rattle.value.specs.Value.{Value, number, encode, size}
+use Rattle.value.specs.Value.{Value, encode, size}
 use Rattle.value.specs.Parts.{shapeOf}
 use Rattle.value.specs.declared.Shape.the-variants as shapes
 use Rattle.rules.specs.Text
@@ -19,7 +19,7 @@ use Rattle.walk.specs.Arena.{Held, onStack}
 use Rattle.walk.specs.Seen.{held-head, held-shape}
 use Rattle.walk.specs.Shapes.{NumberOf, number-of, no-number}
 use Rattle.walk.specs.Answers.{finish, then-done, then-refused, give, give-none, give-yes, give-no, had, not-had}
-use Rattle.walk.specs.Gets.{own, run, Here, Asked, Asks, Tells}
+use Rattle.walk.specs.Gets.{run, Here, Asked, Asks, Tells}
 use Rattle.walk.specs.GetReady.{first-asks}
 use Rattle.walk.specs.GetAt.{AtTop}
 use Rattle.walk.specs.GetLeaf.{number-bytes}

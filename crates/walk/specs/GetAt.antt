@@ -2,18 +2,17 @@
 use mathlib.Core.Path.{_≡_, refl, ap, _∙_}
 use mathlib.Core.Bool.{Bool, true, false}
 use mathlib.Core.List.{List}
-use Prim.Native.Nat.{ℕ, _+_, _*_, _≤_, _<_}
+use Prim.Native.Nat.{ℕ, _+_, _≤_, _<_}
 use native.Mathlib.Nat.{le-refl}
 use native.Mathlib.Omega.{arith}
 use lib.ListN.{length}
-use Rattle.answer.specs.Answer.{Said, Done, said, isRefusal, doneAs, lenOf, startOf, stepsOf, len-small, steps-small, said-refused, said-done, done-said}
+use Rattle.answer.specs.Answer.{Done, said, isRefusal, doneAs, lenOf, startOf, stepsOf, len-small, steps-small, said-done, done-said}
 use Rattle.rules.specs.Numbers.{SCRATCH}
-use Rattle.step.specs.declared.Scope.{Scope}
 use Rattle.walk.specs.declared.at.At.{At}
 use Rattle.walk.specs.Parts.{kept-then, Copied}
 use Rattle.walk.specs.Arena.{onStack}
 use Rattle.walk.specs.Answers.{as-done, had}
-use Rattle.walk.specs.Gets.{Task, enter, Gives, Here, Asks, ToldOf}
+use Rattle.walk.specs.Gets.{Here, Asks, ToldOf}
 use Rattle.walk.specs.GetReady.{Sized}
 
 -- the value that the answer g tells of, and the place at `top` for it

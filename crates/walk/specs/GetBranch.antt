@@ -3,7 +3,7 @@ use mathlib.Core.Path.{_≡_, refl, sym, ap, _∙_}
 use mathlib.Core.Bool.{Bool, true, false}
 use mathlib.Core.List.{List}
 use lib.ListN.{length}
-use Prim.Native.Nat.{ℕ, _+_, _-_, _*_, _≤_, _<_}
+use Prim.Native.Nat.{ℕ, _+_, _-_, _≤_, _<_}
 use native.Mathlib.Nat.{le-refl}
 use native.Mathlib.Omega.{arith}
 use Rattle.answer.specs.Answer.{
@@ -25,7 +25,7 @@ use Rattle.answer.specs.Answer.{
   refused-said,
 }
 use Rattle.value.specs.Value.{Value}
-use Rattle.value.specs.Tests.{passes, holds}
+use Rattle.value.specs.Tests.{passes}
 use Rattle.value.specs.Parts.{passesBytes}
 use Rattle.rules.specs.Text
 use Rattle.rules.specs.Rules.{tested}

@@ -1,11 +1,11 @@
 -- Calls: what get shows at each return, and what the section's root asks.
-use mathlib.Core.Path.{_≡_, refl, sym, ap, _∙_}
+use mathlib.Core.Path.{_≡_, ap, _∙_}
 use mathlib.Core.List.{List}
 use Prim.Native.Nat.{ℕ, suc, _+_, _*_, _≤_, _<_}
 use native.Mathlib.Nat.{le-refl}
 use native.Mathlib.Omega.{arith}
 use lib.ListN.{length, getD}
-use Rattle.answer.specs.Answer.{Refused, said, refused-said}
+use Rattle.answer.specs.Answer.{said, refused-said}
 use Rattle.value.specs.Result.{ok}
 use Rattle.value.specs.Value.{vfalse}
 use Rattle.sheet.specs.Sheet.{Sheet, readSheet}
@@ -14,7 +14,6 @@ use Rattle.sheet.specs.Laws.{sheet-ranges, section-read}
 use Rattle.rules.specs.Text
 use Rattle.rules.specs.Rules.{Env, two, getNode}
 use Rattle.rules.specs.Numbers.{SCRATCH}
-use Rattle.step.specs.declared.Scope.{Scope}
 use Rattle.step.specs.Step.{picked}
 use Rattle.walk.specs.Parts.{kept-refl}
 use Rattle.walk.specs.Arena.{Scoped, env-pick}

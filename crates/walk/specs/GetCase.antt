@@ -1,6 +1,6 @@
 -- List cases, truth cases and splits: what get shows at each return, and what its calls ask.
 use mathlib.Core.Path.{_≡_, refl, sym, ap, _∙_}
-use mathlib.Core.Bool.{Bool, true, false}
+use mathlib.Core.Bool.{true, false}
 use mathlib.Core.List.{List, [], _∷_, _++_, append-assoc}
 use Prim.Native.Nat.{ℕ, suc, _+_, _-_, _*_, _≤_, _<_}
 use native.Mathlib.Nat.{le-refl, add-zero}
@@ -8,24 +8,8 @@ use native.Mathlib.Decide.{decLt}
 use native.Mathlib.Omega.{arith}
 use lib.Dec.{eqb}
 use lib.ListN.{length, getD}
-use Rattle.answer.specs.Answer.{
-  Said,
-  Done,
-  Refused as Denied,
-  said,
-  after,
-  isRefusal,
-  laterAs,
-  lenOf,
-  startOf,
-  stepsOf,
-  start-small,
-  said-refused,
-  said-done,
-  later-said,
-  refused-said,
-}
-use Rattle.value.specs.Value.{Value, Values, vfalse, vtrue, list, number, pair, nil, cons, size}
+use Rattle.answer.specs.Answer.{Said, Refused as Denied, said, after, isRefusal, laterAs, lenOf, startOf, stepsOf, said-refused, said-done, later-said, refused-said}
+use Rattle.value.specs.Value.{Value, vfalse, vtrue, list, number, pair, nil, cons}
 use Rattle.value.specs.Views.{asList, asPair, asTruth}
 use Rattle.value.specs.Tests.{passes, holds, table, class}
 use Rattle.value.specs.Parts.{shapeOf}
@@ -42,15 +26,15 @@ use Rattle.step.specs.declared.Scope.{Scope}
 use Rattle.step.specs.declared.Branch.{Branch}
 use Rattle.step.specs.declared.Branch.the-variants.{Plain, Parts, Switch, Refused}
 use Rattle.step.specs.Step.{where-so, fitsKind, fitOf}
-use Rattle.step.specs.StepLaws.{where-is, where-not, Fits, empty, front, untrue, so, pair as aPair, misfit, fits-told}
+use Rattle.step.specs.StepLaws.{where-is, where-not, Fits, empty, front, untrue, so, pair as aPair}
 use Rattle.walk.specs.Parts.{part, kept-then}
 use Rattle.walk.specs.Places.{Above, topAfter, above}
 use Rattle.walk.specs.Scope.{withTwo, two-pushed, Stored}
 use Rattle.walk.specs.Arena.{below-within, Held, Scoped, env-later, env-push}
 use Rattle.walk.specs.Seen.{held-shape, held-some, held-short, TwoHeld, held-front, held-pair}
 use Rattle.walk.specs.Shapes.{front-of, pair-of}
-use Rattle.walk.specs.Answers.{Answers, answer-by, refuse, then-done, then-refused, Had, had, not-had}
-use Rattle.walk.specs.Gets.{enter, own, branch, run, Known, Stands, Gives, Here, within-scope, further, Asked, Asks, Tells, ToldOf}
+use Rattle.walk.specs.Answers.{Answers, answer-by, refuse, then-done, then-refused, had, not-had}
+use Rattle.walk.specs.Gets.{own, branch, run, Known, Gives, Here, within-scope, further, Asked, Asks, Tells, ToldOf}
 use Rattle.walk.specs.GetReady.{ready-in, ready-later, few-steps, first-asks, Sized}
 use Rattle.walk.specs.GetBranch.{Judged, judge-gives}
 

@@ -1,5 +1,5 @@
 -- Variables, constants and numbers: what get shows of them.
-use mathlib.Core.Path.{_≡_, refl, sym, ap, _∙_}
+use mathlib.Core.Path.{_≡_, refl, ap, _∙_}
 use mathlib.Core.Bool.{true, false}
 use mathlib.Core.List.{List, [], _∷_}
 use Prim.Native.Nat.{ℕ, zero, suc, _+_, _-_, _*_, _/_, _%_, _≤_, _<_}
@@ -11,21 +11,18 @@ use lib.Seq.{getD-set-same, getD-set-other}
 use Rattle.answer.specs.Answer.{said, doneAs, done-said, refused-said}
 use Rattle.value.specs.Value.{Value, vfalse, vtrue, list, nil, number, encode, encodes, size, sizes}
 use Rattle.value.specs.Laws.{Readable}
-use Rattle.sheet.specs.declared.Node.{Node}
-use Rattle.sheet.specs.declared.Node.the-variants.{Number}
-use Rattle.sheet.specs.Records.{recordAt}
 use Rattle.rules.specs.Outcome.{done}
 use Rattle.rules.specs.Text
-use Rattle.rules.specs.Rules.{Env, getNode, get}
+use Rattle.rules.specs.Rules.{Env, getNode}
 use Rattle.rules.specs.Readable.{nil-readable, truth-readable, number-readable}
 use Rattle.rules.specs.Numbers.{SCRATCH}
 use Rattle.step.specs.declared.Scope.{Scope}
 use Rattle.step.specs.Step.{When}
-use Rattle.walk.specs.Parts.{part, kept-refl, kept-then, kept-set, part-one, part-cons, Marked, marked, marked-kept, marked-part}
+use Rattle.walk.specs.Parts.{part, kept-refl, kept-then, kept-set, part-one, part-cons, marked, marked-kept, marked-part}
 use Rattle.walk.specs.Arena.{onStack, below-ends, below-later}
 use Rattle.walk.specs.Seen.{elem-at, elem-none, held-some, held-short}
 use Rattle.walk.specs.Answers.{answer-by, finish, give, give-none}
-use Rattle.walk.specs.Gets.{Task, own, run, Ready, Stands, Gives, Here, Asked, Tells}
+use Rattle.walk.specs.Gets.{Task, own, run, Ready, Here, Asked, Tells}
 
 -- the kinds without children
 pub record Childless (kind : ℕ) : Type 0 where

@@ -9,7 +9,7 @@ use lib.ListN.{length}
 use Rattle.answer.specs.Answer.{isRefusal, lenOf, startOf, stepsOf, said-done}
 use Rattle.value.specs.Value.{Value}
 use Rattle.sheet.specs.Sheet.{Sheet}
-use Rattle.rules.specs.Outcome.{done, refused}
+use Rattle.rules.specs.Outcome.{done}
 use Rattle.rules.specs.AllowanceLaws.{within-done}
 use Rattle.rules.specs.Text
 use Rattle.rules.specs.Rules.{Env, get}
@@ -20,7 +20,7 @@ use Rattle.walk.specs.Parts.{Kept, kept-refl}
 use Rattle.walk.specs.Arena.{Scoped, env-later}
 use Rattle.walk.specs.Seen.{held-some, held-short}
 use Rattle.walk.specs.Answers.{had}
-use Rattle.walk.specs.Gets.{Task, enter, run, Known, Ready, Gives, Here, further, within-scope, Asked, Asks}
+use Rattle.walk.specs.Gets.{Task, enter, run, Known, Ready, Gives, Here, Asked, Asks}
 
 -- a call further on: the arena is kept below the top, and the top is raised
 module _ {s table b : List ℕ} {sc : Scope} {top levels left : ℕ} {t : Task} (w : Ready s table b sc top levels left t) where

@@ -1,33 +1,17 @@
 -- Front and pair: what get shows at each return, and what its calls ask.
 use mathlib.Core.Path.{_≡_, refl, sym, ap, _∙_}
-use mathlib.Core.Bool.{Bool, true, false}
+use mathlib.Core.Bool.{true, false}
 use mathlib.Core.List.{List, [], _∷_, _++_}
 use Prim.Native.Nat.{ℕ, suc, _+_, _-_, _*_, _≤_, _<_}
 use native.Mathlib.Nat.{le-refl}
 use native.Mathlib.Decide.{decLt}
 use native.Mathlib.Omega.{arith}
 use lib.ListN.{length, getD}
-use Rattle.answer.specs.Answer.{
-  Said,
-  Done,
-  Refused,
-  said,
-  after,
-  isRefusal,
-  doneAs,
-  lenOf,
-  startOf,
-  stepsOf,
-  steps-small,
-  said-refused,
-  said-done,
-  done-said,
-  refused-said,
-}
+use Rattle.answer.specs.Answer.{Said, Done, Refused, said, after, isRefusal, doneAs, lenOf, startOf, stepsOf, said-refused, said-done, done-said, refused-said}
 use Rattle.value.specs.Result.{ok}
-use Rattle.value.specs.Value.{Value, encode, size}
+use Rattle.value.specs.Value.{Value, encode}
 use Rattle.sheet.specs.Sheet.{Sheet, readSheet}
-use Rattle.rules.specs.Outcome.{Out, done, refused, given}
+use Rattle.rules.specs.Outcome.{done, refused, given}
 use Rattle.rules.specs.Allowance.{within}
 use Rattle.rules.specs.Text
 use Rattle.rules.specs.Rules.{Env, getNode, get, bounded}
@@ -39,7 +23,7 @@ use Rattle.walk.specs.Arena.{onStack, Scoped, env-later}
 use Rattle.walk.specs.Seen.{held-head}
 use Rattle.walk.specs.Wholes.{Made, aList, aPair, maker, Whole, whole, no-whole, given-list, given-pair}
 use Rattle.walk.specs.Answers.{Answers, answer-by, finish, then-done, then-refused, give, give-none, give-yes, give-no, had, not-had}
-use Rattle.walk.specs.Gets.{own, run, Stands, Gives, Here, further, Asked, Asks, Tells}
+use Rattle.walk.specs.Gets.{own, run, Stands, Here, further, Asked, Asks, Tells}
 use Rattle.walk.specs.GetReady.{ready-later}
 use Rattle.walk.specs.GetAt.{AtTop}
 

@@ -17,7 +17,7 @@ use Rattle.step.specs.declared.Scope.{Scope}
 use Rattle.walk.specs.declared.at.At.{At}
 use Rattle.walk.specs.Parts.{Kept}
 use Rattle.walk.specs.Arena.{Held, Scoped}
-use Rattle.walk.specs.Answers.{Answers, Had, had, not-had}
+use Rattle.walk.specs.Answers.{Answers}
 
 -- what a function of get does: enter a node by its number, get the value of the node whose record
 -- of that kind starts at byte n of the sheet s, or get a branch and judge it by its test

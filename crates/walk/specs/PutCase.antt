@@ -3,7 +3,6 @@ use mathlib.Core.Path.{_≡_, refl, sym, ap, ap₂, _∙_}
 use mathlib.Core.Bool.{Bool, true, false, not}
 use mathlib.Core.List.{List, [], _∷_}
 use Prim.Native.Nat.{ℕ, zero, suc, _+_, _-_, _*_, _≤_, _<_}
-use native.Mathlib.Nat.{le-refl}
 use native.Mathlib.Omega.{arith}
 use lib.ListN.{length, getD}
 use Rattle.answer.specs.Answer.{
@@ -41,7 +40,7 @@ use Rattle.step.specs.StepLaws.{Fits, front, pair as aPair, Took, emptied, deni
 use Rattle.walk.specs.Parts.{part}
 use Rattle.walk.specs.Places.{Above, topAfter, above}
 use Rattle.walk.specs.Arena.{Held}
-use Rattle.walk.specs.Seen.{held-shape, held-some, held-short}
+use Rattle.walk.specs.Seen.{held-shape}
 use Rattle.walk.specs.Shapes.{empty-of}
 use Rattle.walk.specs.Answers.{Answers, answer-by, refuse, then-done, then-refused, Had, had, not-had}
 use Rattle.walk.specs.Cells.{Shown}
@@ -51,29 +50,7 @@ use Rattle.walk.specs.Gets as gets
 use Rattle.walk.specs.Gets.{Here, Stands, Asks, ToldOf}
 use Rattle.walk.specs.GetReady.{Sized}
 use Rattle.walk.specs.GetCase.{Case, lists, truths, splits, partsOf, PartsHeld, parts-held, held-above, parts-known}
-use Rattle.walk.specs.Puts.{
-  Task,
-  enter,
-  own,
-  pair,
-  inside,
-  switch,
-  switchAt,
-  withDefaults,
-  run,
-  Known,
-  Wrote,
-  PartsAt,
-  SomeView,
-  Given,
-  Inner,
-  PutHere,
-  put-further,
-  PutAsked,
-  PutAsks,
-  PutTold,
-  PutTells,
-}
+use Rattle.walk.specs.Puts.{Task, enter, own, pair, inside, switchAt, withDefaults, run, Known, Wrote, PartsAt, SomeView, Given, Inner, PutHere, put-further, PutAsked, PutAsks, PutTold, PutTells}
 use Rattle.walk.specs.PutReady.{ready-for, get-ready, given-later, few}
 use Rattle.walk.specs.PutUnder.{Under}
 use Rattle.walk.specs.PutSwitch.{Switching}

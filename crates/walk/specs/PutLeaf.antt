@@ -7,10 +7,9 @@ use Prim.Native.Nat.{ℕ, zero, suc, _+_, _-_, _*_, _/_, _%_, _≤_, _<_}
 use native.Mathlib.Omega.{arith}
 use lib.ListN.{length, getD, set, length-set, getElem?}
 use lib.Seq.{paste}
-use Rattle.answer.specs.Answer.{Done, Refused, said, doneAs, done-said, refused-said}
+use Rattle.answer.specs.Answer.{Done, said, doneAs, done-said, refused-said}
 use Rattle.value.specs.Value.{Value, vfalse, vtrue, list, number, nil, encode, encodes, size}
 use Rattle.value.specs.Encoding.{size-encode, size-pos}
-use Rattle.value.specs.Laws.{Readable}
 use Rattle.value.specs.Parts.{sameBytes}
 use Rattle.value.specs.PartsLaws.{same-values, other-values}
 use Rattle.sheet.specs.Sheet.{Sheet}
@@ -26,7 +25,7 @@ use Rattle.walk.specs.Cells.{Slot, blank, full, Written, Shown}
 use Rattle.walk.specs.Frames.{frame-refl}
 use Rattle.walk.specs.CellLaws.{filled, filled-frame, written-set}
 use Rattle.walk.specs.GetLeaf.{Childless}
-use Rattle.walk.specs.Puts.{own, run, Given, Ready, Wrote, Gives, PutHere, PutAsked, PutTells}
+use Rattle.walk.specs.Puts.{own, run, Given, Wrote, PutHere, PutAsked, PutTells}
 
 -- the bytes of the constant number whose record starts at byte n of the sheet s
 abbrev pub numberBytes : List ℕ → ℕ → List ℕ
@@ -164,10 +163,6 @@ module _ {h : PutHere} {view : List ℕ} {kind n : ℕ} (w : PutAsked h (Shown v
   module _ (lt : x < h .scope .count) where
     abbrev c : ℕ
     c = getD (h .cells) x 0
-
-    -- what the code may assume of the variable
-    pub var-few : (x < 110) × (length (h .cells) ≡ 110)
-    var-few = (let z : h .scope .count + 2 * suc (h .levels) ≤ 112 = w .variables in omega arith, w .given .named .long)
 
     pub var-writable : Writable (h .arena) (h .slots) c view
     var-writable =

@@ -4,9 +4,9 @@ use mathlib.Core.List.{List, [], _∷_}
 use Prim.Native.Nat.{ℕ, suc, _+_, _-_, _*_, _/_, _%_, _≤_, _<_}
 use native.Mathlib.Nat.{le-refl}
 use native.Mathlib.Omega.{arith}
-use lib.ListN.{length, getD}
-use Rattle.answer.specs.Answer.{Refused, said, refused-said}
-use Rattle.value.specs.Value.{Value, vfalse, number, encode, size}
+use lib.ListN.{getD}
+use Rattle.answer.specs.Answer.{said, refused-said}
+use Rattle.value.specs.Value.{Value, vfalse, number, encode}
 use Rattle.value.specs.Parts.{shapeOf}
 use Rattle.value.specs.declared.Shape.the-variants as shapes
 use Rattle.sheet.specs.Sheet.{Sheet}
@@ -25,7 +25,7 @@ use Rattle.walk.specs.CellLaws.{named-pick}
 use Rattle.walk.specs.Shapes.{NumberOf, number-of, no-number}
 use Rattle.walk.specs.GetCall.{root-read, root-known}
 use Rattle.walk.specs.GetAdd.{amountAt}
-use Rattle.walk.specs.Puts.{enter, own, run, Given, PutHere, put-within, PutAsked, PutAsks, PutTold, PutTells}
+use Rattle.walk.specs.Puts.{enter, run, Given, PutHere, put-within, PutAsked, PutAsks, PutTold, PutTells}
 use Rattle.walk.specs.PutReady.{ready-for, given-shown}
 use Rattle.walk.specs.PutTwo.{shown-shape}
 

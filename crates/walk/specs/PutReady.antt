@@ -1,12 +1,11 @@
 -- What a call of put asks, handed on from call to call, and what is given after one; and the choice of two that put makes.
-use mathlib.Core.Path.{_≡_, refl, _∙_}
-use mathlib.Core.Bool.{false}
+use mathlib.Core.Path.{_≡_, _∙_}
 use mathlib.Core.List.{List}
-use Prim.Native.Nat.{ℕ, suc, _+_, _*_, _≤_}
+use Prim.Native.Nat.{ℕ, _+_, _*_, _≤_}
 use native.Mathlib.Nat.{le-refl}
 use native.Mathlib.Omega.{arith}
 use lib.ListN.{length}
-use Rattle.answer.specs.Answer.{Said, Refused, isRefusal, stepsOf, said-done}
+use Rattle.answer.specs.Answer.{Said, Refused, said-done}
 use Rattle.value.specs.Value.{Value}
 use Rattle.sheet.specs.Sheet.{Sheet}
 use Rattle.rules.specs.Outcome.{Out, choose}
@@ -21,7 +20,7 @@ use Rattle.walk.specs.Answers.{Answers, refuse, had}
 use Rattle.walk.specs.Gets as gets
 use Rattle.walk.specs.Cells.{Frame, Written, Shown}
 use Rattle.walk.specs.Frames.{env-framed, written-kept}
-use Rattle.walk.specs.Puts.{Task, enter, own, Known, Given, Ready, Gives, Few, Inner}
+use Rattle.walk.specs.Puts.{Task, enter, Known, Given, Ready, Gives, Few, Inner}
 
 module _ {A : Type 0} {P : (start len : ℕ) → A → Type 0} {r : Said} {left : ℕ} {X Y : Type 0} where
   pub choose-first : (p : Dec X) (q : Dec Y) (x y : Out A) → X → Answers P r left x → Answers P r left (choose p q x y)

@@ -1,15 +1,15 @@
 -- The subject rebuilt of what the two variables of its branch stand for: where their values stand, the bytes, and what each return shows.
 use mathlib.Core.Path.{_≡_, refl, sym, ap, ap₂, _∙_}
-use mathlib.Core.Bool.{Bool, true, false}
+use mathlib.Core.Bool.{true, false}
 use mathlib.Core.Option.{Option, none, some}
 use mathlib.Core.List.{List, _∷_, _++_}
 use Prim.Native.Nat.{ℕ, suc, _+_, _*_, _≤_, _<_}
 use native.Mathlib.Nat.{le-refl}
 use native.Mathlib.Numerals.{add-one}
 use native.Mathlib.Omega.{arith}
-use lib.ListN.{length, take, drop, getD, set, length-append, length-drop, replicate, getElem?}
+use lib.ListN.{length, take, drop, getD, set, length-drop, replicate, getElem?}
 use lib.Seq.{getD-take, getD-drop, paste, take-paste, length-paste}
-use Rattle.answer.specs.Answer.{Refused, said, refused-said}
+use Rattle.answer.specs.Answer.{said, refused-said}
 use Rattle.value.specs.Value.{Value, vfalse, encode, size}
 use Rattle.value.specs.Encoding.{size-encode, size-pos}
 use Rattle.value.specs.Laws.{Readable}

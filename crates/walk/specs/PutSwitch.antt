@@ -26,42 +26,25 @@ use Rattle.answer.specs.Answer.{
   later-said,
 }
 use Rattle.value.specs.Result.{ok}
-use Rattle.value.specs.Value.{Value, vfalse}
-use Rattle.value.specs.Views.{asList}
+use Rattle.value.specs.Value.{Value}
 use Rattle.sheet.specs.Sheet.{Sheet, readSheet}
 use Rattle.rules.specs.Outcome.{Out, done}
 use Rattle.rules.specs.Allowance.{within}
-use Rattle.rules.specs.Rules.{Cells, get, mkList}
+use Rattle.rules.specs.Rules.{Cells, get}
 use Rattle.rules.specs.Numbers.{ALLOWANCE, SCRATCH, STACK}
 use Rattle.step.specs.Step.{unfitRest}
 use Rattle.walk.specs.declared.at.At.{At}
 use Rattle.walk.specs.Parts.{Kept, kept-then}
 use Rattle.walk.specs.Scope.{noVariable}
 use Rattle.walk.specs.Arena.{Scoped, Held, held-later}
-use Rattle.walk.specs.Seen.{held-head, unfit-no-list, fit-list}
+use Rattle.walk.specs.Seen.{unfit-no-list, fit-list}
 use Rattle.walk.specs.Answers.{Answers, then-done, then-refused, give, give-none, had, not-had}
 use Rattle.walk.specs.Frames.{frame-then, kept-frame}
 use Rattle.walk.specs.Wholes.{maker, aList}
 use Rattle.walk.specs.Gets as gets
-use Rattle.walk.specs.Gets.{Tabled, Here, Asks, ToldOf}
+use Rattle.walk.specs.Gets.{Tabled, Here, Asks}
 use Rattle.walk.specs.GetAt.{AtTop}
-use Rattle.walk.specs.Puts.{
-  Task,
-  inside,
-  switch,
-  switchAt,
-  withDefaults,
-  run,
-  Wrote,
-  PartsAt,
-  SomeParts,
-  Given,
-  Inner,
-  PutHere,
-  put-further,
-  PutAsks,
-  PutTold,
-}
+use Rattle.walk.specs.Puts.{inside, switchAt, withDefaults, run, Wrote, PartsAt, Inner, PutHere, put-further, PutAsks, PutTold}
 use Rattle.walk.specs.PutReady.{ready-for, given-later}
 use Rattle.walk.specs.PutUnder.{Under}
 

@@ -6,7 +6,7 @@ use Prim.Native.Nat.{ℕ, suc, _+_, _-_, _*_, _≤_, _<_}
 use native.Mathlib.Nat.{le-refl}
 use native.Mathlib.Omega.{arith}
 use lib.ListN.{length, getD}
-use Rattle.answer.specs.Answer.{Said, Refused, said, after, isRefusal, laterAs, stepsOf, said-refused, said-done, later-said, refused-said}
+use Rattle.answer.specs.Answer.{Refused, said, after, isRefusal, laterAs, stepsOf, said-refused, said-done, later-said, refused-said}
 use Rattle.value.specs.Value.{Value, vfalse, list, pair as aPairOf, cons, encode}
 use Rattle.value.specs.Laws.{Readable, readable-front, readable-pair}
 use Rattle.value.specs.Parts.{shapeOf, firstPart, secondPart}
@@ -14,8 +14,7 @@ use Rattle.value.specs.PartsLaws.{shape, shape-whole, first-of-list, rest-of-li
 use Rattle.value.specs.declared.Shape.{Shape}
 use Rattle.value.specs.declared.Shape.the-variants.{False, True, Empty, Front, Number, Pair, Malformed}
 use Rattle.sheet.specs.Sheet.{Sheet}
-use Rattle.rules.specs.Outcome.{Out, done, refused, given}
-use Rattle.rules.specs.Allowance.{within}
+use Rattle.rules.specs.Outcome.{given}
 use Rattle.rules.specs.Text
 use Rattle.rules.specs.Rules.{Env, Cells, putNode, put, both}
 use Rattle.rules.specs.Numbers.{SCRATCH}
@@ -24,30 +23,12 @@ use Rattle.step.specs.declared.Apart.the-variants.{At, Other}
 use Rattle.step.specs.Step.{where-so, apartOf}
 use Rattle.step.specs.declared.Scope.{Scope}
 use Rattle.walk.specs.declared.at.At.{At as Where}
-use Rattle.walk.specs.Answers.{then-done, then-refused, answer-by, give, give-none, had, not-had}
+use Rattle.walk.specs.Answers.{then-done, then-refused, answer-by, give-none, had, not-had}
 use Rattle.walk.specs.Cells.{Shown}
 use Rattle.walk.specs.Frames.{frame-refl, frame-then}
 use Rattle.walk.specs.Shapes.{front-of, no-front, pair-of, no-pair}
 use Rattle.walk.specs.GetTwo.{Two, aFront, aTwo}
-use Rattle.walk.specs.Puts.{
-  Task,
-  enter,
-  own,
-  pair,
-  run,
-  Known,
-  Given,
-  Ready,
-  Gives,
-  Few,
-  SomeView,
-  PutHere,
-  put-further,
-  PutAsked,
-  PutAsks,
-  PutTold,
-  PutTells,
-}
+use Rattle.walk.specs.Puts.{enter, own, pair, run, Ready, Gives, Few, SomeView, PutHere, put-further, PutAsked, PutAsks, PutTold, PutTells}
 use Rattle.walk.specs.PutReady.{ready-for, given-after, given-shown}
 
 -- ONE AFTER THE OTHER

@@ -1,12 +1,12 @@
 -- Put into a branch that adds two variables, and the rebuilt subject into its node: what each return shows, and what the calls ask.
-use mathlib.Core.Path.{_≡_, refl, sym, ap, _∙_}
+use mathlib.Core.Path.{_≡_, sym, ap, _∙_}
 use mathlib.Core.Bool.{true, false}
 use mathlib.Core.Option.{Option, none, some}
 use mathlib.Core.List.{List, _++_, append-assoc}
 use Prim.Native.Nat.{ℕ, suc, _+_, _-_, _≤_}
 use native.Mathlib.Nat.{le-refl}
 use native.Mathlib.Omega.{arith}
-use lib.ListN.{length, set, length-set, length-append}
+use lib.ListN.{length, length-set, length-append}
 use Rattle.answer.specs.Answer.{said, after, isRefusal, laterAs, stepsOf, said-refused, said-done, later-said}
 use Rattle.value.specs.Value.{Value, vfalse}
 use Rattle.sheet.specs.Sheet.{Sheet}

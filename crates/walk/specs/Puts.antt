@@ -1,5 +1,5 @@
 -- What a function of put may assume, and what it shows.
-use mathlib.Core.Path.{_≡_, ap}
+use mathlib.Core.Path.{_≡_}
 use mathlib.Core.Option.{Option}
 use mathlib.Core.Bool.{false}
 use mathlib.Core.List.{List, []}
@@ -17,7 +17,6 @@ use Rattle.rules.specs.Outcome.{Out, when, _>>=_, given}
 use Rattle.rules.specs.Rules.{Env, Cells, Putter, get, putNode, put, orOld, both, under, mkList}
 use Rattle.rules.specs.Numbers.{ALLOWANCE, SCRATCH, STACK}
 use Rattle.step.specs.declared.Scope.{Scope}
-use Rattle.walk.specs.declared.at.At.{At}
 use Rattle.walk.specs.Arena.{Scoped, Held}
 use Rattle.walk.specs.Answers.{Answers}
 use Rattle.walk.specs.Wholes.{maker, Made}

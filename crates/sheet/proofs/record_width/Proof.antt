@@ -1,10 +1,10 @@
 -- `sheet::record_width` meets its contract: its array is the widths of the table of forms, and no other byte has a form.
 use mathlib.Core.Path.{_≡_, sym, ap, _∙_}
 use mathlib.Core.Logic.{inl, inr}
-use Prim.Native.Nat.{ℕ, _+_, _-_}
+use Prim.Native.Nat.{_+_, _-_}
 use native.Mathlib.Omega.{arith}
 use borrow.Author.Needs.{needs}
-use Rattle.sheet.specs.Kinds.{forms, bodyWidth}
+use Rattle.sheet.specs.Kinds.{bodyWidth}
 use Rattle.sheet.specs.Table.{kindWidth, formWidth}
 use Rattle.sheet.specs.Forms.{no-form, kind-width}
 use Rattle.sheet.proofs.record_width.Statement.{statement}

@@ -1,7 +1,6 @@
 -- `made` meets its contract.
 -- Assumes nothing.
 use Rattle.step.specs.StepLaws.{made-front, made-list, made-pair}
-use borrow.Author.Needs.{needs}
 use Rattle.step.proofs.made.Statement.{statement}
 use Rattle.step.proofs.made.Tie as tie
 

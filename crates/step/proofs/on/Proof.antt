@@ -1,7 +1,6 @@
 -- `on` meets its contract.
 -- Assumes nothing.
 use Rattle.step.specs.StepLaws.{on-kind, on-other}
-use borrow.Author.Needs.{needs}
 use Rattle.step.proofs.on.Statement.{statement}
 use Rattle.step.proofs.on.Tie as tie
 

@@ -1,7 +1,6 @@
 -- `second` meets its contract.
 -- Assumes nothing.
 use Rattle.step.specs.StepLaws.{second-list, second-truth}
-use borrow.Author.Needs.{needs}
 use Rattle.step.proofs.second.Statement.{statement}
 use Rattle.step.proofs.second.Tie as tie
 

@@ -1,8 +1,7 @@
 -- `variable` meets its contract.
 -- Assumes nothing.
-use mathlib.Core.Path.{_∙_, ap}
+use mathlib.Core.Path.{_∙_}
 use native.Mathlib.Omega.{arith}
-use Rattle.answer.specs.Answer.{doneAs}
 use Rattle.step.specs.StepLaws.{when-in}
 use borrow.Author.Needs.{needs}
 use Rattle.step.proofs.variable.Statement.{statement}

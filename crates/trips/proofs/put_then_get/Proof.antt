@@ -1,5 +1,4 @@
 -- `put_then_get` meets its contract: a list put back is the list read out. Assumes nothing.
-use native.Mathlib.Omega.{arith}
 use Rattle.lens.specs.CallLaws.{done-inside}
 use Rattle.trips.specs.TripCalls.{front-long, put-stopped, get-shut, get-judged}
 use borrow.Author.Needs.{needs}

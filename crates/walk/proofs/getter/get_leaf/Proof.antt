@@ -1,8 +1,7 @@
 -- `get_leaf` meets its contract.
 -- Assumes nothing.
-use mathlib.Core.Path.{_≡_, refl, sym, ap, _∙_}
+use mathlib.Core.Path.{refl}
 use native.Mathlib.Omega.{arith}
-use Rattle.walk.specs.Gets.{here}
 use Rattle.walk.specs.GetLeaf.{var-told, constant-told, number-told}
 use borrow.Author.Needs.{needs}
 use Rattle.walk.proofs.getter.get_leaf.Statement.{statement}

@@ -1,7 +1,6 @@
 -- `test_of` meets its contract.
 -- Assumes nothing.
-use mathlib.Core.Path.{_≡_, refl, sym, ap, _∙_}
-use native.Mathlib.Omega.{arith}
+use mathlib.Core.Path.{_∙_}
 use Rattle.walk.specs.GetCase.{test-none, test-there}
 use borrow.Author.Needs.{needs}
 use Rattle.walk.proofs.getter.test_of.Statement.{statement}

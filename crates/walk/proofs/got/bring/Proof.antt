@@ -1,9 +1,8 @@
 -- `bring` meets its contract.
 -- Assumes nothing.
-use mathlib.Core.Path.{_≡_, refl, sym, ap, _∙_}
+use mathlib.Core.Path.{refl, sym, _∙_}
 use native.Mathlib.Omega.{arith}
 use mathlib.Core.Bool.{true, false, false≢true}
-use Rattle.answer.specs.Answer.{lenOf, startOf, stepsOf}
 use borrow.Author.Needs.{needs}
 use Rattle.walk.proofs.got.bring.Statement.{statement}
 use Rattle.walk.proofs.got.bring.Tie as tie

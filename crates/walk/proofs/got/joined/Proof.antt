@@ -1,6 +1,6 @@
 -- `joined` meets its contract.
 -- Assumes nothing.
-use mathlib.Core.Path.{_≡_, refl, sym, ap, _∙_}
+use mathlib.Core.Path.{refl, sym, _∙_}
 use native.Mathlib.Omega.{arith}
 use Rattle.answer.specs.Answer.{len-small, steps-small}
 use Rattle.walk.specs.GetTwo.{passed-on, unfit, long, fits}

@@ -1,12 +1,11 @@
 -- `judge` meets its contract.
 -- Assumes nothing.
-use mathlib.Core.Path.{_≡_, refl, sym, ap, _∙_}
+use mathlib.Core.Path.{refl, sym, _∙_}
 use native.Mathlib.Omega.{arith}
-use mathlib.Core.Bool.{Bool, true, false}
-use Prim.Native.Nat.{ℕ, _+_, _-_}
+use Prim.Native.Nat.{_-_}
 use borrow.Author.Tests.{not-true, not-false}
-use Rattle.answer.specs.Answer.{lenOf, startOf, len-small, start-small}
-use Rattle.walk.specs.GetBranch.{saysOf, says-part, passed-on, fails, stays, moves}
+use Rattle.answer.specs.Answer.{len-small, start-small}
+use Rattle.walk.specs.GetBranch.{says-part, passed-on, fails, stays, moves}
 use borrow.Author.Needs.{needs}
 use Rattle.walk.proofs.got.judge.Statement.{statement}
 use Rattle.walk.proofs.got.judge.Tie as tie

@@ -1,11 +1,9 @@
 -- `shape_at` meets its contract.
 -- Assumes nothing.
-use mathlib.Core.Path.{_≡_, refl, sym, ap, _∙_}
+use mathlib.Core.Path.{_≡_}
 use native.Mathlib.Omega.{arith}
-use Prim.Native.Nat.{ℕ, _+_, _-_}
-use Rattle.value.specs.Parts.{shapeOf}
+use Prim.Native.Nat.{_+_, _-_}
 use Rattle.answer.specs.Answer.{lenOf, startOf}
-use Rattle.walk.specs.Parts.{part}
 use borrow.Author.Needs.{needs}
 use Rattle.walk.proofs.got.shape_at.Statement.{statement}
 use Rattle.walk.proofs.got.shape_at.Tie as tie

@@ -1,8 +1,8 @@
 -- `put_leaf` meets its contract.
 -- Assumes nothing.
-use mathlib.Core.Path.{_≡_, refl, sym, ap, ap₂, _∙_}
+use mathlib.Core.Path.{ap}
 use native.Mathlib.Omega.{arith}
-use Prim.Native.Nat.{ℕ, _+_, _-_, _*_}
+use Prim.Native.Nat.{ℕ, _-_}
 use lib.ListN.{getD}
 use Rattle.walk.specs.PutLeaf.{constant-told, number-told, var-42, var-writable, var-told, writable-as, write-as}
 use borrow.Author.Needs.{needs}

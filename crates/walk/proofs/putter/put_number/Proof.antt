@@ -1,6 +1,5 @@
 -- `put_number` meets its contract.
 -- Assumes nothing.
-use mathlib.Core.Path.{_≡_, refl, sym, ap, ap₂, _∙_}
 use Rattle.walk.specs.GetLeaf.{sum-as}
 use borrow.Author.Needs.{needs}
 use Rattle.walk.proofs.putter.put_number.Statement.{statement}

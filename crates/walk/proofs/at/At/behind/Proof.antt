@@ -1,6 +1,6 @@
 -- `behind` meets its contract.
 -- Assumes nothing.
-use mathlib.Core.Path.{_≡_, sym, _∙_}
+use mathlib.Core.Path.{_∙_}
 use native.Mathlib.Omega.{arith}
 use Rattle.answer.specs.Answer.{lenOf, startOf, len-small, start-small}
 use Rattle.walk.specs.Places.{top-below, top-above}

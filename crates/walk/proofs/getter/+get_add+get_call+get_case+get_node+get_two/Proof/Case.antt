@@ -1,11 +1,10 @@
 -- `get_case` meets its contract.
 -- Assumes nothing.
 use borrow.Author.Needs.{needs}
-use mathlib.Core.Path.{_≡_, refl, sym, ap, ap₂, _∙_}
-use Prim.Native.Nat.{ℕ, _+_, _-_, _*_, _≤_, _<_}
+use mathlib.Core.Path.{_≡_, refl, sym, ap₂, _∙_}
+use Prim.Native.Nat.{ℕ, _+_, _-_, _≤_}
 use native.Mathlib.Omega.{arith}
-use lib.ListN.{getD}
-use Rattle.answer.specs.Answer.{isRefusal, startOf, lenOf, stepsOf, start-small, later-as}
+use Rattle.answer.specs.Answer.{isRefusal, startOf, lenOf, start-small, later-as}
 use mathlib.Core.Bool.{false}
 use Rattle.step.specs.Step.{fitOf}
 use Rattle.step.specs.StepLaws.{fits-as, plain-low, parts-low, fits-refused}

@@ -1,8 +1,8 @@
 -- `get_two` meets its contract.
 -- Assumes nothing.
 use borrow.Author.Needs.{needs}
-use mathlib.Core.Path.{_≡_, refl, sym, ap, ap₂, _∙_}
-use Prim.Native.Nat.{ℕ, _+_, _-_, _*_, _≤_, _<_}
+use mathlib.Core.Path.{_≡_, refl, sym, ap, _∙_}
+use Prim.Native.Nat.{ℕ, _+_, _-_}
 use native.Mathlib.Omega.{arith}
 use lib.ListN.{getD, set}
 use Rattle.answer.specs.Answer.{isRefusal, startOf, lenOf, stepsOf}
@@ -12,7 +12,7 @@ use Rattle.walk.specs.declared.at.At.{At as Where}
 use Rattle.walk.specs.Parts.{marked-by}
 use Rattle.walk.specs.Gets.{here, levels-as, ready-as, gives-as}
 use Rattle.walk.specs.GetReady.{sized-as}
-use Rattle.walk.specs.GetAt.{AtTop, Brought, movable, at-top, brought-as}
+use Rattle.walk.specs.GetAt.{AtTop, movable, at-top, brought-as}
 use Rattle.walk.specs.GetTwo.{TwoAsked, one-here, two-here, one-asks, one-refused, two-asks, joinable, joined-as, two-told}
 use Rattle.walk.proofs.at.At.behind.Reads as behind
 use Rattle.walk.proofs.got.bring.Reads as bring

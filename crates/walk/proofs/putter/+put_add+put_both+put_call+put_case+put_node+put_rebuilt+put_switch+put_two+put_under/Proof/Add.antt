@@ -2,16 +2,14 @@
 -- Assumes nothing.
 use borrow.Author.Needs.{needs}
 use mathlib.Core.Path.{_≡_, refl, sym, ap, ap₂, _∙_}
-use Prim.Native.Nat.{ℕ, _+_, _-_, _*_, _≤_, _<_}
+use Prim.Native.Nat.{ℕ, _-_}
 use native.Mathlib.Omega.{arith}
-use mathlib.Core.List.{List, [], _∷_}
+use mathlib.Core.List.{[], _∷_}
 use Prim.Native.Nat.{_/_, _%_}
-use lib.ListN.{getD}
 use Rattle.value.specs.Parts.{shapeOf}
 use Rattle.value.specs.declared.Shape.the-variants.{Number}
 use Rattle.walk.specs.GetLeaf.{sum-as}
 use Rattle.walk.specs.GetAdd.{amountAt}
-use Rattle.walk.specs.Puts.{put-here}
 use Rattle.walk.specs.PutReady.{ready-as, gives-as, ready-view, gives-view}
 use Rattle.walk.specs.PutOne.{add-51, add-52, lessView, add-asks, add-told}
 use Rattle.walk.proofs.Tags.{not-number}

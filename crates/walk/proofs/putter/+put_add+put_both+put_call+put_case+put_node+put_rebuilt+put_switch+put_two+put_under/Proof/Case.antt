@@ -1,13 +1,11 @@
 -- `put_case` meets its contract.
 -- Assumes nothing.
 use borrow.Author.Needs.{needs}
-use mathlib.Core.Path.{_≡_, refl, sym, ap, ap₂, _∙_}
-use Prim.Native.Nat.{ℕ, _+_, _-_, _*_, _≤_, _<_}
+use mathlib.Core.Path.{_≡_, sym, ap₂, _∙_}
+use Prim.Native.Nat.{ℕ, _+_, _-_, _≤_}
 use native.Mathlib.Omega.{arith}
 use mathlib.Core.Bool.{false}
-use mathlib.Core.List.{List, [], _∷_}
-use lib.ListN.{getD}
-use Rattle.answer.specs.Answer.{isRefusal, startOf, lenOf, stepsOf, start-small, later-as}
+use Rattle.answer.specs.Answer.{isRefusal, startOf, lenOf, start-small, later-as}
 use Rattle.value.specs.Parts.{passesBytes}
 use Rattle.step.specs.Step.{takeOf}
 use Rattle.step.specs.StepLaws.{took}

@@ -2,10 +2,10 @@
 -- Assumes nothing.
 use borrow.Author.Needs.{needs}
 use mathlib.Core.Path.{_≡_, refl, sym, ap, ap₂, _∙_}
-use Prim.Native.Nat.{ℕ, _+_, _-_, _*_, _≤_, _<_}
+use Prim.Native.Nat.{ℕ, _+_, _-_}
 use native.Mathlib.Omega.{arith}
 use mathlib.Core.Bool.{false}
-use Rattle.answer.specs.Answer.{isRefusal, startOf, lenOf, stepsOf, later-as, len-small, start-small}
+use Rattle.answer.specs.Answer.{isRefusal, startOf, lenOf, stepsOf, later-as}
 use Rattle.walk.specs.declared.at.At.{At as Where}
 use Rattle.walk.specs.declared.putter.Parts.{Parts}
 use Rattle.walk.specs.Cells.{Shown}

@@ -1,17 +1,16 @@
 -- `put_two` meets its contract.
 -- Assumes nothing.
 use borrow.Author.Needs.{needs}
-use mathlib.Core.Path.{_≡_, refl, sym, ap, ap₂, _∙_}
-use Prim.Native.Nat.{ℕ, _+_, _-_, _*_, _≤_, _<_}
+use mathlib.Core.Path.{_≡_, refl, sym, ap, _∙_}
+use Prim.Native.Nat.{ℕ, _+_, _-_}
 use native.Mathlib.Omega.{arith}
 use mathlib.Core.Bool.{false}
 use lib.ListN.{getD}
 use Rattle.answer.specs.Answer.{isRefusal, later-as}
 use Rattle.step.specs.Step.{apartOf}
-use Rattle.value.specs.Value.{vfalse}
 use Rattle.walk.specs.Cells.{Shown}
 use Rattle.walk.specs.Gets.{levels-as}
-use Rattle.walk.specs.Puts.{pair, enter, put-here, PutAsks, PutTold}
+use Rattle.walk.specs.Puts.{enter, put-here, PutTold}
 use Rattle.walk.specs.PutReady.{ready-as, gives-as, few-at}
 use Rattle.walk.specs.PutTwo.{TakenApart, two-51, two-asks, right-view, two-told, both-asks₁, both-refused, both-asks₂, both-told}
 use Rattle.walk.proofs.at.At.after.Reads as after
