@@ -1,2 +1,3 @@
+pub mod Member
 pub mod Places
 pub mod Tags

@@ -57,6 +57,7 @@ fn write(arena: &mut [u8], slots: &mut [u16; 110], c: usize, view: &[u8]) -> usi
     step::put_again(&arena[slot..end], view)
 }
 
+// A constant number (14) must equal the view.
 fn put_number(sheet: &[u8], n: u16, view: &[u8]) -> usize
     ensures { λ r. ⌜ r ≡ judged 50 (sameBytes (now (view .entry)) (numberBytes (now (sheet .entry)) n)) ⌝ }
 {

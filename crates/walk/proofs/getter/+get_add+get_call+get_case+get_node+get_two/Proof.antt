@@ -2,7 +2,7 @@
 -- Assumes nothing.
 use Rattle.walk.proofs.getter.+get_add+get_call+get_case+get_node+get_two.{statement}
 use Rattle.walk.proofs.getter.+get_add+get_call+get_case+get_node+get_two.Tie.{close}
-use Frame.{μ-node, μ-kind}
+use Frame.{node, kind-measure}
 use Add.{get-add-met}
 use Call.{get-call-met}
 use Case.{get-case-met}
@@ -17,4 +17,5 @@ mod Two
 
 pub +get-add+get-call+get-case+get-node+get-two-spec : {M : Type 1} → statement M
 +get-add+get-call+get-case+get-node+get-two-spec =
-    close μ-kind μ-kind μ-kind μ-node μ-kind (λ t. get-add-met t) (λ t. get-call-met t) (λ t. get-case-met t) (λ t. get-node-met t) (λ t. get-two-met t)
+    close kind-measure kind-measure kind-measure (node .measure) kind-measure (λ t. get-add-met t) (λ t. get-call-met t) (λ t. get-case-met t)
+    (λ t. get-node-met t) (λ t. get-two-met t)

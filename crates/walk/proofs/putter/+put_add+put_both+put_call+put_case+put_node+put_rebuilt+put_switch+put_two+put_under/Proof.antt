@@ -2,7 +2,7 @@
 -- Assumes nothing.
 use Rattle.walk.proofs.putter.+put_add+put_both+put_call+put_case+put_node+put_rebuilt+put_switch+put_two+put_under.{statement}
 use Rattle.walk.proofs.putter.+put_add+put_both+put_call+put_case+put_node+put_rebuilt+put_switch+put_two+put_under.Tie.{close}
-use Frame.{μ-node, μ-kind, μ-both, μ-under, μ-rebuilt, μ-switch}
+use Frame.{node, both, rebuilt, switch, under, kind-measure}
 use Add.{put-add-met}
 use Both.{put-both-met}
 use Call.{put-call-met}
@@ -25,5 +25,6 @@ mod Under
 
 pub +put-add+put-both+put-call+put-case+put-node+put-rebuilt+put-switch+put-two+put-under-spec : {M : Type 1} → statement M
 +put-add+put-both+put-call+put-case+put-node+put-rebuilt+put-switch+put-two+put-under-spec =
-    close μ-kind μ-both μ-kind μ-kind μ-node μ-rebuilt μ-switch μ-kind μ-under (λ t. put-add-met t) (λ t. put-both-met t) (λ t. put-call-met t)
+    close kind-measure (both .measure) kind-measure kind-measure (node .measure) (rebuilt .measure) (switch .measure) kind-measure (under .measure)
+    (λ t. put-add-met t) (λ t. put-both-met t) (λ t. put-call-met t)
     (λ t. put-case-met t) (λ t. put-node-met t) (λ t. put-rebuilt-met t) (λ t. put-switch-met t) (λ t. put-two-met t) (λ t. put-under-met t)

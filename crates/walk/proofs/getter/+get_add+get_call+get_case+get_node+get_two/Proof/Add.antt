@@ -17,13 +17,14 @@ use Rattle.value.proofs.number.Reads as number
 use Rattle.sheet.proofs.number_of.Reads as number-of
 use Rattle.walk.proofs.getter.+get_add+get_call+get_case+get_node+get_two as cycle
 use cycle.Lts-get_add as lts
-use cycle.Proof.Frame.{Places, node-below, kind-at}
+use cycle.Proof.Frame.{kind, node}
+use Rattle.walk.proofs.Member.{AtMeasure, BelowMeasure, PlacesOf}
 
 abbrev claims : ℕ → lts.Claims
 claims t = (
   number-of.Asked,
   number-of.Learnt,
-  node-below t,
+  BelowMeasure node t,
   get-node.Post,
   bring.Asked,
   bring.Learnt,
@@ -36,8 +37,8 @@ claims t = (
 )
 
 module _ (t : ℕ) where
-  abbrev At : Places lts.Claims → Type 0
-  At P = P (claims t) (kind-at t get-add.Pre) get-add.Post
+  abbrev At : PlacesOf (kind get-add.Pre) lts.Claims → Type 0
+  At P = P (claims t) (AtMeasure (kind get-add.Pre) t) get-add.Post
 
   -- PLACES: the function's entry; the node was got, and brought to the top
   abbrev entry : At lts.After-get-node → At lts.Start
@@ -77,7 +78,7 @@ module _ (t : ℕ) where
       (rw (sum-as (c .before .before .before .before .number .ensures) (c .before .before .before .before .before .before .byte-of .ensures)
       (c .before .before .before .before .before .byte-of2 .ensures)) at (c .before .before .added .ensures))
 
-pub get-add-met : {M : Type 1} (t : ℕ) → lts.Closed (claims t) (kind-at t get-add.Pre) get-add.Post M
-get-add-met t = lts.spec (claims t) (kind-at t get-add.Pre) get-add.Post
+pub get-add-met : {M : Type 1} (t : ℕ) → lts.Closed (claims t) (AtMeasure (kind get-add.Pre) t) get-add.Post M
+get-add-met t = lts.spec (claims t) (AtMeasure (kind get-add.Pre) t) get-add.Post
     (λ c κs. search needs) (get-node-requires t) (bring-requires t) (λ c κs. search needs) (λ c κs. search needs) (λ c κs. search needs) (added-requires t)
     (λ c. returns t c .kept .long) (returns t)

@@ -17,7 +17,8 @@ use Rattle.walk.proofs.scope.section.Reads as section
 use Rattle.sheet.proofs.section_root.Reads as section-root
 use Rattle.walk.proofs.getter.+get_add+get_call+get_case+get_node+get_two as cycle
 use cycle.Lts-get_call as lts
-use cycle.Proof.Frame.{Places, node-below, kind-at}
+use cycle.Proof.Frame.{kind, node}
+use Rattle.walk.proofs.Member.{AtMeasure, BelowMeasure, PlacesOf}
 
 abbrev claims : ℕ → lts.Claims
 claims t = (
@@ -29,13 +30,13 @@ claims t = (
   section-root.Learnt,
   section.Asked,
   section.Learnt,
-  node-below t,
+  BelowMeasure node t,
   get-node.Post,
 )
 
 module _ (t : ℕ) where
-  abbrev At : Places lts.Claims → Type 0
-  At P = P (claims t) (kind-at t get-call.Pre) get-call.Post
+  abbrev At : PlacesOf (kind get-call.Pre) lts.Claims → Type 0
+  At P = P (claims t) (AtMeasure (kind get-call.Pre) t) get-call.Post
 
   -- PLACES: the function's entry; both variables are in scope; the section's root is known; its scope is made
   abbrev entry : At lts.Else2 → At lts.Start
@@ -91,7 +92,7 @@ module _ (t : ℕ) where
   returns-3 : At lts.Need-returns-3
   returns-3 c = let s = c .before .before .before .before in call-told (looked (found s)) (as-scope (section-is s) (c .before .before .get-node .ensures .0))
 
-pub get-call-met : {M : Type 1} (t : ℕ) → lts.Closed (claims t) (kind-at t get-call.Pre) get-call.Post M
-get-call-met t = lts.spec (claims t) (kind-at t get-call.Pre) get-call.Post
+pub get-call-met : {M : Type 1} (t : ℕ) → lts.Closed (claims t) (AtMeasure (kind get-call.Pre) t) get-call.Post M
+get-call-met t = lts.spec (claims t) (AtMeasure (kind get-call.Pre) t) get-call.Post
     (λ c κs. search needs) (λ c κs. search needs) (λ c. search needs) (λ c κs. search needs) (returns t) (λ c κs. search needs) (returns-2 t)
     (λ c κs. search needs) (λ c κs. search needs) (section-requires t) (get-node-requires t) (λ c. returns-3 t c .kept .long) (returns-3 t)

@@ -30,13 +30,14 @@ use Rattle.walk.proofs.getter.test_of.Reads as test-of
 use Rattle.walk.proofs.scope.with_two.Reads as with-two
 use Rattle.walk.proofs.getter.+get_add+get_call+get_case+get_node+get_two as cycle
 use cycle.Lts-get_case as lts
-use cycle.Proof.Frame.{Places, node-below, kind-at}
+use cycle.Proof.Frame.{kind, node}
+use Rattle.walk.proofs.Member.{AtMeasure, BelowMeasure, PlacesOf}
 
 abbrev claims : ℕ → lts.Claims
 claims t = (
   number-of.Asked,
   number-of.Learnt,
-  node-below t,
+  BelowMeasure node t,
   get-node.Post,
   is-refused.Asked,
   is-refused.Learnt,
@@ -65,8 +66,8 @@ claims t = (
 )
 
 module _ (t : ℕ) where
-  abbrev At : Places lts.Claims → Type 0
-  At P = P (claims t) (kind-at t get-case.Pre) get-case.Post
+  abbrev At : PlacesOf (kind get-case.Pre) lts.Claims → Type 0
+  At P = P (claims t) (AtMeasure (kind get-case.Pre) t) get-case.Post
 
   -- PLACES: the function's entry; the subject was got; it is there; the place behind it; the branch that it fits is told, and it has no variables, or two
   abbrev entry : At lts.After-get-node → At lts.Start
@@ -235,8 +236,8 @@ module _ (t : ℕ) where
       let e = fits-refused _ _ (told f) (is-unfitting _ (c .before .match .keys3)) in
       none-told (subject (shaped f)) (fits-as e refl) e (c .refused .ensures)
 
-pub get-case-met : {M : Type 1} (t : ℕ) → lts.Closed (claims t) (kind-at t get-case.Pre) get-case.Post M
-get-case-met t = lts.spec (claims t) (kind-at t get-case.Pre) get-case.Post
+pub get-case-met : {M : Type 1} (t : ℕ) → lts.Closed (claims t) (AtMeasure (kind get-case.Pre) t) get-case.Post M
+get-case-met t = lts.spec (claims t) (AtMeasure (kind get-case.Pre) t) get-case.Post
     (λ c κs. search needs) (get-node-requires t) (λ c κs. search needs) (λ c. returns t c .kept .long) (returns t) (behind-requires t)
     (shape-at-requires t) (λ c κs. search needs) (λ c. search needs) (λ c κs. search needs) (test-of-requires t) (get-node-requires-2 t) (judge-requires t)
     (λ c κs. search needs) (λ c κs. search needs) (λ c. search needs) (λ c κs. search needs) (test-of-requires-2 t) (λ c κs. search needs) (add-with-two t)

@@ -2,13 +2,13 @@
 -- Assumes nothing.
 use borrow.Author.Needs.{needs}
 use mathlib.Core.Path.{_≡_}
-use Prim.Native.Nat.{ℕ, _-_}
+use Prim.Native.Nat.{ℕ, _+_, _-_}
 use native.Mathlib.Omega.{arith}
 use Rattle.step.specs.StepLaws.{entered as both-left}
 use Rattle.walk.specs.Gets.{levels-as}
 use Rattle.walk.specs.GetReady.{sized}
-use Rattle.walk.specs.GetTwo.{two-kind}
-use Rattle.walk.specs.GetCase.{case-kind}
+use Rattle.walk.specs.GetTwo.{Two, two-kind}
+use Rattle.walk.specs.GetCase.{Case, case-kind}
 use Rattle.walk.specs.GetEnter.{Entered, entry-code, enter-refused, node-few, its-kind, body-ready, body-told, own-as, told-as, answer-as}
 use Rattle.walk.proofs.at.At.below.Reads as below
 use Rattle.sheet.proofs.byte_of.Reads as byte-of
@@ -23,7 +23,8 @@ use Rattle.answer.proofs.later.Reads as later
 use Rattle.answer.proofs.refused.Reads as refused
 use Rattle.walk.proofs.getter.+get_add+get_call+get_case+get_node+get_two as cycle
 use cycle.Lts-get_node as lts
-use cycle.Proof.Frame.{NodePlaces as Places, node-at, kind-below}
+use cycle.Proof.Frame.{kind, node}
+use Rattle.walk.proofs.Member.{AtMeasure, BelowMeasure, PlacesOf}
 
 abbrev claims : ℕ → lts.Claims
 claims t = (
@@ -39,19 +40,19 @@ claims t = (
   get-leaf.Learnt,
   later.Asked,
   later.Learnt,
-  kind-below t get-two.Pre,
+  BelowMeasure (kind get-two.Pre) t,
   get-two.Post,
-  kind-below t get-case.Pre,
+  BelowMeasure (kind get-case.Pre) t,
   get-case.Post,
-  kind-below t get-call.Pre,
+  BelowMeasure (kind get-call.Pre) t,
   get-call.Post,
-  kind-below t get-add.Pre,
+  BelowMeasure (kind get-add.Pre) t,
   get-add.Post,
 )
 
 module _ (t : ℕ) where
-  abbrev At : Places lts.Claims → Type 0
-  At P = P (claims t) (node-at t) get-node.Post
+  abbrev At : PlacesOf node lts.Claims → Type 0
+  At P = P (claims t) (AtMeasure node t) get-node.Post
 
   -- PLACES: the function's entry; the node may be entered; its kind is read
   abbrev start : At lts.Else1 → At lts.Start
@@ -69,6 +70,13 @@ module _ (t : ℕ) where
   entered c =
       let d = left (allowed c) in
       record { asked = start (allowed c) .pre .1; deep = d .0; paid = d .1; kind = c .byte-of .ensures }
+
+  -- what the function of its kind is asked: it is deeper, and the record is of that kind
+  lower : (c : At lts.After-byte-of) → let a = start (allowed c) .args in c .before .below .result .levels + 1 ≡ a .at .levels
+  lower c =
+      let d = left (allowed c) in
+      let l = levels-as (c .before .below .ensures) in
+      omega (arith, d .0)
 
   -- NEEDS
   returns : At lts.Need-returns
@@ -94,45 +102,26 @@ module _ (t : ℕ) where
   get-two-requires : At lts.Need-get-two-requires
   get-two-requires c κs =
       let b = c .before .before .before in
-      let d = left (allowed b) in
-      let l = levels-as (b .before .below .ensures) in (
-        omega (arith, start (allowed b) .pre .0, d .0),
-        (
-          own-as (b .before .below .ensures) (body-ready (entered b)),
-          two-kind (omega (arith, c .before .before .if2 .left))
-              (omega (arith, c .before .if3 .taken)),
-        ),
-      )
+      let e : Two (b .byte-of .result) = two-kind (omega (arith, c .before .before .if2 .left)) (omega (arith, c .before .if3 .taken)) in
+      (omega (arith, start (allowed b) .pre .0, lower b), (own-as (b .before .below .ensures) (body-ready (entered b)), e))
 
   get-case-requires : At lts.Need-get-case-requires
   get-case-requires c κs =
       let b = c .before .before .before .before in
-      let d = left (allowed b) in
-      let l = levels-as (b .before .below .ensures) in (
-        omega (arith, start (allowed b) .pre .0, d .0),
-        (
-          own-as (b .before .below .ensures) (body-ready (entered b)),
-          case-kind (omega (arith, c .before .before .if3 .left))
-              (omega (arith, c .before .if4 .taken)),
-        ),
-      )
+      let e : Case (b .byte-of .result) = case-kind (omega (arith, c .before .before .if3 .left)) (omega (arith, c .before .if4 .taken)) in
+      (omega (arith, start (allowed b) .pre .0, lower b), (own-as (b .before .below .ensures) (body-ready (entered b)), e))
 
   get-call-requires : At lts.Need-get-call-requires
   get-call-requires c κs =
       let b = c .before .before .before .before .before in
-      let d = left (allowed b) in
-      let l = levels-as (b .before .below .ensures) in
-      (omega (arith, start (allowed b) .pre .0, d .0), (own-as (b .before .below .ensures) (body-ready (entered b)), c .before .if5 .taken))
+      (omega (arith, start (allowed b) .pre .0, lower b), (own-as (b .before .below .ensures) (body-ready (entered b)), c .before .if5 .taken))
 
   get-add-requires : At lts.Need-get-add-requires
   get-add-requires c κs =
       let b = c .before .before .before .before .before in
-      let d = left (allowed b) in
       let k = its-kind (entered b) in
-      let l = levels-as (b .before .below .ensures) in (
-        omega (arith, start (allowed b) .pre .0, d .0),
-        (own-as (b .before .below .ensures) (body-ready (entered b)), omega (arith, k .1, c .before .before .if4 .left, c .before .if5 .left)),
-      )
+      let e : b .byte-of .result ≡ 0x1B = omega (arith, k .1, c .before .before .if4 .left, c .before .if5 .left) in
+      (omega (arith, start (allowed b) .pre .0, lower b), (own-as (b .before .below .ensures) (body-ready (entered b)), e))
 
   returns-2 : At lts.Need-returns-2
   returns-2 c =
@@ -159,8 +148,8 @@ module _ (t : ℕ) where
       let b = c .before .before .before .before .before .before .before .before .before in
       body-told (entered b) (c .later5 .ensures) (told-as (b .before .below .ensures) (c .before .before .before .get-add .ensures))
 
-pub get-node-met : {M : Type 1} (t : ℕ) → lts.Closed (claims t) (node-at t) get-node.Post M
-get-node-met t = lts.spec (claims t) (node-at t) get-node.Post
+pub get-node-met : {M : Type 1} (t : ℕ) → lts.Closed (claims t) (AtMeasure node t) get-node.Post M
+get-node-met t = lts.spec (claims t) (AtMeasure node t) get-node.Post
     (λ c κs. search needs) (λ c κs. search needs) (returns t) (mul-n t) (element-copy-out-n t) (below-requires t) (λ c κs. search needs)
     (get-leaf-requires t) (λ c κs. search needs) (λ c. returns-2 t c .0 .kept .long) (returns-2 t) (get-two-requires t) (λ c κs. search needs)
     (λ c. returns-3 t c .0 .kept .long) (returns-3 t) (get-case-requires t) (λ c κs. search needs) (λ c. returns-4 t c .0 .kept .long) (returns-4 t)

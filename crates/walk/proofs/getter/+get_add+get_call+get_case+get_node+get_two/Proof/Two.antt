@@ -25,7 +25,8 @@ use Rattle.sheet.proofs.number_of.Reads as number-of
 use Rattle.walk.proofs.at.At.raised.Reads as raised
 use Rattle.walk.proofs.getter.+get_add+get_call+get_case+get_node+get_two as cycle
 use cycle.Lts-get_two as lts
-use cycle.Proof.Frame.{Places, node-below, kind-at}
+use cycle.Proof.Frame.{kind, node}
+use Rattle.walk.proofs.Member.{AtMeasure, BelowMeasure, PlacesOf}
 
 abbrev claims : ℕ → lts.Claims
 claims t = (
@@ -35,7 +36,7 @@ claims t = (
   raised.Learnt,
   number-of.Asked,
   number-of.Learnt,
-  node-below t,
+  BelowMeasure node t,
   get-node.Post,
   bring.Asked,
   bring.Learnt,
@@ -48,8 +49,8 @@ claims t = (
 )
 
 module _ (t : ℕ) where
-  abbrev At : Places lts.Claims → Type 0
-  At P = P (claims t) (kind-at t get-two.Pre) get-two.Post
+  abbrev At : PlacesOf (kind get-two.Pre) lts.Claims → Type 0
+  At P = P (claims t) (AtMeasure (kind get-two.Pre) t) get-two.Post
 
   -- PLACES: the function's entry; the first node was got and brought up; it is there; the second was got and brought up
   abbrev entry : At lts.After-raised → At lts.Start
@@ -173,8 +174,8 @@ module _ (t : ℕ) where
       let r = up (one b) in
       two-told (asked r) (value b) (done i) (second s) (joined-as (r .before .made .ensures) (c .joined .ensures))
 
-pub get-two-met : {M : Type 1} (t : ℕ) → lts.Closed (claims t) (kind-at t get-two.Pre) get-two.Post M
-get-two-met t = lts.spec (claims t) (kind-at t get-two.Pre) get-two.Post
+pub get-two-met : {M : Type 1} (t : ℕ) → lts.Closed (claims t) (AtMeasure (kind get-two.Pre) t) get-two.Post M
+get-two-met t = lts.spec (claims t) (AtMeasure (kind get-two.Pre) t) get-two.Post
     (λ c κs. search needs) (slice-write-arena t) (raised-requires t) (λ c κs. search needs) (get-node-requires t) (bring-requires t) (λ c κs. search needs)
     (λ c. returns t c .kept .long) (returns t) (behind-requires t) (λ c κs. search needs) (get-node-requires-2 t) (bring-requires-2 t) (joined-requires t)
     (λ c. returns-2 t c .kept .long) (returns-2 t)

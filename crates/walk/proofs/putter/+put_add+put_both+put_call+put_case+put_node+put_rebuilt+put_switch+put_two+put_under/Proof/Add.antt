@@ -24,7 +24,8 @@ use Rattle.answer.proofs.refused.Reads as refused
 use Rattle.value.proofs.shape_of.Reads as shape-of
 use Rattle.walk.proofs.putter.+put_add+put_both+put_call+put_case+put_node+put_rebuilt+put_switch+put_two+put_under as cycle
 use cycle.Lts-put_add as lts
-use cycle.Proof.Frame.{KindPlaces as Places, kind-at, node-below}
+use cycle.Proof.Frame.{kind, node}
+use Rattle.walk.proofs.Member.{AtMeasure, BelowMeasure, PlacesOf}
 
 abbrev claims : ℕ → lts.Claims
 claims t = (
@@ -42,13 +43,13 @@ claims t = (
   low.Learnt,
   number-of.Asked,
   number-of.Learnt,
-  node-below t,
+  BelowMeasure node t,
   put-node.Post,
 )
 
 module _ (t : ℕ) where
-  abbrev At : Places lts.Claims → Type 0
-  At P = P (claims t) (kind-at t put-add.Pre) put-add.Post
+  abbrev At : PlacesOf (kind put-add.Pre) lts.Claims → Type 0
+  At P = P (claims t) (AtMeasure (kind put-add.Pre) t) put-add.Post
 
   -- PLACES: the function's entry; the view is a number; the amount is read; it is no more than the number; the difference is written
   abbrev entry : At lts.After-known-told → At lts.Start
@@ -113,8 +114,8 @@ module _ (t : ℕ) where
       (gives-view (less l) (gives-as {at = e .args .at} refl refl refl (c .before .before .before .before .before .before .number-of .ensures)
       (c .before .before .put-node .ensures .0)))
 
-pub put-add-met : {M : Type 1} (t : ℕ) → lts.Closed (claims t) (kind-at t put-add.Pre) put-add.Post M
-put-add-met t = lts.spec (claims t) (kind-at t put-add.Pre) put-add.Post
+pub put-add-met : {M : Type 1} (t : ℕ) → lts.Closed (claims t) (AtMeasure (kind put-add.Pre) t) put-add.Post M
+put-add-met t = lts.spec (claims t) (AtMeasure (kind put-add.Pre) t) put-add.Post
     (λ c κs. search needs) (λ c. search needs) (λ c κs. search needs) (returns t) (λ c κs. search needs) (λ c κs. search needs) (λ c κs. search needs)
     (λ c κs. search needs) (returns-2 t) (λ c κs. search needs) (λ c κs. search needs) (λ c κs. search needs) (λ c. search needs) (put-node-requires t)
     (λ c. returns-3 t c .frame .long) (returns-3 t)

@@ -17,11 +17,12 @@ use Rattle.walk.proofs.putter.put_node.Reads as put-node
 use Rattle.answer.proofs.steps_of.Reads as steps-of
 use Rattle.walk.proofs.putter.+put_add+put_both+put_call+put_case+put_node+put_rebuilt+put_switch+put_two+put_under as cycle
 use cycle.Lts-put_both as lts
-use cycle.Proof.Frame.{BothPlaces as Places, both-at, node-below}
+use cycle.Proof.Frame.{both, node}
+use Rattle.walk.proofs.Member.{AtMeasure, BelowMeasure, PlacesOf}
 
 abbrev claims : ℕ → lts.Claims
 claims t = (
-  node-below t,
+  BelowMeasure node t,
   put-node.Post,
   is-refused.Asked,
   is-refused.Learnt,
@@ -34,8 +35,8 @@ claims t = (
 )
 
 module _ (t : ℕ) where
-  abbrev At : Places lts.Claims → Type 0
-  At P = P (claims t) (both-at t) put-both.Post
+  abbrev At : PlacesOf both lts.Claims → Type 0
+  At P = P (claims t) (AtMeasure both t) put-both.Post
 
   -- PLACES: the function's entry; the first put was made; it is done
   abbrev entry : At lts.After-put-node → At lts.Start
@@ -78,8 +79,8 @@ module _ (t : ℕ) where
       both-told (entry p .pre .1 .0) (p .put-node .ensures .0) (done i) (p .put-node .ensures .1) (few-at e (o .1)) (gives-at e (o .0))
       (later-as _ (c .before .steps-of .ensures) (c .later .ensures))
 
-pub put-both-met : {M : Type 1} (t : ℕ) → lts.Closed (claims t) (both-at t) put-both.Post M
-put-both-met t = lts.spec (claims t) (both-at t) put-both.Post
+pub put-both-met : {M : Type 1} (t : ℕ) → lts.Closed (claims t) (AtMeasure both t) put-both.Post M
+put-both-met t = lts.spec (claims t) (AtMeasure both t) put-both.Post
     (put-node-requires t) (λ c κs. search needs) (λ c. returns t c _ (entry t (c .before .before .before .before) .pre .1 .1 .shown) .frame .long)
     (returns t) (after-requires t) (put-node-requires-2 t) (λ c κs. search needs) (λ c κs. search needs)
     (λ c. returns-2 t c _ (entry t (one t (c .before .before .before .before .before .before .before .before)) .pre .1 .1 .shown) .frame .long)

@@ -20,7 +20,8 @@ use Rattle.walk.proofs.scope.section.Reads as section
 use Rattle.sheet.proofs.section_root.Reads as section-root
 use Rattle.walk.proofs.putter.+put_add+put_both+put_call+put_case+put_node+put_rebuilt+put_switch+put_two+put_under as cycle
 use cycle.Lts-put_call as lts
-use cycle.Proof.Frame.{KindPlaces as Places, kind-at, node-below}
+use cycle.Proof.Frame.{kind, node}
+use Rattle.walk.proofs.Member.{AtMeasure, BelowMeasure, PlacesOf}
 
 abbrev claims : ℕ → lts.Claims
 claims t = (
@@ -34,13 +35,13 @@ claims t = (
   section.Learnt,
   pick-cells.Asked,
   pick-cells.Learnt,
-  node-below t,
+  BelowMeasure node t,
   put-node.Post,
 )
 
 module _ (t : ℕ) where
-  abbrev At : Places lts.Claims → Type 0
-  At P = P (claims t) (kind-at t put-call.Pre) put-call.Post
+  abbrev At : PlacesOf (kind put-call.Pre) lts.Claims → Type 0
+  At P = P (claims t) (AtMeasure (kind put-call.Pre) t) put-call.Post
 
   -- PLACES: the function's entry; both variables are in scope; the section's root is known; its scope is made, and its cells
   abbrev entry : At lts.Else2 → At lts.Start
@@ -115,8 +116,8 @@ module _ (t : ℕ) where
       call-told (looked (found s))
       (gives-as {at = entry (in-scope (found s)) .args .at} refl (section-is s) (cells-are p) refl (c .before .before .put-node .ensures .0))
 
-pub put-call-met : {M : Type 1} (t : ℕ) → lts.Closed (claims t) (kind-at t put-call.Pre) put-call.Post M
-put-call-met t = lts.spec (claims t) (kind-at t put-call.Pre) put-call.Post
+pub put-call-met : {M : Type 1} (t : ℕ) → lts.Closed (claims t) (AtMeasure (kind put-call.Pre) t) put-call.Post M
+put-call-met t = lts.spec (claims t) (AtMeasure (kind put-call.Pre) t) put-call.Post
     (λ c κs. search needs) (λ c κs. search needs) (λ c. search needs) (λ c κs. search needs) (returns t) (λ c κs. search needs) (returns-2 t)
     (λ c κs. search needs) (λ c κs. search needs) (section-requires t) (λ c κs. search needs) (put-node-requires t) (λ c. returns-3 t c .frame .long)
     (returns-3 t)

@@ -50,7 +50,8 @@ use Rattle.answer.proofs.steps_of.Reads as steps-of
 use Rattle.step.proofs.takes.Reads as takes
 use Rattle.walk.proofs.putter.+put_add+put_both+put_call+put_case+put_node+put_rebuilt+put_switch+put_two+put_under as cycle
 use cycle.Lts-put_case as lts
-use cycle.Proof.Frame.{KindPlaces as Places, kind-at, both-below, under-below, switch-below}
+use cycle.Proof.Frame.{both, kind, switch, under}
+use Rattle.walk.proofs.Member.{AtMeasure, BelowMeasure, PlacesOf}
 
 abbrev claims : ℕ → lts.Claims
 claims t = (
@@ -68,7 +69,7 @@ claims t = (
   shape-at.Learnt,
   takes.Asked,
   takes.Learnt,
-  both-below t,
+  BelowMeasure both t,
   put-both.Post,
   steps-of.Asked,
   steps-of.Learnt,
@@ -80,17 +81,17 @@ claims t = (
   start-of.Learnt,
   len-of.Asked,
   len-of.Learnt,
-  under-below t,
+  BelowMeasure under t,
   put-under.Post,
-  switch-below t,
+  BelowMeasure switch t,
   put-switch.Post,
   refused.Asked,
   refused.Learnt,
 )
 
 module _ (t : ℕ) where
-  abbrev At : Places lts.Claims → Type 0
-  At P = P (claims t) (kind-at t put-case.Pre) put-case.Post
+  abbrev At : PlacesOf (kind put-case.Pre) lts.Claims → Type 0
+  At P = P (claims t) (AtMeasure (kind put-case.Pre) t) put-case.Post
 
   -- PLACES: the function's entry; the old subject was got; it is there; the place behind it; its shape; the branch that the view takes
   abbrev entry : At lts.After-get-node → At lts.Start
@@ -263,8 +264,8 @@ module _ (t : ℕ) where
   returns-5 : At lts.Need-returns-5
   returns-5 c = none-told (subject (c .before .before .before .before) (c .before .before .code .given .1)) (c .refused .ensures)
 
-pub put-case-met : {M : Type 1} (t : ℕ) → lts.Closed (claims t) (kind-at t put-case.Pre) put-case.Post M
-put-case-met t = lts.spec (claims t) (kind-at t put-case.Pre) put-case.Post
+pub put-case-met : {M : Type 1} (t : ℕ) → lts.Closed (claims t) (AtMeasure (kind put-case.Pre) t) put-case.Post M
+put-case-met t = lts.spec (claims t) (AtMeasure (kind put-case.Pre) t) put-case.Post
     (λ c κs. search needs) (get-node-requires t) (λ c κs. search needs) (λ c. returns t c .frame .long) (returns t) (behind-requires t)
     (λ c κs. search needs) (λ c κs. search needs) (shape-at-requires t) (λ c κs. search needs) (λ c. search needs) (λ c κs. search needs)
     (λ c. search needs) (put-both-requires t) (λ c κs. search needs) (λ c κs. search needs) (λ c. search needs) (λ c κs. search needs)

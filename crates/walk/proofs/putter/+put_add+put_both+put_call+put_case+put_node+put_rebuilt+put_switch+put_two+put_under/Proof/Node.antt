@@ -2,12 +2,12 @@
 -- Assumes nothing.
 use borrow.Author.Needs.{needs}
 use mathlib.Core.Path.{_≡_}
-use Prim.Native.Nat.{ℕ, _-_}
+use Prim.Native.Nat.{ℕ, _+_, _-_}
 use native.Mathlib.Omega.{arith}
 use Rattle.step.specs.StepLaws.{entered as both-left}
 use Rattle.walk.specs.Gets.{levels-as}
-use Rattle.walk.specs.GetTwo.{two-kind}
-use Rattle.walk.specs.GetCase.{case-kind}
+use Rattle.walk.specs.GetTwo.{Two, two-kind}
+use Rattle.walk.specs.GetCase.{Case, case-kind}
 use Rattle.walk.specs.GetEnter.{entry-code, node-few}
 use Rattle.walk.specs.PutReady.{few}
 use Rattle.walk.specs.PutEnter.{PutEntered, enter-refused, its-kind, body-ready, body-told, own-as, told-as, answer-as}
@@ -25,7 +25,8 @@ use Rattle.walk.proofs.putter.put_two.Reads as put-two
 use Rattle.answer.proofs.refused.Reads as refused
 use Rattle.walk.proofs.putter.+put_add+put_both+put_call+put_case+put_node+put_rebuilt+put_switch+put_two+put_under as cycle
 use cycle.Lts-put_node as lts
-use cycle.Proof.Frame.{NodePlaces as Places, node-at, kind-below}
+use cycle.Proof.Frame.{kind, node}
+use Rattle.walk.proofs.Member.{AtMeasure, BelowMeasure, PlacesOf}
 
 abbrev claims : ℕ → lts.Claims
 claims t = (
@@ -41,19 +42,19 @@ claims t = (
   put-leaf.Learnt,
   later.Asked,
   later.Learnt,
-  kind-below t put-two.Pre,
+  BelowMeasure (kind put-two.Pre) t,
   put-two.Post,
-  kind-below t put-case.Pre,
+  BelowMeasure (kind put-case.Pre) t,
   put-case.Post,
-  kind-below t put-call.Pre,
+  BelowMeasure (kind put-call.Pre) t,
   put-call.Post,
-  kind-below t put-add.Pre,
+  BelowMeasure (kind put-add.Pre) t,
   put-add.Post,
 )
 
 module _ (t : ℕ) where
-  abbrev At : Places lts.Claims → Type 0
-  At P = P (claims t) (node-at t) put-node.Post
+  abbrev At : PlacesOf node lts.Claims → Type 0
+  At P = P (claims t) (AtMeasure node t) put-node.Post
 
   -- PLACES: the function's entry; the node may be entered; its kind is read
   abbrev start : At lts.Else1 → At lts.Start
@@ -73,6 +74,13 @@ module _ (t : ℕ) where
   entered c =
       let d = left (allowed c) in
       record { asked = start (allowed c) .pre .1; deep = d .0; paid = d .1; kind = c .byte-of .ensures }
+
+  -- what the function of its kind is asked: it is deeper, and the record is of that kind
+  lower : (c : At lts.After-byte-of) → let a = start (allowed c) .args in c .before .below .result .levels + 1 ≡ a .at .levels
+  lower c =
+      let d = left (allowed c) in
+      let l = levels-as (c .before .below .ensures) in
+      omega (arith, d .0)
 
   -- NEEDS
   returns : At lts.Need-returns
@@ -100,48 +108,26 @@ module _ (t : ℕ) where
   put-two-requires : At lts.Need-put-two-requires
   put-two-requires c κs =
       let b = c .before .before .before .before in
-      let d = left (allowed b) in
-      let l = levels-as (b .before .below .ensures) in (
-        omega (arith, start (allowed b) .pre .0, d .0),
-        (
-          own-as (b .before .below .ensures) (body-ready (entered b)),
-          two-kind (omega (arith, c .before .before .before .if2 .left))
-              (omega (arith, c .before .before .if3 .taken)),
-        ),
-      )
+      let e : Two (b .byte-of .result) = two-kind (omega (arith, c .before .before .before .if2 .left)) (omega (arith, c .before .before .if3 .taken)) in
+      (omega (arith, start (allowed b) .pre .0, lower b), (own-as (b .before .below .ensures) (body-ready (entered b)), e))
 
   put-case-requires : At lts.Need-put-case-requires
   put-case-requires c κs =
       let b = c .before .before .before .before .before in
-      let d = left (allowed b) in
-      let l = levels-as (b .before .below .ensures) in (
-        omega (arith, start (allowed b) .pre .0, d .0),
-        (
-          own-as (b .before .below .ensures) (body-ready (entered b)),
-          case-kind (omega (arith, c .before .before .before .if3 .left))
-              (omega (arith, c .before .before .if4 .taken)),
-        ),
-      )
+      let e : Case (b .byte-of .result) = case-kind (omega (arith, c .before .before .before .if3 .left)) (omega (arith, c .before .before .if4 .taken)) in
+      (omega (arith, start (allowed b) .pre .0, lower b), (own-as (b .before .below .ensures) (body-ready (entered b)), e))
 
   put-call-requires : At lts.Need-put-call-requires
   put-call-requires c κs =
       let b = c .before .before .before .before .before .before in
-      let d = left (allowed b) in
-      let l = levels-as (b .before .below .ensures) in
-      (omega (arith, start (allowed b) .pre .0, d .0), (own-as (b .before .below .ensures) (body-ready (entered b)), c .before .before .if5 .taken))
+      (omega (arith, start (allowed b) .pre .0, lower b), (own-as (b .before .below .ensures) (body-ready (entered b)), c .before .before .if5 .taken))
 
   put-add-requires : At lts.Need-put-add-requires
   put-add-requires c κs =
       let b = c .before .before .before .before .before .before in
-      let d = left (allowed b) in
       let k = its-kind (entered b) in
-      let l = levels-as (b .before .below .ensures) in (
-        omega (arith, start (allowed b) .pre .0, d .0),
-        (
-          own-as (b .before .below .ensures) (body-ready (entered b)),
-          omega (arith, k .1, c .before .before .before .if4 .left, c .before .before .if5 .left),
-        ),
-      )
+      let e : b .byte-of .result ≡ 0x1B = omega (arith, k .1, c .before .before .before .if4 .left, c .before .before .if5 .left) in
+      (omega (arith, start (allowed b) .pre .0, lower b), (own-as (b .before .below .ensures) (body-ready (entered b)), e))
 
   returns-2 : At lts.Need-returns-2
   returns-2 c =
@@ -168,8 +154,8 @@ module _ (t : ℕ) where
       let b = c .before .before .before .before .before .before .before .before .before .before in
       body-told (entered b) (c .later5 .ensures) (told-as (b .before .below .ensures) (c .before .before .before .put-add .ensures))
 
-pub put-node-met : {M : Type 1} (t : ℕ) → lts.Closed (claims t) (node-at t) put-node.Post M
-put-node-met t = lts.spec (claims t) (node-at t) put-node.Post
+pub put-node-met : {M : Type 1} (t : ℕ) → lts.Closed (claims t) (AtMeasure node t) put-node.Post M
+put-node-met t = lts.spec (claims t) (AtMeasure node t) put-node.Post
     (λ c κs. search needs) (λ c κs. search needs) (returns t) (mul-n t) (element-copy-out-n t) (below-requires t) (λ c κs. search needs)
     (put-leaf-requires t) (λ c κs. search needs) (λ c. returns-2 t c .0 .frame .long) (returns-2 t) (put-two-requires t) (λ c κs. search needs)
     (λ c. returns-3 t c .0 .frame .long) (returns-3 t) (put-case-requires t) (λ c κs. search needs) (λ c. returns-4 t c .0 .frame .long) (returns-4 t)

@@ -18,7 +18,8 @@ use Rattle.answer.proofs.refused.Reads as refused
 use Rattle.step.proofs.unfit.Reads as unfit
 use Rattle.walk.proofs.putter.+put_add+put_both+put_call+put_case+put_node+put_rebuilt+put_switch+put_two+put_under as cycle
 use cycle.Lts-put_rebuilt as lts
-use cycle.Proof.Frame.{RebuiltPlaces as Places, rebuilt-at, node-below}
+use cycle.Proof.Frame.{node, rebuilt}
+use Rattle.walk.proofs.Member.{AtMeasure, BelowMeasure, PlacesOf}
 
 abbrev claims : ℕ → lts.Claims
 claims t = (
@@ -30,13 +31,13 @@ claims t = (
   refused.Learnt,
   rebuild.Asked,
   rebuild.Learnt,
-  node-below t,
+  BelowMeasure node t,
   put-node.Post,
 )
 
 module _ (t : ℕ) where
-  abbrev At : Places lts.Claims → Type 0
-  At P = P (claims t) (rebuilt-at t) put-rebuilt.Post
+  abbrev At : PlacesOf rebuilt lts.Claims → Type 0
+  At P = P (claims t) (AtMeasure rebuilt t) put-rebuilt.Post
 
   -- PLACES: the function's entry; it is known where the values stand; the rest fits; the whole is short enough; it is rebuilt
   abbrev entry : At lts.After-place-of2 → At lts.Start
@@ -153,8 +154,8 @@ module _ (t : ℕ) where
       let o = c .before .before .put-node .ensures in
       (rebuilt-told (places (placed i)) (fits i) (omega (arith, s .if2 .left)) (b .rebuild .ensures .0) (o .0), o .1)
 
-pub put-rebuilt-met : {M : Type 1} (t : ℕ) → lts.Closed (claims t) (rebuilt-at t) put-rebuilt.Post M
-put-rebuilt-met t = lts.spec (claims t) (rebuilt-at t) put-rebuilt.Post
+pub put-rebuilt-met : {M : Type 1} (t : ℕ) → lts.Closed (claims t) (AtMeasure rebuilt t) put-rebuilt.Post M
+put-rebuilt-met t = lts.spec (claims t) (AtMeasure rebuilt t) put-rebuilt.Post
     (mul-place-of t) (element-copy-out-place-of t) (λ c κs. search needs) (add-place-of t) (mul-place-of-2 t) (element-copy-out-place-of-2 t)
     (add-place-of-2 t) (add-place-of-3 t) (λ c κs. search needs) (slice-read-unfit t) (λ c κs. search needs) (λ c κs. search needs) (returns t)
     (add-size t) (add-size-2 t) (λ c κs. search needs) (returns-2 t) (rebuild-requires t) (array-share-prefix-whole t) (slice-aggregate-v t)

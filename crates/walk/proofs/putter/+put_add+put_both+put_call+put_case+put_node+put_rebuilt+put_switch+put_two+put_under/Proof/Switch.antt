@@ -28,7 +28,8 @@ use Rattle.answer.proofs.start_of.Reads as start-of
 use Rattle.answer.proofs.steps_of.Reads as steps-of
 use Rattle.walk.proofs.putter.+put_add+put_both+put_call+put_case+put_node+put_rebuilt+put_switch+put_two+put_under as cycle
 use cycle.Lts-put_switch as lts
-use cycle.Proof.Frame.{SwitchPlaces as Places, switch-at, under-below}
+use cycle.Proof.Frame.{switch, under}
+use Rattle.walk.proofs.Member.{AtMeasure, BelowMeasure, PlacesOf}
 
 abbrev claims : ℕ → lts.Claims
 claims t = (
@@ -46,7 +47,7 @@ claims t = (
   after.Learnt,
   raised.Asked,
   raised.Learnt,
-  under-below t,
+  BelowMeasure under t,
   put-under.Post,
   steps-of.Asked,
   steps-of.Learnt,
@@ -55,8 +56,8 @@ claims t = (
 )
 
 module _ (t : ℕ) where
-  abbrev At : Places lts.Claims → Type 0
-  At P = P (claims t) (switch-at t) put-switch.Post
+  abbrev At : PlacesOf switch lts.Claims → Type 0
+  At P = P (claims t) (AtMeasure switch t) put-switch.Post
 
   -- PLACES: the function's entry; the defaults were got; they are there; how long they are; the place behind them
   abbrev entry : At lts.After-defaults → At lts.Start
@@ -155,8 +156,8 @@ module _ (t : ℕ) where
       switch-told w (g .defaults .ensures) (done i) o (λ n. few (u .asked) (o _ _ (u .parts .parts)) .at n)
       (later-as _ (c .before .steps-of .ensures) (c .later .ensures))
 
-pub put-switch-met : {M : Type 1} (t : ℕ) → lts.Closed (claims t) (switch-at t) put-switch.Post M
-put-switch-met t = lts.spec (claims t) (switch-at t) put-switch.Post
+pub put-switch-met : {M : Type 1} (t : ℕ) → lts.Closed (claims t) (AtMeasure switch t) put-switch.Post M
+put-switch-met t = lts.spec (claims t) (AtMeasure switch t) put-switch.Post
     (defaults-requires t) (λ c κs. search needs) (λ c. returns t c .frame .long) (returns t) (λ c κs. search needs) (λ c κs. search needs)
     (λ c κs. search needs) (λ c κs. search needs) (after-requires t) (add-raised t) (raised-requires t) (put-under-requires t) (λ c κs. search needs)
     (λ c κs. search needs) (λ c. returns-2 t c .frame .long) (returns-2 t)

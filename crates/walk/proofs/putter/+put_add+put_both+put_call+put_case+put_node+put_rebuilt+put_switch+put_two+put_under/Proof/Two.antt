@@ -27,7 +27,8 @@ use Rattle.answer.proofs.steps_of.Reads as steps-of
 use Rattle.step.proofs.take_apart.Reads as take-apart
 use Rattle.walk.proofs.putter.+put_add+put_both+put_call+put_case+put_node+put_rebuilt+put_switch+put_two+put_under as cycle
 use cycle.Lts-put_two as lts
-use cycle.Proof.Frame.{KindPlaces as Places, kind-at, node-below}
+use cycle.Proof.Frame.{kind, node}
+use Rattle.walk.proofs.Member.{AtMeasure, BelowMeasure, PlacesOf}
 
 abbrev claims : ℕ → lts.Claims
 claims t = (
@@ -43,7 +44,7 @@ claims t = (
   second-part.Learnt,
   number-of.Asked,
   number-of.Learnt,
-  node-below t,
+  BelowMeasure node t,
   put-node.Post,
   is-refused.Asked,
   is-refused.Learnt,
@@ -56,8 +57,8 @@ claims t = (
 )
 
 module _ (t : ℕ) where
-  abbrev At : Places lts.Claims → Type 0
-  At P = P (claims t) (kind-at t put-two.Pre) put-two.Post
+  abbrev At : PlacesOf (kind put-two.Pre) lts.Claims → Type 0
+  At P = P (claims t) (AtMeasure (kind put-two.Pre) t) put-two.Post
 
   -- PLACES: the function's entry; the view is taken apart; the first part was put; that is done
   abbrev entry : At lts.After-second-part → At lts.Start
@@ -141,8 +142,8 @@ module _ (t : ℕ) where
       two-told s (both-told (two-asks s) (told p) (done i) (p .put-node .ensures .1) (few-at e (o .1)) g
       (later-as _ (c .before .steps-of .ensures) (c .later .ensures)))
 
-pub put-two-met : {M : Type 1} (t : ℕ) → lts.Closed (claims t) (kind-at t put-two.Pre) put-two.Post M
-put-two-met t = lts.spec (claims t) (kind-at t put-two.Pre) put-two.Post
+pub put-two-met : {M : Type 1} (t : ℕ) → lts.Closed (claims t) (AtMeasure (kind put-two.Pre) t) put-two.Post M
+put-two-met t = lts.spec (claims t) (AtMeasure (kind put-two.Pre) t) put-two.Post
     (λ c κs. search needs) (λ c κs. search needs) (λ c. search needs) (λ c. search needs) (λ c κs. search needs) (returns t) (λ c κs. search needs)
     (λ c κs. search needs) (λ c κs. search needs) (put-node-requires t) (λ c κs. search needs) (λ c. returns-2 t c .frame .long) (returns-2 t)
     (after-requires t) (λ c κs. search needs) (put-node-requires-2 t) (λ c κs. search needs) (λ c κs. search needs) (λ c. returns-3 t c .frame .long)
