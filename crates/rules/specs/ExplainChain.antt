@@ -11,7 +11,28 @@ use Rattle.sheet.specs.declared.Node.the-variants.{Var, False, True, Empty, Num
 use Rattle.sheet.specs.Sheet.{Sheet}
 use Rattle.rules.specs.Text
 use Rattle.rules.specs.Text.{Env, onList}
-use Rattle.rules.specs.Explain.{Why, Told, got, met, Explained, more, below, entered, choice, follow, next, wanted, Cell, Cells, Getter, Putter, explaining, own, get, put}
+use Rattle.rules.specs.Explain.{
+  Why,
+  Told,
+  got,
+  met,
+  Explained,
+  more,
+  below,
+  entered,
+  choice,
+  follow,
+  next,
+  wanted,
+  Cell,
+  Cells,
+  Getter,
+  Putter,
+  explaining,
+  own,
+  get,
+  put,
+}
 
 -- at most k nodes below the one whose rule is followed
 pub data Short {A : Type 0} (k : ℕ) : Told A → Type 0 where

@@ -8,7 +8,21 @@ use native.Mathlib.Decide.{decLt}
 use native.Mathlib.Omega.{arith}
 use lib.Dec.{eqb}
 use lib.ListN.{length, getD}
-use Rattle.answer.specs.Answer.{Said, Refused as Denied, said, after, isRefusal, laterAs, lenOf, startOf, stepsOf, said-refused, said-done, later-said, refused-said}
+use Rattle.answer.specs.Answer.{
+  Said,
+  Refused as Denied,
+  said,
+  after,
+  isRefusal,
+  laterAs,
+  lenOf,
+  startOf,
+  stepsOf,
+  said-refused,
+  said-done,
+  later-said,
+  refused-said,
+}
 use Rattle.value.specs.Value.{Value, vfalse, vtrue, list, number, pair, nil, cons}
 use Rattle.value.specs.Views.{asList, asPair, asTruth}
 use Rattle.value.specs.Tests.{passes, holds, table, class}

@@ -50,7 +50,28 @@ use Rattle.walk.specs.Gets as gets
 use Rattle.walk.specs.Gets.{Here, Stands, Asks, ToldOf}
 use Rattle.walk.specs.GetReady.{Sized}
 use Rattle.walk.specs.GetCase.{Case, lists, truths, splits, partsOf, PartsHeld, parts-held, held-above, parts-known}
-use Rattle.walk.specs.Puts.{Task, enter, own, pair, inside, switchAt, withDefaults, run, Known, Wrote, PartsAt, SomeView, Given, Inner, PutHere, put-further, PutAsked, PutAsks, PutTold, PutTells}
+use Rattle.walk.specs.Puts.{
+  Task,
+  enter,
+  own,
+  pair,
+  inside,
+  switchAt,
+  withDefaults,
+  run,
+  Known,
+  Wrote,
+  PartsAt,
+  SomeView,
+  Given,
+  Inner,
+  PutHere,
+  put-further,
+  PutAsked,
+  PutAsks,
+  PutTold,
+  PutTells,
+}
 use Rattle.walk.specs.PutReady.{ready-for, get-ready, given-later, few}
 use Rattle.walk.specs.PutUnder.{Under}
 use Rattle.walk.specs.PutSwitch.{Switching}
