@@ -59,22 +59,22 @@ module _ {need : ℕ} {w : Out (List ℕ)} {allowance : ℕ} {o s : List ℕ} {x
   pub call-shut : {c : ℕ} → c ≡ shut need (length o) (length s) allowance → (c ≡ 0 → ⊥) → Answered x (Refused c) o o s s
   call-shut e n = rw (b .is) (shut-call need o s allowance w e n)
 
-  module _ (l : Lent need (length o) (length s) allowance) {a : List ℕ} {r : Walked} (g : WalkCall need w allowance s a r) where
+  module _ (l : Lent need (length o) (length s) allowance) {U : Type 0} {a : List ℕ} {r : Walked} (g : WalkCall U need w allowance s a r) where
     says : Says need a r w
     says = g .says (l .scratch-long) (l .few-steps)
 
     pub call-refused : {c : ℕ} {s′ : List ℕ} → r ≡ Walked·Refused c → s′ ≡ zeroed a → Answered x (Refused c) o o s s′
-    call-refused e z = rw (b .is) (refused-behind need o s allowance w l (b .listed) (said-refused says e .1) (z ∙ zeros-same SCRATCH s a (g .behind)))
+    call-refused e z = rw (b .is) (refused-behind need o s allowance w l (b .listed) (said-refused says e .1) (z ∙ zeros-same SCRATCH s a (g .free .behind)))
 
     pub call-done : {len n : ℕ} {o′ s′ : List ℕ} → r ≡ Walked·Done len n → o′ ≡ paste o 0 (drop STACK a) len → s′ ≡ zeroed a
         → Answered x (Done len n) o o′ s s′
     call-done {len} e p z =
         let d = said-done says e in
         let q = p ∙ at-front o a (d .bytes) STACK len (d .stands) in
-        rw (b .is) (done-behind need o s allowance w l (d .is) (d .long) q (z ∙ zeros-same SCRATCH s a (g .behind)))
+        rw (b .is) (done-behind need o s allowance w l (d .is) (d .long) q (z ∙ zeros-same SCRATCH s a (g .free .behind)))
 
     pub call-fits : {len n : ℕ} → r ≡ Walked·Done len n → (SCRATCH ≤ length a) × ((STACK + len ≤ length a) × (len ≤ length o))
     call-fits e =
         let d = said-done says e in
-        let k : SCRATCH ≤ length a = omega (arith, g .long, l .scratch-long) in
+        let k : SCRATCH ≤ length a = omega (arith, g .free .long, l .scratch-long) in
         (k, (omega (arith, d .short, b .small), omega (arith, d .short, l .output-long)))

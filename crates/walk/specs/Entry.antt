@@ -22,7 +22,7 @@ use Rattle.rules.specs.Outcome.{Out, done, refused, mapOut, reading}
 use Rattle.rules.specs.Allowance.{within}
 use Rattle.rules.specs.Rules.{get}
 use Rattle.rules.specs.Answer.{getWalk, getBytes}
-use Rattle.rules.specs.Numbers.{ALLOWANCE, SCRATCH, STACK}
+use Rattle.rules.specs.Numbers.{ALLOWANCE, LEVELS, SCRATCH, STACK}
 use Rattle.step.specs.declared.Scope.{Scope}
 use Rattle.walk.specs.declared.Walked.{Walked}
 use Rattle.walk.specs.declared.Walked.the-variants.{Done, Refused}
@@ -41,10 +41,20 @@ pub data Says (most : ℕ) (a : List ℕ) (r : Walked) : Out (List ℕ) → Type
   says-done : {bs : List ℕ} {n : ℕ} (len : ℕ) → r ≡ Done len n → len ≡ length bs → len ≤ most → part a STACK len ≡ bs → Says most a r (done bs n)
   says-refused : {c n : ℕ} → r ≡ Refused c → Says most a r (refused c n)
 
--- a call whose outcome is w, with the arena b before and a behind it
-pub record WalkCall (most : ℕ) (w : Out (List ℕ)) (allowance : ℕ) (b a : List ℕ) (r : Walked) : Type 0 where
+-- the first n bytes are free, and may hold anything; those behind them are as they were
+pub record Free (n : ℕ) (b a : List ℕ) : Type 0 where
   pub long : length a ≡ length b
-  pub behind : drop SCRATCH a ≡ drop SCRATCH b
+  pub behind : drop n a ≡ drop n b
+
+-- a reader refuses: the sheet's, or else the plan's
+pub data Unread (sheet plan : List ℕ) : Type 0 where
+  no-sheet : {c : ℕ} → readSheet sheet ≡ refusal c → Unread sheet plan
+  no-plan : {sh : Sheet} {c : ℕ} → readSheet sheet ≡ ok sh → readPlan (sh .k) plan ≡ refusal c → Unread sheet plan
+
+-- a call whose outcome is w, with the arena b before and a behind it: what the arena holds, and the answer r. U: a reader refuses
+pub record WalkCall (U : Type 0) (most : ℕ) (w : Out (List ℕ)) (allowance : ℕ) (b a : List ℕ) (r : Walked) : Type 0 where
+  pub free : Free SCRATCH b a
+  pub unread : U → a ≡ b
   pub short : length b < SCRATCH → (r ≡ Refused 2) × (a ≡ b)
   pub too-many : SCRATCH ≤ length b → ALLOWANCE < allowance → (r ≡ Refused 3) × (a ≡ b)
   pub says : SCRATCH ≤ length b → allowance ≤ ALLOWANCE → Says most a r w
@@ -85,9 +95,9 @@ module _ {sheet plan : List ℕ} {table : Table} {sc : Scope} {allowance : ℕ} 
   unfolding tableOf
   root-is = ap (λ (t : Table). t .root) (w .is)
 
-  get-is : getBytes sheet plan allowance ≡ mapOut encode (within allowance (get 48 (w .sh) (table .root) (w .μ)))
+  get-is : getBytes sheet plan allowance ≡ mapOut encode (within allowance (get LEVELS (w .sh) (table .root) (w .μ)))
   unfolding getBytes getWalk reading
-  get-is = rw (w .read, w .values) (ap (λ (x : ℕ). mapOut encode (within allowance (get 48 (w .sh) x (w .μ)))) (sym root-is))
+  get-is = rw (w .read, w .values) (ap (λ (x : ℕ). mapOut encode (within allowance (get LEVELS (w .sh) x (w .μ)))) (sym root-is))
 
   module _ {m : List ℕ} (c : CopiedIn plan b m) where
     pub plan-env : Scoped m sc STACK (w .μ)
@@ -115,7 +125,7 @@ module _ {sheet plan : List ℕ} {table : Table} {sc : Scope} {allowance : ℕ} 
 
     -- the place of the walk
     abbrev pub at-root : Here
-    at-root = record { sheet = sheet; table = table .starts; arena = m; scope = sc; top = STACK; left = allowance; levels = 48 }
+    at-root = record { sheet = sheet; table = table .starts; arena = m; scope = sc; top = STACK; left = allowance; levels = LEVELS }
 
     pub plan-ready : Asks at-root (table .root)
     unfolding tableOf
@@ -132,7 +142,8 @@ module _ {sheet plan : List ℕ} {table : Table} {sc : Scope} {allowance : ℕ} 
     }
 
     -- the root was got, and its value brought to the top
-    module _ {a a₂ : List ℕ} {g r : ℕ} (told : ToldOf at-root a g (table .root)) (sized : Sized STACK allowance 48 g) (brought : Brought STACK g a a₂ r) where
+    module _ {a a₂ : List ℕ} {g r : ℕ} (told : ToldOf at-root a g (table .root)) (sized : Sized STACK allowance LEVELS g)
+        (brought : Brought STACK g a a₂ r) where
       top : AtTop at-root a₂ r (table .root)
       top = at-top plan-ready told sized brought
 
@@ -198,25 +209,48 @@ says-whole x {a = a} t l (says-done {bs = bs} len e q h p) =
     says-done len e q h (z ∙ p)
 says-whole x t l (says-refused e) = says-refused e
 
-module _ {most : ℕ} {w : Out (List ℕ)} {allowance : ℕ} {b : List ℕ} where
-  pub call-2 : length b < SCRATCH → WalkCall most w allowance b b (Refused 2)
-  call-2 h = record { long = refl; behind = refl; short = λ _. (refl, refl); too-many = λ k _. absurd (omega arith); says = λ k _. absurd (omega arith) }
+nothing-moved : (b : List ℕ) → Free SCRATCH b b
+nothing-moved b = record { long = refl; behind = refl }
+
+module _ {U : Type 0} {most : ℕ} {w : Out (List ℕ)} {allowance : ℕ} {b : List ℕ} where
+  pub call-2 : length b < SCRATCH → WalkCall U most w allowance b b (Refused 2)
+  call-2 h = record {
+    free = nothing-moved b;
+    unread = λ _. refl;
+    short = λ _. (refl, refl);
+    too-many = λ k _. absurd (omega arith);
+    says = λ k _. absurd (omega arith);
+  }
 
   module _ (room : SCRATCH ≤ length b) where
-    pub call-3 : ALLOWANCE < allowance → WalkCall most w allowance b b (Refused 3)
-    call-3 h = record { long = refl; behind = refl; short = λ k. absurd (omega arith); too-many = λ _ _. (refl, refl); says = λ _ k. absurd (omega arith) }
+    pub call-3 : ALLOWANCE < allowance → WalkCall U most w allowance b b (Refused 3)
+    call-3 h = record {
+      free = nothing-moved b;
+      unread = λ _. refl;
+      short = λ k. absurd (omega arith);
+      too-many = λ _ _. (refl, refl);
+      says = λ _ k. absurd (omega arith);
+    }
 
     module _ (few : allowance ≤ ALLOWANCE) where
-      answered : {a : List ℕ} {r : Walked} → length a ≡ length b → drop SCRATCH a ≡ drop SCRATCH b → Says most a r w → WalkCall most w allowance b a r
-      answered l d s = record { long = l; behind = d; short = λ k. absurd (omega arith); too-many = λ _ k. absurd (omega arith); says = λ _ _. s }
+      answered : {a : List ℕ} {r : Walked} → Free SCRATCH b a → (U → a ≡ b) → Says most a r w → WalkCall U most w allowance b a r
+      answered f u s = record { free = f; unread = u; short = λ k. absurd (omega arith); too-many = λ _ k. absurd (omega arith); says = λ _ _. s }
 
-      pub call-refused : {c n : ℕ} → w ≡ refused c n → WalkCall most w allowance b b (Refused c)
-      call-refused e = answered refl refl (rw e (says-refused refl))
+      pub call-refused : {c n : ℕ} → w ≡ refused c n → WalkCall U most w allowance b b (Refused c)
+      call-refused e = answered (nothing-moved b) (λ _. refl) (rw e (says-refused refl))
 
-      pub call-done : {a : List ℕ} {r : Walked} → most ≤ 4096 → PlanWalked most w (take SCRATCH b) a r → WalkCall most w allowance b (a ++ drop SCRATCH b) r
-      call-done {a} {r} t g =
+      pub call-done : {a : List ℕ} {r : Walked} → (U → ⊥) → most ≤ 4096 → PlanWalked most w (take SCRATCH b) a r
+          → WalkCall U most w allowance b (a ++ drop SCRATCH b) r
+      call-done {a} {r} read t g =
           let l : length a ≡ SCRATCH = g .long ∙ length-take-le SCRATCH b room in
-          answered (rw (length-append, length-drop) (omega arith)) (drop-at a (drop SCRATCH b) SCRATCH l) (says-whole (drop SCRATCH b) t l (g .says))
+          let f : Free SCRATCH b (a ++ drop SCRATCH b) =
+          record { long = rw (length-append, length-drop) (omega arith); behind = drop-at a (drop SCRATCH b) SCRATCH l } in
+          answered f (λ u. absurd (read u)) (says-whole (drop SCRATCH b) t l (g .says))
+
+-- what was read is not refused
+pub all-read : {sheet plan : List ℕ} {sh : Sheet} {μ : List Value} → readSheet sheet ≡ ok sh → readPlan (sh .k) plan ≡ ok μ → Unread sheet plan → ⊥
+all-read e f (no-sheet g) = let y : _≡_ {A = ℕ} 0 1 = cc in omega arith
+all-read e f (no-plan g h) = let y : _≡_ {A = ℕ} 0 1 = cc in omega arith
 
 -- a refusal of the sheet, and of the plan
 pub sheet-refusal : (sheet : List ℕ) {table : Table} → table ≡ tableOf (readSheet sheet) → (table .refusal ≡ 0 → ⊥) → readSheet sheet ≡ refusal (table .refusal)

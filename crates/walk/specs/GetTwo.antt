@@ -23,7 +23,7 @@ use Rattle.walk.specs.Arena.{onStack, Scoped, env-later}
 use Rattle.walk.specs.Seen.{held-head}
 use Rattle.walk.specs.Wholes.{Made, aList, aPair, maker, Whole, whole, no-whole, given-list, given-pair}
 use Rattle.walk.specs.Answers.{Answers, answer-by, finish, then-done, then-refused, give, give-none, give-yes, give-no, had, not-had}
-use Rattle.walk.specs.Gets.{own, run, Stands, Here, further, Asked, Asks, Tells}
+use Rattle.walk.specs.Gets.{own, run, Known, Stands, Here, further, Asked, Asks, Tells}
 use Rattle.walk.specs.GetReady.{ready-later}
 use Rattle.walk.specs.GetAt.{AtTop}
 
@@ -95,6 +95,12 @@ together a k top f r u v e p q =
     let z : top + (1 + f) ≡ top + 1 + f = omega arith in
     part-join a top (1 + f) r ∙ rw (part-join a top 1 f, z, e, p, q)
 
+-- the nodes of both parts are in range
+pub two-known : (s : List ℕ) (sh : Sheet) (n : ℕ) {k : ℕ} → Two k → Known sh (own k s n)
+    → (getD s (n + 1) 0 < length (sh .nodes)) × (getD s (n + 2) 0 < length (sh .nodes))
+two-known s sh n (aFront e) r = let c = rw e at (r .1) in (c .0 .inside, c .1 .0 .inside)
+two-known s sh n (aTwo e) r = let c = rw e at (r .1) in (c .0 .inside, c .1 .0 .inside)
+
 -- AT A STAGE: the kind byte is written at the top
 pub record TwoAsked (h : Here) (k n : ℕ) (m : List ℕ) : Type 0 where
   pub asked : Asked h k n
@@ -109,18 +115,11 @@ module _ {h : Here} {k n : ℕ} {m : List ℕ} (w : TwoAsked h k n m) where
   abbrev pub two-here : List ℕ → ℕ → Here
   two-here a f = further h a (h .top + 1 + lenOf f) (h .left - stepsOf f)
 
-  children : (getD (h .sheet) (n + 1) 0 < length (w .asked .sheet .sh .nodes)) × (getD (h .sheet) (n + 2) 0 < length (w .asked .sheet .sh .nodes))
-  children = go (w .two)
-    where
-      go : Two k → (getD (h .sheet) (n + 1) 0 < length (w .asked .sheet .sh .nodes)) × (getD (h .sheet) (n + 2) 0 < length (w .asked .sheet .sh .nodes))
-      go (aFront e) = let r = rw e at (w .asked .known .1) in (r .0 .inside, r .1 .0 .inside)
-      go (aTwo e) = let r = rw e at (w .asked .known .1) in (r .0 .inside, r .1 .0 .inside)
-
   pub one-asks : Asks one-here (getD (h .sheet) (n + 1) 0)
   one-asks =
       let z : h .top + 257 * suc (h .levels) ≤ SCRATCH = w .asked .room in
       ready-later (w .asked) (marked-kept (w .marked)) (h .top + 1) (h .levels) (h .left) (omega arith) (omega (arith, w .asked .few)) (omega arith)
-      (omega arith) (children .0)
+      (omega arith) (two-known (h .sheet) (w .asked .sheet .sh) n (w .two) (w .asked .known) .0)
 
   env₁ : {μ : Env} → Scoped (h .arena) (h .scope) (h .top) μ → Scoped m (h .scope) (h .top + 1) μ
   env₁ e = env-later (marked-kept (w .marked)) (w .asked .base) (h .top + 1) (omega arith) e
@@ -142,7 +141,7 @@ module _ {h : Here} {k n : ℕ} {m : List ℕ} (w : TwoAsked h k n m) where
           let z : h .top + 257 * suc (h .levels) ≤ SCRATCH = w .asked .room in
           let s = t₁ .sized .at e₁ in
           ready-later (w .asked) kept₁ (h .top + 1 + lenOf f) (h .levels) (h .left - stepsOf f) (omega arith) (omega (arith, w .asked .few)) (omega arith)
-          (omega arith) (children .1)
+          (omega arith) (two-known (h .sheet) (w .asked .sheet .sh) n (w .two) (w .asked .known) .1)
 
       -- what `joined` asks
       pub joinable : {a₂ : List ℕ} {g : ℕ} → AtTop (two-here a₁ f) a₂ g (getD (h .sheet) (n + 2) 0) → isRefusal g ≡ false → Joinable a₂ (h .top) f

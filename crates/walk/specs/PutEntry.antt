@@ -26,7 +26,7 @@ use Rattle.rules.specs.Allowance.{within}
 use Rattle.rules.specs.Text
 use Rattle.rules.specs.Rules.{Env, Cells, orOld, put}
 use Rattle.rules.specs.Answer.{count, newPlan, putWalk, putBytes}
-use Rattle.rules.specs.Numbers.{SCRATCH, STACK}
+use Rattle.rules.specs.Numbers.{LEVELS, SCRATCH, STACK}
 use Rattle.step.specs.declared.Scope.{Scope}
 use Rattle.step.specs.Step.{placeOf}
 use Rattle.step.specs.StepLaws.{was-written}
@@ -39,12 +39,21 @@ use Rattle.walk.specs.Cells.{Slot, blank, full, Written, Named, Shown}
 use Rattle.walk.specs.Frames.{env-framed}
 use Rattle.walk.specs.Puts.{enter, run, Given, Wrote, PutHere, PutAsks, PutTold}
 use Rattle.walk.specs.Gather.{Rests, Placed, SomePlaced, Gathered, Counted}
-use Rattle.walk.specs.Entry.{says-done, says-refused, Planned, PlanWalked, plan-small, plan-env, root-is}
+use Rattle.walk.specs.Entry.{Unread, says-done, says-refused, Planned, PlanWalked, plan-small, plan-env, root-is}
 
 -- the view is read
 pub record Viewed (view : List ℕ) : Type 0 where
   pub value : Value
   pub read : readView view ≡ ok (value ∷ [])
+
+-- a reader refuses: the sheet's or the plan's, or else the view's
+pub data PutUnread (sheet plan view : List ℕ) : Type 0 where
+  before : Unread sheet plan → PutUnread sheet plan view
+  no-view : {c : ℕ} → readView view ≡ refusal c → PutUnread sheet plan view
+
+pub put-all-read : {sheet plan view : List ℕ} → (Unread sheet plan → ⊥) → Viewed view → PutUnread sheet plan view → ⊥
+put-all-read n v (before u) = n u
+put-all-read n v (no-view e) = let z = v .read in let y : _≡_ {A = ℕ} 0 1 = cc in omega arith
 
 pub viewed : (view : List ℕ) {c : ℕ} → c ≡ viewCode view → c ≡ 0 → Viewed view
 viewed view e z = let p = view-ok view (sym e ∙ z) in record { value = p .0; read = p .1 }
@@ -136,13 +145,13 @@ module _ {sheet plan view : List ℕ} {table : Table} {sc : Scope} {allowance : 
 
   -- the walk, and the bytes of the plan that it gives
   abbrev walk-put : Out Cells
-  walk-put = within allowance (put 48 (w .sh) (table .root) (w .μ) (count 0 (length (w .μ))) (s .value) (replicate (length (w .μ)) none))
+  walk-put = within allowance (put LEVELS (w .sh) (table .root) (w .μ) (count 0 (length (w .μ))) (s .value) (replicate (length (w .μ)) none))
 
   put-is : putBytes sheet plan view allowance ≡ mapOut (λ X. flat (newPlan X (w .μ))) walk-put
   unfolding putBytes putWalk reading
   put-is = rw (w .read, w .values, s .read)
       (ap (λ (x : ℕ). mapOut (λ X. flat (newPlan X (w .μ)))
-      (within allowance (put 48 (w .sh) x (w .μ) (count 0 (length (w .μ))) (s .value) (replicate (length (w .μ)) none)))) (sym (root-is w)))
+      (within allowance (put LEVELS (w .sh) x (w .μ) (count 0 (length (w .μ))) (s .value) (replicate (length (w .μ)) none)))) (sym (root-is w)))
 
   module _ {m cells : List ℕ} (c : CopiedIn plan b m) (n : Counted (sc .count) cells) where
     put-given : Given m (replicate 110 0) sheet (Shown view) sc cells (sc .count) (sc .count) STACK
@@ -168,7 +177,7 @@ module _ {sheet plan view : List ℕ} {table : Table} {sc : Scope} {allowance : 
       count = sc .count;
       top = STACK;
       left = allowance;
-      levels = 48;
+      levels = LEVELS;
     }
 
     pub put-ready : PutAsks put-root (Shown view) (enter (table .root))

@@ -27,7 +27,7 @@ use Rattle.walk.specs.Answers.{then-done, then-refused, answer-by, give-
 use Rattle.walk.specs.Cells.{Shown}
 use Rattle.walk.specs.Frames.{frame-refl, frame-then}
 use Rattle.walk.specs.Shapes.{front-of, no-front, pair-of, no-pair}
-use Rattle.walk.specs.GetTwo.{Two, aFront, aTwo}
+use Rattle.walk.specs.GetTwo.{Two, aFront, aTwo, two-known}
 use Rattle.walk.specs.Puts.{enter, own, pair, run, Ready, Gives, Few, SomeView, PutHere, put-further, PutAsked, PutAsks, PutTold, PutTells}
 use Rattle.walk.specs.PutReady.{ready-for, given-after, given-shown}
 
@@ -164,18 +164,12 @@ module _ {h : PutHere} {view left right : List ℕ} {k n mid : ℕ} (w : TakenAp
       go (aFront e) = rw e (front-parts refl (w .first) (w .second) s (front-apart _ (rw e at (w .apart))))
       go (aTwo e) = rw e (pair-parts refl (w .first) (w .second) s (pair-apart _ (rw e at (w .apart))))
 
-  children : (getD (h .sheet) (n + 1) 0 < length (w .asked .sheet .sh .nodes)) × (getD (h .sheet) (n + 2) 0 < length (w .asked .sheet .sh .nodes))
-  children = go (w .two)
-    where
-      go : Two k → (getD (h .sheet) (n + 1) 0 < length (w .asked .sheet .sh .nodes)) × (getD (h .sheet) (n + 2) 0 < length (w .asked .sheet .sh .nodes))
-      go (aFront e) = let r = rw e at (w .asked .known .1) in (r .0 .inside, r .1 .0 .inside)
-      go (aTwo e) = let r = rw e at (w .asked .known .1) in (r .0 .inside, r .1 .0 .inside)
-
   -- what is asked of its two parts, one after the other
   pub two-asks : PutAsks h (Shown left) (pair (getD (h .sheet) (n + 1) 0) (getD (h .sheet) (n + 2) 0) vfalse)
   two-asks =
       let z : h .top + 513 * suc (h .levels) ≤ SCRATCH = w .asked .room in
-      ready-for (w .asked) children (given-shown (w .asked .given) (parts (w .asked .given .shown) .one)) refl (omega arith) (omega arith) (le-refl _)
+      ready-for (w .asked) (two-known (h .sheet) (w .asked .sheet .sh) n (w .two) (w .asked .known))
+      (given-shown (w .asked .given) (parts (w .asked .given .shown) .one)) refl (omega arith) (omega arith) (le-refl _)
       (omega arith)
 
   pub right-view : SomeView right

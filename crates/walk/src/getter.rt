@@ -97,6 +97,7 @@ pub fn get_node(
     if kind == 0x1A {
         return later(get_call(sheet, table, arena, scope, n, kind, below), 1);
     }
+    // 1B: no other kind is left
     later(get_add(sheet, table, arena, scope, n, kind, below), 1)
 }
 

@@ -3,9 +3,10 @@
 //! The arena is 65,536 bytes: the plan from 0, the 256 bytes of each cell from 4,096, and from 32,256 a stack of the values
 //! that are being built. A walk at `top` leaves the stack below `top` and the plan alone.
 ghost use Rattle.rules.specs.Answer.{getBytes, putBytes};
-ghost use Rattle.walk.specs.Entry.{Planned, PlanWalked, WalkCall};
+ghost use Rattle.rules.specs.Numbers.{GET-OUTPUT, PUT-OUTPUT};
+ghost use Rattle.walk.specs.Entry.{Planned, PlanWalked, Unread, WalkCall};
 ghost use Rattle.walk.specs.Gather.{SomePlaced, Gathered};
-ghost use Rattle.walk.specs.PutEntry.{Viewed};
+ghost use Rattle.walk.specs.PutEntry.{PutUnread, Viewed};
 
 mod at;
 mod bytes;
@@ -46,7 +47,7 @@ fn get_plan(
     arena: &mut [u8],
 ) -> Walked
     requires { ⌜ Planned (now sheet) (now plan) table scope allowance (now arena) ⌝ }
-    ensures { λ r. ⌜ PlanWalked 256 (getBytes (now (sheet .entry)) (now (plan .entry)) allowance) (now (arena .entry)) (now (arena .exit)) r ⌝ }
+    ensures { λ r. ⌜ PlanWalked GET-OUTPUT (getBytes (now (sheet .entry)) (now (plan .entry)) allowance) (now (arena .entry)) (now (arena .exit)) r ⌝ }
 {
     copy_in(plan, arena);
     let at = At {
@@ -66,9 +67,10 @@ fn get_plan(
     }
 }
 
-/// Get: the value of a sheet's root for a plan, at byte 32,256 of the arena, of which the first 65,536 bytes are used.
+/// Get: the value of a sheet's root for a plan, at byte 32,256 of the arena, of which the first 65,536 bytes are
+/// used. Where the sheet or the plan is refused the arena is as it was; otherwise those bytes are free, and may hold anything.
 pub fn get(sheet: &[u8], plan: &[u8], allowance: usize, arena: &mut [u8]) -> Walked
-    ensures { λ r. ⌜ WalkCall 256 (getBytes (now (sheet .entry)) (now (plan .entry)) allowance) allowance (now (arena .entry)) (now (arena .exit)) r ⌝ }
+    ensures { λ r. ⌜ WalkCall (Unread (now (sheet .entry)) (now (plan .entry))) GET-OUTPUT (getBytes (now (sheet .entry)) (now (plan .entry)) allowance) allowance (now (arena .entry)) (now (arena .exit)) r ⌝ }
 {
     if arena.len() < rules::SCRATCH {
         return Walked::Refused(2);
@@ -124,7 +126,7 @@ fn put_plan(
 ) -> Walked
     requires { ⌜ Planned (now sheet) (now plan) table scope allowance (now arena) ⌝ }
     requires { ⌜ Viewed (now view) ⌝ }
-    ensures { λ r. ⌜ PlanWalked 4096 (putBytes (now (sheet .entry)) (now (plan .entry)) (now (view .entry)) allowance) (now (arena .entry)) (now (arena .exit)) r ⌝ }
+    ensures { λ r. ⌜ PlanWalked PUT-OUTPUT (putBytes (now (sheet .entry)) (now (plan .entry)) (now (view .entry)) allowance) (now (arena .entry)) (now (arena .exit)) r ⌝ }
 {
     copy_in(plan, arena);
     let mut slots = [0u16; 110];
@@ -157,9 +159,10 @@ fn put_plan(
     }
 }
 
-/// Put: the plan for which a sheet's root is the view, at byte 32,256 of the arena, of which the first 65,536 bytes are used.
+/// Put: the plan for which a sheet's root is the view, at byte 32,256 of the arena, of which the first 65,536 bytes are
+/// used. Where the sheet or the plan is refused the arena is as it was; otherwise those bytes are free, and may hold anything.
 pub fn put(sheet: &[u8], plan: &[u8], view: &[u8], allowance: usize, arena: &mut [u8]) -> Walked
-    ensures { λ r. ⌜ WalkCall 4096 (putBytes (now (sheet .entry)) (now (plan .entry)) (now (view .entry)) allowance) allowance (now (arena .entry)) (now (arena .exit)) r ⌝ }
+    ensures { λ r. ⌜ WalkCall (PutUnread (now (sheet .entry)) (now (plan .entry)) (now (view .entry))) PUT-OUTPUT (putBytes (now (sheet .entry)) (now (plan .entry)) (now (view .entry)) allowance) allowance (now (arena .entry)) (now (arena .exit)) r ⌝ }
 {
     if arena.len() < rules::SCRATCH {
         return Walked::Refused(2);

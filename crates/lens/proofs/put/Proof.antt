@@ -31,7 +31,7 @@ returns : tie.Need-returns
 returns c = with-stands _ _ _ _ _ _ (call-shut (put-behind _ _ _ _ _ _) (c .before .door .ensures) (c .if1 .taken))
 
 refused-requires : tie.Need-refused-requires
-refused-requires c κs = let w = stopped c in omega (arith, lent (opened w) .scratch-long, w .put .ensures .long)
+refused-requires c κs = let w = stopped c in omega (arith, lent (opened w) .scratch-long, w .put .ensures .free .long)
 
 given-requires : tie.Need-given-requires
 given-requires c κs =

@@ -6,6 +6,7 @@ use native.Mathlib.Omega.{arith}
 use denote.Ref.{now}
 use lib.ListN.{length}
 use lib.Seq.{length-take-le}
+use Rattle.rules.specs.Numbers.{ALLOWANCE, SCRATCH}
 use Rattle.walk.specs.Entry.{
   TableRead,
   table-read,
@@ -15,6 +16,8 @@ use Rattle.walk.specs.Entry.{
   call-done,
   sheet-refusal,
   plan-refusal,
+  plan-values,
+  all-read,
   planned,
   get-sheet-refused,
   get-plan-refused,
@@ -37,7 +40,7 @@ abbrev of-plan : tie.After-of-spans → tie.Else4
 of-plan c = c .before
 
 -- WHAT IS KNOWN THERE
-room : (c : tie.Else2) → (65536 ≤ length (now (entry c .args .arena))) × (entry c .args .allowance ≤ 1000000)
+room : (c : tie.Else2) → (SCRATCH ≤ length (now (entry c .args .arena))) × (entry c .args .allowance ≤ ALLOWANCE)
 room c = (omega (arith, c .before .if1 .left), omega (arith, c .if2 .left))
 
 table : (c : tie.Else3) → TableRead (now (entry (lent c) .args .sheet)) (c .before .before .read-sheet .result)
@@ -66,7 +69,7 @@ of-spans-requires : tie.Need-of-spans-requires
 of-spans-requires c κs = table (of-sheet c) .few
 
 slice-aggregate-get-plan : tie.Need-slice-aggregate-get-plan
-slice-aggregate-get-plan c = let l = lent (of-sheet (of-plan (c .before))) in sym (length-take-le 65536 (now (entry l .args .arena)) (room l .0))
+slice-aggregate-get-plan c = let l = lent (of-sheet (of-plan (c .before))) in sym (length-take-le SCRATCH (now (entry l .args .arena)) (room l .0))
 
 get-plan-requires : tie.Need-get-plan-requires
 get-plan-requires c κs =
@@ -77,8 +80,11 @@ get-plan-requires c κs =
 
 returns-5 : tie.Need-returns-5
 returns-5 c =
-    let h = room (lent (of-sheet (of-plan (c .before .before .before .before)))) in
-    call-done (h .0) (h .1) (omega arith) (c .before .before .get-plan .ensures)
+    let p = of-plan (c .before .before .before .before) in
+    let t = table (of-sheet p) in
+    let h = room (lent (of-sheet p)) in
+    let read = all-read (t .read) (plan-values _ t (p .before .before .read-plan .ensures) (p .if4 .left) .1) in
+    call-done (h .0) (h .1) read (omega arith) (c .before .before .get-plan .ensures)
 
 pub get-spec : {M : Type 1} → statement M
 get-spec = tie.close (tie.spec returns returns-2 (λ c κs. search needs) returns-3 (λ c κs. search needs) returns-4 of-spans-requires

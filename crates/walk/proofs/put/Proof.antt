@@ -6,8 +6,9 @@ use native.Mathlib.Omega.{arith}
 use denote.Ref.{now}
 use lib.ListN.{length}
 use lib.Seq.{length-take-le}
-use Rattle.walk.specs.Entry.{TableRead, table-read, call-2, call-3, call-refused, call-done, sheet-refusal, plan-refusal, plan-values, planned}
-use Rattle.walk.specs.PutEntry.{viewed, view-refused, put-sheet-refused, put-plan-refused, put-view-refused}
+use Rattle.rules.specs.Numbers.{ALLOWANCE, SCRATCH}
+use Rattle.walk.specs.Entry.{TableRead, table-read, call-2, call-3, call-refused, call-done, sheet-refusal, plan-refusal, plan-values, all-read, planned}
+use Rattle.walk.specs.PutEntry.{put-all-read, viewed, view-refused, put-sheet-refused, put-plan-refused, put-view-refused}
 use borrow.Author.Needs.{needs}
 use Rattle.walk.proofs.put.Statement.{statement}
 use Rattle.walk.proofs.put.Tie as tie
@@ -29,7 +30,7 @@ abbrev of-view : tie.After-of-spans → tie.Else5
 of-view c = c .before
 
 -- WHAT IS KNOWN THERE
-room : (c : tie.Else2) → (65536 ≤ length (now (entry c .args .arena))) × (entry c .args .allowance ≤ 1000000)
+room : (c : tie.Else2) → (SCRATCH ≤ length (now (entry c .args .arena))) × (entry c .args .allowance ≤ ALLOWANCE)
 room c = (omega (arith, c .before .if1 .left), omega (arith, c .if2 .left))
 
 table : (c : tie.Else3) → TableRead (now (entry (lent c) .args .sheet)) (c .before .before .read-sheet .result)
@@ -68,7 +69,7 @@ of-spans-requires c κs = table (of-sheet (of-plan c)) .few
 slice-aggregate-put-plan : tie.Need-slice-aggregate-put-plan
 slice-aggregate-put-plan c =
     let l = lent (of-sheet (of-plan (of-view (c .before)))) in
-    sym (length-take-le 65536 (now (entry l .args .arena)) (room l .0))
+    sym (length-take-le SCRATCH (now (entry l .args .arena)) (room l .0))
 
 put-plan-requires : tie.Need-put-plan-requires
 put-plan-requires c κs =
@@ -82,8 +83,12 @@ put-plan-requires c κs =
 
 returns-6 : tie.Need-returns-6
 returns-6 c =
-    let h = room (lent (of-sheet (of-plan (of-view (c .before .before .before .before))))) in
-    call-done (h .0) (h .1) (omega arith) (c .before .before .put-plan .ensures)
+    let v = of-view (c .before .before .before .before) in
+    let p = of-plan v in
+    let t = table (of-sheet p) in
+    let h = room (lent (of-sheet p)) in
+    let read = all-read (t .read) (plan-values _ t (p .before .before .read-plan .ensures) (p .if4 .left) .1) in
+    call-done (h .0) (h .1) (put-all-read read (viewed _ (v .before .read-view .ensures) (v .if5 .left))) (omega arith) (c .before .before .put-plan .ensures)
 
 pub put-spec : {M : Type 1} → statement M
 put-spec = tie.close (tie.spec returns returns-2 (λ c κs. search needs) returns-3 (λ c κs. search needs) returns-4 (λ c κs. search needs) returns-5
