@@ -6,9 +6,15 @@ use reference::{ALLOWANCE, PUT_OUT, SCRATCH};
 pub struct Row {
     pub name: &'static str,
     pub job: Job,
-    /// A walk of about 250,000 steps, which has a limit of its own (`WALKING_LIMIT`).
-    pub walking: bool,
+    /// How many times the reference's time the archive may take.
+    pub limit: f64,
 }
+
+const LIMIT: f64 = 1.7;
+/// The limit of a job with a 1C.
+const EACH_LIMIT: f64 = 1.8;
+/// The limit of a walk of about 250,000 steps.
+const WALKING_LIMIT: f64 = 2.6;
 
 const IDENTITY: &[u8] = &[0x01, 0x01, 0x00, 0x10, 0x00];
 const JOIN: &[u8] = &[
@@ -30,6 +36,29 @@ const RAISE: &[u8] = &[
     0x13, // 9
 ];
 
+/// Adds 100 to every member, by a 1C.
+const RAISE_EACH: &[u8] = &[
+    0x01, 0x01, 0x00, 0x20, 0x03, // section 0 from node 3
+    0x1C, 0x01, 0x00, 0x00, 0x02, // 0: each
+    0x10, 0x00, // 1: the list
+    0x14, 0x00, 0x00, // 2: the default
+    0x1B, 0x04, 0x00, 0x64, // 3: the member and 100
+    0x10, 0x00, // 4
+];
+/// Turns every pair of a list round, by a 1C.
+const TURN_EACH: &[u8] = &[
+    0x01, 0x01, 0x00, 0x20, 0x03, // section 0 from node 3
+    0x1C, 0x01, 0x00, 0x00, 0x02, // 0: each
+    0x10, 0x00, // 1: the list
+    0x16, 0x08, 0x08, // 2: the default
+    0x19, 0x04, 0x05, // 3: split
+    0x10, 0x00, // 4: the member
+    0x16, 0x06, 0x07, // 5: the pair of its second part
+    0x10, 0x03, // 6
+    0x10, 0x02, // 7: and its first
+    0x11, // 8
+];
+
 pub fn rows() -> Vec<Row> {
     let one = numbers(1..2);
     let mut rows = vec![
@@ -46,6 +75,8 @@ pub fn rows() -> Vec<Row> {
         )],
         both("typical: 16 numbers to a list", &listing(), (0..16).flat_map(|n| [0x04, 0, n]).collect(), Some(numbers(20..36))),
         both("typical: splits 40 deep", &splits(40), nested(40), None),
+        limited(EACH_LIMIT, both("typical: add to each of 63 numbers", RAISE_EACH, numbers(0..63), Some(numbers(200..263)))),
+        limited(EACH_LIMIT, both("typical: split each of 21 pairs", TURN_EACH, pairs(0..21), Some(pairs(40..61)))),
         both("heavy: full plan, 16 values of 255 bytes", &[0x01, 0x10, 0x00, 0x10, 0x00], full_plan(), None),
         walking("walking: truth cases", truths, &[0x01]),
         walking("walking: list cases of 63 numbers", lists, &numbers(0..63)),
@@ -57,12 +88,12 @@ pub fn rows() -> Vec<Row> {
 
 impl Clone for Row {
     fn clone(&self) -> Row {
-        Row { name: self.name, job: self.job.clone(), walking: self.walking }
+        Row { name: self.name, job: self.job.clone(), limit: self.limit }
     }
 }
 
 fn row(name: &str, sheet: &[u8], plan: Vec<u8>, view: Option<Vec<u8>>) -> Row {
-    Row { name: String::from(name).leak(), job: Job { sheet: sheet.to_vec(), plan, view, allowance: ALLOWANCE }, walking: false }
+    Row { name: String::from(name).leak(), job: Job { sheet: sheet.to_vec(), plan, view, allowance: ALLOWANCE }, limit: LIMIT }
 }
 
 /// A get, and a put of `view` or else of the list that the get gives.
@@ -70,6 +101,11 @@ fn both(name: &str, sheet: &[u8], plan: Vec<u8>, view: Option<Vec<u8>>) -> Vec<R
     let get = row(&format!("{name}, get"), sheet, plan.clone(), None);
     let view = view.unwrap_or_else(|| run(&get.job).0);
     vec![get, row(&format!("{name}, put"), sheet, plan, Some(view))]
+}
+
+/// The rows with another limit.
+fn limited(limit: f64, rows: Vec<Row>) -> Vec<Row> {
+    rows.into_iter().map(|row| Row { limit, ..row }).collect()
 }
 
 /// How many steps a walking job takes, as near as its nodes come.
@@ -108,7 +144,7 @@ fn walking(name: &str, family: Family, plan: &[u8]) -> Vec<Row> {
                     case(count + subject, if next < count { next } else { count + STARTS }, count + STARTS + 1)
                 })
                 .collect();
-            Row { walking: true, ..row(&format!("{name}, {way}"), &family(&chain, count), plan.to_vec(), view) }
+            Row { limit: WALKING_LIMIT, ..row(&format!("{name}, {way}"), &family(&chain, count), plan.to_vec(), view) }
         })
         .to_vec()
 }
@@ -134,6 +170,13 @@ pub fn run(job: &Job) -> (Vec<u8>, u32) {
 
 fn numbers(range: std::ops::Range<u16>) -> Vec<u8> {
     let mut list: Vec<u8> = range.flat_map(|n| [0x03, 0x04, (n >> 8) as u8, n as u8]).collect();
+    list.push(0x02);
+    list
+}
+
+/// A list of pairs: n and 100 more.
+fn pairs(range: std::ops::Range<u8>) -> Vec<u8> {
+    let mut list: Vec<u8> = range.flat_map(|n| [0x03, 0x05, 0x04, 0, n, 0x04, 0, n + 100]).collect();
     list.push(0x02);
     list
 }

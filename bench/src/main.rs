@@ -16,9 +16,6 @@ const BATCHES: usize = 101;
 /// About how long a batch takes.
 const BATCH: Duration = Duration::from_millis(1);
 
-const LIMIT: f64 = 1.7;
-const WALKING_LIMIT: f64 = 2.6;
-
 struct Buffers {
     out: Vec<u8>,
     scratch: Vec<u8>,
@@ -121,7 +118,7 @@ fn main() {
             std::process::exit(1);
         });
         let Measured { ours, theirs, ratio } = measure(&row.job, &mut buffers);
-        let limit = if row.walking { WALKING_LIMIT } else { LIMIT };
+        let limit = row.limit;
         within += usize::from(ratio <= limit);
         let a_step = |ns: f64| if steps == 0 { "-".to_string() } else { format!("{:.1}", ns / f64::from(steps)) };
         lines.push(format!(

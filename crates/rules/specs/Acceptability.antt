@@ -1,15 +1,16 @@
 -- Law 2, acceptability: what get has given, put takes back and changes nothing.
 use mathlib.Core.Path.{_≡_, refl, sym}
 use mathlib.Core.Option.{Option, none, some, Option·none-ne-some, Option·some-injective}
-use mathlib.Core.List.{List, _++_}
+use mathlib.Core.List.{List, [], _∷_, _++_}
 use Prim.Native.Nat.{ℕ, zero, suc, _+_, _*_, _≤_}
 use native.Mathlib.Omega.{arith}
 use native.Mathlib.Nat.{add-sub-cancel}
 use lib.ListN.{length, getElem?}
-use Rattle.value.specs.Value.{Value, vfalse, vtrue, list, number, pair, nil, cons, size, Fits}
+use Rattle.value.specs.Value.{Value, Values, vfalse, vtrue, list, number, pair, nil, cons, size, sizes, Fits}
+use Rattle.value.specs.Encoding.{size-pos}
 use Rattle.value.specs.Views.{asList, asFront, asPair, asNumber, asTruth}
 use Rattle.sheet.specs.declared.Node.{Node}
-use Rattle.sheet.specs.declared.Node.the-variants.{Var, False, True, Empty, Number, Front, Pair, ListCase, TruthCase, Split, Call, Add}
+use Rattle.sheet.specs.declared.Node.the-variants.{Var, False, True, Empty, Number, Front, Pair, ListCase, TruthCase, Split, Call, Add, Each}
 use Rattle.sheet.specs.Sheet.{Sheet}
 use Rattle.rules.specs.Outcome.{Out, done, _>>=_}
 use Rattle.rules.specs.Text
@@ -22,6 +23,8 @@ use Rattle.rules.specs.Rules.{
   bounded,
   tested,
   onList,
+  restOf,
+  getEach,
   getNode,
   get,
   orOld,
@@ -29,6 +32,7 @@ use Rattle.rules.specs.Rules.{
   write,
   both,
   under,
+  putEach,
   mkList,
   mkPair,
   putNode,
@@ -65,6 +69,7 @@ use Rattle.rules.specs.Related.{
   all2-take,
   all2-set,
   at-left,
+  at-behind,
   at-seam,
   at-last,
 }
@@ -111,6 +116,24 @@ or-old (some w) m h = h w refl
 
 pub free : (m w : Value) → none ≡ some w → w ≡ m
 free m w e = absurd (Option·none-ne-some w e)
+
+module _ (g : Getter) (p : Putter) (l : ℕ) (ih : Stable g p l) (root d c : ℕ) (a : Value) (ω : Env) (e : getElem? ω c ≡ some a) (za : Fits a) where
+  -- what the members give is taken back, and the members are the old ones: k and n are the bytes of those before, with the 02
+  each-accepts : (k : ℕ) (old : Values) → k ≤ 256 → Fits (list old) → After (Unit {0}) (λ ws s. (k + sizes ws ≤ 257)
+      × ((n : ℕ) (W : Cells) → n + sizes old ≤ 257 → Keeps W ω
+      → After ⊥ (λ q t. (q .0 ≡ old) × Keeps (q .1) ω × (t ≤ l * s)) (putEach g p root d c a n old ws W))) (getEach g root a k old)
+  unfolding Text.getEach Text.putEach Text.stoodFor onList restOf size sizes
+  each-accepts k nil zk z = fine (omega arith, λ n W zn kw. fine (refl, kw, omega arith))
+  each-accepts k (cons m r) zk z =
+      after-bind (ih root _ _ (ω ++ m ∷ []) (more (at-behind ω m [], omega arith) (more (at-left ω _ c e, za) ends))) λ w i _ hw. after-given _ λ z′ _.
+      after-bind (each-accepts _ r z′ (omega arith)) λ ws j _ h. fine (
+        omega (arith, h .0),
+        λ n W zn kw.
+            rw (all2-length kw) (gives-bind _ (gives-of refl) λ y hy. after-bind (hw .1 _ (all2-append kw (more (free m) ends))) λ X t _ hx.
+            let (o, eo, ko) = all2-at _ (all2-flip (hx .0)) (at-behind ω m []) in given-some _ _ eo (rw (or-old o m ko)
+            (given-when _ _ (omega (arith, size-pos (list r))) λ _. after-bind (h .1 _ _ (omega arith) (all2-take ω _ (hx .0))) λ q u _ hq.
+            fine (rw (hq .0) refl, hq .1, omega (arith, hq .2))))),
+      )
 
 module _ (g : Getter) (p : Putter) (l : ℕ) (ih : Stable g p l) (sh : Sheet) (μ : Env) (σ : List ℕ) (ω : Env) (old : Old σ ω μ) where
   both-takes : (a b : ℕ) (x y : Value) (i j : ℕ) → Accepts (p a μ σ) ω x i → Accepts (p b μ σ) ω y j → (W : Cells) → Keeps W ω
@@ -177,6 +200,15 @@ module _ (g : Getter) (p : Putter) (l : ℕ) (ih : Stable g p l) (sh : Sheet) (�
     λ W kw.
         given-number (m .0 + k) _ _ q λ _. given-when _ _ (omega arith) λ _. rw add-sub-cancel (kept-le ((rw (m .1) at h) .1 W kw) (omega arith)),
   )
+  node-accepts (Each s sec x d) = after-bind (ih s μ σ ω old) λ o i eo ho. after-given _ λ m em. after-given _ λ a ea.
+      let (c, ec, hc) = all2-at x (all2-flip old) ea in let hm : Accepts (p s μ σ) ω (list (m .0)) (l * i) = rw (m .1) at ho in
+      after-bind (each-accepts g p l ih _ d c a ω (hc .0) (hc .1) _ (m .0) (omega arith) (hm .0)) λ ws j _ h. fine (
+        omega (arith, h .0),
+        λ W k.
+            given-some _ _ refl (kept-again {b = l * j + l * i} _ eo (given-some _ _ em (given-some _ _ ea (given-some _ _ ec
+            (after-bind (h .1 _ W (omega (arith, hm .0)) k) λ q t _ hq. rw (hq .0) (after-map (hm .1 (q .1) (hq .1)) λ X u hx.
+            (hx .0, omega (arith, hq .2))))))) (omega arith)),
+      )
 
 pub stable : (l : ℕ) (sh : Sheet) → Stable (get l sh) (put l sh) l
 unfolding Text.get Text.put

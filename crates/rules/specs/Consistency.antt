@@ -5,13 +5,14 @@ use mathlib.Core.Option.{Option, none, some, Option·none-ne-some, Option·some-
 use mathlib.Core.List.{List, _++_}
 use Prim.Native.Nat.{ℕ, zero, suc, _+_, _-_, _≤_}
 use native.Mathlib.Omega.{arith}
-use lib.ListN.{length, set, getElem?}
+use lib.ListN.{length, take, set, getElem?}
 use native.Mathlib.Nat.{sub-add-cancel}
-use Rattle.value.specs.Value.{Value, vfalse, vtrue, list, number, pair, nil, cons, size, truth, Fits}
+use Rattle.value.specs.Value.{Value, Values, vfalse, vtrue, list, number, pair, nil, cons, size, sizes, truth, Fits}
+use Rattle.value.specs.Encoding.{size-pos}
 use Rattle.value.specs.Views.{asList, asPair, asNumber, asTruth}
 use Rattle.value.specs.Tests.{Passes}
 use Rattle.sheet.specs.declared.Node.{Node}
-use Rattle.sheet.specs.declared.Node.the-variants.{Var, False, True, Empty, Number, Front, Pair, ListCase, TruthCase, Split, Call, Add}
+use Rattle.sheet.specs.declared.Node.the-variants.{Var, False, True, Empty, Number, Front, Pair, ListCase, TruthCase, Split, Call, Add, Each}
 use Rattle.sheet.specs.Sheet.{Sheet}
 use Rattle.rules.specs.Outcome.{Out, done, _>>=_}
 use Rattle.rules.specs.Text
@@ -25,6 +26,7 @@ use Rattle.rules.specs.Rules.{
   bounded,
   tested,
   onList,
+  getEach,
   getNode,
   get,
   orOld,
@@ -32,6 +34,8 @@ use Rattle.rules.specs.Rules.{
   write,
   both,
   under,
+  stoodFor,
+  putEach,
   mkList,
   mkPair,
   putNode,
@@ -98,6 +102,9 @@ later-trans = all2-join λ a b c h k w e. k w (h w e)
 earlier : {X Y : Cells} {σ : List ℕ} {μ : Env} → Later X Y → Agree σ Y μ → Agree σ X μ
 earlier h = all2-map λ c m r. let (o, eo, k) = all2-at c (all2-flip h) (r .1) in (o, eo, λ w e. r .2 w (k w e))
 
+untaken : (n : ℕ) (X : Cells) {σ : List ℕ} {μ : Env} → Agree σ (take n X) μ → Agree σ X μ
+untaken n X = all2-map λ c m r. (r .0, at-take n X c (r .1), r .2)
+
 pub or-new : (o : Option Value) (m w : Value) → o ≡ some w → orOld o m ≡ w
 unfolding Text.orOld
 or-new o m w e = rw e refl
@@ -137,6 +144,21 @@ unfolding size
 size-truth false = refl
 size-truth true = refl
 
+module _ (g : Getter) (p : Putter) (ih : Lawful g p) (root d c : ℕ) (a : Value) where
+  -- the members as they are then are few enough, and give the view's again: n and k are the bytes of those before, with the 02
+  each-law : (n k : ℕ) (old l : Values) (W : Cells) → n ≤ 256 → k + sizes l ≤ 257 → After (Unit {0})
+      (λ q s. Later W (q .1) × (n + sizes (q .0) ≤ 257) × ((b : Value) → Reads (q .1) c b → Gives (getEach g root b k (q .0)) l s))
+      (putEach g p root d c a n old l W)
+  unfolding Text.putEach Text.getEach size sizes
+  each-law n k old nil W z zl = fine (later-refl W, omega arith, λ b r. fine (refl, omega arith))
+  each-law n k old (cons v r) W z zl = after-bind (after-any (stoodFor g d old) tt) λ m i _ _. after-bind (ih root _ _ v _ (omega arith)) λ X j _ hx.
+      after-given _ λ o eo. after-given _ λ z′ _. after-bind (each-law _ (k + suc (size v)) _ r _ z′ (omega arith)) λ q t _ h. fine (
+        later-trans (all2-flip (all2-take W _ (all2-flip (hx .0)))) (h .0),
+        omega (arith, h .1),
+        λ b rb. gives-bind _ (hx .1 _ (more (o, eo, or-new o m) (untaken (length W) X (earlier (h .0) (more rb ends))))) λ u hu.
+            given-when _ _ (omega (arith, size-pos (list r))) λ _. gives-bind _ (h .2 b rb) λ w hw. fine (refl, omega arith),
+      )
+
 module _ (g : Getter) (p : Putter) (ih : Lawful g p) (sh : Sheet) (μ : Env) (σ : List ℕ) (v : Value) (W : Cells) where
   abbrev Lays : (Env → Out Value) → Out Cells → Type 0
   Lays G = After (Unit {0}) (Puts G σ v W)
@@ -154,7 +176,7 @@ module _ (g : Getter) (p : Putter) (ih : Lawful g p) (sh : Sheet) (μ : Env) (σ
   under-law G b s mk f r zv k = after-bind (ih b _ _ v _ zv) λ X i _ hx. after-given _ λ x ex. after-given _ λ y ey.
       after-given _ λ u eu. after-given _ λ zu _. after-map (ih s μ σ u _ zu) λ Y j hy. (
         later-trans (all2-flip (all2-take W _ (all2-flip (hx .0)))) (hy .0),
-        λ μ′ ag. k μ′ _ _ u i j eu (hx .1 _ (all2-append (all2-map (λ c m h. (h .0, at-take (length W) X c (h .1), h .2)) (earlier (hy .0) ag))
+        λ μ′ ag. k μ′ _ _ u i j eu (hx .1 _ (all2-append (untaken (length W) X (earlier (hy .0) ag))
             (more (x, ex, or-new x f) (more (y, ey, or-new y r) ends)))) (hy .1 μ′ ag),
       )
 
@@ -200,6 +222,13 @@ module _ (g : Getter) (p : Putter) (ih : Lawful g p) (sh : Sheet) (μ : Env) (σ
         gives-bind _ (h .1 μ′ ag) λ t ht. given-number (m .0 - k) _ _ (omega (arith, m .2)) λ _.
         given-when _ _ (omega (arith, m .2)) λ _. fine (rw (sub-add-cancel low) (sym (m .1)), omega arith),
   )
+  node-law (Each s sec x d) z = after-given _ λ l _. let z′ : Fits (list (l .0)) = rw (l .1) at z in puts-bind _ λ o. after-given _ λ old _.
+      after-given _ λ a _. after-given _ λ c ec. after-bind (each-law g p ih _ d c a _ 1 (old .0) (l .0) W (omega arith) (omega arith)) λ q i _ hq.
+      after-map (ih s μ σ (list (q .0)) (q .1) (omega (arith, hq .1))) λ X j hx. (
+        later-trans (hq .0) (hx .0),
+        λ μ′ ag. let (b, eb, rb) = all2-at x (earlier (hx .0) ag) ec in gives-bind _ (hx .1 μ′ ag) λ t ht.
+            given-some _ _ refl (given-some _ _ eb (gives-bind _ (hq .2 b rb) λ u hu. fine (sym (l .1), omega arith))),
+      )
 
 pub lawful : (l : ℕ) (sh : Sheet) → Lawful (get l sh) (put l sh)
 unfolding Text.get Text.put

@@ -1,9 +1,10 @@
 -- The starred examples of document 01, as one table, and one claim over it.
 use mathlib.Core.Path.{_≡_, refl}
 use mathlib.Core.Option.{Option, none, some}
-use mathlib.Core.List.{List, [], _∷_, map}
-use Prim.Native.Nat.{ℕ}
+use mathlib.Core.List.{List, [], _∷_, _++_, map}
+use Prim.Native.Nat.{ℕ, suc}
 use native.Mathlib.Decide.{decLe, ℕ-discrete}
+use lib.ListN.{replicate}
 use Rattle.value.specs.Result.{andThen, mapResult, orRefuse, unless}
 use Rattle.value.specs.Value.{encode, encodes, size, sizes, flat, sameValue}
 use Rattle.value.specs.Views.{asList, asFront, asPair, asNumber, ifSmall, asTruth}
@@ -28,7 +29,7 @@ use Rattle.sheet.specs.Kinds.{formOf, bodyWidth, make, nodeInRange}
 use Rattle.rules.specs.Outcome.{plus, steps, when, _>>=_, mapOut, given, reading, choose}
 use Rattle.rules.specs.Allowance.{cap, within}
 use Rattle.rules.specs.Text
-use Rattle.rules.specs.Rules.{bounded, tested, onList, getNode, get, orOld, constant, write, both, under, mkList, mkPair, putNode, put}
+use Rattle.rules.specs.Rules.{bounded, tested, onList, restOf, getNode, get, orOld, constant, write, both, under, mkList, mkPair, putNode, put}
 use Rattle.rules.specs.Answer.{Answer, refusal, success, answer, door, getWalk, getBytes, getAnswer, count, newPlan, putWalk, putBytes, putAnswer}
 use Rattle.rules.specs.Numbers.{SCRATCH, PUT-OUTPUT}
 
@@ -104,7 +105,7 @@ unfolding rows run call getAnswer getBytes getWalk putAnswer putBytes putWalk an
     decLe ℕ-discrete
 starred = refl
 
--- Rows that tell the rules from document 01's plausible but mistaken builds
+-- Rows that tell the rules from document 01's plausible but mistaken builds; of the each, from those of document 02, request 1
 
 -- a truth case whose two tests are both True
 abbrev pub first : List ℕ
@@ -129,6 +130,35 @@ abbrev pub breaks : List ℕ
 breaks = 0x01 ∷ 0x01 ∷ 0x00 ∷ 0x17 ∷ 0x01 ∷ 0x02 ∷ 0x01 ∷ 0x03 ∷ 0x00 ∷ 0x04 ∷ 0x05 ∷ 0x10 ∷ 0x00 ∷ 0x13 ∷ 0x10 ∷ 0x02 ∷ 0x12 ∷ 0x15 ∷ 0x06 ∷ 0x07 ∷ 0x14 ∷
     0x00 ∷ 0x09 ∷ 0x13 ∷ []
 
+-- a value of 2n + 1 bytes
+abbrev pub nest : ℕ → List ℕ
+nest n = replicate n 0x05 ++ replicate (suc n) 0x00
+
+-- an each (its subject is variable 0): every member, with 1 added, is paired with variable 1
+abbrev pub paired : List ℕ
+paired = 0x01 ∷ 0x02 ∷ 0x00 ∷ 0x20 ∷ 0x02 ∷ 0x1C ∷ 0x01 ∷ 0x00 ∷ 0x01 ∷ 0x01 ∷ 0x10 ∷ 0x00 ∷ 0x16 ∷ 0x03 ∷ 0x04 ∷ 0x1B ∷ 0x05 ∷ 0x00 ∷ 0x01 ∷ 0x10 ∷ 0x01 ∷
+    0x10 ∷ 0x00 ∷ []
+
+-- one that gives the members as they are; the default is 7
+abbrev pub grown : List ℕ
+grown = 0x01 ∷ 0x01 ∷ 0x00 ∷ 0x20 ∷ 0x02 ∷ 0x1C ∷ 0x01 ∷ 0x00 ∷ 0x00 ∷ 0x03 ∷ 0x10 ∷ 0x00 ∷ 0x10 ∷ 0x00 ∷ 0x14 ∷ 0x00 ∷ 0x07 ∷ []
+
+-- one whose section is False, so that no member is written; the default is 7
+abbrev pub kept : List ℕ
+kept = 0x01 ∷ 0x01 ∷ 0x00 ∷ 0x20 ∷ 0x02 ∷ 0x1C ∷ 0x01 ∷ 0x00 ∷ 0x00 ∷ 0x03 ∷ 0x10 ∷ 0x00 ∷ 0x11 ∷ 0x14 ∷ 0x00 ∷ 0x07 ∷ []
+
+-- the same, but the default is a variable, which is not in scope there
+abbrev pub alone : List ℕ
+alone = 0x01 ∷ 0x01 ∷ 0x00 ∷ 0x20 ∷ 0x02 ∷ 0x1C ∷ 0x01 ∷ 0x00 ∷ 0x00 ∷ 0x01 ∷ 0x10 ∷ 0x00 ∷ 0x11 ∷ []
+
+-- one whose variable is not in scope
+abbrev pub unbound : List ℕ
+unbound = 0x01 ∷ 0x01 ∷ 0x00 ∷ 0x20 ∷ 0x02 ∷ 0x1C ∷ 0x01 ∷ 0x00 ∷ 0x01 ∷ 0x02 ∷ 0x10 ∷ 0x00 ∷ 0x11 ∷ []
+
+-- one whose section gives its variable 1
+abbrev pub shared : List ℕ
+shared = 0x01 ∷ 0x02 ∷ 0x00 ∷ 0x20 ∷ 0x02 ∷ 0x1C ∷ 0x01 ∷ 0x00 ∷ 0x01 ∷ 0x01 ∷ 0x10 ∷ 0x00 ∷ 0x10 ∷ 0x01 ∷ []
+
 unfoldable pub telling : List Row
 telling =
     (puts first (0x01 ∷ []) (0x01 ∷ []) (success (0x01 ∷ []) 4))
@@ -136,12 +166,37 @@ telling =
     ∷ (puts again (0x00 ∷ 0x00 ∷ []) (0x01 ∷ []) (refusal 54))
     ∷ (puts opens (0x02 ∷ []) (0x01 ∷ []) (success (0x03 ∷ 0x01 ∷ 0x03 ∷ 0x04 ∷ 0x00 ∷ 0x09 ∷ 0x02 ∷ []) 8))
     ∷ (puts breaks (0x02 ∷ []) (0x01 ∷ []) (refusal 43))
+    -- an each: both variables of its section, and its steps
+    ∷ (gets paired (0x03 ∷ 0x04 ∷ 0x00 ∷ 0x01 ∷ 0x03 ∷ 0x04 ∷ 0x00 ∷ 0x02 ∷ 0x02 ∷ 0x00 ∷ []) (success (0x03 ∷ 0x05 ∷ 0x04 ∷ 0x00 ∷ 0x02 ∷ 0x00 ∷ 0x03 ∷
+    0x05 ∷ 0x04 ∷ 0x00 ∷ 0x03 ∷ 0x00 ∷ 0x02 ∷ []) 10))
+    -- 44 where 257 bytes are reached, the 02 among them, and before the next member, which would be 43 or 50
+    ∷ (gets paired (0x03 ∷ 0x04 ∷ 0x00 ∷ 0x01 ∷ 0x03 ∷ 0x04 ∷ 0x00 ∷ 0x02 ∷ 0x02 ∷ nest 61) (refusal 44))
+    ∷ (gets paired (0x03 ∷ 0x04 ∷ 0x00 ∷ 0x01 ∷ 0x03 ∷ 0x04 ∷ 0x00 ∷ 0x02 ∷ 0x03 ∷ 0x00 ∷ 0x02 ∷ nest 61) (refusal 44))
+    ∷ (puts kept (0x03 ∷ (nest 125 ++ 0x02 ∷ [])) (0x03 ∷ 0x00 ∷ 0x03 ∷ 0x00 ∷ 0x02 ∷ []) (refusal 44))
+    ∷ (puts kept (0x03 ∷ (nest 125 ++ 0x02 ∷ [])) (0x03 ∷ 0x00 ∷ 0x03 ∷ 0x00 ∷ 0x03 ∷ 0x01 ∷ 0x02 ∷ []) (refusal 44))
+    -- the default got anew for each of two new members: 7 steps; old members past the view's end dropped; what was written taken
+    ∷ (puts grown (0x02 ∷ []) (0x03 ∷ 0x00 ∷ 0x03 ∷ 0x00 ∷ 0x02 ∷ []) (success (0x03 ∷ 0x00 ∷ 0x03 ∷ 0x00 ∷ 0x02 ∷ []) 7))
+    ∷ (puts grown (0x03 ∷ 0x04 ∷ 0x00 ∷ 0x05 ∷ 0x03 ∷ 0x04 ∷ 0x00 ∷ 0x06 ∷ 0x02 ∷ []) (0x03 ∷ 0x00 ∷ 0x02 ∷ []) (success (0x03 ∷ 0x00 ∷ 0x02 ∷ []) 4))
+    -- a member that is not written stays; the default is not got before it is needed, and then in an empty scope
+    ∷ (puts alone (0x03 ∷ 0x04 ∷ 0x00 ∷ 0x05 ∷ 0x02 ∷ []) (0x03 ∷ 0x00 ∷ 0x02 ∷ []) (success (0x03 ∷ 0x04 ∷ 0x00 ∷ 0x05 ∷ 0x02 ∷ []) 4))
+    ∷ (puts alone (0x03 ∷ 0x04 ∷ 0x00 ∷ 0x05 ∷ 0x02 ∷ []) (0x03 ∷ 0x01 ∷ 0x03 ∷ 0x00 ∷ 0x02 ∷ []) (refusal 50))
+    ∷ (puts alone (0x03 ∷ 0x04 ∷ 0x00 ∷ 0x05 ∷ 0x02 ∷ []) (0x03 ∷ 0x00 ∷ 0x03 ∷ 0x00 ∷ 0x02 ∷ []) (refusal 42))
+    -- the view is judged before the subject, the subject before the variable, and the variable whatever the list
+    ∷ (puts unbound (0x00 ∷ []) (0x00 ∷ []) (refusal 51))
+    ∷ (puts unbound (0x00 ∷ []) (0x02 ∷ []) (refusal 43))
+    ∷ (puts unbound (0x02 ∷ []) (0x02 ∷ []) (refusal 42))
+    ∷ (gets unbound (0x00 ∷ []) (refusal 43))
+    ∷ (gets unbound (0x02 ∷ []) (refusal 42))
+    -- the section's variable 1 is the caller's, for every member
+    ∷ (puts shared (0x03 ∷ 0x04 ∷ 0x00 ∷ 0x05 ∷ 0x02 ∷ 0x01 ∷ []) (0x03 ∷ 0x00 ∷ 0x02 ∷ []) (success (0x03 ∷ 0x04 ∷ 0x00 ∷ 0x05 ∷ 0x02 ∷ 0x00 ∷ []) 4))
+    ∷ (puts shared (0x03 ∷ 0x04 ∷ 0x00 ∷ 0x05 ∷ 0x03 ∷ 0x04 ∷ 0x00 ∷ 0x06 ∷ 0x02 ∷ 0x01 ∷ []) (0x03 ∷ 0x00 ∷ 0x03 ∷ 0x01 ∷ 0x02 ∷ []) (refusal 54))
     ∷ []
 
 pub told-apart : map run telling ≡ map (λ (r : Row). r .expected) telling
 unfolding telling run call getAnswer getBytes getWalk putAnswer putBytes putWalk answer door count newPlan within cap
-    plus steps when _>>=_ mapOut given reading choose Text.bounded Text.tested onList Text.getNode Text.get Text.orOld Text.constant Text.write Text.both
-    Text.under mkList mkPair Text.putNode Text.put
+    plus steps when _>>=_ mapOut given reading choose Text.bounded Text.tested onList restOf Text.getEach Text.getNode Text.get Text.orOld Text.constant
+    Text.write Text.both
+    Text.under Text.stoodFor Text.putEach mkList mkPair Text.putNode Text.put
     andThen mapResult orRefuse unless encode encodes size sizes flat sameValue asList asFront asPair asNumber ifSmall asTruth class table holds passes
     onWhole kindOf makeFront makeNumber makePair makeRest beginValue beginRest beginByte read readValue onValue readValues
     formOf bodyWidth make readNodes oneSection ifSection readRecords withNodes readBody nodeInRange nodesInRange rootsInRange inRange readHeader readSheet

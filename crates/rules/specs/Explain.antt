@@ -2,7 +2,7 @@
 use mathlib.Core.Option.{Option, none, some}
 use mathlib.Core.List.{List, [], _∷_}
 use Prim.Native.Nat.{ℕ, zero, suc, _+_, _-_}
-use Rattle.value.specs.Value.{Value}
+use Rattle.value.specs.Value.{Value, Values}
 use Rattle.sheet.specs.declared.Node.{Node}
 use Rattle.sheet.specs.Sheet.{Sheet}
 use Rattle.rules.specs.Text
@@ -98,6 +98,9 @@ bounded = Text.bounded explaining
 abbrev pub tested : ℕ → Explained Value → Explained Value
 tested = Text.tested explaining
 
+abbrev pub getEach : Getter → (root : ℕ) → Value → ℕ → Values → Explained Values
+getEach = Text.getEach explaining
+
 abbrev pub getNode : Getter → Sheet → Node → Env → Explained Value
 getNode = Text.getNode explaining
 
@@ -115,6 +118,12 @@ both = Text.both explaining
 
 abbrev pub under : Putter → Env → List ℕ → Cells → ℕ → Value → ℕ → (Value → Value → Option Value) → Value → Value → Explained Cells
 under = Text.under explaining
+
+abbrev pub stoodFor : Getter → (d : ℕ) → Values → Explained Value
+stoodFor = Text.stoodFor explaining
+
+abbrev pub putEach : Getter → Putter → (root d c : ℕ) → Value → ℕ → Values → Values → Cells → Explained (Values × Cells)
+putEach = Text.putEach explaining
 
 -- by the node n
 abbrev pub putNode : ℕ → Getter → Putter → Sheet → Node → Env → List ℕ → Value → Cells → Explained Cells

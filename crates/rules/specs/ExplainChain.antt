@@ -2,12 +2,12 @@
 use mathlib.Core.Path.{_≡_, refl}
 use mathlib.Core.Option.{Option, none, some}
 use mathlib.Core.List.{List, [], _∷_}
-use Prim.Native.Nat.{ℕ, zero, suc, _-_, _≤_}
+use Prim.Native.Nat.{ℕ, zero, suc, _+_, _-_, _≤_}
 use native.Mathlib.Omega.{arith}
 use lib.ListN.{length}
-use Rattle.value.specs.Value.{Value, Values, nil, cons}
+use Rattle.value.specs.Value.{Value, Values, nil, cons, size}
 use Rattle.sheet.specs.declared.Node.{Node}
-use Rattle.sheet.specs.declared.Node.the-variants.{Var, False, True, Empty, Number, Front, Pair, ListCase, TruthCase, Split, Call, Add}
+use Rattle.sheet.specs.declared.Node.the-variants.{Var, False, True, Empty, Number, Front, Pair, ListCase, TruthCase, Split, Call, Add, Each}
 use Rattle.sheet.specs.Sheet.{Sheet}
 use Rattle.rules.specs.Text
 use Rattle.rules.specs.Text.{Env, onList}
@@ -111,6 +111,11 @@ unfolding Text.tested
 tested-short t h = short-next h λ v. asked 46 none _ λ _. gives-short v
 
 module _ {k : ℕ} (g : Getter) (ih : Gets k g) (sh : Sheet) (μ : Env) where
+  get-each-short : (root : ℕ) (a : Value) (n : ℕ) (l : Values) → Shorts k (Text.getEach explaining g root a n l)
+  unfolding Text.getEach
+  get-each-short root a n nil = gives-short _
+  get-each-short root a n (cons m r) = short-next (ih root _) λ w. asked 44 none _ λ _. short-next (get-each-short root a _ r) λ ws. gives-short _
+
   get-node-short : (nd : Node) → Shorts k (Text.getNode explaining g sh nd μ)
   unfolding Text.getNode
   get-node-short (Var x) = asked 42 none _ λ v. gives-short v
@@ -126,6 +131,8 @@ module _ {k : ℕ} (g : Getter) (ih : Gets k g) (sh : Sheet) (μ : Env) where
   get-node-short (Split s i) = short-next (ih s μ) λ v. asked 43 none _ λ p. ih i _
   get-node-short (Call sec x y) = asked 42 none _ λ a. asked 42 none _ λ b. ih _ _
   get-node-short (Add n j) = short-next (ih n μ) λ v. asked 43 none _ λ m. asked 45 none _ λ _. gives-short _
+  get-node-short (Each s sec x d) = short-next (ih s μ) λ v. asked 43 none _ λ l. asked 42 none _ λ a. short-next (get-each-short _ a _ (l .0)) λ ws.
+      gives-short _
 
 -- with l levels left, a refusal's chain has the node and at most l more
 pub get-begins : (l : ℕ) (sh : Sheet) (n : ℕ) (μ : Env) (left : ℕ) → Begins n l (get l sh n μ left)
@@ -146,6 +153,13 @@ module _ {k : ℕ} (g : Getter) (gets : Gets k g) (p : Putter) (ih : Puts k p) (
   under-short : (b s : ℕ) (mk : Value → Value → Option Value) (f r : Value) → Shorts k (Text.under explaining p μ σ W b v s mk f r)
   unfolding Text.under
   under-short b s mk f r = short-next (ih b _ _ v _) λ X. asked 42 none _ λ x. asked 42 none _ λ y. asked 43 none _ λ u. asked 44 none _ λ _. ih s μ σ u _
+
+  put-each-short : (root d c : ℕ) (a : Value) (n : ℕ) (old l : Values) (X : Cells) → Shorts k (Text.putEach explaining g p root d c a n old l X)
+  unfolding Text.putEach Text.stoodFor
+  put-each-short root d c a n old nil X = gives-short _
+  put-each-short root d c a n old (cons u r) X = short-next (short-list old (gets d []) λ m _. gives-short m) λ m. short-next (ih root _ _ u _) λ Y.
+      asked 42 none _ λ o. asked 44 none _ λ _.
+      short-next (put-each-short root d c a (n + suc (size (Text.orOld explaining o m))) _ r _) λ q. gives-short _
 
   constant-short : (u : Value) → Shorts k (Text.constant explaining v u W)
   unfolding Text.constant
@@ -172,6 +186,8 @@ module _ {k : ℕ} (g : Getter) (gets : Gets k g) (p : Putter) (ih : Puts k p) (
   put-node-short n (Split s i) = short-next (gets s μ) λ o. asked 43 none _ λ c. under-short _ _ _ _ _
   put-node-short n (Call sec x y) = asked 42 none _ λ a. asked 42 none _ λ c. asked 42 none _ λ b. asked 42 none _ λ d. ih _ _ _ v W
   put-node-short n (Add m j) = asked 51 none _ λ a. asked 52 none _ λ _. ih _ _ _ _ W
+  put-node-short n (Each s sec x d) = asked 51 none _ λ l. short-next (gets s μ) λ o. asked 43 none _ λ old. asked 42 none _ λ a. asked 42 none _ λ c.
+      short-next (put-each-short _ d c a _ (old .0) (l .0) W) λ q. ih s μ σ _ _
 
 pub put-begins : (l : ℕ) (sh : Sheet) (n : ℕ) (μ : Env) (σ : List ℕ) (v : Value) (W : Cells) (left : ℕ) → Begins n l (put l sh n μ σ v W left)
 unfolding Text.put

@@ -7,7 +7,7 @@ use native.Mathlib.Omega.{arith}
 use lib.ListN.{length, length-map, take, set, getElem?}
 use Rattle.value.specs.Value.{Value, Values, nil, cons}
 use Rattle.sheet.specs.declared.Node.{Node}
-use Rattle.sheet.specs.declared.Node.the-variants.{Var, False, True, Empty, Number, Front, Pair, ListCase, TruthCase, Split, Call, Add}
+use Rattle.sheet.specs.declared.Node.the-variants.{Var, False, True, Empty, Number, Front, Pair, ListCase, TruthCase, Split, Call, Add, Each}
 use Rattle.sheet.specs.Sheet.{Sheet}
 use Rattle.rules.specs.Outcome.{Out, done, refused, plus, steps, _>>=_, given, choose}
 use Rattle.rules.specs.Allowance.{within}
@@ -119,6 +119,11 @@ unfolding Text.tested
 tested-erases t e = erases-bind _ e λ v. asked 46 _ _ λ _. erases-give v
 
 module _ (g : Explain.Getter) (k : Count.Getter) (ih : Gets g k) (sh : Sheet) (μ : Env) where
+  get-each-erases : (root : ℕ) (a : Value) (n : ℕ) (l : Values) → Erases (λ ws. ws) (Text.getEach explaining g root a n l) (Text.getEach counting k root a n l)
+  unfolding Text.getEach
+  get-each-erases root a n nil = erases-give _
+  get-each-erases root a n (cons m r) = erases-bind _ (ih root _) λ w. asked 44 _ _ λ _. erases-bind _ (get-each-erases root a _ r) λ ws. erases-give _
+
   get-node-erases : (nd : Node) → Erases same-value (Text.getNode explaining g sh nd μ) (Text.getNode counting k sh nd μ)
   unfolding Text.getNode
   get-node-erases (Var x) = asked 42 _ _ λ v. erases-give v
@@ -134,6 +139,8 @@ module _ (g : Explain.Getter) (k : Count.Getter) (ih : Gets g k) (sh : Sheet) (�
   get-node-erases (Split s i) = erases-bind _ (ih s μ) λ v. asked 43 _ _ λ p. ih i _
   get-node-erases (Call sec x y) = asked 42 _ _ λ a. asked 42 _ _ λ b. ih _ _
   get-node-erases (Add n k) = erases-bind _ (ih n μ) λ v. asked 43 _ _ λ m. asked 45 _ _ λ _. erases-give _
+  get-node-erases (Each s sec x d) = erases-bind _ (ih s μ) λ v. asked 43 _ _ λ l. asked 42 _ _ λ a. erases-bind _ (get-each-erases _ a _ (l .0)) λ ws.
+      erases-give _
 
 pub get-erases : (l : ℕ) (sh : Sheet) → Gets (Explain.get l sh) (Count.get l sh)
 unfolding Text.get
@@ -196,6 +203,15 @@ module _ (g : Explain.Getter) (k : Count.Getter) (gets : Gets g k) (p : Explain.
       erases-given value-of (own 42 none) 42 refl _ _ λ x. erases-given value-of (own 42 none) 42 refl _ _ λ y. rw (old-strip x f, old-strip y r) (
       asked 43 _ _ λ u. asked 44 _ _ λ _. rw (strip-take (length W) X) (ih s μ σ u _))))
 
+  put-each-erases : (root d c : ℕ) (a : Value) (n : ℕ) (old l : Values) (X : Explain.Cells) → Erases (λ t. (t .0, strip (t .1)))
+      (Text.putEach explaining g p root d c a n old l X) (Text.putEach counting k q root d c a n old l (strip X))
+  unfolding Text.putEach Text.stoodFor
+  put-each-erases root d c a n old nil X = erases-give _
+  put-each-erases root d c a n old (cons u r) X = rw (length-map X value-of, ← map-append value-of X (none ∷ [])) (
+      erases-bind _ (erases-list old (gets d []) λ m _. erases-give m) λ m. erases-bind _ (ih root _ _ u _) λ Y. rw (strip-at Y (length X)) (
+      erases-given value-of (own 42 none) 42 refl _ _ λ o. rw (old-strip o m) (asked 44 _ _ λ _. rw (strip-take (length X) Y) (
+      erases-bind _ (put-each-erases root d c a _ _ r _) λ t. erases-give _))))
+
   put-node-erases : (n : ℕ) (nd : Node)
       → Erases strip (Text.putNode explaining (explaining .mark n) g p sh nd μ σ v W) (Text.putNode counting (λ w. w) k q sh nd μ σ v (strip W))
   unfolding Text.putNode
@@ -213,6 +229,8 @@ module _ (g : Explain.Getter) (k : Count.Getter) (gets : Gets g k) (p : Explain.
   put-node-erases n (Split s i) = erases-bind _ (gets s μ) λ o. asked 43 _ _ λ c. under-erases _ _ _ _ _
   put-node-erases n (Call sec x y) = asked 42 _ _ λ a. asked 42 _ _ λ c. asked 42 _ _ λ b. asked 42 _ _ λ d. ih _ _ _ v W
   put-node-erases n (Add m j) = asked 51 _ _ λ a. asked 52 _ _ λ _. ih _ _ _ _ W
+  put-node-erases n (Each s sec x d) = asked 51 _ _ λ l. erases-bind _ (gets s μ) λ o. asked 43 _ _ λ old. asked 42 _ _ λ a. asked 42 _ _ λ c.
+      erases-bind _ (put-each-erases _ d c a _ (old .0) (l .0) W) λ t. ih s μ σ _ _
 
 pub put-erases : (l : ℕ) (sh : Sheet) → Puts (Explain.put l sh) (Count.put l sh)
 unfolding Text.put

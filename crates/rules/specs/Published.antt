@@ -9,9 +9,9 @@ use lib.ListN.{getD, set, getElem?}
 use Rattle.value.specs.Value.{Value, Values, vfalse, vtrue, list, number, pair, nil, cons}
 use Rattle.value.specs.Tests.{Passes}
 use Rattle.sheet.specs.declared.Node.{Node}
-use Rattle.sheet.specs.declared.Node.the-variants.{Var, False, True, Empty, Number, Front, Pair, ListCase, TruthCase, Split, Call, Add}
+use Rattle.sheet.specs.declared.Node.the-variants.{Var, False, True, Empty, Number, Front, Pair, ListCase, TruthCase, Split, Call, Add, Each}
 use Rattle.sheet.specs.Sheet.{Sheet}
-use Rattle.rules.specs.Rules.{Env, two, pick, orOld}
+use Rattle.rules.specs.Rules.{Env, two, pick, restOf, orOld}
 use Rattle.rules.specs.Related.{All2}
 
 -- ENVIRONMENTS. A value environment μ maps the variables in scope, numbered from 0, to values (`Env`)
@@ -83,6 +83,9 @@ pub data Expr : Type 0 where
   couple : ℕ → ℕ → Expr
   call : ℕ → ℕ → ℕ → Expr
   add : ℕ → ℕ → Expr
+  -- a section for each member of a list. `members` is no node of a sheet: it stands in a scope of two, the list and the caller's variable
+  each : ℕ → ℕ → ℕ → ℕ → Expr
+  members : (root d : ℕ) → Expr
 
 -- a branch without variables, and a list's with first and rest
 abbrev pub plain : Pattern → ℕ → ℕ → Branch
@@ -105,6 +108,7 @@ expr (TruthCase s f tf t tt) = case s (plain pFalse f tf) (plain pTrue t tt)
 expr (Split s i) = letIn pPair s i
 expr (Call sec x y) = call sec x y
 expr (Add n k) = add n k
+expr (Each s sec x d) = each s sec x d
 
 abbrev pub node : Sheet → ℕ → Node
 node sh n = getD (sh .nodes) n False
@@ -132,6 +136,17 @@ pub data Get (sh : Sheet) : Env → Expr → Value → Type 0 where
   g-call : {μ : Env} {sec x y : ℕ} {a b v : Value} → getElem? μ x ≡ some a → getElem? μ y ≡ some b
       → Get sh (two a b) (residual sh (getD (sh .sections) sec 0)) v → Get sh μ (call sec x y) v
   g-add : {μ : Env} {n k m : ℕ} → Get sh μ (residual sh n) (number m) → m + k ≤ 65535 → Get sh μ (add n k) (number (m + k))
+  -- each member of the subject is got by the section, whose variables 0 and 1 are the member and the caller's x
+  g-each : {μ : Env} {s sec x d : ℕ} {a : Value} {ms ws : Values} → Get sh μ (residual sh s) (list ms) → getElem? μ x ≡ some a
+      → Get sh (two (list ms) a) (members (getD (sh .sections) sec 0) d) (list ws) → Get sh μ (each s sec x d) (list ws)
+  g-end : {root d : ℕ} {a : Value} → Get sh (two (list nil) a) (members root d) (list nil)
+  g-next : {root d : ℕ} {a m w : Value} {ms ws : Values} → Get sh (two m a) (residual sh root) w
+      → Get sh (two (list ms) a) (members root d) (list ws) → Get sh (two (list (cons m ms)) a) (members root d) (list (cons w ws))
+
+-- what the next member of an each stands for: the first of the old ones, or past their end what the default d gives in an empty scope
+pub data StoodFor (sh : Sheet) (d : ℕ) : Values → Value → Type 0 where
+  s-old : {m : Value} {old : Values} → StoodFor sh d (cons m old) m
+  s-new : {m : Value} → Get sh [] (residual sh d) m → StoodFor sh d nil m
 
 -- PUT: `Put sh μ v E ω` is μ ⊢ put v ⇐ E ⊣ ω
 
@@ -164,3 +179,13 @@ pub data Put (sh : Sheet) : Env → Value → Expr → Writes → Type 0 where
   p-call : {μ : Env} {sec x y : ℕ} {a b v : Value} {o q : Option Value} {ω : Writes} → getElem? μ x ≡ some a → getElem? μ y ≡ some b
       → Put sh (two a b) v (residual sh (getD (sh .sections) sec 0)) (two o q) → Merge (only μ x o) (only μ y q) ω → Put sh μ v (call sec x y) ω
   p-add : {μ : Env} {n k m : ℕ} {ω : Writes} → m ≤ 65535 → k ≤ m → Put sh μ (number (m - k)) (residual sh n) ω → Put sh μ (number m) (add n k) ω
+  -- the views vs are put into the section one by one, and the members, which are us then, into the subject, under the old μ. A member that
+  -- is not written keeps what it stood for; old members past the last view are dropped; what is written to x agrees
+  p-each : {μ : Env} {s sec x d : ℕ} {a : Value} {old vs us : Values} {q : Option Value} {ω₀ ω : Writes} → Get sh μ (residual sh s) (list old)
+      → getElem? μ x ≡ some a → Put sh (two (list old) a) (list vs) (members (getD (sh .sections) sec 0) d) (two (some (list us)) q)
+      → Put sh μ (list us) (residual sh s) ω₀ → Merge (only μ x q) ω₀ ω → Put sh μ (list vs) (each s sec x d) ω
+  p-end : {root d : ℕ} {a : Value} {old : Values} → Put sh (two (list old) a) (list nil) (members root d) (two (some (list nil)) none)
+  p-next : {root d : ℕ} {a m v : Value} {old vs us : Values} {o q₁ q₂ q : Option Value} → StoodFor sh d old m
+      → Put sh (two m a) v (residual sh root) (two o q₁)
+      → Put sh (two (list (restOf old)) a) (list vs) (members root d) (two (some (list us)) q₂) → Merge1 q₁ q₂ q
+      → Put sh (two (list old) a) (list (cons v vs)) (members root d) (two (some (list (cons (orOld o m) us))) q)

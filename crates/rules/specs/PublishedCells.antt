@@ -71,6 +71,19 @@ module _ {A B : Type 0} {R : A → B → Type 0} where
   all2-split ends h = (ends, h)
   all2-split (more s k) (more r h) = let (hu, hv) = all2-split k h in (more r hu, hv)
 
+  all2-zip : {S T : A → B → Type 0} {xs : List A} {ys : List B} → ((a : A) (b : B) → R a b → S a b → T a b) → All2 R xs ys → All2 S xs ys → All2 T xs ys
+  all2-zip f ends ends = ends
+  all2-zip f (more r h) (more s k) = more (f _ _ r s) (all2-zip f h k)
+
+  pub all2-one : {a : A} {b : B} → All2 R (a ∷ []) (b ∷ []) → R a b
+  all2-one (more r ends) = r
+
+  pub all2-two : {a x : A} {b y : B} → All2 R (two a x) (two b y) → R a b × R x y
+  all2-two (more r (more s ends)) = (r, s)
+
+  pub all2-swap : {a x : A} {b y : B} → All2 R (two a x) (two b y) → All2 R (two x a) (two y b)
+  all2-swap (more r (more s ends)) = more s (more r ends)
+
 take-at : {A B : Type 0} (W : List A) (X : List B) (c : ℕ) {a : A} {b : B} → getElem? W c ≡ some a → getElem? X c ≡ some b
     → getElem? (take (length W) X) c ≡ some b
 take-at [] X c e k = absurd (Option·none-ne-some _ e)
@@ -119,7 +132,7 @@ merge1-seen left f g = f
 merge1-seen right f g = g
 merge1-seen (same h) f g = g
 
-merge1-is : {X : Cells} {c : ℕ} (o p : Option Value) → Has X o c → Has X p c → (q : Option Value) × Merge1 o p q
+pub merge1-is : {X : Cells} {c : ℕ} (o p : Option Value) → Has X o c → Has X p c → (q : Option Value) × Merge1 o p q
 merge1-is none none f g = (none, neither)
 merge1-is (some v) none f g = (some v, left)
 merge1-is none (some v) f g = (some v, right)
@@ -191,11 +204,22 @@ module _ (σ : List ℕ) (μ : Env) (x c : ℕ) (m : Value) (em : getElem? μ x 
 
 -- A SECTION: its two variables are x and y of the caller
 
+-- one of them
+pub laid-at : {σ : List ℕ} {μ : Env} {W : Cells} {a : Value} {c : ℕ} → Laid W σ μ → (x : ℕ) → getElem? μ x ≡ some a → getElem? σ x ≡ some c
+    → Laid W (c ∷ []) (a ∷ [])
+laid-at h x ea ec = let (m, _, s) = all2-at x h ec in more (record { cell = s .cell; there = s .there }) ends
+
 pub laid-section : {σ : List ℕ} {μ : Env} {W : Cells} {a b : Value} {c d : ℕ} → Laid W σ μ → (x y : ℕ) → getElem? μ x ≡ some a → getElem? σ x ≡ some c
     → getElem? μ y ≡ some b → getElem? σ y ≡ some d → Laid W (two c d) (two a b)
-laid-section {c} {d} h x y ea ec eb ed =
-    let (m, _, s) = all2-at x h ec in let (n, _, t) = all2-at y h ed in
-    more (record { cell = s .cell; there = s .there }) (more (record { cell = t .cell; there = t .there }) ends)
+laid-section h x y ea ec eb ed = all2-append (laid-at h x ea ec) (laid-at h y eb ed)
+
+module _ (σ : List ℕ) (μ : Env) (x c : ℕ) (m : Value) (em : getElem? μ x ≡ some m) (ec : getElem? σ x ≡ some c) where
+  pub joined-only : {o : Option Value} {W X : Cells} → Laid W σ μ → Joined (c ∷ []) W (o ∷ []) X → Joined σ W (only μ x o) X
+  joined-only {o} h j = record {
+    later = j .later;
+    seen = only-seen σ μ x c m em ec h (all2-one (j .seen));
+    least = λ Y k s. j .least Y k (more (seen-only σ μ x c m em ec o s) ends);
+  }
 
 module _ (σ : List ℕ) (μ : Env) (x c : ℕ) (m : Value) (em : getElem? μ x ≡ some m) (ec : getElem? σ x ≡ some c)
     (y d : ℕ) (n : Value) (en : getElem? μ y ≡ some n) (ed : getElem? σ y ≡ some d) where
@@ -213,22 +237,40 @@ module _ (σ : List ℕ) (μ : Env) (x c : ℕ) (m : Value) (em : getElem? μ x 
       seen-section : {o q : Option Value} {ω : Writes} {X : Cells} → Merge (only μ x o) (only μ y q) ω → Seen (two o q) (two c d) X → Seen ω σ X
       seen-section ms (more f (more g ends)) = seen-merge ms (only-seen σ μ x c m em ec h f) (only-seen σ μ y d n en ed h g)
 
--- A BRANCH: its two variables have the two cells behind W
+-- NEW VARIABLES have the cells behind W. These are ν, they hold nothing (N), and ωᵢ is what is written to them
 
-pub laid-wider : {σ : List ℕ} {μ : Env} (W : Cells) (f r : Value) → Laid W σ μ → Laid (W ++ two none none) (σ ++ two (length W) (suc (length W))) (μ ++ two f r)
-laid-wider W f r h = all2-append (all2-map (λ c m s. record { cell = s .cell; there = at-left W _ c (s .there) }) h)
-    (more (record { cell = none; there = at-seam W none none }) (more (record { cell = none; there = at-last W none none }) ends))
+pub record Behind (W : Cells) (ν : List ℕ) (N : Cells) (ωᵢ : Writes) : Type 0 where
+  pub blank : Later N ωᵢ
+  pub at : (Y : Cells) → length W ≡ length Y → All2 (λ o c. getElem? (Y ++ ωᵢ) c ≡ some o) ωᵢ ν
 
-module _ {σ : List ℕ} {μ : Env} (W : Cells) (laid : Laid W σ μ) (ω : Writes) (x y : Option Value) where
-  pub wider-later : {Y : Cells} → Later W Y → Later (W ++ two none none) (Y ++ two x y)
-  wider-later h = all2-append h (more (λ w e. absurd (Option·none-ne-some w e)) (more (λ w e. absurd (Option·none-ne-some w e)) ends))
+-- a member's variable has one, a branch's two have two
+pub one-behind : (W : Cells) (x : Option Value) → Behind W (length W ∷ []) (none ∷ []) (x ∷ [])
+one-behind W x = record { blank = more (λ w e. absurd (Option·none-ne-some w e)) ends; at = λ Y e. rw e (more (at-end Y) ends) }
+  where
+    at-end : (Y : Cells) → getElem? (Y ++ x ∷ []) (length Y) ≡ some x
+    at-end [] = refl
+    at-end (o ∷ Y) = at-end Y
 
-  pub wider-seen : {Y : Cells} → Later W Y → Seen ω σ Y → Seen (ω ++ two x y) (σ ++ two (length W) (suc (length W))) (Y ++ two x y)
-  wider-seen {Y} k h = rw (all2-length k) (all2-append (all2-map (λ o c f. record { has = λ v e. at-left Y _ c (f .has v e) }) h)
-      (more (record { has = λ v e. rw (← e) (at-seam Y x y) }) (more (record { has = λ v e. rw (← e) (at-last Y x y) }) ends)))
+pub two-behind : (W : Cells) (x y : Option Value) → Behind W (two (length W) (suc (length W))) (two none none) (two x y)
+two-behind W x y = record {
+  blank = more (λ w e. absurd (Option·none-ne-some w e)) (more (λ w e. absurd (Option·none-ne-some w e)) ends);
+  at = λ Y e. rw e (more (at-seam Y x y) (more (at-last Y x y) ends));
+}
 
-  module _ (over : Over ω μ) (X : Cells) (j : Joined (σ ++ two (length W) (suc (length W))) (W ++ two none none) (ω ++ two x y) X) where
-    parts : Seen ω σ X × Seen (two x y) (two (length W) (suc (length W))) X
+laid-wider : {σ ν : List ℕ} {μ μᵢ : Env} {W N : Cells} → Behind W ν N N → Over N μᵢ → Laid W σ μ → Laid (W ++ N) (σ ++ ν) (μ ++ μᵢ)
+laid-wider {W = W} b o h = all2-append (all2-map (λ c m s. record { cell = s .cell; there = at-left W _ c (s .there) }) h)
+    (all2-through (λ c o m e _. record { cell = o; there = e }) (all2-flip (b .at W refl)) o)
+
+module _ {W N : Cells} {ν : List ℕ} {ωᵢ : Writes} (b : Behind W ν N ωᵢ) where
+  pub wider-later : {Y : Cells} → Later W Y → Later (W ++ N) (Y ++ ωᵢ)
+  wider-later h = all2-append h (b .blank)
+
+  pub wider-seen : {ω : Writes} {σ : List ℕ} {Y : Cells} → Later W Y → Seen ω σ Y → Seen (ω ++ ωᵢ) (σ ++ ν) (Y ++ ωᵢ)
+  wider-seen {Y = Y} k h = all2-append (all2-map (λ o c f. record { has = λ v e. at-left Y _ c (f .has v e) }) h)
+      (all2-map (λ o c e. record { has = λ v ev. rw (← ev) e }) (b .at Y (all2-length k)))
+
+  module _ {σ : List ℕ} {μ : Env} {ω : Writes} {X : Cells} (laid : Laid W σ μ) (over : Over ω μ) (j : Joined (σ ++ ν) (W ++ N) (ω ++ ωᵢ) X) where
+    parts : Seen ω σ X × Seen ωᵢ ν X
     parts = let s : All2 (λ (o : Option Value) (c : ℕ). Unit {0}) ω σ = all2-through (λ a b c _ _. tt) over (all2-flip laid) in all2-split s (j .seen)
 
     kept-later : Later W (take (length W) X)
@@ -237,28 +279,27 @@ module _ {σ : List ℕ} {μ : Env} (W : Cells) (laid : Laid W σ μ) (ω : Writ
     kept-seen : Seen ω σ (take (length W) X)
     kept-seen = all2-with (λ o c m f s. record { has = λ v e. take-at W X c (s .there) (f .has v e) }) (parts .0) laid
 
-    below : (Y : Cells) → Later W Y → Seen ω σ Y → Later X (Y ++ two x y)
-    below Y k s = j .least (Y ++ two x y) (wider-later k) (wider-seen k s)
+    below : (Y : Cells) → Later W Y → Seen ω σ Y → Later X (Y ++ ωᵢ)
+    below Y k s = j .least (Y ++ ωᵢ) (wider-later k) (wider-seen k s)
 
-    -- its cells dropped, it is merged with what the branch wrote outside
+    -- the new cells dropped, W is merged with what was written to the others
     pub joined-outside : Joined σ W ω (take (length W) X)
     joined-outside = record { later = kept-later; seen = kept-seen; least = λ Y k s. rw (all2-length k) (all2-take Y _ (below Y k s)) }
 
-    -- and its cells have what it wrote to its own
-    cell-is : (c : ℕ) (o : Option Value) → getElem? (take (length W) X ++ two x y) c ≡ some o → Has X o c → getElem? X c ≡ some o
-    cell-is c o e f =
+    -- and the new cells have what was written to them
+    cell-is : (o : Option Value) (c : ℕ) → Has X o c → getElem? (take (length W) X ++ ωᵢ) c ≡ some o → getElem? X c ≡ some o
+    cell-is o c f e =
         let (q, eq, h) = all2-at c (all2-flip (below _ kept-later kept-seen)) e in
         let z : q ≡ o = same-option q o h (λ w ew. cc (f .has w ew)) in cc
 
-    pub cells-inside : (getElem? X (length W) ≡ some x) × (getElem? X (suc (length W)) ≡ some y)
-    cells-inside = go (parts .1)
-      where
-        go : Seen (two x y) (two (length W) (suc (length W))) X → (getElem? X (length W) ≡ some x) × (getElem? X (suc (length W)) ≡ some y)
-        go (more f (more g ends)) =
-            let e = all2-length kept-later in (
-              cell-is (length W) x (rw (← e) at (at-seam (take (length W) X) x y)) f,
-              cell-is (suc (length W)) y (rw (← e) at (at-last (take (length W) X) x y)) g,
-            )
+    pub cells-inside : All2 (λ o c. getElem? X c ≡ some o) ωᵢ ν
+    cells-inside = all2-zip cell-is (parts .1) (b .at (take (length W) X) (all2-length kept-later))
+
+-- A BRANCH: its two variables are the last
+
+pub laid-branch : {σ : List ℕ} {μ : Env} (W : Cells) (f r : Value) → Laid W σ μ
+    → Laid (W ++ two none none) (σ ++ two (length W) (suc (length W))) (μ ++ two f r)
+laid-branch W f r h = laid-wider (two-behind W none none) (more tt (more tt ends)) h
 
 -- writes seen through a branch's cells are those outside and its two
 pub seen-cut : {ω : Writes} {X : Cells} (σ : List ℕ) (c d : ℕ) → Seen ω (σ ++ two c d) X
@@ -271,3 +312,15 @@ seen-cut {ω} {X} σ c d h = let (us, vs, e, hu, hv) = all2-cut σ (two c d) h i
 
 pub seen-over : {ω : Writes} {σ : List ℕ} {μ : Env} {W X : Cells} → Seen ω σ X → Laid W σ μ → Over ω μ
 seen-over = all2-through λ o c m _ _. tt
+
+-- A MEMBER of a list: its own variable is the first, and the second is the caller's, whose cell is c
+module _ {W : Cells} {c : ℕ} {b : Value} (laid : Laid W (c ∷ []) (b ∷ [])) where
+  pub laid-member : (m : Value) → Laid (W ++ none ∷ []) (two (length W) c) (two m b)
+  laid-member m = all2-swap (laid-wider (one-behind W none) (more tt ends) laid)
+
+  pub joined-member : (o q : Option Value) (X : Cells) → Joined (two (length W) c) (W ++ none ∷ []) (two o q) X
+      → Joined (c ∷ []) W (q ∷ []) (take (length W) X) × (getElem? X (length W) ≡ some o)
+  joined-member o q X j =
+      let k : Joined ((c ∷ []) ++ length W ∷ []) (W ++ none ∷ []) ((q ∷ []) ++ o ∷ []) X =
+      record { later = j .later; seen = all2-swap (j .seen); least = λ Y h s. j .least Y h (all2-swap s) } in
+      (joined-outside (one-behind W o) laid (more tt ends) k, all2-one (cells-inside (one-behind W o) laid (more tt ends) k))

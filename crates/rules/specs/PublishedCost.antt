@@ -1,12 +1,13 @@
 -- What a derivation of the published relations costs: its height, its nodes, and the longest value that it builds.
 use mathlib.Core.List.{List, []}
 use Prim.Native.Nat.{ℕ, _+_, max}
-use Rattle.value.specs.Value.{Value, list, pair, cons, size}
+use Rattle.value.specs.Value.{Value, Values, list, pair, cons, size}
 use Rattle.sheet.specs.Sheet.{Sheet}
 use Rattle.rules.specs.Rules.{Env}
 use Rattle.rules.specs.Related.{All2, ends, more}
-use Rattle.rules.specs.Published.{Writes, Expr, residual, Get, g-var, g-const, g-cons, g-case, g-let, g-pair, g-call, g-add}
-use Rattle.rules.specs.Published.{Put, p-var, p-const, p-cons, p-case, p-case-switch, p-let, p-pair, p-call, p-add}
+use Rattle.rules.specs.Published.{Writes, Expr, residual, Get, g-var, g-const, g-cons, g-case, g-let, g-pair, g-call, g-add, g-each, g-end, g-next}
+use Rattle.rules.specs.Published.{Put, p-var, p-const, p-cons, p-case, p-case-switch, p-let, p-pair, p-call, p-add, p-each, p-end, p-next}
+use Rattle.rules.specs.Published.{StoodFor, s-old, s-new}
 
 -- levels; uses of a rule, each as often as it stands in the derivation; bytes
 pub record Cost : Type 0 where
@@ -18,7 +19,7 @@ pub record Cost : Type 0 where
 abbrev pub free : Cost
 free = record { height = 0; nodes = 0; longest = 0 }
 
--- a value is built: what a front or a pair gives, and a subject that a put rebuilds
+-- a value is built: what a front, a pair or an each gives, and a subject that a put rebuilds
 abbrev pub built : Value → Cost
 built v = record { height = 0; nodes = 0; longest = size v }
 
@@ -44,6 +45,9 @@ module _ {sh : Sheet} where
   getBelow (g-pair {u = u} {v = v} d d′) = entered (getBelow d) ⊕ entered (getBelow d′) ⊕ built (pair u v)
   getBelow (g-call ea eb d) = entered (getBelow d)
   getBelow (g-add d q) = entered (getBelow d)
+  getBelow (g-each {ws = ws} d e ds) = entered (getBelow d) ⊕ getBelow ds ⊕ built (list ws)
+  getBelow g-end = free
+  getBelow (g-next d ds) = entered (getBelow d) ⊕ getBelow ds
 
   abbrev pub getCost : {μ : Env} {e : Expr} {v : Value} → Get sh μ e v → Cost
   getCost d = entered (getBelow d)
@@ -55,6 +59,10 @@ module _ {sh : Sheet} where
   defaultsCost ends c = c
   defaultsCost (more d ds) c = getCost d ⊕ defaultsCost ds c
 
+  unfoldable pub stoodCost : {d : ℕ} {old : Values} {m : Value} → StoodFor sh d old m → Cost
+  stoodCost s-old = free
+  stoodCost (s-new d) = getCost d
+
   unfoldable pub putBelow : {μ : Env} {v : Value} {e : Expr} {ω : Writes} → Put sh μ v e ω → Cost
   putBelow (p-var e) = free
   putBelow p-const = free
@@ -65,6 +73,9 @@ module _ {sh : Sheet} where
   putBelow (p-pair d d′ m) = entered (putBelow d) ⊕ entered (putBelow d′)
   putBelow (p-call ea eb d m) = entered (putBelow d)
   putBelow (p-add z low d) = entered (putBelow d)
+  putBelow (p-each {us = us} g e ds d₀ mg) = getCost g ⊕ (putBelow ds ⊕ built (list us)) ⊕ entered (putBelow d₀)
+  putBelow p-end = free
+  putBelow (p-next s d ds mg) = stoodCost s ⊕ entered (putBelow d) ⊕ putBelow ds
 
   abbrev pub putCost : {μ : Env} {v : Value} {e : Expr} {ω : Writes} → Put sh μ v e ω → Cost
   putCost d = entered (putBelow d)

@@ -1,20 +1,22 @@
 -- Get and the published relation: sound, complete up to our limits, exact in its steps, and one value.
-use mathlib.Core.Path.{_≡_, refl, subst}
+use mathlib.Core.Path.{_≡_, refl, sym, subst, _∙_}
 use mathlib.Core.Bool.{Bool, true, false}
+use mathlib.Core.Option.{Option, some, Option·some-injective}
 use mathlib.Core.List.{[], _++_, append-nil}
-use Prim.Native.Nat.{ℕ, zero, suc, _≤_}
+use Prim.Native.Nat.{ℕ, zero, suc, _+_, _≤_}
 use native.Mathlib.Omega.{arith}
 use lib.ListN.{getD}
-use Rattle.value.specs.Value.{Value, vfalse, vtrue, list, number, pair, nil, cons, truth}
+use Rattle.value.specs.Value.{Value, Values, vfalse, vtrue, list, number, pair, nil, cons, size, truth}
+use Rattle.value.specs.Encoding.{size-pos}
 use Rattle.value.specs.Views.{asList, asPair, asTruth}
 use Rattle.value.specs.Tests.{Passes}
 use Rattle.sheet.specs.declared.Node.{Node}
-use Rattle.sheet.specs.declared.Node.the-variants.{Var, False, True, Empty, Number, Front, Pair, ListCase, TruthCase, Split, Call, Add}
+use Rattle.sheet.specs.declared.Node.the-variants.{Var, False, True, Empty, Number, Front, Pair, ListCase, TruthCase, Split, Call, Add, Each}
 use Rattle.sheet.specs.Sheet.{Sheet}
 use Rattle.rules.specs.Outcome.{Out, done}
 use Rattle.rules.specs.Allowance.{within}
 use Rattle.rules.specs.Text
-use Rattle.rules.specs.Rules.{Env, Getter, pick, bounded, tested, onList, getNode, get}
+use Rattle.rules.specs.Rules.{Env, Getter, two, pick, bounded, tested, getEach, onList, getNode, get}
 use Rattle.rules.specs.OutcomeLaws.{After, fine, stopped, after-map, after-at, as-number, after-plus, after-bind, after-given, after-list}
 use Rattle.rules.specs.AllowanceLaws.{within-done}
 use Rattle.rules.specs.Published.{
@@ -42,6 +44,8 @@ use Rattle.rules.specs.Published.{
   couple,
   call,
   add,
+  each,
+  members,
   expr,
   node,
   residual,
@@ -54,10 +58,13 @@ use Rattle.rules.specs.Published.{
   g-pair,
   g-call,
   g-add,
+  g-each,
+  g-end,
+  g-next,
 }
 use Rattle.rules.specs.PublishedCost.{Cost, built, _⊕_, getBelow, getCost}
 use Rattle.rules.specs.UpTo.{deep, Costs, Comes, Exactly, stops, reach, up-as, up-enter, up-within, up-costs, up-exactly}
-use Rattle.rules.specs.UpTo.{comes-bind, comes-last, up-given, up-when, up-size}
+use Rattle.rules.specs.UpTo.{comes-bind, comes-last, up-given, up-when, up-bytes, up-size}
 
 -- SOUND
 
@@ -73,6 +80,13 @@ module _ (sh : Sheet) (g : Getter) (ih : GetsSoundly sh g) where
   tested-soundly : (t : ℕ) (o : Out Value) {P : Value → Type 0} → After (Unit {0}) (λ v s. P v) o → After (Unit {0}) (λ v s. P v × Passes t v) (tested t o)
   unfolding Text.tested
   tested-soundly t o h = after-bind h λ v s _ d. after-given _ λ p _. fine (d, p)
+
+  get-each-sound : (root d : ℕ) (a : Value) (n : ℕ) (ms : Values)
+      → After (Unit {0}) (λ ws s. Get sh (two (list ms) a) (members root d) (list ws)) (getEach g root a n ms)
+  unfolding Text.getEach
+  get-each-sound root d a n nil = fine g-end
+  get-each-sound root d a n (cons m ms) = after-bind (ih root _) λ w s _ h. after-given _ λ _ _.
+      after-bind (get-each-sound root d a _ ms) λ ws t _ k. fine (g-next h k)
 
   get-node-sound : (nd : Node) (μ : Env) → After (Unit {0}) (λ v s. Get sh μ (expr nd) v) (getNode g sh nd μ)
   unfolding Text.getNode Text.bounded
@@ -97,6 +111,8 @@ module _ (sh : Sheet) (g : Getter) (ih : GetsSoundly sh g) where
   get-node-sound (Split s i) μ = after-bind (ih s μ) λ v j _ ds. after-given _ λ p _. after-map (ih i _) λ u t h. g-let (rw (p .2) at ds) m-pair h
   get-node-sound (Call sec x y) μ = after-given _ λ a ea. after-given _ λ b eb. after-map (ih _ _) λ v s h. g-call ea eb h
   get-node-sound (Add n k) μ = after-bind (ih n μ) λ v s _ d. after-given _ λ m _. after-given _ λ q _. fine (g-add (rw (m .1) at d) q)
+  get-node-sound (Each s sec x d) μ = after-bind (ih s μ) λ v i _ ds. after-given _ λ l _. after-given _ λ a ea.
+      after-bind (get-each-sound _ d a 1 (l .0)) λ ws j _ h. fine (g-each (rw (l .1) at ds) ea h)
 
 pub gets-soundly : (l : ℕ) (sh : Sheet) → GetsSoundly sh (get l sh)
 unfolding Text.get
@@ -123,6 +139,14 @@ module _ {l a : ℕ} (sh : Sheet) (g : Getter) (ih : GetsAll l a sh g) where
   unfolding Text.tested
   tested-all t n v e d p = comes-last _ (subst (λ μ. Comes l a (getCost d) v (g n μ)) e (ih n _ v d)) (up-when _ _ p λ _. reach refl)
 
+  -- the list so far, with its 02, has n bytes, and the whole list those of u
+  get-each-complete : (root d : ℕ) (b u : Value) (n : ℕ) {ms ws : Values} → n ≤ 256 → suc (size u) ≡ n + size (list ws)
+      → (h : Get sh (two (list ms) b) (members root d) (list ws)) → Comes l a (getBelow h ⊕ built u) ws (getEach g root b n ms)
+  unfolding Text.getEach getBelow size
+  get-each-complete root d b u n z e g-end = up-as _ (omega arith) (reach refl)
+  get-each-complete root d b u n {ws = cons w ws} z e (g-next h k) = up-as _ (omega arith) (comes-bind _ (ih root _ _ h)
+      (up-bytes _ (omega (arith, size-pos (list ws))) λ z′. comes-last _ (get-each-complete root d b u _ z′ (omega arith) k) (reach refl)))
+
   get-node-complete : (nd : Node) (μ : Env) (v : Value) (d : Get sh μ (expr nd) v) → Comes l a (getBelow d) v (getNode g sh nd μ)
   unfolding Text.getNode asList asPair asTruth onList getBelow
   get-node-complete (Var x) μ v (g-var e) = up-given _ _ e (reach refl)
@@ -146,6 +170,8 @@ module _ {l a : ℕ} (sh : Sheet) (g : Getter) (ih : GetsAll l a sh g) where
   get-node-complete (Call sec x y) μ v (g-call ea eb d) = up-given _ _ ea (up-given _ _ eb (ih _ _ v d))
   get-node-complete (Add n k) μ v (g-add {m = m} d q) =
       comes-last _ (ih n μ _ d) (let (z, e) = as-number m (omega arith) in up-given _ _ e (up-when _ _ q λ _. reach refl))
+  get-node-complete (Each s sec x d) μ v (g-each {a = b} {ws = ws} ds ea h) = comes-bind _ (ih s μ _ ds)
+      (up-given _ _ refl (up-given _ _ ea (comes-last _ (get-each-complete _ d b (list ws) 1 (omega arith) (omega arith) h) (reach refl))))
 
 pub gets-all : (l a : ℕ) (sh : Sheet) → GetsAll l a sh (get l sh)
 unfolding Text.get
@@ -205,6 +231,8 @@ Fair (letIn p s e) = Unit {0}
 Fair (couple a b) = Unit {0}
 Fair (call sec x y) = Unit {0}
 Fair (add n k) = Unit {0}
+Fair (each s sec x d) = Unit {0}
+Fair (members root d) = Unit {0}
 
 pub fair : (nd : Node) → Fair (expr nd)
 fair (Var x) = tt
@@ -219,6 +247,14 @@ fair (TruthCase s f tf t t₁) = apart-of (plain pFalse f tf) (plain pTrue t t�
 fair (Split s i) = tt
 fair (Call sec x y) = tt
 fair (Add n k) = tt
+fair (Each s sec x d) = tt
+
+-- what a variable stands for, and the members of a list
+pub at-one : {o : Option Value} {a b : Value} → o ≡ some a → o ≡ some b → a ≡ b
+at-one e f = Option·some-injective _ _ (sym e ∙ f)
+
+pub list-one : {l l′ : Values} → list l ≡ list l′ → l ≡ l′
+list-one e = cc
 
 module _ (sh : Sheet) where
   pub get-one : {μ : Env} {e : Expr} {v v′ : Value} → Fair e → Get sh μ e v → Get sh μ e v′ → v ≡ v′
@@ -231,9 +267,13 @@ module _ (sh : Sheet) where
   get-one h (g-let {s = s} {e = e} ds m d) (g-let ds′ m′ d′) =
       let es = get-one (fair (node sh s)) ds ds′ in let eμ = match-env m (rw (← es) at m′) in get-one (fair (node sh e)) d (rw (← eμ) at d′)
   get-one h (g-pair {a = a} {b = b} df dr) (g-pair df′ dr′) = let ef = get-one (fair (node sh a)) df df′ in let er = get-one (fair (node sh b)) dr dr′ in cc
-  get-one h (g-call {sec = sec} {a = a} {b = b} ea eb d) (g-call {a = a′} {b = b′} ea′ eb′ d′) =
-      let e₁ : a′ ≡ a = cc in let e₂ : b′ ≡ b = cc in get-one (fair (node sh (getD (sh .sections) sec 0))) d (rw (e₁, e₂) at d′)
+  get-one h (g-call {sec = sec} ea eb d) (g-call ea′ eb′ d′) =
+      get-one (fair (node sh (getD (sh .sections) sec 0))) d (rw (← at-one ea ea′, ← at-one eb eb′) at d′)
   get-one h (g-add {n = n} d q) (g-add d′ q′) = let e = get-one (fair (node sh n)) d d′ in cc
+  get-one h (g-each {s = s} ds e d) (g-each ds′ e′ d′) =
+      let em = list-one (get-one (fair (node sh s)) ds ds′) in get-one tt d (rw (← at-one e e′, ← em) at d′)
+  get-one h g-end g-end = refl
+  get-one h (g-next {root = root} d ds) (g-next d′ ds′) = let e = get-one (fair (node sh root)) d d′ in let es = get-one tt ds ds′ in cc
 
 -- THE THEOREMS, for every sheet, node, environment, number of levels and allowance
 module _ (sh : Sheet) (n : ℕ) (μ : Env) (v : Value) where

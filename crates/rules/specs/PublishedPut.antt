@@ -3,19 +3,21 @@ use mathlib.Core.Path.{_≡_, refl, sym, subst}
 use mathlib.Core.Bool.{Bool, true, false, not}
 use mathlib.Core.Option.{Option, none, some, Option·some-injective, map-eq-some-iff}
 use mathlib.Core.List.{List, [], _∷_, _++_, append-nil}
-use Prim.Native.Nat.{ℕ, zero, suc, _-_, _≤_}
+use Prim.Native.Nat.{ℕ, zero, suc, _+_, _-_, _≤_}
 use native.Mathlib.Omega.{arith}
-use lib.ListN.{length, getD, getElem?}
+use lib.ListN.{length, getD, take, getElem?}
 use Rattle.value.specs.Value.{Value, Values, vfalse, vtrue, list, number, pair, nil, cons, size, truth}
 use Rattle.value.specs.Views.{asList, asFront, asPair, asTruth}
+use Rattle.value.specs.Encoding.{size-pos}
 use Rattle.value.specs.Tests.{Passes, passes}
 use Rattle.sheet.specs.declared.Node.{Node}
-use Rattle.sheet.specs.declared.Node.the-variants.{Var, False, True, Empty, Number, Front, Pair, ListCase, TruthCase, Split, Call, Add}
+use Rattle.sheet.specs.declared.Node.the-variants.{Var, False, True, Empty, Number, Front, Pair, ListCase, TruthCase, Split, Call, Add, Each}
 use Rattle.sheet.specs.Sheet.{Sheet}
-use Rattle.rules.specs.Outcome.{Out, done, choose}
+use Rattle.rules.specs.Outcome.{Out, done, _>>=_, choose}
 use Rattle.rules.specs.Allowance.{within}
 use Rattle.rules.specs.Text
-use Rattle.rules.specs.Rules.{Env, Cells, Getter, Putter, two, pick, onList, get, orOld, constant, write, both, under, mkList, mkPair, putNode, put}
+use Rattle.rules.specs.Rules.{Env, Cells, Getter, Putter, two, pick, onList, restOf, get, orOld, constant, write, both, under, mkList, mkPair}
+use Rattle.rules.specs.Rules.{stoodFor, putEach, putNode, put}
 use Rattle.rules.specs.OutcomeLaws.{After, fine, stopped, after-map, after-at, as-number, after-plus, after-bind, after-given, after-list}
 use Rattle.rules.specs.AllowanceLaws.{within-done}
 use Rattle.rules.specs.Related.{All2, ends, more, all2-at, all2-flip, all2-set}
@@ -57,10 +59,14 @@ use Rattle.rules.specs.Published.{
   couple,
   call,
   add,
+  members,
   expr,
   node,
   residual,
   Get,
+  StoodFor,
+  s-old,
+  s-new,
   Put,
   p-var,
   p-const,
@@ -71,8 +77,11 @@ use Rattle.rules.specs.Published.{
   p-pair,
   p-call,
   p-add,
+  p-each,
+  p-end,
+  p-next,
 }
-use Rattle.rules.specs.PublishedGet.{GetsSoundly, gets-soundly, GetsAll, gets-all, match-env, match-value, Fair, fair, get-one}
+use Rattle.rules.specs.PublishedGet.{GetsSoundly, gets-soundly, GetsAll, gets-all, match-env, match-value, Fair, fair, at-one, list-one, get-one}
 use Rattle.rules.specs.PublishedCells.{
   Laid,
   Seen,
@@ -82,6 +91,7 @@ use Rattle.rules.specs.PublishedCells.{
   joined-one,
   seen-left,
   seen-right,
+  merge1-is,
   merge-is,
   joined-merge,
   joined-blank,
@@ -89,20 +99,29 @@ use Rattle.rules.specs.PublishedCells.{
   seen-only,
   joined-new,
   joined-same,
+  all2-one,
+  all2-two,
+  all2-swap,
+  laid-at,
   laid-section,
+  joined-only,
   section-seen,
   joined-section,
-  laid-wider,
+  one-behind,
+  two-behind,
   wider-later,
   wider-seen,
   joined-outside,
   cells-inside,
+  laid-branch,
   seen-cut,
   seen-over,
+  laid-member,
+  joined-member,
 }
-use Rattle.rules.specs.PublishedCost.{Cost, free, built, _⊕_, getCost, defaultsCost, putBelow, putCost}
+use Rattle.rules.specs.PublishedCost.{Cost, free, built, _⊕_, getCost, defaultsCost, stoodCost, putBelow, putCost}
 use Rattle.rules.specs.UpTo.{deep, Costs, UpTo, Comes, Exactly, stops, reach, up-as, up-map, up-enter, up-within, up-costs, up-exactly}
-use Rattle.rules.specs.UpTo.{up-bind, comes-bind, up-given, up-when, up-size, up-first, up-second}
+use Rattle.rules.specs.UpTo.{up-bind, comes-bind, up-last, up-given, up-when, up-bytes, up-size, up-first, up-second}
 
 -- SOUND
 
@@ -220,6 +239,48 @@ module _ {sh : Sheet} {μ : Env} {v : Value} {σ : List ℕ} {W : Cells} where
           let (ω′, m) = merge-is (only-seen σ μ x c a ea ec laid f) (only-seen σ μ y d b eb ed laid h) in
           record { ω = ω′; rel = p-call ea eb r m; joined = joined-section σ μ x c a ea ec y d b eb ed laid j m }
 
+-- v into a section whose variables stand for a member m and for b: o is what is written to the member's cell
+record Member (sh : Sheet) (root : ℕ) (m b v : Value) (c : ℕ) (W : Cells) (o : Option Value) (X : Cells) : Type 0 where
+  q : Option Value
+  rel : Put sh (two m b) v (residual sh root) (two o q)
+  joined : Joined (c ∷ []) W (q ∷ []) (take (length W) X)
+
+-- the views vs into a section for each member of old: z is the members as they are then, and the cells
+record Members (sh : Sheet) (root d : ℕ) (b : Value) (old vs : Values) (c : ℕ) (W : Cells) (z : Values × Cells) : Type 0 where
+  q : Option Value
+  rel : Put sh (two (list old) b) (list vs) (members root d) (two (some (list (z .0))) q)
+  joined : Joined (c ∷ []) W (q ∷ []) (z .1)
+
+module _ {sh : Sheet} {root c : ℕ} {b : Value} {W : Cells} (laid : Laid W (c ∷ []) (b ∷ [])) where
+  member-of : {m v : Value} {X : Cells} (o : Option Value) → Written sh (two m b) v (residual sh root) (two (length W) c) (W ++ none ∷ []) X
+      → getElem? X (length W) ≡ some o → Member sh root m b v c W o X
+  member-of {m} {v} {X} o h eo = go (h .rel) (h .joined) (h .joined .seen)
+    where
+      go : {ω : Writes} → Put sh (two m b) v (residual sh root) ω → Joined (two (length W) c) (W ++ none ∷ []) ω X → Seen ω (two (length W) c) X
+          → Member sh root m b v c W o X
+      go r j (more {a = o′} f (more {a = q} k ends)) =
+          let (j₁, e) = joined-member laid o′ q X j in let z : o′ ≡ o = cc in record { q = q; rel = rw z at r; joined = j₁ }
+
+  members-next : {d : ℕ} {m v : Value} {old vs us : Values} {o : Option Value} {X Z : Cells} → StoodFor sh d old m → Member sh root m b v c W o X
+      → Members sh root d b (restOf old) vs c (take (length W) X) (us, Z) → Members sh root d b old (cons v vs) c W (cons (orOld o m) us, Z)
+  members-next s h k =
+      let (q, mg) = merge1-is _ _ (all2-one (seen-later (h .joined .seen) (k .joined .later))) (all2-one (k .joined .seen)) in
+      record { q = q; rel = p-next s (h .rel) (k .rel) mg; joined = joined-merge (h .joined) (k .joined) (mMore mg mEnds) }
+
+module _ (sh : Sheet) (g : Getter) (gets : GetsSoundly sh g) (p : Putter) (ih : PutsSoundly sh p) where
+  stood-sound : (d : ℕ) (old : Values) → After (Unit {0}) (λ m s. StoodFor sh d old m) (stoodFor g d old)
+  unfolding Text.stoodFor onList
+  stood-sound d nil = after-map (gets d []) λ m s h. s-new h
+  stood-sound d (cons m old) = fine s-old
+
+  put-each-sound : (root d c : ℕ) (b : Value) (n : ℕ) (old vs : Values) (W : Cells) → Laid W (c ∷ []) (b ∷ [])
+      → After (Unit {0}) (λ z s. Members sh root d b old vs c W z) (putEach g p root d c b n old vs W)
+  unfolding Text.putEach blank
+  put-each-sound root d c b n old nil W laid = fine (record { q = none; rel = p-end; joined = joined-blank laid })
+  put-each-sound root d c b n old (cons v vs) W laid = after-bind (stood-sound d old) λ m s _ st.
+      after-bind (ih root _ _ v _ (laid-member laid m)) λ X t _ w. after-given _ λ o eo. after-given _ λ _ _. let h = member-of laid o w eo in
+      after-bind (put-each-sound root d c b _ (restOf old) vs _ (laid-later laid (h .joined .later))) λ z i _ k. fine (members-next laid st h k)
+
 module _ (sh : Sheet) (g : Getter) (gets : GetsSoundly sh g) (p : Putter) (ih : PutsSoundly sh p) (μ : Env) (σ : List ℕ) (v : Value) (W : Cells)
     (laid : Laid W σ μ) where
   abbrev Sound : Expr → Out Cells → Type 0
@@ -252,12 +313,12 @@ module _ (sh : Sheet) (g : Getter) (gets : GetsSoundly sh g) (p : Putter) (ih : 
   under-sound : (b s : ℕ) (q : Pattern) (mk : Value → Value → Option Value) (f r : Value) → ((x y u : Value) → mk x y ≡ some u → Match q u (two x y))
       → After (Unit {0}) (λ X t. Taken sh μ v q b (two f r) s σ W X) (under p μ σ W b v s mk f r)
   unfolding Text.under _◁_
-  under-sound b s q mk f r k = after-bind (ih b _ _ v _ (laid-wider W f r laid)) λ X i _ h. after-given _ λ x′ ex. after-given _ λ y′ ey.
+  under-sound b s q mk f r k = after-bind (ih b _ _ v _ (laid-branch W f r laid)) λ X i _ h. after-given _ λ x′ ex. after-given _ λ y′ ey.
       after-given _ λ u eu. after-given _ λ _ _.
       let (ω, x, y, e, _) = seen-cut σ _ _ (h .joined .seen) in
       let j : Joined (σ ++ two (length W) (suc (length W))) (W ++ two none none) (ω ++ two x y) X = rw e at (h .joined) in
       let o : Over ω μ = seen-over (seen-cut σ _ _ (h .joined .seen) .4) laid in
-      let j₁ = joined-outside W laid ω x y o X j in let (cx, cy) = cells-inside W laid ω x y o X j in
+      let new = two-behind W x y in let j₁ = joined-outside new laid o j in let (cx, cy) = all2-two (cells-inside new laid o j) in
       let zx : x′ ≡ x = cc in let zy : y′ ≡ y = cc in
       after-map (ih s μ σ u _ (laid-later laid (j₁ .later))) λ Z t h₀.
       let (ω′, m) = merge-is (seen-later (j₁ .seen) (h₀ .joined .later)) (h₀ .joined .seen) in record {
@@ -315,6 +376,11 @@ module _ (sh : Sheet) (g : Getter) (gets : GetsSoundly sh g) (p : Putter) (ih : 
   put-node-sound (Call sec x y) = after-given _ λ a ea. after-given _ λ c ec. after-given _ λ b eb. after-given _ λ d ed.
       after-map (ih _ _ _ v W (laid-section laid x y ea ec eb ed)) λ X s t. written-call laid ea ec eb ed t
   put-node-sound (Add n k) = after-given _ λ m _. after-given _ λ low _. after-map (ih n μ σ _ W laid) λ X s t. written-add (m .0) (m .1) (m .2) low t
+  put-node-sound (Each s sec x d) = after-given _ λ l _. after-bind (gets s μ) λ o i _ ds. after-given _ λ old _. after-given _ λ a ea. after-given _ λ c ec.
+      after-bind (put-each-sound sh g gets p ih _ d c a 1 (old .0) (l .0) W (laid-at laid x ea ec)) λ z j _ w.
+      let j₁ = joined-only σ μ x c a ea ec laid (w .joined) in after-map (ih s μ σ _ (z .1) (laid-later laid (j₁ .later))) λ X t h.
+      let (ω, m) = merge-is (seen-later (j₁ .seen) (h .joined .later)) (h .joined .seen) in
+      rw (l .1) (record { ω = ω; rel = p-each (rw (old .1) at ds) ea (w .rel) (h .rel) m; joined = joined-merge j₁ (h .joined) m })
 
 pub puts-soundly : (l : ℕ) (sh : Sheet) → PutsSoundly sh (put l sh)
 unfolding Text.put
@@ -365,6 +431,27 @@ by-case Q (p-case i ds mᵢ q d o oᵢ r d₀ m) f g =
 by-case Q (p-case-switch i ds mᵢ q q′ dd mⱼ d o oⱼ r d₀ m) f g =
     g i _ _ _ _ ds mᵢ q q′ dd mⱼ (record { ω = _; ωᵢ = _; ω₀ = _; u = _; branch = d; over = o; overᵢ = oⱼ; rebuilt = r; subject = d₀; merged = m })
 
+module _ {l a : ℕ} (sh : Sheet) (g : Getter) (gets : GetsAll l a sh g) (p : Putter) (ih : PutsAll l a sh p) where
+  stood-complete : (d : ℕ) {old : Values} {m : Value} (s : StoodFor sh d old m) → Comes l a (stoodCost s) m (stoodFor g d old)
+  unfolding Text.stoodFor onList stoodCost
+  stood-complete d s-old = reach refl
+  stood-complete d (s-new h) = gets d [] _ h
+
+  -- the list so far, with its 02, has n bytes, and the whole list those of u
+  put-each-complete : (root d c : ℕ) (b u : Value) (n : ℕ) {old vs us : Values} {q : Option Value} (W Y : Cells) → Laid W (c ∷ []) (b ∷ []) → Later W Y
+      → Seen (q ∷ []) (c ∷ []) Y → n ≤ 256 → suc (size u) ≡ n + size (list us)
+      → (h : Put sh (two (list old) b) (list vs) (members root d) (two (some (list us)) q))
+      → UpTo l a (putBelow h ⊕ built u) (λ z. (z .0 ≡ us) × Joined (c ∷ []) W (q ∷ []) (z .1)) (putEach g p root d c b n old vs W)
+  unfolding Text.putEach putBelow size blank
+  put-each-complete root d c b u n W Y laid later seen z e p-end = up-as _ (omega arith) (reach (refl, joined-blank laid))
+  put-each-complete root d c b u n W Y laid later seen z e (p-next {m = m} {v = v} {us = us} {o = o} {q₁ = q₁} s h k mg) =
+      let ms = mMore mg mEnds in let new = one-behind W o in up-as _ (omega arith) (comes-bind _ (stood-complete d s)
+      (up-bind _ (ih root _ _ v _ (two o q₁) (Y ++ o ∷ []) (laid-member laid m) h (wider-later new later)
+      (all2-swap (wider-seen new later (seen-left ms seen)))) λ X j.
+      let (j₁, eo) = joined-member laid o q₁ X j in up-given _ _ eo (up-bytes _ (omega (arith, size-pos (list us))) λ z′.
+      up-last _ (put-each-complete root d c b u _ _ Y (laid-later laid (j₁ .later)) (j₁ .least Y later (seen-left ms seen)) (seen-right ms seen) z′
+      (omega arith) k) λ r w. reach (cc, joined-merge j₁ (w .1) ms))))
+
 module _ {l a : ℕ} (sh : Sheet) (g : Getter) (gets : GetsAll l a sh g) (p : Putter) (ih : PutsAll l a sh p)
     (μ : Env) (σ : List ℕ) (W : Cells) (laid : Laid W σ μ) (Y : Cells) (later : Later W Y) where
   constant-all : (v : Value) → UpTo l a free (Joined σ W (blank μ)) (constant v v W)
@@ -397,9 +484,10 @@ module _ {l a : ℕ} (sh : Sheet) (g : Getter) (gets : GetsAll l a sh g) (p : Pu
       → UpTo l a (putCost d ⊕ built u ⊕ putCost d₀) (Joined σ W ω′) (under p μ σ W b v s mk f r)
   unfolding Text.under
   under-all v b s mk f r u ω x y ω₀ ω′ d over eu d₀ m h =
-      up-bind _ (ih b _ _ v _ (ω ++ two x y) (Y ++ two x y) (laid-wider W f r laid) d (wider-later W laid ω x y later)
-      (wider-seen W laid ω x y later (seen-left m h))) λ X j.
-      let j₁ = joined-outside W laid ω x y over X j in let (cx, cy) = cells-inside W laid ω x y over X j in
+      let new = two-behind W x y in
+      up-bind _ (ih b _ _ v _ (ω ++ two x y) (Y ++ two x y) (laid-branch W f r laid) d (wider-later new later)
+      (wider-seen new later (seen-left m h))) λ X j.
+      let j₁ = joined-outside new laid over j in let (cx, cy) = all2-two (cells-inside new laid over j) in
       up-given _ _ cx (up-given _ _ cy (up-given _ _ eu (up-size u λ _.
       up-map (ih s μ σ u _ ω₀ Y (laid-later laid (j₁ .later)) d₀ (j₁ .least Y later (seen-left m h)) (seen-right m h)) λ Z k. joined-merge j₁ k m)))
 
@@ -425,6 +513,18 @@ module _ {l a : ℕ} (sh : Sheet) (g : Getter) (gets : GetsAll l a sh g) (p : Pu
           → UpTo l a (putCost d ⊕ built (k .u) ⊕ putCost (k .subject)) (Joined σ W ω′) (under p μ σ W b v s mk f r)
       go d (more {a = x} _ (more {a = y} _ ends)) m′ =
           under-all v b s mk f r (k .u) (k .ω) x y (k .ω₀) ω′ d (k .over) (inv _ _ _ m′) (k .subject) (k .merged) h
+
+  -- the members, then the rebuilt list
+  each-all : (s root d x c : ℕ) (b : Value) (us : Values) {old vs : Values} {q : Option Value} {ω₀ ω : Writes} → getElem? μ x ≡ some b
+      → getElem? σ x ≡ some c → (k : Put sh (two (list old) b) (list vs) (members root d) (two (some (list us)) q))
+      → (d₀ : Put sh μ (list us) (residual sh s) ω₀) → Merge (only μ x q) ω₀ ω → Seen ω σ Y
+      → UpTo l a ((putBelow k ⊕ built (list us)) ⊕ putCost d₀) (Joined σ W ω)
+      (putEach g p root d c b 1 old vs W >>= λ z. p s μ σ (list (z .0)) (z .1))
+  each-all s root d x c b us {q = q} eb ec k d₀ m h =
+      let seen = more (seen-only σ μ x c b eb ec q (seen-left m h)) ends in
+      up-bind _ (put-each-complete sh g gets p ih root d c b (list us) 1 W Y (laid-at laid x eb ec) later seen (omega arith) (omega arith) k) λ z w.
+      let j = joined-only σ μ x c b eb ec laid (w .1) in rw (w .0)
+      (up-map (ih s μ σ _ _ _ Y (laid-later laid (j .later)) d₀ (j .least Y later (seen-left m h)) (seen-right m h)) λ X i. joined-merge j i m)
 
   abbrev Puts : Node → Value → Writes → Cost → Type 0
   Puts nd v ω c = UpTo l a c (Joined σ W ω) (putNode g p sh nd μ σ v W)
@@ -468,6 +568,8 @@ module _ {l a : ℕ} (sh : Sheet) (g : Getter) (gets : GetsAll l a sh g) (p : Pu
       joined-section σ μ x c a ea ec y e b eb ee laid j m))))
   put-node-complete (Add n k) v (p-add {m = m} z low d) h =
       let (z′, e) = as-number m z in up-given _ _ e (up-when _ _ low λ _. ih n μ σ _ W _ Y laid d later h)
+  put-node-complete (Each s sec x d) v (p-each ds ea k d₀ m) h = let (c, ec, _) = all2-at x (all2-flip laid) ea in
+      up-given _ _ refl (comes-bind _ (gets s μ _ ds) (up-given _ _ refl (up-given _ _ ea (up-given _ _ ec (each-all s _ d x c _ _ ea ec k d₀ m h)))))
 
 pub puts-all : (l a : ℕ) (sh : Sheet) → PutsAll l a sh (put l sh)
 unfolding Text.put
@@ -500,6 +602,21 @@ defaults-one : {sh : Sheet} {ns : List ℕ} {μ μ′ : Env} → All2 (λ n w. G
 defaults-one ends ends = refl
 defaults-one {sh} (more {a = n} d ds) (more d′ ds′) = let e = get-one sh (fair (node sh n)) d d′ in let es = defaults-one ds ds′ in cc
 
+stood-one : {sh : Sheet} {d : ℕ} {old : Values} {m m′ : Value} → StoodFor sh d old m → StoodFor sh d old m′ → m ≡ m′
+stood-one s-old s-old = refl
+stood-one {sh} {d} (s-new h) (s-new h′) = get-one sh (fair (node sh d)) h h′
+
+-- what two variables are updated to, and a rebuilt list
+two-one : {a b c d : Option Value} → two a b ≡ two c d → (a ≡ c) × (b ≡ d)
+two-one e = (cc, cc)
+
+written-one : {l l′ : Values} → _≡_ {A = Option Value} (some (list l)) (some (list l′)) → l ≡ l′
+written-one e = list-one (Option·some-injective _ _ e)
+
+rebuilt-one : {o o′ q q′ : Option Value} {n n′ : Value} {us us′ : Values} → o ≡ o′ → n ≡ n′ → us ≡ us′ → q ≡ q′
+    → two (some (list (cons (orOld o n) us))) q ≡ two (some (list (cons (orOld o′ n′) us′))) q′
+rebuilt-one e f g h = rw (e, f, g, h)
+
 module _ (sh : Sheet) where
   pub put-one : {μ : Env} {v : Value} {e : Expr} {ω ω′ : Writes} → Fair e → Put sh μ v e ω → Put sh μ v e ω′ → ω ≡ ω′
   put-one f (p-var e) (p-var e′) = refl
@@ -527,10 +644,18 @@ module _ (sh : Sheet) where
       merge-one mg (rw (← e₁, ← e₀) at mg′)
   put-one f (p-pair {a = a} {b = b} d₁ d₂ m) (p-pair d₁′ d₂′ m′) =
       let e₁ = put-one (fair (node sh a)) d₁ d₁′ in let e₂ = put-one (fair (node sh b)) d₂ d₂′ in merge-one m (rw (← e₁, ← e₂) at m′)
-  put-one f (p-call {sec = sec} {a = a} {b = b} {o = o} {q = q} ea eb d m) (p-call {a = a′} {b = b′} {o = o′} {q = q′} ea′ eb′ d′ m′) =
-      let e₁ : a′ ≡ a = cc in let e₂ : b′ ≡ b = cc in let e = put-one (fair (node sh (getD (sh .sections) sec 0))) d (rw (e₁, e₂) at d′) in
-      let eo : o′ ≡ o = cc in let eq : q′ ≡ q = cc in merge-one m (rw (eo, eq) at m′)
+  put-one f (p-call {sec = sec} ea eb d m) (p-call ea′ eb′ d′ m′) =
+      let (eo, eq) = two-one (put-one (fair (node sh (getD (sh .sections) sec 0))) d (rw (← at-one ea ea′, ← at-one eb eb′) at d′)) in
+      merge-one m (rw (← eo, ← eq) at m′)
   put-one f (p-add {n = n} z low d) (p-add z′ low′ d′) = put-one (fair (node sh n)) d d′
+  put-one f (p-each {s = s} ds e d d₀ m) (p-each ds′ e′ d′ d₀′ m′) =
+      let eo = list-one (get-one sh (fair (node sh s)) ds ds′) in let ea = at-one e e′ in
+      let (eu, eq) = two-one (put-one tt d (rw (← ea, ← eo) at d′)) in
+      let e₀ = put-one (fair (node sh s)) d₀ (rw (← written-one eu) at d₀′) in merge-one m (rw (← eq, ← e₀) at m′)
+  put-one f p-end p-end = refl
+  put-one f (p-next {root = root} s d ds m) (p-next s′ d′ ds′ m′) =
+      let en = stood-one s s′ in let (eo, e₁) = two-one (put-one (fair (node sh root)) d (rw (← en) at d′)) in
+      let (eu, e₂) = two-one (put-one tt ds ds′) in rebuilt-one eo en (written-one eu) (merge1-one m (rw (← e₁, ← e₂) at m′))
 
 -- and they are of the variables in scope
 over-blank : (μ : Env) → Over (blank μ) μ
@@ -556,6 +681,9 @@ put-over (p-let ds m d o oᵢ r d₀ mg) = over-merge mg o
 put-over (p-pair d₁ d₂ m) = over-merge m (put-over d₁)
 put-over (p-call {μ = μ} {x = x} ea eb d m) = over-merge m (over-only μ x _ ea)
 put-over (p-add z low d) = put-over d
+put-over (p-each {μ = μ} {x = x} ds e d d₀ m) = over-merge m (over-only μ x _ e)
+put-over p-end = more tt (more tt ends)
+put-over (p-next s d ds m) = more tt (more tt ends)
 
 -- THE THEOREMS, for every sheet, node, environment, number of levels and allowance; σ says which cell each variable is, and W
 -- what was written before

@@ -3,15 +3,35 @@ use mathlib.Core.Path.{_≡_, refl}
 use mathlib.Core.Bool.{Bool, true, false, not}
 use mathlib.Core.Option.{Option, none, some, Option·none-ne-some, Option·some-injective, map-eq-some-iff}
 use mathlib.Core.List.{List, [], _++_}
-use Prim.Native.Nat.{ℕ, zero, suc, _-_, _≤_}
+use Prim.Native.Nat.{ℕ, zero, suc, _+_, _-_, _≤_}
 use native.Mathlib.Omega.{arith}
 use lib.ListN.{getD, take, set, getElem?, length}
 use Rattle.value.specs.All.{All, none, each}
-use Rattle.value.specs.Value.{Value, Values, vfalse, vtrue, list, number, pair, nil, cons, size, truth, Fits, eFalse, eTrue, eList, eNumber, ePair, eNil}
+use Rattle.value.specs.Value.{
+  Value,
+  Values,
+  vfalse,
+  vtrue,
+  list,
+  number,
+  pair,
+  nil,
+  cons,
+  size,
+  truth,
+  Fits,
+  Encodable,
+  eFalse,
+  eTrue,
+  eList,
+  eNumber,
+  ePair,
+  eNil,
+}
 use Rattle.value.specs.Laws.{Readable, readable-front, readable-pair, encodable-front}
 use Rattle.value.specs.Views.{asList}
 use Rattle.sheet.specs.declared.Node.{Node}
-use Rattle.sheet.specs.declared.Node.the-variants.{Var, False, True, Empty, Number, Front, Pair, ListCase, TruthCase, Split, Call, Add}
+use Rattle.sheet.specs.declared.Node.the-variants.{Var, False, True, Empty, Number, Front, Pair, ListCase, TruthCase, Split, Call, Add, Each}
 use Rattle.sheet.specs.Sheet.{Sheet}
 use Rattle.rules.specs.Outcome.{Out}
 use Rattle.rules.specs.Text
@@ -23,6 +43,7 @@ use Rattle.rules.specs.Rules.{
   two,
   bounded,
   tested,
+  getEach,
   getNode,
   get,
   orOld,
@@ -30,6 +51,9 @@ use Rattle.rules.specs.Rules.{
   write,
   both,
   under,
+  restOf,
+  stoodFor,
+  putEach,
   mkList,
   mkPair,
   putNode,
@@ -100,6 +124,26 @@ mkPair-readable : (a b u : Value) → mkPair a b ≡ some u → Readable a → R
 unfolding mkPair
 mkPair-readable a b u e ga gb z = let e′ = Option·some-injective _ _ e in rw (← e′) (pair-readable ga gb (rw (← e′) at z))
 
+-- a list that is made member by member, behind others that have n bytes with the 02 that would end them
+abbrev pub Behind : ℕ → Values → Type 0
+Behind n l = Encodable (list l) × (n + size (list l) ≤ 257)
+
+pub behind-nil : {n : ℕ} → n ≤ 256 → Behind n nil
+unfolding size
+behind-nil h = (eList eNil, omega arith)
+
+pub behind-cons : (n : ℕ) {v : Value} {l : Values} → Readable v → Behind (n + suc (size v)) l → Behind n (cons v l)
+unfolding size
+behind-cons n g h = (encodable-front (g .encodable) (h .0), omega (arith, h .1))
+
+pub behind-readable : {l : Values} → Behind 1 l → Readable (list l)
+behind-readable h = record { fits = omega (arith, h .1); encodable = h .0 }
+
+pub rest-readable : {l : Values} → Readable (list l) → Readable (list (restOf l))
+unfolding restOf
+rest-readable {l = nil} h = h
+rest-readable {l = cons m r} h = readable-front h .1
+
 -- GET
 
 -- the numbers of a sheet's constants
@@ -115,6 +159,13 @@ GetsReadable g = (n : ℕ) (μ : Env) → All Readable μ → After (Unit {0}) (
 after-tested : (t : ℕ) (o : Out Value) → After (Unit {0}) (λ v s. Readable v) o → After (Unit {0}) (λ v s. Readable v) (tested t o)
 unfolding Text.tested
 after-tested t o h = after-bind h λ v s _ g. after-given _ λ _ _. fine g
+
+module _ (g : Getter) (ih : GetsReadable g) (root : ℕ) {a : Value} (ga : Readable a) where
+  pub get-each-readable : (n : ℕ) (l : Values) → n ≤ 256 → Readable (list l) → After (Unit {0}) (λ ws s. Behind n ws) (getEach g root a n l)
+  unfolding Text.getEach
+  get-each-readable n nil z gl = fine (behind-nil z)
+  get-each-readable n (cons m r) z gl = after-bind (ih root _ (all-two (readable-front gl .0) ga)) λ w i _ gw. after-given _ λ z′ _.
+      after-bind (get-each-readable _ r z′ (readable-front gl .1)) λ ws j _ b. fine (behind-cons n gw b)
 
 module _ (g : Getter) (ih : GetsReadable g) (sh : Sheet) where
   get-node-readable : (nd : Node) → NumberFits nd → (μ : Env) → All Readable μ → After (Unit {0}) (λ v s. Readable v) (getNode g sh nd μ)
@@ -136,6 +187,8 @@ module _ (g : Getter) (ih : GetsReadable g) (sh : Sheet) where
       let gp : Readable (pair (p .0) (p .1)) = rw (p .2) at gv in ih i _ (all-append ok (all-two (readable-pair gp .0) (readable-pair gp .1)))
   get-node-readable (Call sec x y) nf μ ok = after-given _ λ a ea. after-given _ λ b eb. ih _ _ (all-two (all-at x ok ea) (all-at y ok eb))
   get-node-readable (Add n k) nf μ ok = after-bind (ih n μ ok) λ v s _ _. after-given _ λ m _. after-given _ λ q _. fine (number-readable q)
+  get-node-readable (Each s sec x d) nf μ ok = after-bind (ih s μ ok) λ v i _ gv. after-given _ λ l _. after-given _ λ a ea.
+      after-bind (get-each-readable g ih _ (all-at x ok ea) _ (l .0) (omega arith) (rw (l .1) at gv)) λ ws j _ b. fine (behind-readable b)
 
 pub get-readable : (l : ℕ) (sh : Sheet) → NumbersFit sh → GetsReadable (get l sh)
 unfolding Text.get
@@ -147,6 +200,20 @@ get-readable (suc l) sh nf n μ ok = after-plus 1 (get-node-readable (get l sh) 
 abbrev pub PutsReadable : Putter → Type 0
 PutsReadable p = (n : ℕ) (μ : Env) (σ : List ℕ) (v : Value) (W : Cells) → All Readable μ → Readable v → All ReadableCell W
     → After (Unit {0}) (λ X s. All ReadableCell X) (p n μ σ v W)
+
+module _ (g : Getter) (gets : GetsReadable g) (p : Putter) (ih : PutsReadable p) (root d c : ℕ) {a : Value} (ga : Readable a) where
+  pub stood-readable : (old : Values) → Readable (list old) → After (Unit {0}) (λ m s. Readable m) (stoodFor g d old)
+  unfolding Text.stoodFor
+  stood-readable old go = after-list old (λ _. gets d [] none) λ m r e. fine (readable-front (rw e at go) .0)
+
+  pub put-each-readable : (n : ℕ) (old l : Values) (W : Cells) → n ≤ 256 → Readable (list old) → Readable (list l) → All ReadableCell W
+      → After (Unit {0}) (λ q s. Behind n (q .0) × All ReadableCell (q .1)) (putEach g p root d c a n old l W)
+  unfolding Text.putEach
+  put-each-readable n old nil W z go gl gw = fine (behind-nil z, gw)
+  put-each-readable n old (cons v r) W z go gl gw = after-bind (stood-readable old go) λ m i _ gm.
+      after-bind (ih root _ _ v _ (all-two gm ga) (readable-front gl .0) (all-append gw (each blank none))) λ X j _ gX. after-given _ λ o eo.
+      after-given _ λ z′ _. after-bind (put-each-readable _ _ r _ z′ (rest-readable go) (readable-front gl .1) (all-take (length W) gX)) λ q k _ h.
+      fine (behind-cons n (old-readable (all-at _ gX eo) gm) (h .0), h .1)
 
 module _ (g : Getter) (gets : GetsReadable g) (p : Putter) (ih : PutsReadable p) (sh : Sheet) (μ : Env) (σ : List ℕ) (v : Value) (W : Cells)
     (ok : All Readable μ) (gv : Readable v) (gw : All ReadableCell W) where
@@ -199,6 +266,10 @@ module _ (g : Getter) (gets : GetsReadable g) (p : Putter) (ih : PutsReadable p)
   put-node-readable (Call sec x y) = after-given _ λ a ea. after-given _ λ c _. after-given _ λ b eb. after-given _ λ d _.
       ih _ _ _ v W (all-two (all-at x ok ea) (all-at y ok eb)) gv gw
   put-node-readable (Add n k) = after-given _ λ m _. after-given _ λ low _. ih n μ σ (number (m .0 - k)) W ok (number-readable (omega (arith, m .2))) gw
+  put-node-readable (Each s sec x d) = after-given _ λ l _. after-bind (gets s μ ok) λ o i _ go. after-given _ λ old _. after-given _ λ a ea.
+      after-given _ λ c _. after-bind
+      (put-each-readable g gets p ih _ d c (all-at x ok ea) _ (old .0) (l .0) W (omega arith) (rw (old .1) at go) (rw (l .1) at gv) gw) λ q j _ h.
+      ih s μ σ _ _ ok (behind-readable (h .0)) (h .1)
 
 pub put-readable : (l : ℕ) (sh : Sheet) → NumbersFit sh → PutsReadable (put l sh)
 unfolding Text.put

@@ -9,17 +9,36 @@ use native.Mathlib.Decide.{decLe}
 use lib.Dec.{eqb, leb}
 use borrow.Author.Tests.{eqb-true, leb-true}
 use Rattle.value.specs.Result.{Result, ok, refusal, andThen, mapResult, orRefuse, unless}
-use Rattle.value.specs.Value.{Value, Values, nil, cons}
+use Rattle.value.specs.Value.{Value, Values, nil, cons, size}
 use Rattle.value.specs.Reading.{Found, whole, malformed, tooLong, nothing, aValue, value, readValue, onValue, readValues}
 use Rattle.sheet.specs.declared.Node.{Node}
-use Rattle.sheet.specs.declared.Node.the-variants.{Var, False, True, Empty, Number, Front, Pair, ListCase, TruthCase, Split, Call, Add}
+use Rattle.sheet.specs.declared.Node.the-variants.{Var, False, True, Empty, Number, Front, Pair, ListCase, TruthCase, Split, Call, Add, Each}
 use Rattle.sheet.specs.Sheet.{Sheet, readNodes, oneSection, ifSection, readRecords, Records, withNodes, readBody, readHeader, readSheet}
 use Rattle.sheet.specs.Kinds.{formOf}
 use Rattle.rules.specs.Numbers.{LEVELS, ALLOWANCE, SCRATCH, GET-OUTPUT, PUT-OUTPUT}
 use Rattle.rules.specs.Outcome.{Out, done, refused, plus, steps, when, mapOut, _>>=_, given, reading, choose}
 use Rattle.rules.specs.Allowance.{within, cap}
 use Rattle.rules.specs.Text
-use Rattle.rules.specs.Rules.{Env, Cells, Getter, Putter, bounded, tested, onList, getNode, get, constant, write, both, under, putNode, put}
+use Rattle.rules.specs.Rules.{
+  Env,
+  Cells,
+  Getter,
+  Putter,
+  bounded,
+  tested,
+  onList,
+  getEach,
+  getNode,
+  get,
+  orOld,
+  constant,
+  write,
+  both,
+  under,
+  putEach,
+  putNode,
+  put,
+}
 use Rattle.rules.specs.Answer.{Answer, answer, door, getWalk, getBytes, getAnswer, putWalk, putBytes, putAnswer}
 
 -- the table behind the door, row by row; 50 to 54 and 30 to 32 are put's
@@ -178,6 +197,11 @@ module _ (g : Getter) (gets : (n : ℕ) (μ : Env) → Lists (g n μ)) (sh : She
   unfolding Text.tested among table
   lists-tested t o h = lists-bind _ h λ v. lists-given 46 _ _ refl λ _. lDone
 
+  lists-get-each : (root : ℕ) (a : Value) (n : ℕ) (l : Values) → Lists (getEach g root a n l)
+  unfolding Text.getEach among table
+  lists-get-each root a n nil = lDone
+  lists-get-each root a n (cons m r) = lists-bind _ (gets root _) λ w. lists-given 44 _ _ refl λ _. lists-bind _ (lists-get-each root a _ r) λ ws. lDone
+
   lists-get-node : (nd : Node) (μ : Env) → Lists (getNode g sh nd μ)
   unfolding Text.getNode Text.bounded among table
   lists-get-node (Var x) μ = lists-given 42 _ _ refl λ _. lDone
@@ -193,6 +217,8 @@ module _ (g : Getter) (gets : (n : ℕ) (μ : Env) → Lists (g n μ)) (sh : She
   lists-get-node (Split s i) μ = lists-bind _ (gets s μ) λ v. lists-given 43 _ _ refl λ p. gets i _
   lists-get-node (Call sec x y) μ = lists-given 42 _ _ refl λ _. lists-given 42 _ _ refl λ _. gets _ _
   lists-get-node (Add n k) μ = lists-bind _ (gets n μ) λ v. lists-given 43 _ _ refl λ _. lists-given 45 _ _ refl λ _. lDone
+  lists-get-node (Each s sec x d) μ = lists-bind _ (gets s μ) λ v. lists-given 43 _ _ refl λ l. lists-given 42 _ _ refl λ a.
+      lists-bind _ (lists-get-each _ a _ (l .0)) λ ws. lDone
 
 lists-get : (l : ℕ) (sh : Sheet) (n : ℕ) (μ : Env) → Lists (get l sh n μ)
 unfolding Text.get among table
@@ -219,6 +245,13 @@ module _ (g : Getter) (gets : (n : ℕ) (μ : Env) → Lists (g n μ)) (p : Putt
   lists-under b s mk f r = lists-bind _ (puts b _ _ v _) λ X. lists-given 42 _ _ refl λ x. lists-given 42 _ _ refl λ y.
       lists-given 43 _ _ refl λ u. lists-given 44 _ _ refl λ _. puts s μ σ u _
 
+  lists-put-each : (root d c : ℕ) (a : Value) (n : ℕ) (old l : Values) (X : Cells) → Lists (putEach g p root d c a n old l X)
+  unfolding Text.putEach Text.stoodFor among table
+  lists-put-each root d c a n old nil X = lDone
+  lists-put-each root d c a n old (cons u r) X = lists-bind _ (lists-list old (gets d []) λ m _. lDone) λ m. lists-bind _ (puts root _ _ u _) λ Y.
+      lists-given 42 _ _ refl λ o. lists-given 44 _ _ refl λ _.
+      lists-bind _ (lists-put-each root d c a (n + suc (size (orOld o m))) _ r _) λ q. lDone
+
   lists-put-node : (nd : Node) → Lists (putNode g p sh nd μ σ v W)
   unfolding Text.putNode among table
   lists-put-node (Var x) = lists-given 42 _ _ refl λ c. lists-given 42 _ _ refl λ o. lists-write c o
@@ -236,6 +269,8 @@ module _ (g : Getter) (gets : (n : ℕ) (μ : Env) → Lists (g n μ)) (p : Putt
   lists-put-node (Call sec x y) =
       lists-given 42 _ _ refl λ a. lists-given 42 _ _ refl λ c. lists-given 42 _ _ refl λ b. lists-given 42 _ _ refl λ d. puts _ _ _ v W
   lists-put-node (Add n k) = lists-given 51 _ _ refl λ m. lists-given 52 _ _ refl λ _. puts n μ σ _ W
+  lists-put-node (Each s sec x d) = lists-given 51 _ _ refl λ l. lists-bind _ (gets s μ) λ o. lists-given 43 _ _ refl λ old. lists-given 42 _ _ refl λ a.
+      lists-given 42 _ _ refl λ c. lists-bind _ (lists-put-each _ d c a _ (old .0) (l .0) W) λ q. puts s μ σ _ _
 
 lists-put : (l : ℕ) (sh : Sheet) (n : ℕ) (μ : Env) (σ : List ℕ) (v : Value) (W : Cells) → Lists (put l sh n μ σ v W)
 unfolding Text.put among table

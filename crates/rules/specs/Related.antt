@@ -54,9 +54,12 @@ module _ {A : Type 0} where
   at-left (b ∷ xs) ys zero e = e
   at-left (b ∷ xs) ys (suc x) e = at-left xs ys x e
 
+  pub at-behind : (xs : List A) (a : A) (ys : List A) → getElem? (xs ++ a ∷ ys) (length xs) ≡ some a
+  at-behind [] a ys = refl
+  at-behind (c ∷ xs) a ys = at-behind xs a ys
+
   pub at-seam : (xs : List A) (a b : A) → getElem? (xs ++ a ∷ b ∷ []) (length xs) ≡ some a
-  at-seam [] a b = refl
-  at-seam (c ∷ xs) a b = at-seam xs a b
+  at-seam xs a b = at-behind xs a (b ∷ [])
 
   pub at-last : (xs : List A) (a b : A) → getElem? (xs ++ a ∷ b ∷ []) (suc (length xs)) ≡ some b
   at-last [] a b = refl

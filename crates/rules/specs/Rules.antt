@@ -2,13 +2,13 @@
 use mathlib.Core.Option.{Option}
 use mathlib.Core.List.{List}
 use Prim.Native.Nat.{ℕ}
-use Rattle.value.specs.Value.{Value}
+use Rattle.value.specs.Value.{Value, Values}
 use Rattle.sheet.specs.declared.Node.{Node}
 use Rattle.sheet.specs.Sheet.{Sheet}
 use Rattle.rules.specs.Outcome.{Out, done, refused, plus, _>>=_, given, choose}
 use Rattle.rules.specs.Text
 use Rattle.rules.specs.Text.{Reading}
-unfoldable pub use Rattle.rules.specs.Text.{Env, two, pick, onList, mkList, mkPair}
+unfoldable pub use Rattle.rules.specs.Text.{Env, two, pick, onList, restOf, mkList, mkPair}
 
 -- a cell is the value that was written; a node that is too deep costs no step
 abbrev pub counting : Reading
@@ -41,6 +41,9 @@ bounded = Text.bounded counting
 abbrev pub tested : ℕ → Out Value → Out Value
 tested = Text.tested counting
 
+abbrev pub getEach : Getter → (root : ℕ) → Value → ℕ → Values → Out Values
+getEach = Text.getEach counting
+
 abbrev pub getNode : Getter → Sheet → Node → Env → Out Value
 getNode = Text.getNode counting
 
@@ -61,6 +64,12 @@ both = Text.both counting
 
 abbrev pub under : Putter → Env → List ℕ → Cells → ℕ → Value → ℕ → (Value → Value → Option Value) → Value → Value → Out Cells
 under = Text.under counting
+
+abbrev pub stoodFor : Getter → (d : ℕ) → Values → Out Value
+stoodFor = Text.stoodFor counting
+
+abbrev pub putEach : Getter → Putter → (root d c : ℕ) → Value → ℕ → Values → Values → Cells → Out (Values × Cells)
+putEach = Text.putEach counting
 
 abbrev pub putNode : Getter → Putter → Sheet → Node → Env → List ℕ → Value → Cells → Out Cells
 putNode = Text.putNode counting (λ v. v)

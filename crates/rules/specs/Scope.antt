@@ -7,18 +7,37 @@ use native.Mathlib.Omega.{arith}
 use native.Mathlib.Decide.{decLe}
 use lib.ListN.{length, getD, replicate, length-append}
 use Rattle.value.specs.Result.{Result, ok, refusal}
-use Rattle.value.specs.Value.{Value, Values, vfalse, list, nil, cons, encode, flat}
+use Rattle.value.specs.Value.{Value, Values, vfalse, list, nil, cons, size, encode, flat}
 use Rattle.value.specs.Reading.{readPlan, readView}
 use Rattle.value.specs.Laws.{readValues-sound}
 use Rattle.sheet.specs.declared.Node.{Node}
-use Rattle.sheet.specs.declared.Node.the-variants.{Var, False, True, Empty, Number, Front, Pair, ListCase, TruthCase, Split, Call, Add}
+use Rattle.sheet.specs.declared.Node.the-variants.{Var, False, True, Empty, Number, Front, Pair, ListCase, TruthCase, Split, Call, Add, Each}
 use Rattle.sheet.specs.Sheet.{Sheet, readSheet}
 use Rattle.sheet.specs.Laws.{sheet-ranges}
 use Rattle.rules.specs.Numbers.{LEVELS}
 use Rattle.rules.specs.Outcome.{Out, refused, plus, when, mapOut, _>>=_, given, reading, choose}
 use Rattle.rules.specs.Allowance.{within}
 use Rattle.rules.specs.Text
-use Rattle.rules.specs.Rules.{Env, Cells, Getter, Putter, two, tested, onList, getNode, get, both, under, mkList, mkPair, putNode, put}
+use Rattle.rules.specs.Rules.{
+  Env,
+  Cells,
+  Getter,
+  Putter,
+  two,
+  tested,
+  onList,
+  getEach,
+  getNode,
+  get,
+  orOld,
+  both,
+  under,
+  putEach,
+  mkList,
+  mkPair,
+  putNode,
+  put,
+}
 use Rattle.rules.specs.Answer.{answer, door, getWalk, getBytes, getAnswer, count, newPlan, putWalk, putBytes, putAnswer}
 use Rattle.rules.specs.OutcomeLaws.{given-yes}
 
@@ -60,6 +79,11 @@ abbrev SameGets : ℕ → Getter → Getter → Type 0
 SameGets k g h = (n : ℕ) (μ : Env) → length μ ≤ k → g n μ ≡ h n μ
 
 module _ {k : ℕ} {g h : Getter} (same : SameGets k g h) (sh : Sheet) where
+  get-each-ext : (root : ℕ) (a : Value) (n : ℕ) (l : Values) → 2 ≤ k → getEach g root a n l ≡ getEach h root a n l
+  unfolding Text.getEach
+  get-each-ext root a n nil z = refl
+  get-each-ext root a n (cons m r) z = bind-ext (same root (two m a) z) λ w. given-ext _ _ λ _. bind-ext (get-each-ext root a _ r z) λ ws. refl
+
   get-ext : (nd : Node) (μ : Env) → length μ + 2 ≤ k → getNode g sh nd μ ≡ getNode h sh nd μ
   unfolding Text.getNode
   get-ext (Var x) μ z = refl
@@ -75,6 +99,8 @@ module _ {k : ℕ} {g h : Getter} (same : SameGets k g h) (sh : Sheet) where
   get-ext (Split s i) μ z = bind-ext (same s μ (omega arith)) λ v. given-ext _ _ λ p. same i _ (longer μ (p .0) (p .1) z)
   get-ext (Call sec x y) μ z = given-ext _ _ λ a. given-ext _ _ λ b. same _ (two a b) (omega arith)
   get-ext (Add n c) μ z = bind-ext (same n μ (omega arith)) λ v. refl
+  get-ext (Each s sec x d) μ z = bind-ext (same s μ (omega arith)) λ v. given-ext _ _ λ l. given-ext _ _ λ a.
+      bind-ext (get-each-ext _ a _ (l .0) (omega arith)) λ ws. refl
 
 pub get-narrow : (l : ℕ) (sh : Sheet) (n : ℕ) (μ : Env) → length μ + 2 * l ≤ 112 → getNarrow l sh n μ ≡ get l sh n μ
 unfolding getNarrow Text.get
@@ -98,6 +124,13 @@ module _ {k : ℕ} {g h : Getter} {p q : Putter} (gets : SameGets k g h) (same :
   under-ext b s mk f r = bind-ext (same b _ _ v _ (longer μ f r z)) λ X. given-ext _ _ λ x. given-ext _ _ λ y. given-ext _ _ λ u. given-ext _ _ λ _.
       same s μ σ u _ (omega arith)
 
+  put-each-ext : (root d c : ℕ) (a : Value) (n : ℕ) (old l : Values) (X : Cells) → putEach g p root d c a n old l X ≡ putEach h q root d c a n old l X
+  unfolding Text.putEach Text.stoodFor
+  put-each-ext root d c a n old nil X = refl
+  put-each-ext root d c a n old (cons u r) X = bind-ext (list-ext old (gets d [] (omega arith)) λ m _. refl) λ m.
+      bind-ext (same root (two m a) _ u _ (omega arith)) λ Y. given-ext _ _ λ o. given-ext _ _ λ _.
+      bind-ext (put-each-ext root d c a (n + suc (size (orOld o m))) _ r _) λ s. refl
+
   put-ext : (nd : Node) → putNode g p sh nd μ σ v W ≡ putNode h q sh nd μ σ v W
   unfolding Text.putNode
   put-ext (Var x) = refl
@@ -115,6 +148,8 @@ module _ {k : ℕ} {g h : Getter} {p q : Putter} (gets : SameGets k g h) (same :
   put-ext (Split s i) = bind-ext (gets s μ (omega arith)) λ o. given-ext _ _ λ c. under-ext i s mkPair _ _
   put-ext (Call sec x y) = given-ext _ _ λ a. given-ext _ _ λ c. given-ext _ _ λ b. given-ext _ _ λ d. same _ (two a b) _ v W (omega arith)
   put-ext (Add n c) = given-ext _ _ λ m. given-ext _ _ λ _. same n μ σ _ W (omega arith)
+  put-ext (Each s sec x d) = given-ext _ _ λ l. bind-ext (gets s μ (omega arith)) λ o. given-ext _ _ λ old. given-ext _ _ λ a. given-ext _ _ λ c.
+      bind-ext (put-each-ext _ d c a _ (old .0) (l .0) W) λ r. same s μ σ _ _ (omega arith)
 
 pub put-narrow : (l : ℕ) (sh : Sheet) (n : ℕ) (μ : Env) (σ : List ℕ) (v : Value) (W : Cells) → length μ + 2 * l ≤ 112
     → putNarrow l sh n μ σ v W ≡ put l sh n μ σ v W

@@ -10,7 +10,7 @@ use Rattle.value.specs.Value.{Value, Values, vfalse, vtrue, list, number, pair,
 use Rattle.value.specs.Views.{asList, asFront, asPair, asNumber, asTruth}
 use Rattle.value.specs.Tests.{passes}
 use Rattle.sheet.specs.declared.Node.{Node}
-use Rattle.sheet.specs.declared.Node.the-variants.{Var, False, True, Empty, Number, Front, Pair, ListCase, TruthCase, Split, Call, Add}
+use Rattle.sheet.specs.declared.Node.the-variants.{Var, False, True, Empty, Number, Front, Pair, ListCase, TruthCase, Split, Call, Add, Each}
 use Rattle.sheet.specs.Sheet.{Sheet}
 use Rattle.rules.specs.Outcome.{when}
 
@@ -53,6 +53,11 @@ mkList f r = Option·map (λ l. list (cons f (l .0))) (asList r)
 unfoldable pub mkPair : Value → Value → Option Value
 mkPair a b = some (pair a b)
 
+-- a list without its first member, if it has one
+unfoldable pub restOf : Values → Values
+restOf nil = nil
+restOf (cons x r) = r
+
 module _ (R : Reading) where
   open Reading R using (M, give, bind as _>>=_, given, choose, enter, deep, Cell, mark, held, clash)
 
@@ -76,6 +81,14 @@ module _ (R : Reading) where
   unfoldable pub tested : ℕ → M Value → M Value
   tested t o = o >>= λ v. given 46 (when (passes t v)) λ _. give v
 
+  -- what `root` gives for each member of a list, with the member and a for its two variables. The list so far, with the 02 that would end
+  -- it, has n bytes
+  unfoldable pub getEach : Getter → (root : ℕ) → Value → ℕ → Values → M Values
+  getEach g root a n nil = give nil
+  getEach g root a n (cons m r) =
+      g root (two m a) >>= λ w. given 44 (when (decLe (n + suc (size w)) 256)) λ _.
+      getEach g root a (n + suc (size w)) r >>= λ ws. give (cons w ws)
+
   -- g gets the nodes that this one enters
   unfoldable pub getNode : Getter → Sheet → Node → Env → M Value
   getNode g sh (Var x) μ = given 42 (getElem? μ x) λ v. give v
@@ -94,6 +107,9 @@ module _ (R : Reading) where
       given 42 (getElem? μ x) λ a. given 42 (getElem? μ y) λ b. g (getD (sh .sections) sec 0) (two a b)
   getNode g sh (Add n k) μ =
       g n μ >>= λ v. given 43 (asNumber v) λ m. given 45 (when (decLe (m .0 + k) 65535)) λ _. give (number (m .0 + k))
+  getNode g sh (Each s sec x d) μ =
+      g s μ >>= λ v. given 43 (asList v) λ l. given 42 (getElem? μ x) λ a.
+      getEach g (getD (sh .sections) sec 0) a 1 (l .0) >>= λ ws. give (list ws)
 
   -- with l levels left: 48 at the root, and a node for which none is left is at depth 49. Entering costs one step
   unfoldable pub get : ℕ → Sheet → Getter
@@ -128,6 +144,20 @@ module _ (R : Reading) where
       given 42 (getElem? X (length W)) λ x. given 42 (getElem? X (suc (length W))) λ y.
       given 43 (mk (orOld x f) (orOld y r)) λ u. given 44 (when (decLe (size u) 256)) λ _. p s μ σ u (take (length W) X)
 
+  -- what the next member stands for: the first of the old ones, or past their end the default d, got anew in an empty scope
+  unfoldable pub stoodFor : Getter → (d : ℕ) → Values → M Value
+  stoodFor g d old = onList old (g d []) λ m _. give m
+
+  -- the view's members, from the left, into `root`: its first variable stands for the member and is a new cell, which is dropped behind it; its
+  -- second stands for a and is the cell c. The members as they are then; that list so far, with its 02, has n bytes
+  unfoldable pub putEach : Getter → Putter → (root d c : ℕ) → Value → ℕ → Values → Values → Cells → M (Values × Cells)
+  putEach g p root d c a n old nil W = give (nil, W)
+  putEach g p root d c a n old (cons v r) W =
+      stoodFor g d old >>= λ m.
+      p root (two m a) (two (length W) c) v (W ++ none ∷ []) >>= λ X. given 42 (getElem? X (length W)) λ o.
+      given 44 (when (decLe (n + suc (size (orOld o m))) 256)) λ _.
+      putEach g p root d c a (n + suc (size (orOld o m))) (restOf old) r (take (length W) X) >>= λ q. give (cons (orOld o m) (q .0), q .1)
+
   -- g gets and p puts the nodes that this one enters; `new` is what this one writes
   unfoldable pub putNode : (Value → Cell) → Getter → Putter → Sheet → Node → Env → List ℕ → Value → Cells → M Cells
   putNode new g p sh (Var x) μ σ v W = given 42 (getElem? σ x) λ c. given 42 (getElem? W c) λ o. write new c v W o
@@ -154,6 +184,9 @@ module _ (R : Reading) where
       p (getD (sh .sections) sec 0) (two a b) (two c d) v W
   putNode new g p sh (Add n k) μ σ v W =
       given 51 (asNumber v) λ m. given 52 (when (decLe k (m .0))) λ _. p n μ σ (number (m .0 - k)) W
+  putNode new g p sh (Each s sec x d) μ σ v W =
+      given 51 (asList v) λ l. g s μ >>= λ o. given 43 (asList o) λ old. given 42 (getElem? μ x) λ a. given 42 (getElem? σ x) λ c.
+      putEach g p (getD (sh .sections) sec 0) d c a 1 (old .0) (l .0) W >>= λ q. p s μ σ (list (q .0)) (q .1)
 
   unfoldable pub put : ℕ → Sheet → Putter
   put zero sh n μ σ v W = deep n

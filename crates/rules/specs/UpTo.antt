@@ -117,8 +117,11 @@ module _ {A B : Type 0} {l a : ℕ} {c d : Cost} {Q : B → Type 0} where
 
 module _ {A B : Type 0} {l a : ℕ} {c : Cost} {Q : B → Type 0} where
   -- nothing is entered after it
+  pub up-last : {P : A → Type 0} {m : Out A} (f : A → Out B) → UpTo l a c P m → ((x : A) → P x → UpTo l a free Q (f x)) → UpTo l a c Q (m >>= f)
+  up-last f h k = up-as c (omega arith) (up-bind f h k)
+
   pub comes-last : {v : A} {m : Out A} (f : A → Out B) → Comes l a c v m → UpTo l a free Q (f v) → UpTo l a c Q (m >>= f)
-  comes-last f h k = up-as c (omega arith) (comes-bind f h k)
+  comes-last f h k = up-last f h λ x e. rw e k
 
   pub up-given : {o : Option A} {x : A} (n : ℕ) (f : A → Out B) → o ≡ some x → UpTo l a c Q (f x) → UpTo l a c Q (given n o f)
   unfolding given
@@ -130,15 +133,19 @@ module _ {A B : Type 0} {l a : ℕ} {c : Cost} {Q : B → Type 0} where
   up-when n (no p) x k = absurd (p x)
 
 module _ {B : Type 0} {l a : ℕ} {c : Cost} {Q : B → Type 0} where
-  -- over 256 bytes is a limit
+  -- over 256 bytes is a limit; n of them are part of what c builds
+  pub up-bytes : (n : ℕ) {f : n ≤ 256 → Out B} → n ≤ c .longest → ((x : n ≤ 256) → UpTo l a c Q (f x)) → UpTo l a c Q (given 44 (when (decLe n 256)) f)
+  unfolding given when
+  up-bytes n {f} h k = go (decLe n 256)
+    where
+      go : (d : Dec (n ≤ 256)) → UpTo l a c Q (given 44 (when d) f)
+      go (yes p) = k p
+      go (no p) = stops (omega arith) (long (omega arith))
+
+module _ {B : Type 0} {l a : ℕ} {c : Cost} {Q : B → Type 0} where
   pub up-size : (v : Value) {f : size v ≤ 256 → Out B} → ((x : size v ≤ 256) → UpTo l a c Q (f x))
       → UpTo l a (built v ⊕ c) Q (given 44 (when (decLe (size v) 256)) f)
-  unfolding given when
-  up-size v {f} k = go (decLe (size v) 256)
-    where
-      go : (d : Dec (size v ≤ 256)) → UpTo l a (built v ⊕ c) Q (given 44 (when d) f)
-      go (yes p) = up-as (built v ⊕ c) (omega arith) (k p)
-      go (no p) = stops (omega arith) (long (omega arith))
+  up-size v k = up-bytes (size v) (omega arith) λ x. up-as (built v ⊕ c) (omega arith) (k x)
 
 module _ {A P R : Type 0} {l a : ℕ} {c : Cost} {Q : A → Type 0} where
   pub up-first : (p : Dec P) (r : Dec R) {x : Out A} (y : Out A) → P → UpTo l a c Q x → UpTo l a c Q (choose p r x y)

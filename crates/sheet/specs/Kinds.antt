@@ -7,7 +7,7 @@ use Prim.Native.Nat.{ℕ, zero, suc, _+_, _*_, _/_, _%_}
 use lib.Dec.{leb, ltb, eqb}
 use lib.ListN.{getD, replicate}
 use Rattle.sheet.specs.declared.Node.{Node}
-use Rattle.sheet.specs.declared.Node.the-variants.{Var, False, True, Empty, Number, Front, Pair, ListCase, TruthCase, Split, Call, Add}
+use Rattle.sheet.specs.declared.Node.the-variants.{Var, False, True, Empty, Number, Front, Pair, ListCase, TruthCase, Split, Call, Add, Each}
 
 -- what a field of a body is: one byte, and a number two, the high byte first
 pub data Role : Type 0 where
@@ -62,6 +62,7 @@ row (TruthCase s f tf t tt) = 0x18 is (node s ∷ node f ∷ test tf ∷ node t 
 row (Split s i) = 0x19 is (node s ∷ node i ∷ [])
 row (Call c x y) = 0x1A is (section c ∷ variable x ∷ variable y ∷ [])
 row (Add n a) = 0x1B is (node n ∷ number a ∷ [])
+row (Each s c x d) = 0x1C is (node s ∷ section c ∷ variable x ∷ node d ∷ [])
 
 -- a node for each choice of n values
 abbrev pub Maker : ℕ → Type 0
@@ -75,15 +76,15 @@ pub record Form : Type 0 where
 abbrev pub form : (n : ℕ) → Maker n → Option Form
 form n m = some (record { fields = n; maker = m })
 
--- the constructors with the number of their fields, kinds 10 to 1B in order
+-- the constructors with the number of their fields, kinds 10 to 1C in order
 abbrev pub forms : List (Option Form)
 forms =
     form 1 Var ∷ form 0 False ∷ form 0 True ∷ form 0 Empty ∷ form 1 Number ∷ form 2 Front ∷ form 2 Pair
-    ∷ form 7 ListCase ∷ form 5 TruthCase ∷ form 2 Split ∷ form 3 Call ∷ form 2 Add ∷ []
+    ∷ form 7 ListCase ∷ form 5 TruthCase ∷ form 2 Split ∷ form 3 Call ∷ form 2 Add ∷ form 4 Each ∷ []
 
 -- the first byte behind them
 abbrev pub past : ℕ
-past = 0x1C
+past = 0x1D
 
 -- the form of a kind byte: of a known one it computes, and `formOf` is the same, shut
 abbrev pub formAt : ℕ → Option Form

@@ -10,7 +10,7 @@ ghost use Rattle.sheet.specs.Kinds.{nodeInRange};
 ghost use Rattle.value.specs.Result.{refusal};
 ghost use Rattle.sheet.specs.Table.{nodeOf, nodeAt, kindWidth, sectionAt, tableOf, NodesTable, RootsJudged, NodesJudged, SheetJudged};
 
-/// A node of a sheet: one variant a kind, 10 to 1B in order. Numbers of nodes, sections and variables are `usize`.
+/// A node of a sheet: one variant a kind, 10 to 1C in order. Numbers of nodes, sections and variables are `usize`.
 pub enum Node {
     Var(usize),
     False,
@@ -54,6 +54,12 @@ pub enum Node {
         node: usize,
         amount: u16,
     },
+    Each {
+        subject: usize,
+        section: usize,
+        variable: usize,
+        default: usize,
+    },
 }
 
 /// What reading a sheet gives. A refusal is its number and zeros. Otherwise `refusal` is 0, and `starts` has the
@@ -85,8 +91,8 @@ fn wide(b: u8) -> usize
     b as usize
 }
 
-// The bytes of a node record, the kind byte with them: kinds 10 to 1B in order.
-const WIDTHS: [u8; 12] = [2, 1, 1, 1, 3, 3, 3, 8, 6, 3, 4, 4];
+// The bytes of a node record, the kind byte with them: kinds 10 to 1C in order.
+const WIDTHS: [u8; 13] = [2, 1, 1, 1, 3, 3, 3, 8, 6, 3, 4, 4, 5];
 
 // The bytes of a node record of this kind; 0 where no node has the kind.
 fn record_width(kind: u8) -> usize
@@ -96,7 +102,7 @@ fn record_width(kind: u8) -> usize
         return 0;
     }
     let k = wide(kind) - 0x10;
-    if 12 <= k {
+    if 13 <= k {
         return 0;
     }
     wide(WIDTHS[k])
@@ -175,6 +181,12 @@ fn decode(r: &[u8]) -> Node
         0x1B => Node::Add {
             node: at(r, 1),
             amount: pair_at(r, 2),
+        },
+        0x1C => Node::Each {
+            subject: at(r, 1),
+            section: at(r, 2),
+            variable: at(r, 3),
+            default: at(r, 4),
         },
         _ => Node::False,
     }
@@ -268,6 +280,12 @@ pub fn in_range(n: Node, own: usize, nodes: usize, sections: usize) -> bool
         Node::Split { subject, inner } => both_below(own, subject, inner, nodes),
         Node::Call { section, .. } => section < sections,
         Node::Add { node, amount } => is_below(own, node, nodes) & (amount <= 65535),
+        Node::Each {
+            subject,
+            section,
+            default,
+            ..
+        } => is_below(own, subject, nodes) & (section < sections) & is_below(own, default, nodes),
     }
 }
 

@@ -26,9 +26,13 @@ entryRefusal zero left = 40
 entryRefusal (suc l) zero = 41
 entryRefusal (suc l) (suc n) = 0
 
+-- two entries at the front of a list
+abbrev pub frontTwo : List ℕ → ℕ → ℕ → List ℕ
+frontTwo l a b = set (set l 0 a) 1 b
+
 -- entries x and y of a list, at its front
 abbrev pub pickedTwo : List ℕ → ℕ → ℕ → List ℕ
-pickedTwo l x y = set (set l 0 (getD l x 0)) 1 (getD l y 0)
+pickedTwo l x y = frontTwo l (getD l x 0) (getD l y 0)
 
 -- two entries from n on
 abbrev pub addedTwo : List ℕ → ℕ → ℕ → ℕ → List ℕ

@@ -8,7 +8,7 @@ ghost use lib.ListN.{length, getD};
 ghost use lib.Seq.{paste};
 ghost use Rattle.value.specs.Parts.{shapeOf, passesBytes, sameBytes};
 ghost use Rattle.answer.specs.Answer.{doneAs};
-ghost use Rattle.step.specs.Step.{When, pickedTwo, addedTwo, nowhere, placeOf, entryRefusal, fitsKind, fitOf, otherOf, choice, takeOf, apartOf, madeOf, judged, unfitRest};
+ghost use Rattle.step.specs.Step.{When, frontTwo, pickedTwo, addedTwo, nowhere, placeOf, entryRefusal, fitsKind, fitOf, otherOf, choice, takeOf, apartOf, madeOf, judged, unfitRest};
 use answer::done;
 use answer::refused;
 use value::Shape;
@@ -209,6 +209,22 @@ pub fn pick_cells(cells: &[u8; 110], x: usize, y: usize) -> [u8; 110]
     }
     two[0] = cells[x];
     two[1] = cells[y];
+    two
+}
+
+/// The cells of a member and of the variable x alone: the member's is c, and x is its caller's.
+pub fn member_cells(cells: &[u8; 110], c: usize, x: usize) -> [u8; 110]
+    ensures { λ r. ⌜ When ((c < 110) × (x < 110)) r (frontTwo (now (cells .entry)) c (getD (now (cells .entry)) x 0)) (now (cells .entry)) ⌝ }
+{
+    let mut two = *cells;
+    if 110 <= c {
+        return two;
+    }
+    if 110 <= x {
+        return two;
+    }
+    two[0] = c as u8;
+    two[1] = cells[x];
     two
 }
 

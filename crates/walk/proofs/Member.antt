@@ -25,3 +25,7 @@ module _ (m : Member) where
   -- its places, of the claims C about what it calls
   abbrev pub PlacesOf : Type 1 → Type 1
   PlacesOf C = C → In (m .lifetimes) (m .takes) → Out (m .lifetimes) (m .takes) (m .gives) → Type 0
+
+  -- and of a function with a loop: of its invariant and its measure too
+  abbrev pub LoopPlacesOf : Type 1 → Type 1 → Type 0 → Type 1
+  LoopPlacesOf C I M = C → In (m .lifetimes) (m .takes) → Out (m .lifetimes) (m .takes) (m .gives) → I → M → Type 0

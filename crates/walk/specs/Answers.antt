@@ -1,12 +1,13 @@
 -- What an answer says of an outcome under an allowance: rules that follow the definitions of get and put step by step.
 use mathlib.Core.Path.{_≡_, ap, _∙_}
 use mathlib.Core.Option.{Option, none, some}
-use Prim.Native.Nat.{ℕ, _-_, _<_}
+use Prim.Native.Nat.{ℕ, _+_, _-_, _<_}
 use native.Mathlib.Omega.{arith}
 use Rattle.answer.specs.Answer.{Said, Done, Refused, after}
 use Rattle.rules.specs.Outcome.{Out, done, refused, plus, steps, when, _>>=_, given}
 use Rattle.rules.specs.Allowance.{within}
 use Rattle.rules.specs.AllowanceLaws.{within-yes, within-plus, within-none, within-bind, chain}
+use Rattle.walk.specs.Members.{plus-plus}
 
 -- the answer r serves the outcome: with its steps, and P of what was done and of where the answer says that it stands; or it is its refusal
 pub data Told {A : Type 0} (P : (start len : ℕ) → A → Type 0) (r : Said) : Out A → Type 0 where
@@ -15,6 +16,10 @@ pub data Told {A : Type 0} (P : (start len : ℕ) → A → Type 0) (r : Said) :
 
 pub record Answers {A : Type 0} (P : (start len : ℕ) → A → Type 0) (r : Said) (left : ℕ) (o : Out A) : Type 0 where
   pub told : Told P r (within left o)
+
+-- o under `left` is p under left′, once k steps are taken
+pub record Onward {A : Type 0} (left : ℕ) (o : Out A) (k left′ : ℕ) (p : Out A) : Type 0 where
+  pub is : within left o ≡ plus k (within left′ p)
 
 module _ {A : Type 0} {P : (start len : ℕ) → A → Type 0} where
   -- steps that were taken before
@@ -39,6 +44,13 @@ module _ {A : Type 0} {P : (start len : ℕ) → A → Type 0} where
     -- a call's answer is the answer
     pub as-done : {o : Out A} {v : A} {start len n : ℕ} → within left o ≡ done v n → r ≡ Done start len n → P start len v → Answers P r left o
     as-done e q p = record { told = rw e (serves q p) }
+
+    -- k steps were taken, and what is left is answered
+    pub onward : {o p : Out A} {k left′ : ℕ} {q : Said} → Onward left o k left′ p → Answers P q left′ p → r ≡ after k q → Answers P r left o
+    onward {k = k} e t d = record { told = rw (e .is) (told-after k (t .told) d) }
+
+    pub as-refused : {o : Out A} {c s : ℕ} → within left o ≡ refused c s → r ≡ Refused c → Answers P r left o
+    as-refused e q = record { told = rw e (denies q) }
 
     module _ {B : Type 0} where
       -- one call was done in k steps, and then the rest
@@ -76,6 +88,30 @@ module _ {A : Type 0} {P : (start len : ℕ) → A → Type 0} where
 
     pub no-step : (o : Out A) → left ≡ 0 → r ≡ Refused 41 → Answers P r left (plus 1 o)
     no-step o e d = record { told = rw (e, within-none o) (denies d) }
+
+-- WHAT IS LEFT OF AN OUTCOME
+
+module _ {A : Type 0} {left left′ i : ℕ} {o p : Out A} (e : Onward left o i left′ p) where
+  -- nothing is left to do
+  pub onward-done : {v : A} → p ≡ done v 0 → within left o ≡ done v i
+  unfolding plus steps
+  onward-done {v} x = let z : i + 0 ≡ i = omega arith in
+      e .is ∙ ap (λ q. plus i (within left′ q)) x ∙ ap (plus i) (within-yes left′ (done v 0) (omega arith)) ∙ ap (done v) z
+
+  -- a call was refused
+  pub onward-refused : {B : Type 0} (m : Out B) (f : B → Out A) {c s : ℕ} → p ≡ (m >>= f) → within left′ m ≡ refused c s → within left o ≡ refused c (i + s)
+  unfolding chain plus
+  onward-refused m f x d = e .is ∙ ap (λ q. plus i (within left′ q)) x
+      ∙ ap (plus i) (within-bind left′ m f ∙ ap (λ y. chain y (λ z s. within (left′ - s) (f z))) d)
+
+module _ {A B : Type 0} where
+  -- one call more was done, in k steps
+  pub then-onward : {left left′ i j k : ℕ} {o p n : Out A} (m : Out B) (f : B → Out A) {v : B} → Onward left o i left′ p → p ≡ (m >>= f)
+      → within left′ m ≡ done v k → f v ≡ n → i + k ≡ j → Onward left o j (left′ - k) n
+  unfolding chain
+  then-onward {left′ = left′} {i = i} {k = k} {n = n} m f e x d y z = record {
+    is = e .is ∙ ap (λ q. plus i (within left′ q)) x ∙ ap (plus i) (within-bind left′ m f ∙ rw (d, y)) ∙ plus-plus i k (within (left′ - k) n) ∙ rw z;
+  }
 
 -- A CALL'S ANSWER, TAKEN APART
 

@@ -13,7 +13,7 @@ use Rattle.value.specs.Laws.{Readable}
 use Rattle.rules.specs.Numbers.{STACK}
 use Rattle.step.specs.declared.Scope.{Scope}
 use Rattle.step.specs.Step.{picked}
-use Rattle.walk.specs.Scope.{pushed}
+use Rattle.walk.specs.Scope.{pushed, alone, withMember}
 use Rattle.walk.specs.Parts.{part, Kept, part-kept}
 
 -- bytes that a walk at `top` leaves alone: in the plan, or on the stack below `top`
@@ -95,12 +95,12 @@ env-push {a} {s} {top} {start} {len} {μ} {v} w h lt = record {
         rw (p, q, q′, u) h
 
 -- two variables alone
-pub env-pick : {a : List ℕ} {s : Scope} {top x y : ℕ} {μ : List Value} → Scoped a s top μ → x < length μ → y < length μ
-    → Scoped a (picked s x y) top (getD μ x vfalse ∷ getD μ y vfalse ∷ [])
-env-pick {a} {s} {top} {x} {y} {μ} w hx hy = record {
+env-alone : {a : List ℕ} (s : Scope) {top start : ℕ} (len : ℕ) {start′ : ℕ} (len′ : ℕ) {u v : Value} → length (s .starts) ≡ 110 → length (s .lens) ≡ 110
+    → Held a top start (len + 1) u → Held a top start′ (len′ + 1) v → Scoped a (alone s start len start′ len′) top (u ∷ v ∷ [])
+env-alone {a} s {top} {start} len {start′} len′ {u} {v} ls ll hu hv = record {
   count = refl;
-  starts-long = simp length-set (w .starts-long);
-  lens-long = simp length-set (w .lens-long);
+  starts-long = simp length-set ls;
+  lens-long = simp length-set ll;
   each = go;
 }
   where
@@ -110,8 +110,19 @@ env-pick {a} {s} {top} {x} {y} {μ} w hx hy = record {
     second : (l : List ℕ) (u v : ℕ) → length l ≡ 110 → getD (set (set l 0 u) 1 v) 1 0 ≡ v
     second l u v e = getD-set-same (set l 0 u) 1 v 0 (simp length-set (omega arith))
 
-    go : (i : ℕ) → i < 2 → Held a top (getD (picked s x y .starts) i 0) (getD (picked s x y .lens) i 0 + 1)
-        (getD (getD μ x vfalse ∷ getD μ y vfalse ∷ []) i vfalse)
-    go zero h = rw (first (s .starts) _ _ (w .starts-long), first (s .lens) _ _ (w .lens-long)) (w .each x hx)
-    go (suc zero) h = rw (second (s .starts) _ _ (w .starts-long), second (s .lens) _ _ (w .lens-long)) (w .each y hy)
+    go : (i : ℕ) → i < 2 → Held a top (getD (alone s start len start′ len′ .starts) i 0) (getD (alone s start len start′ len′ .lens) i 0 + 1)
+        (getD (u ∷ v ∷ []) i vfalse)
+    go zero h = rw (first (s .starts) _ _ ls, first (s .lens) _ _ ll) hu
+    go (suc zero) h = rw (second (s .starts) _ _ ls, second (s .lens) _ _ ll) hv
     go (suc (suc i)) h = absurd (omega arith)
+
+pub env-pick : {a : List ℕ} {s : Scope} {top x y : ℕ} {μ : List Value} → Scoped a s top μ → x < length μ → y < length μ
+    → Scoped a (picked s x y) top (getD μ x vfalse ∷ getD μ y vfalse ∷ [])
+env-pick {s = s} {x = x} {y = y} w hx hy = env-alone s _ _ (w .starts-long) (w .lens-long) (w .each x hx) (w .each y hy)
+
+-- a member and one variable
+pub env-member : {a : List ℕ} {s : Scope} {top x start len : ℕ} {m : Value} {μ : List Value} → Scoped a s top μ → x < length μ → Held a top start len m
+    → Scoped a (withMember s x start len) top (m ∷ getD μ x vfalse ∷ [])
+env-member {s = s} {x = x} {len = len} {m = m} w hx h =
+    let z : len - 1 + 1 ≡ len = omega (arith, h .long, size-pos m) in
+    env-alone s _ _ (w .starts-long) (w .lens-long) (rw z h) (w .each x hx)

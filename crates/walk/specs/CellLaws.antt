@@ -1,7 +1,7 @@
 -- Cells written to, added and dropped again, and the cells of the variables in scope.
 use mathlib.Core.Path.{_≡_, refl, sym, ap, _∙_}
 use mathlib.Core.Option.{Option, none, some}
-use mathlib.Core.List.{List, _++_, append-assoc}
+use mathlib.Core.List.{List, [], _∷_, _++_, append-assoc}
 use Prim.Native.Nat.{ℕ, zero, suc, _+_, _-_, _*_, _≤_, _<_}
 use native.Mathlib.Nat.{le-refl}
 use native.Mathlib.Numerals.{add-one}
@@ -27,6 +27,7 @@ use Rattle.value.specs.Laws.{Readable}
 use Rattle.rules.specs.Rules.{Cells, two}
 use Rattle.rules.specs.Numbers.{STACK}
 use Rattle.walk.specs.Parts.{part, Kept, part-kept, kept-below}
+use Rattle.step.specs.Step.{frontTwo, pickedTwo}
 use Rattle.walk.specs.Cells.{Frame, Slot, blank, full, Written, Named}
 
 module _ {A : Type 0} where
@@ -79,9 +80,25 @@ written-more {a} {slots} {n} {W} w h = record {
     go i (first e) = rw (two-first W none none none i (omega (arith, w .count))) (blank (set-two-first slots n i 0 0 0 e (omega (arith, w .long))))
     go i (second e) = rw (two-second W none none none i (omega (arith, w .count))) (blank (set-two-second slots n i 0 0 0 e (omega (arith, w .long))))
 
--- the last two dropped
-pub written-less : {a slots : List ℕ} {n : ℕ} {X : Cells} → Written a slots (n + 2) X → Written a slots n (take n X)
-written-less {a} {slots} {n} {X} w = record {
+-- one blank cell more
+pub written-one : {a slots : List ℕ} {n : ℕ} {W : Cells} → Written a slots n W → n < 110 → Written a (set slots n 0) (n + 1) (W ++ none ∷ [])
+written-one {a} {slots} {n} {W} w h = record {
+  count = length-append W (none ∷ []) ∙ omega (arith, w .count);
+  few = omega arith;
+  long = simp length-set (w .long);
+  each = λ i l. go i l (decLt i n);
+}
+  where
+    go : (i : ℕ) → i < n + 1 → Dec (i < n) → Slot a (4096 + 256 * i) (getD (set slots n 0) i 0) (getD (W ++ none ∷ []) i none)
+    go i l (yes p) = rw (getD-set-other slots n i 0 0 (λ e. omega arith), List·getD-append W (none ∷ []) none i (omega (arith, w .count))) (w .each i p)
+    go i l (no p) =
+        let e : i ≡ n = omega arith in
+        let z : n ≡ length W + 0 = omega (arith, w .count) in
+        rw (e, getD-set-same slots n 0 0 (omega (arith, w .long)), z, getD-append-add W (none ∷ []) 0 none) (blank refl)
+
+-- the last ones dropped
+pub written-less : {a slots : List ℕ} {n m : ℕ} {X : Cells} → n ≤ m → Written a slots m X → Written a slots n (take n X)
+written-less {a} {slots} {n} {m} {X} h w = record {
   count = length-take-le n X (omega (arith, w .count));
   few = omega (arith, w .few);
   long = w .long;
@@ -107,24 +124,30 @@ named-more {cs} {n} {k} {σ} w e h = record {
     below i (second q) = rw (two-second σ n (suc n) 0 i (omega arith)) (omega arith)
 
 -- two variables alone
-pub named-pick : {cs : List ℕ} {n x y : ℕ} {σ : List ℕ} → Named cs n σ → x < length σ → y < length σ
-    → Named (set (set cs 0 (getD cs x 0)) 1 (getD cs y 0)) n (two (getD σ x 0) (getD σ y 0))
-named-pick {cs} {n} {x} {y} {σ} w hx hy = record {
-  long = simp length-set (w .long);
+named-alone : (cs : List ℕ) {n c d : ℕ} → length cs ≡ 110 → c < n → d < n → Named (frontTwo cs c d) n (two c d)
+named-alone cs {n} {c} {d} l hc hd = record {
+  long = simp length-set l;
   each = go;
   inside = below;
 }
   where
-    go : (i : ℕ) → i < 2 → getD (set (set cs 0 (getD cs x 0)) 1 (getD cs y 0)) i 0 ≡ getD (two (getD σ x 0) (getD σ y 0)) i 0
-    go zero h = getD-set-other (set cs 0 (getD cs x 0)) 1 0 (getD cs y 0) 0 (λ q. omega arith) ∙ getD-set-same cs 0 (getD cs x 0) 0 (omega (arith, w .long))
-        ∙ w .each x hx
-    go (suc zero) h = getD-set-same (set cs 0 (getD cs x 0)) 1 (getD cs y 0) 0 (simp length-set (omega (arith, w .long))) ∙ w .each y hy
+    go : (i : ℕ) → i < 2 → getD (frontTwo cs c d) i 0 ≡ getD (two c d) i 0
+    go zero h = getD-set-other (set cs 0 c) 1 0 d 0 (λ q. omega arith) ∙ getD-set-same cs 0 c 0 (omega arith)
+    go (suc zero) h = getD-set-same (set cs 0 c) 1 d 0 (simp length-set (omega arith))
     go (suc (suc i)) h = absurd (omega arith)
 
-    below : (i : ℕ) → i < 2 → getD (two (getD σ x 0) (getD σ y 0)) i 0 < n
-    below zero h = w .inside x hx
-    below (suc zero) h = w .inside y hy
+    below : (i : ℕ) → i < 2 → getD (two c d) i 0 < n
+    below zero h = hc
+    below (suc zero) h = hd
     below (suc (suc i)) h = absurd (omega arith)
+
+pub named-pick : {cs : List ℕ} {n x y : ℕ} {σ : List ℕ} → Named cs n σ → x < length σ → y < length σ
+    → Named (pickedTwo cs x y) n (two (getD σ x 0) (getD σ y 0))
+named-pick {cs} {x = x} {y = y} w hx hy = rw (w .each x hx, w .each y hy) (named-alone cs (w .long) (w .inside x hx) (w .inside y hy))
+
+-- a member's new cell, behind the others, and the variable x
+pub named-member : {cs : List ℕ} {n x : ℕ} {σ : List ℕ} → Named cs n σ → x < length σ → Named (frontTwo cs n (getD cs x 0)) (n + 1) (two n (getD σ x 0))
+named-member {cs} {x = x} w hx = let h = w .inside x hx in rw (w .each x hx) (named-alone cs (w .long) (omega arith) (omega arith))
 
 -- A SLOT IS FILLED
 

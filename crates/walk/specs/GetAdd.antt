@@ -57,7 +57,7 @@ module _ {h : Here} {k n : ℕ} (w : Asked h k n) (add : k ≡ 0x1B) where
     addable e =
         let d = had (t .gives .told (w .sheet .sh) (w .sheet .read) (w .env) (w .scoped)) (said-done g e) in
         let s = t .sized .at e in
-        let z : h .top + 257 * suc (h .levels) ≤ SCRATCH = w .room in
+        let z : h .top + 513 * suc (h .levels) ≤ SCRATCH = w .room in
         record {
           there = t .there e;
           inside = omega (arith, t .gives .kept .long, w .long);
@@ -91,7 +91,7 @@ module _ {h : Here} {k n : ℕ} (w : Asked h k n) (add : k ≡ 0x1B) where
     add-told {a₂} {r} (sums {m = i} e num le is f) =
         let top = h .top in
         let sum = i + amountAt (h .sheet) n in
-        let z : top + 257 * suc (h .levels) ≤ SCRATCH = w .room in
+        let z : top + 513 * suc (h .levels) ≤ SCRATCH = w .room in
         let long : length a ≡ SCRATCH = t .gives .kept .long ∙ w .long in
         let p = t .there e in
         rw (is, add) (record {

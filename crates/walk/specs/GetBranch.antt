@@ -98,7 +98,7 @@ stands-lower {top = top} {len = len} v low s =
     let w = s .held in
     record { low = low; held = record { place = below-within (top + len) (omega arith) (w .place); long = w .long; bytes = w .bytes; readable = w .readable } }
 
-stands-moved : {a a₂ : List ℕ} {from top start len : ℕ} (v : Value) → STACK ≤ top → Copied start top len a a₂ → Stands a from start len v
+pub stands-moved : {a a₂ : List ℕ} {from top start len : ℕ} (v : Value) → STACK ≤ top → Copied start top len a a₂ → Stands a from start len v
     → Stands a₂ top top len v
 stands-moved {top = top} v base m s =
     let w = s .held in

@@ -23,15 +23,17 @@ use Rattle.walk.specs.Gets.{Tabled, Known, own, run, Here, within-scope,
 use Rattle.walk.specs.GetReady.{ready-in}
 use Rattle.walk.specs.GetEnter.{same-sheet}
 
--- the section's root, and its node
-module _ {s table : List ℕ} (t : Tabled s table) (n : ℕ) {k root : ℕ} (call : k ≡ 0x1A) (known : Known (t .sh) (own k s n))
-    (is : root ≡ sectionAt s (getD s (n + 1) 0)) where
-  pub root-read : {sh : Sheet} → readSheet s ≡ ok sh → root ≡ getD (sh .sections) (getD s (n + 1) 0) 0
-  root-read e = is ∙ section-read s (t .read) (getD s (n + 1) 0) (rw call at (known .1) .0) ∙ ap (λ (y : Sheet). getD (y .sections) (getD s (n + 1) 0) 0)
-      (same-sheet t e)
+-- the root of section c, and its node
+module _ {s table : List ℕ} (t : Tabled s table) {c root : ℕ} (inside : c < length (t .sh .sections)) (is : root ≡ sectionAt s c) where
+  pub root-read : {sh : Sheet} → readSheet s ≡ ok sh → root ≡ getD (sh .sections) c 0
+  root-read e = is ∙ section-read s (t .read) c inside ∙ ap (λ (y : Sheet). getD (y .sections) c 0) (same-sheet t e)
 
   pub root-known : root < length (t .sh .nodes)
-  root-known = rw (root-read (t .read)) (sheet-ranges s (t .read) .section (getD s (n + 1) 0) (rw call at (known .1) .0))
+  root-known = rw (root-read (t .read)) (sheet-ranges s (t .read) .section c inside)
+
+-- a call's section is there
+pub call-section : (sh : Sheet) (s : List ℕ) {k : ℕ} (n : ℕ) → k ≡ 0x1A → Known sh (own k s n) → getD s (n + 1) 0 < length (sh .sections)
+call-section sh s n call known = rw call at (known .1) .0
 
 module _ {h : Here} {k n : ℕ} (_ : Asked h k n) (call : k ≡ 0x1A) where
   -- a variable of the two is not in scope
@@ -71,9 +73,9 @@ module _ {h : Here} {k n root : ℕ} (w : Looked h k n root) where
   call-asks =
       let a = w .asked in
       let y : h .scope .count + 2 * suc (h .levels) ≤ 112 = a .variables in
-      let z : h .top + 257 * suc (h .levels) ≤ SCRATCH = a .room in
+      let z : h .top + 513 * suc (h .levels) ≤ SCRATCH = a .room in
       ready-in a (kept-refl _ _) (h .top) (h .levels) (h .left) (le-refl _) (omega (arith, a .few)) (omega arith) (omega (arith, w .first-in))
-      (root-known (a .sheet) n (w .call) (a .known) (w .root-is)) _ (env-few (a .scoped))
+      (root-known (a .sheet) (call-section (a .sheet .sh) (h .sheet) n (w .call) (a .known)) (w .root-is)) _ (env-few (a .scoped))
 
   pub call-told : {a : List ℕ} {r : ℕ} → ToldOf section-here a r root → Tells h a r k n
   unfolding run Text.getNode
@@ -81,5 +83,6 @@ module _ {h : Here} {k n root : ℕ} (w : Looked h k n root) where
     kept = g .kept;
     told = λ sh es μ e. give _ _ (elem-at μ _ vfalse (omega (arith, e .count, w .first-in)))
         (give _ _ (elem-at μ _ vfalse (omega (arith, e .count, w .second-in)))
-        (rw (← root-read (w .asked .sheet) n (w .call) (w .asked .known) (w .root-is) es) (g .told sh es _ (env-few e))));
+        (rw (← root-read (w .asked .sheet) (call-section (w .asked .sheet .sh) (h .sheet) n (w .call) (w .asked .known)) (w .root-is) es)
+        (g .told sh es _ (env-few e))));
   })

@@ -247,7 +247,7 @@ module _ {h : Here} {k n g : ℕ} {a : List ℕ} {q : Shape} (w : Subject h k n 
   -- A BRANCH WITHOUT VARIABLES
   pub plain-asks : {i byte : ℕ} → Fits k q (Plain i byte) → Asks (behind-here h a g) (getD (h .sheet) (n + i) 0)
   plain-asks f =
-      let z : h .top + 257 * suc (h .levels) ≤ SCRATCH = w .asked .room in
+      let z : h .top + 513 * suc (h .levels) ≤ SCRATCH = w .asked .room in
       let s = w .sized .at (w .done) in
       let u = up in
       ready-later (w .asked) (w .gives .kept) top′ (h .levels) (h .left - stepsOf g) (up .over) (omega (arith, w .asked .few)) (omega arith) (omega arith)
@@ -286,7 +286,7 @@ module _ {h : Here} {k n g : ℕ} {a : List ℕ} {q : Shape} (w : Subject h k n 
         let d = had (w .gives .told (w .asked .sheet .sh) (w .asked .sheet .read) (w .asked .env) (w .asked .scoped)) (said-done g (w .done)) in
         let p = the-parts (d .that .held) .held in
         let s = w .sized .at (w .done) in
-        let z : h .top + 257 * suc (h .levels) ≤ SCRATCH = w .asked .room in
+        let z : h .top + 513 * suc (h .levels) ≤ SCRATCH = w .asked .room in
         let y : h .scope .count + 2 * suc (h .levels) ≤ 112 = w .asked .variables in
         let one = held-some (p .first) in
         let two = held-some (p .second) in (
@@ -309,7 +309,7 @@ module _ {h : Here} {k n g : ℕ} {a : List ℕ} {q : Shape} (w : Subject h k n 
 
     pub parts-asks : Asks (within-scope (behind-here h a g) inner) (getD (h .sheet) (n + i) 0)
     parts-asks =
-        let z : h .top + 257 * suc (h .levels) ≤ SCRATCH = w .asked .room in
+        let z : h .top + 513 * suc (h .levels) ≤ SCRATCH = w .asked .room in
         let y : h .scope .count + 2 * suc (h .levels) ≤ 112 = w .asked .variables in
         let s = w .sized .at (w .done) in
         let u = up in

@@ -24,7 +24,7 @@ use Rattle.walk.specs.Gets.{Task, enter, run, Known, Ready, Gives, Here,
 
 -- a call further on: the arena is kept below the top, and the top is raised
 module _ {s table b : List ℕ} {sc : Scope} {top levels left : ℕ} {t : Task} (w : Ready s table b sc top levels left t) where
-  module _ {a : List ℕ} (kept : Kept top b a) (top′ levels′ left′ : ℕ) (p : top ≤ top′) (few : left′ ≤ ALLOWANCE) (room : top′ + 257 * levels′ ≤ SCRATCH) where
+  module _ {a : List ℕ} (kept : Kept top b a) (top′ levels′ left′ : ℕ) (p : top ≤ top′) (few : left′ ≤ ALLOWANCE) (room : top′ + 513 * levels′ ≤ SCRATCH) where
     -- in another scope
     pub ready-in : {sc′ : Scope} {t′ : Task} → sc′ .count + 2 * levels′ ≤ 112 → Known (w .sheet .sh) t′ → (μ : Env) → Scoped a sc′ top′ μ
         → Ready s table a sc′ top′ levels′ left′ t′
@@ -47,7 +47,7 @@ module _ {s table b : List ℕ} {sc : Scope} {top levels left : ℕ} {t : Task} 
 -- the first call of a kind's function: as it was asked, in the level below
 pub first-asks : {h : Here} {k n x : ℕ} (w : Asked h k n) → x < length (w .sheet .sh .nodes) → Asks h x
 first-asks {h} w i =
-    let z : h .top + 257 * suc (h .levels) ≤ SCRATCH = w .room in
+    let z : h .top + 513 * suc (h .levels) ≤ SCRATCH = w .room in
     ready-later w (kept-refl _ _) (h .top) (h .levels) (h .left) (le-refl _) (omega (arith, w .few)) (omega arith) (omega arith) i
 
 -- a call was done: a value's bytes, and no more steps than were left

@@ -117,7 +117,7 @@ module _ {h : Here} {k n : ℕ} {m : List ℕ} (w : TwoAsked h k n m) where
 
   pub one-asks : Asks one-here (getD (h .sheet) (n + 1) 0)
   one-asks =
-      let z : h .top + 257 * suc (h .levels) ≤ SCRATCH = w .asked .room in
+      let z : h .top + 513 * suc (h .levels) ≤ SCRATCH = w .asked .room in
       ready-later (w .asked) (marked-kept (w .marked)) (h .top + 1) (h .levels) (h .left) (omega arith) (omega (arith, w .asked .few)) (omega arith)
       (omega arith) (two-known (h .sheet) (w .asked .sheet .sh) n (w .two) (w .asked .known) .0)
 
@@ -138,7 +138,7 @@ module _ {h : Here} {k n : ℕ} {m : List ℕ} (w : TwoAsked h k n m) where
     module _ (e₁ : isRefusal f ≡ false) where
       pub two-asks : Asks (two-here a₁ f) (getD (h .sheet) (n + 2) 0)
       two-asks =
-          let z : h .top + 257 * suc (h .levels) ≤ SCRATCH = w .asked .room in
+          let z : h .top + 513 * suc (h .levels) ≤ SCRATCH = w .asked .room in
           let s = t₁ .sized .at e₁ in
           ready-later (w .asked) kept₁ (h .top + 1 + lenOf f) (h .levels) (h .left - stepsOf f) (omega arith) (omega (arith, w .asked .few)) (omega arith)
           (omega arith) (two-known (h .sheet) (w .asked .sheet .sh) n (w .two) (w .asked .known) .1)
@@ -146,7 +146,7 @@ module _ {h : Here} {k n : ℕ} {m : List ℕ} (w : TwoAsked h k n m) where
       -- what `joined` asks
       pub joinable : {a₂ : List ℕ} {g : ℕ} → AtTop (two-here a₁ f) a₂ g (getD (h .sheet) (n + 2) 0) → isRefusal g ≡ false → Joinable a₂ (h .top) f
       joinable t₂ e₂ =
-          let z : h .top + 257 * suc (h .levels) ≤ SCRATCH = w .asked .room in
+          let z : h .top + 513 * suc (h .levels) ≤ SCRATCH = w .asked .room in
           let s = t₁ .sized .at e₁ in
           let x = t₂ .gives .kept .long in
           let y = kept₁ .long in
@@ -232,7 +232,7 @@ module _ {h : Here} {k n : ℕ} {m : List ℕ} (w : TwoAsked h k n m) where
               let d = both e₂ sh es μ m in
               let b = whole-of d fit in
               let z : stepsOf f + stepsOf g ≡ stepsOf f + (stepsOf g + 0) = omega arith in
-              let room : h .top + 257 * suc (h .levels) ≤ SCRATCH = w .asked .room in
+              let room : h .top + 513 * suc (h .levels) ≤ SCRATCH = w .asked .room in
               let s₁ = t₁ .sized .at e₁ in
               let s₂ = t₂ .sized .at e₂ in
               let x : said r ≡ Done (h .top) (1 + lenOf f + lenOf g) (stepsOf f + stepsOf g)

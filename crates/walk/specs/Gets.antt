@@ -1,11 +1,11 @@
 -- What a function of get may assume, and what it shows.
 use mathlib.Core.Path.{_≡_, ap}
-use mathlib.Core.List.{List}
+use mathlib.Core.List.{List, []}
 use Prim.Native.Nat.{ℕ, suc, _+_, _*_, _≤_, _<_}
-use lib.ListN.{length}
+use lib.ListN.{length, getD}
 use Rattle.answer.specs.Answer.{said}
 use Rattle.value.specs.Result.{ok}
-use Rattle.value.specs.Value.{Value}
+use Rattle.value.specs.Value.{Value, Values, vfalse}
 use Rattle.sheet.specs.Records.{recordAt}
 use Rattle.sheet.specs.Sheet.{Sheet, readSheet}
 use Rattle.sheet.specs.Table.{tableOf}
@@ -17,19 +17,23 @@ use Rattle.step.specs.declared.Scope.{Scope}
 use Rattle.walk.specs.declared.at.At.{At}
 use Rattle.walk.specs.Parts.{Kept}
 use Rattle.walk.specs.Arena.{Held, Scoped}
+use Rattle.walk.specs.Members.{getFrom}
 use Rattle.walk.specs.Answers.{Answers}
 
 -- what a function of get does: enter a node by its number, get the value of the node whose record
--- of that kind starts at byte n of the sheet s, or get a branch and judge it by its test
+-- of that kind starts at byte n of the sheet s, get a branch and judge it by its test, or get a section's root
+-- once for each of the members ms, with the member and the variable x, which is in scope, and make a list of what it gives
 pub data Task : Type 0 where
   enter : ℕ → Task
   own : (kind : ℕ) (s : List ℕ) (n : ℕ) → Task
   branch : (test node : ℕ) → Task
+  members : (x root : ℕ) (ms : Values) → Task
 
 unfoldable pub run : ℕ → Sheet → Task → Env → Out Value
 run l sh (enter n) μ = get l sh n μ
 run l sh (own k s n) μ = getNode (get l sh) sh (recordAt k s n) μ
 run l sh (branch t n) μ = tested t (get l sh n μ)
+run l sh (members x root ms) μ = getFrom (get l sh) root (getD μ x vfalse) [] ms
 
 -- the sheet that is lent was read, and the table has its nodes' places
 pub record Tabled (s table : List ℕ) : Type 0 where
@@ -42,13 +46,14 @@ abbrev pub Known : Sheet → Task → Type 0
 Known sh (enter n) = n < length (sh .nodes)
 Known sh (own k s n) = (i : ℕ) × Ranged (length (sh .nodes)) (length (sh .sections)) i (recordAt k s n)
 Known sh (branch t n) = n < length (sh .nodes)
+Known sh (members x root ms) = root < length (sh .nodes)
 
--- a level takes at most 257 bytes of the stack, and adds at most two variables
+-- a level takes at most 513 bytes of the stack, and adds at most two variables
 pub record Ready (s table a : List ℕ) (sc : Scope) (top levels left : ℕ) (t : Task) : Type 0 where
   pub long : length a ≡ SCRATCH
   pub few : left ≤ ALLOWANCE
   pub base : STACK ≤ top
-  pub room : top + 257 * levels ≤ SCRATCH
+  pub room : top + 513 * levels ≤ SCRATCH
   pub variables : sc .count + 2 * levels ≤ 112
   pub sheet : Tabled s table
   pub known : Known (sheet .sh) t

@@ -3,6 +3,7 @@ pub mod Places
 pub mod Scope
 pub mod Arena
 pub mod Seen
+pub mod Members
 pub mod Answers
 pub mod Gets
 pub mod GetReady
@@ -16,6 +17,9 @@ pub mod GetTwo
 pub mod Shapes
 pub mod GetCase
 pub mod GetCall
+pub mod GetMembers
+pub mod GetTurn
+pub mod GetEach
 pub mod GetAdd
 pub mod Puts
 pub mod Frames
@@ -26,7 +30,11 @@ pub mod PutTwo
 pub mod PutUnder
 pub mod PutRebuilt
 pub mod PutSwitch
-pub mod PutOne
+pub mod PutCall
+pub mod PutAdd
+pub mod PutMember
+pub mod PutMembers
+pub mod PutEach
 pub mod PutEnter
 pub mod PutCase
 pub mod Plan

@@ -25,6 +25,9 @@ topAfter top start len = where-so (ltb (start + len) top) top (start + len)
 abbrev pub behindOf : At → ℕ → At
 behindOf at g = record { levels = at .levels; left = at .left - stepsOf g; top = topAfter (at .top) (startOf g) (lenOf g); cells = at .cells }
 
+abbrev pub withCellOf : At → At
+withCellOf at = record { levels = at .levels; left = at .left; top = at .top; cells = at .cells + 1 }
+
 abbrev pub widerOf : At → At
 widerOf at = record { levels = at .levels; left = at .left; top = at .top; cells = at .cells + 2 }
 

@@ -33,13 +33,13 @@ use Rattle.walk.specs.PutReady.{ready-for, given-after}
 
 -- WHERE A VALUE STANDS
 
-record Stands (a : List ℕ) (p : Span) (v : Value) : Type 0 where
-  long : p .len ≡ size v
-  bytes : part a (p .start) (p .len) ≡ encode v
-  readable : Readable v
-  inside : p .start + p .len ≤ SCRATCH
+pub record Stands (a : List ℕ) (p : Span) (v : Value) : Type 0 where
+  pub long : p .len ≡ size v
+  pub bytes : part a (p .start) (p .len) ≡ encode v
+  pub readable : Readable v
+  pub inside : p .start + p .len ≤ SCRATCH
 
-stands : {a : List ℕ} {top start len c w : ℕ} {o : Option Value} {v : Value} → Slot a (4096 + 256 * c) w o → c < 110 → Held a top start len v → STACK ≤ top
+pub stands : {a : List ℕ} {top start len c w : ℕ} {o : Option Value} {v : Value} → Slot a (4096 + 256 * c) w o → c < 110 → Held a top start len v → STACK ≤ top
     → top ≤ SCRATCH
     → Stands a (placeOf w c start len) (orOld o v)
 unfolding placeOf Text.orOld
@@ -184,7 +184,7 @@ module _ {h : PutHere} {k y start first second : ℕ} {f r : Span} (w : Rebuildi
           (t : PartsAt (h .arena) (h .top) start first second x₁ x₂)
           → Given (h .arena) (h .slots) (h .sheet) (Shown rebuiltView) (h .scope) (h .cells) (h .count) (h .count) (h .top) sh μ σ
           (the-whole (g .written) t .value) (take (h .count) X)
-      given-whole g t = given-after g (frame-refl _ _) (written-less (g .written)) (built (g .written) t)
+      given-whole g t = given-after g (frame-refl _ _) (written-less (omega arith) (g .written)) (built (g .written) t)
 
       pub rebuilt-asks : PutAsks h (Shown rebuiltView) (enter y)
       rebuilt-asks = ready-for (w .asked) (w .asked .known .0) (given-whole (w .asked .given) (w .parts .parts)) refl (le-refl _) (le-refl _) (le-refl _)

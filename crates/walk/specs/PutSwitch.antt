@@ -49,7 +49,7 @@ use Rattle.walk.specs.PutReady.{ready-for, given-later}
 use Rattle.walk.specs.PutUnder.{Under}
 
 -- no variable stands for nothing
-env-none : (a : List ℕ) (top : ℕ) → Scoped a noVariable top []
+pub env-none : (a : List ℕ) (top : ℕ) → Scoped a noVariable top []
 env-none a top = record { count = refl; starts-long = refl; lens-long = refl; each = λ i h. absurd (omega arith) }
 
 -- WHAT `defaults` ASKS AND GIVES
@@ -58,7 +58,7 @@ pub record DefaultsAsked (s table a : List ℕ) (n top levels left : ℕ) : Type
   pub long : length a ≡ SCRATCH
   pub few : left ≤ ALLOWANCE
   pub base : STACK ≤ top
-  pub room : top + 512 + 257 * levels ≤ SCRATCH
+  pub room : top + 512 + 513 * levels ≤ SCRATCH
   pub deep : 2 * levels ≤ 112
   pub sheet : Tabled s table
   pub known : (getD s (n + 6) 0 < length (sheet .sh .nodes)) × (getD s (n + 7) 0 < length (sheet .sh .nodes))

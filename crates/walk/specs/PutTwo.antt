@@ -2,10 +2,10 @@
 use mathlib.Core.Path.{_≡_, refl, sym, ap, ap₂, _∙_}
 use mathlib.Core.Bool.{Bool, true, false, false≢true}
 use mathlib.Core.List.{List}
-use Prim.Native.Nat.{ℕ, suc, _+_, _-_, _*_, _≤_, _<_}
+use Prim.Native.Nat.{ℕ, suc, _+_, _-_, _*_, _≤_}
 use native.Mathlib.Nat.{le-refl}
 use native.Mathlib.Omega.{arith}
-use lib.ListN.{length, getD}
+use lib.ListN.{getD}
 use Rattle.answer.specs.Answer.{Refused, said, after, isRefusal, laterAs, stepsOf, said-refused, said-done, later-said, refused-said}
 use Rattle.value.specs.Value.{Value, vfalse, list, pair as aPairOf, cons, encode}
 use Rattle.value.specs.Laws.{Readable, readable-front, readable-pair}

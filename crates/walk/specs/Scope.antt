@@ -1,6 +1,6 @@
 -- Scopes as the code has them: where each variable's value starts, and one less than its length.
 use mathlib.Core.Path.{_≡_, refl, _∙_}
-use mathlib.Core.List.{List}
+use mathlib.Core.List.{List, [], _∷_}
 use Prim.Native.Nat.{ℕ, _+_, _-_, _≤_, _<_}
 use native.Mathlib.Decide.{decLt}
 use native.Mathlib.Omega.{arith}
@@ -8,6 +8,7 @@ use lib.ListN.{length, getD, set, replicate, length-set}
 use lib.Seq.{getD-set-same, getD-set-other}
 use Rattle.rules.specs.Numbers.{SCRATCH}
 use Rattle.step.specs.declared.Scope.{Scope}
+use Rattle.step.specs.Step.{frontTwo}
 
 abbrev pub noVariable : Scope
 noVariable = record { count = 0; starts = replicate 110 0; lens = replicate 110 0 }
@@ -26,6 +27,44 @@ withTwo s start first second = record {
 
 pub two-pushed : (s : Scope) (start first second : ℕ) → withTwo s start first second ≡ pushed (pushed s start first) (start + first) second
 two-pushed s start first second = let z : s .count + 2 ≡ s .count + 1 + 1 = omega arith in rw z
+
+-- two variables alone, each with its start and what is stored of its length
+abbrev pub alone : Scope → (start len start′ len′ : ℕ) → Scope
+alone s start len start′ len′ = record { count = 2; starts = frontTwo (s .starts) start start′; lens = frontTwo (s .lens) len len′ }
+
+-- a member of a list, and the variable x
+abbrev pub withMember : Scope → (x start len : ℕ) → Scope
+withMember s x start len = alone s start (len - 1) (getD (s .starts) x 0) (getD (s .lens) x 0)
+
+-- a scope of two variables that has what s has behind them
+pub record TwoOf (s r : Scope) : Type 0 where
+  pub count : r .count ≡ 2
+  pub starts : (a b : ℕ) → frontTwo (r .starts) a b ≡ frontTwo (s .starts) a b
+  pub lens : (a b : ℕ) → frontTwo (r .lens) a b ≡ frontTwo (s .lens) a b
+
+-- with other two
+abbrev pub renewed : Scope → (start len start′ len′ : ℕ) → Scope
+renewed r start len start′ len′ = record { count = r .count; starts = frontTwo (r .starts) start start′; lens = frontTwo (r .lens) len len′ }
+
+front-again : (l : List ℕ) (a b c d : ℕ) → frontTwo (frontTwo l a b) c d ≡ frontTwo l c d
+front-again [] a b c d = refl
+front-again (x ∷ []) a b c d = refl
+front-again (x ∷ y ∷ l) a b c d = refl
+
+pub two-at-first : {s : Scope} → TwoOf s (record { count = 2; starts = s .starts; lens = s .lens })
+two-at-first = record { count = refl; starts = λ a b. refl; lens = λ a b. refl }
+
+pub two-again : {s r : Scope} (start len start′ len′ : ℕ) → TwoOf s r → TwoOf s (renewed r start len start′ len′)
+two-again {s} {r} start len start′ len′ t = record {
+  count = t .count;
+  starts = λ a b. front-again (r .starts) start start′ a b ∙ t .starts a b;
+  lens = λ a b. front-again (r .lens) len len′ a b ∙ t .lens a b;
+}
+
+-- a member and x are what `withMember` has
+pub two-member : {s r : Scope} (x start n : ℕ) {len : ℕ} → len ≡ n - 1 → TwoOf s r
+    → renewed r start len (getD (s .starts) x 0) (getD (s .lens) x 0) ≡ withMember s x start n
+two-member x start n e t = rw (e, t .count, t .starts start _, t .lens _ _)
 
 -- two values that a scope can store
 pub record Stored (start first second : ℕ) : Type 0 where

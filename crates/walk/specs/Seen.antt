@@ -58,29 +58,30 @@ module _ {A : Value → Type 0} where
     pub seen : A v
     pub is : o v ≡ some seen
 
--- whether it is a list, as the code judges it by its kind byte
-pub unfit-no-list : {a : List ℕ} {top start len : ℕ} {v : Value} → Held a top start len v → unfitRest 3 (getD a start 0) ≡ true → asList v ≡ none
+-- whether a value is a list, as the code judges it by its kind byte
+pub no-list : (v : Value) → unfitRest 3 (getD (encode v) 0 0) ≡ true → asList v ≡ none
 unfolding asList encode encodes unfitRest
-unfit-no-list {v = v} h e = go v (ap (unfitRest 3) (sym (held-head h)) ∙ e)
-  where
-    go : (v : Value) → unfitRest 3 (getD (encode v) 0 0) ≡ true → asList v ≡ none
-    go vfalse e = refl
-    go vtrue e = refl
-    go (list nil) e = absurd (false≢true e)
-    go (list (cons f r)) e = absurd (false≢true e)
-    go (number k) e = refl
-    go (pair x y) e = refl
+no-list vfalse e = refl
+no-list vtrue e = refl
+no-list (list nil) e = absurd (false≢true e)
+no-list (list (cons f r)) e = absurd (false≢true e)
+no-list (number k) e = refl
+no-list (pair x y) e = refl
 
-pub fit-list : {a : List ℕ} {top start len : ℕ} {v : Value} → Held a top start len v → unfitRest 3 (getD a start 0) ≡ false → View asList v
+pub a-list : (v : Value) → unfitRest 3 (getD (encode v) 0 0) ≡ false → View asList v
 unfolding asList encode encodes unfitRest
-fit-list {v = v} h e = go v (ap (unfitRest 3) (sym (held-head h)) ∙ e)
-  where
-    go : (v : Value) → unfitRest 3 (getD (encode v) 0 0) ≡ false → View asList v
-    go vfalse e = absurd (false≢true (sym e))
-    go vtrue e = absurd (false≢true (sym e))
-    go (list l) e = record { seen = (l, refl); is = refl }
-    go (number k) e = absurd (false≢true (sym e))
-    go (pair x y) e = absurd (false≢true (sym e))
+a-list vfalse e = absurd (false≢true (sym e))
+a-list vtrue e = absurd (false≢true (sym e))
+a-list (list l) e = record { seen = (l, refl); is = refl }
+a-list (number k) e = absurd (false≢true (sym e))
+a-list (pair x y) e = absurd (false≢true (sym e))
+
+module _ {a : List ℕ} {top start len : ℕ} {v : Value} (h : Held a top start len v) where
+  pub unfit-no-list : unfitRest 3 (getD a start 0) ≡ true → asList v ≡ none
+  unfit-no-list e = no-list v (ap (unfitRest 3) (sym (held-head h)) ∙ e)
+
+  pub fit-list : unfitRest 3 (getD a start 0) ≡ false → View asList v
+  fit-list e = a-list v (ap (unfitRest 3) (sym (held-head h)) ∙ e)
 
 parts : (a : List ℕ) (top len k n m : ℕ) (x y : List ℕ) → part a top len ≡ k ∷ (x ++ y) → length x ≡ n → len ≡ 1 + n + m
     → (part a (top + 1) n ≡ x) × (part a (top + 1 + n) m ≡ y)

@@ -3,7 +3,7 @@ ghost use mathlib.Core.Path.{_≡_};
 ghost use Prim.Native.Nat.{_+_, _≤_};
 ghost use Rattle.answer.specs.Answer.{lenOf, startOf, stepsOf};
 ghost use Rattle.rules.specs.Numbers.{SCRATCH};
-ghost use Rattle.walk.specs.Places.{belowOf, raisedOf, afterOf, behindOf, widerOf};
+ghost use Rattle.walk.specs.Places.{belowOf, raisedOf, afterOf, behindOf, withCellOf, widerOf};
 use answer::len_of;
 use answer::start_of;
 use answer::steps_of;
@@ -70,6 +70,19 @@ impl At {
             left: self.left - steps_of(got),
             top: end,
             cells: self.cells,
+        }
+    }
+
+    /// With one cell more.
+    pub fn with_cell(self) -> At
+        requires { ⌜ self .cells + 1 ≤ 110 ⌝ }
+        ensures { λ r. ⌜ r ≡ withCellOf self ⌝ }
+    {
+        At {
+            levels: self.levels,
+            left: self.left,
+            top: self.top,
+            cells: self.cells + 1,
         }
     }
 

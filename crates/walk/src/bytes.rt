@@ -58,8 +58,8 @@ pub fn copy_in(from: &[u8], arena: &mut [u8])
     }
 }
 
-// A part of the arena is copied into `whole`.
-fn fill(whole: &mut [u8; 256], at: usize, arena: &[u8], start: usize, len: usize)
+/// A part of the arena is copied into `whole`.
+pub fn fill(whole: &mut [u8; 256], at: usize, arena: &[u8], start: usize, len: usize)
     requires { ⌜ (length (now whole) ≡ 256) × (at + len ≤ 256) × (start + len ≤ length (now arena)) ⌝ }
     ensures { λ _. ⌜ (now (whole .exit) ≡ paste (now (whole .entry)) at (drop start (now (arena .entry))) len) × (length (now (whole .exit)) ≡ length (now (whole .entry))) ⌝ }
 {

@@ -10,11 +10,14 @@ ghost use Rattle.walk.specs.GetReady.{Sized};
 ghost use Rattle.walk.specs.GetTwo.{Two};
 ghost use Rattle.walk.specs.GetCase.{Case, testOf};
 ghost use Rattle.walk.specs.GetLeaf.{Childless, numbered};
+ghost use Rattle.walk.specs.GetMembers.{MembersAsked, MembersTold};
 use crate::at::At;
 use crate::got::added;
 use crate::got::bring;
+use crate::got::fronted;
 use crate::got::joined;
 use crate::got::judge;
+use crate::got::middle_at;
 use crate::got::shape_at;
 use crate::scope::section;
 use crate::scope::with_two;
@@ -65,7 +68,7 @@ fn get_leaf(
     done(top, 1, 0)
 }
 
-/// The value of a node: its depth is judged, then the allowance. The sheet's reader lets no kind over 1B through.
+/// The value of a node: its depth is judged, then the allowance. The sheet's reader lets no kind over 1C through.
 pub fn get_node(
     sheet: &[u8],
     table: &[u16; 200],
@@ -88,17 +91,20 @@ pub fn get_node(
     if kind < 0x15 {
         return later(get_leaf(sheet, table, arena, scope, n, kind, below), 1);
     }
-    if kind < 0x17 {
-        return later(get_two(sheet, table, arena, scope, n, kind, below), 1);
-    }
     if kind < 0x1A {
+        if kind < 0x17 {
+            return later(get_two(sheet, table, arena, scope, n, kind, below), 1);
+        }
         return later(get_case(sheet, table, arena, scope, n, kind, below), 1);
     }
     if kind == 0x1A {
         return later(get_call(sheet, table, arena, scope, n, kind, below), 1);
     }
-    // 1B: no other kind is left
-    later(get_add(sheet, table, arena, scope, n, kind, below), 1)
+    if kind == 0x1B {
+        return later(get_add(sheet, table, arena, scope, n, kind, below), 1);
+    }
+    // 1C: no other kind is left
+    later(get_each(sheet, table, arena, scope, n, kind, below), 1)
 }
 
 // A front (15) or a pair (16).
@@ -230,4 +236,83 @@ fn get_add(
     let a = bring(arena, got, top);
     let amount = value::number(sheet::byte_of(sheet, n, 2), sheet::byte_of(sheet, n, 3));
     added(arena, a, amount, top)
+}
+
+// What a section's root gives for each member of the list that stands from `start` to `end`, with the member and the caller's variable x: a
+// list, built from the top on, each member behind its 03.
+fn get_members(
+    sheet: &[u8],
+    table: &[u16; 200],
+    arena: &mut [u8],
+    scope: Scope,
+    x: usize,
+    root: usize,
+    start: usize,
+    end: usize,
+    at: At,
+) -> usize
+    requires { ⌜ MembersAsked (now sheet) (now table) (now arena) scope (at .top) (at .levels) (at .left) x root start end ⌝ }
+    ensures { λ r. ⌜ MembersTold (now (arena .entry)) (now (arena .exit)) (now (sheet .entry)) scope (at .top) (at .left) r (at .levels) x root start end ⌝ }
+{
+    let base = at.top;
+    let mut to = at;
+    let mut next = start;
+    let mut inner = scope;
+    inner.count = 2;
+    while arena[next] == 3 {
+        let mid = middle_at(arena, next, end);
+        inner.starts[0] = (next + 1) as u16;
+        inner.starts[1] = scope.starts[x];
+        inner.lens[0] = (mid - 2) as u8;
+        inner.lens[1] = scope.lens[x];
+        let top = to.top;
+        arena[top] = 3;
+        let one = to.raised(1);
+        let got = get_node(sheet, table, arena, inner, root, one);
+        let a = bring(arena, got, one.top);
+        let front = fronted(a, base, top);
+        if is_refused(front) {
+            return front;
+        }
+        to = to.behind(front);
+        next += mid;
+    }
+    let top = to.top;
+    arena[top] = 2;
+    done(base, top + 1 - base, at.left - to.left)
+}
+
+// Each (1C): the subject, a list, and then the list of what the section gives for its members.
+fn get_each(
+    sheet: &[u8],
+    table: &[u16; 200],
+    arena: &mut [u8],
+    scope: Scope,
+    n: u16,
+    kind: u8,
+    at: At,
+) -> usize
+    requires { ⌜ Ready (now sheet) (now table) (now arena) scope (at .top) (suc (at .levels)) (suc (at .left)) (own kind (now sheet) n) ⌝ }
+    requires { ⌜ kind ≡ 0x1C ⌝ }
+    ensures { λ r. ⌜ Gives (now (arena .entry)) (now (arena .exit)) (now (sheet .entry)) scope (at .top) (at .top) (at .left) r (at .levels) (own kind (now (sheet .entry)) n) ⌝ }
+{
+    let subject = sheet::number_of(sheet, n, 1);
+    let got = get_node(sheet, table, arena, scope, subject, at);
+    if is_refused(got) {
+        return got;
+    }
+    let start = start_of(got);
+    if step::unfit(3, arena[start]) {
+        return refused(43);
+    }
+    let x = sheet::number_of(sheet, n, 3);
+    if scope.count as usize <= x {
+        return refused(42);
+    }
+    let root = sheet::section_root(sheet, sheet::number_of(sheet, n, 2));
+    let end = start + len_of(got);
+    let to = at.behind(got);
+    let list = get_members(sheet, table, arena, scope, x, root, start, end, to);
+    let list = bring(arena, list, at.top);
+    later(list, steps_of(got))
 }

@@ -1,15 +1,17 @@
 //! What is done behind a call of get, with its answer: the value's shape, its move to the top, and what a node's own rule makes of it.
 ghost use mathlib.Core.Path.{_≡_};
 ghost use mathlib.Core.Bool.{false};
-ghost use Prim.Native.Nat.{_+_, _≤_};
+ghost use Prim.Native.Nat.{_+_, _-_, _≤_, _<_};
 ghost use lib.ListN.{length};
 ghost use Rattle.answer.specs.Answer.{isRefusal, lenOf, startOf};
-ghost use Rattle.value.specs.Parts.{shapeOf};
+ghost use Rattle.value.specs.Parts.{shapeOf, middleOf};
+ghost use Rattle.rules.specs.Numbers.{SCRATCH};
 ghost use Rattle.walk.specs.Parts.{part};
 ghost use Rattle.walk.specs.GetAt.{Movable, Brought};
 ghost use Rattle.walk.specs.GetBranch.{Judgeable, Judged};
 ghost use Rattle.walk.specs.GetTwo.{Joinable, Joined};
 ghost use Rattle.walk.specs.GetAdd.{Addable, Added};
+ghost use Rattle.walk.specs.GetTurn.{Fronted};
 use crate::bytes::copy;
 use answer::done;
 use answer::is_refused;
@@ -27,6 +29,14 @@ pub fn shape_at(arena: &[u8], got: usize) -> Shape
     let start = start_of(got);
     let end = start + len_of(got);
     value::shape_of(&arena[start..end])
+}
+
+/// Where the second part of the value that stands from `start` to `end` starts in it.
+pub fn middle_at(arena: &[u8], start: usize, end: usize) -> usize
+    requires { ⌜ (start ≤ end) × (end ≤ length (now arena)) ⌝ }
+    ensures { λ r. ⌜ r ≡ middleOf (shapeOf (part (now (arena .entry)) start (end - start))) ⌝ }
+{
+    value::middle(&arena[start..end])
 }
 
 /// A value that was got, brought to the top of the stack.
@@ -101,4 +111,20 @@ pub fn added(arena: &mut [u8], got: usize, amount: u16, top: usize) -> usize
     arena[top + 1] = value::high(sum);
     arena[top + 2] = value::low(sum);
     got
+}
+
+/// A member that was got and stands behind a 03 at `top`, in a list that is built from `base` on; with its 02 the list is then no longer than a
+/// value may be.
+pub fn fronted(got: usize, base: usize, top: usize) -> usize
+    requires { ⌜ (base ≤ top) × (top < SCRATCH) ⌝ }
+    ensures { λ r. ⌜ Fronted base top got r ⌝ }
+{
+    if is_refused(got) {
+        return got;
+    }
+    let len = 1 + len_of(got);
+    if 256 < top + 1 - base + len {
+        return refused(44);
+    }
+    done(top, len, steps_of(got))
 }

@@ -14,11 +14,15 @@ ghost use Rattle.walk.specs.GetLeaf.{Childless};
 ghost use Rattle.walk.specs.Puts.{Ready, Inner, Gives, Few, Any, PartsAt, SomeParts, SomeView, enter, own, pair, inside, rebuilt, switchAt};
 ghost use Rattle.walk.specs.PutLeaf.{Writable, Write, numberBytes};
 ghost use Rattle.walk.specs.PutSwitch.{DefaultsAsked, Defaults};
+ghost use Rattle.walk.specs.PutMember.{StoodAsked, Stood, MembersAsked, MemberTold};
+ghost use Rattle.walk.specs.PutMembers.{SomeList, MembersTold};
 use crate::at::At;
+use crate::bytes::fill;
 use crate::bytes::rebuild;
 use crate::getter::get_node;
 use crate::got::bring;
 use crate::got::shape_at;
+use crate::scope::member;
 use crate::scope::none;
 use crate::scope::section;
 use crate::scope::with_two;
@@ -39,6 +43,16 @@ pub struct Parts {
     pub start: usize,
     pub first: usize,
     pub second: usize,
+}
+
+/// What each (1C) goes by from member to member: the subject's node, the caller's variable, the section's root, the default's node, and where
+/// the old members that are left stand, as a list.
+pub struct Members {
+    pub subject: usize,
+    pub x: usize,
+    pub root: usize,
+    pub default: usize,
+    pub old: usize,
 }
 
 // A view for the cell c: written where nothing was, or else it must equal what was.
@@ -97,7 +111,7 @@ fn put_leaf(
     write(arena, slots, c, view)
 }
 
-/// A view put back into a node: its depth is judged, then the allowance. The sheet's reader lets no kind over 1B through.
+/// A view put back into a node: its depth is judged, then the allowance. The sheet's reader lets no kind over 1C through.
 pub fn put_node(
     sheet: &[u8],
     table: &[u16; 200],
@@ -121,33 +135,28 @@ pub fn put_node(
     let to = at.below();
     let kind = sheet::byte_of(sheet, n, 0);
     if kind < 0x15 {
-        return later(
-            put_leaf(sheet, table, arena, slots, scope, cells, n, kind, view, to),
-            1,
-        );
-    }
-    if kind < 0x17 {
-        return later(
-            put_two(sheet, table, arena, slots, scope, cells, n, kind, view, to),
-            1,
-        );
+        let put = put_leaf(sheet, table, arena, slots, scope, cells, n, kind, view, to);
+        return later(put, 1);
     }
     if kind < 0x1A {
-        return later(
-            put_case(sheet, table, arena, slots, scope, cells, n, kind, view, to),
-            1,
-        );
+        if kind < 0x17 {
+            let put = put_two(sheet, table, arena, slots, scope, cells, n, kind, view, to);
+            return later(put, 1);
+        }
+        let put = put_case(sheet, table, arena, slots, scope, cells, n, kind, view, to);
+        return later(put, 1);
     }
     if kind == 0x1A {
-        return later(
-            put_call(sheet, table, arena, slots, scope, cells, n, kind, view, to),
-            1,
-        );
+        let put = put_call(sheet, table, arena, slots, scope, cells, n, kind, view, to);
+        return later(put, 1);
     }
-    later(
-        put_add(sheet, table, arena, slots, scope, cells, n, kind, view, to),
-        1,
-    )
+    if kind == 0x1B {
+        let put = put_add(sheet, table, arena, slots, scope, cells, n, kind, view, to);
+        return later(put, 1);
+    }
+    // 1C: no other kind is left
+    let put = put_each(sheet, table, arena, slots, scope, cells, n, kind, view, to);
+    later(put, 1)
 }
 
 // `view` into node a, then `other` into node b.
@@ -516,4 +525,172 @@ fn put_add(
     let less = [4, value::high(rest), value::low(rest)];
     let node = sheet::number_of(sheet, n, 1);
     put_node(sheet, table, arena, slots, scope, cells, node, &less, at)
+}
+
+// What the next member stands for: the first of the old ones that are left, whose rest is `mid` bytes further, or past their end (`mid` is 0)
+// the default, got anew in an empty scope.
+fn stood_for(
+    sheet: &[u8],
+    table: &[u16; 200],
+    arena: &mut [u8],
+    by: Members,
+    mid: usize,
+    at: At,
+) -> usize
+    requires { ⌜ StoodAsked (now sheet) (now table) (now arena) (by .default) (by .old) mid (at .top) (at .levels) (at .left) ⌝ }
+    ensures { λ r. ⌜ Stood (now (sheet .entry)) (now (arena .entry)) (now (arena .exit)) (by .default) (by .old) (at .top) (at .levels) (at .left) r ⌝ }
+{
+    if mid != 0 {
+        return done(by.old + 1, mid - 1, 0);
+    }
+    get_node(sheet, table, arena, none(), by.default, at)
+}
+
+// A member of the view into the section's root, whose variable 0 is the member's, in a new cell, and whose variable 1 is the caller's own. What
+// the member is then stands behind a 03 in `whole`, which has `built` bytes of the list so far. The answer has for its start how many bytes of
+// the old list the member took, and for its length how many `whole` has more.
+fn put_one(
+    sheet: &[u8],
+    table: &[u16; 200],
+    arena: &mut [u8],
+    slots: &mut [u16; 110],
+    scope: Scope,
+    cells: &[u8; 110],
+    by: Members,
+    view: &[u8],
+    whole: &mut [u8; 256],
+    built: usize,
+    at: At,
+) -> usize
+    requires { ⌜ MembersAsked (now sheet) (now table) (now arena) (now slots) scope (now cells) by (at .cells) (at .top) (at .levels) (at .left) ⌝ }
+    requires { ⌜ SomeView (now view) ⌝ }
+    requires { ⌜ (length (now whole) ≡ 256) × (built + 1 ≤ 256) ⌝ }
+    ensures { λ r. ⌜ MemberTold (now (sheet .entry)) (now (arena .entry)) (now (arena .exit)) (now (slots .entry)) (now (slots .exit)) (now (whole .entry)) (now (whole .exit)) scope (now (cells .entry)) by (now (view .entry)) built (at .cells) (at .top) (at .levels) (at .left) r ⌝ }
+{
+    let old = by.old;
+    let mid = value::middle(&arena[old..]);
+    let stood = stood_for(sheet, table, arena, by, mid, at);
+    if is_refused(stood) {
+        return stood;
+    }
+    let start = start_of(stood);
+    let len = len_of(stood);
+    let c = at.cells;
+    slots[c] = 0;
+    let inner = member(scope, by.x, start, len);
+    let two = step::member_cells(cells, c, by.x);
+    let to = at.behind(stood).with_cell();
+    let put = put_node(sheet, table, arena, slots, inner, &two, by.root, view, to);
+    if is_refused(put) {
+        return put;
+    }
+    let now = step::place_of(slots[c], c, start, len);
+    let size = 1 + now.len;
+    if 256 < built + size + 1 {
+        return refused(44);
+    }
+    whole[built] = 3;
+    fill(whole, built + 1, arena, now.start, now.len);
+    done(mid, size, steps_of(stood) + steps_of(put))
+}
+
+// The members of the view, from the left, and then the list of what they are into the subject.
+fn put_all(
+    sheet: &[u8],
+    table: &[u16; 200],
+    arena: &mut [u8],
+    slots: &mut [u16; 110],
+    scope: Scope,
+    cells: &[u8; 110],
+    by: Members,
+    view: &[u8],
+    at: At,
+) -> usize
+    requires { ⌜ MembersAsked (now sheet) (now table) (now arena) (now slots) scope (now cells) by (at .cells) (at .top) (at .levels) (at .left) ⌝ }
+    requires { ⌜ SomeList (now view) ⌝ }
+    ensures { λ r. ⌜ MembersTold (now (sheet .entry)) (now (arena .entry)) (now (arena .exit)) (now (slots .entry)) (now (slots .exit)) scope (now (cells .entry)) by (now (view .entry)) (at .cells) (at .top) (at .levels) (at .left) r ⌝ }
+{
+    let mut whole = [0u8; 256];
+    let mut to = at;
+    let mut next = by;
+    let mut from = 0;
+    let mut built = 0;
+    while view[from] == 3 {
+        let rest = &view[from..];
+        let mid = value::middle(rest);
+        let first = value::first_part(rest, mid);
+        let put = put_one(
+            sheet,
+            table,
+            arena,
+            slots,
+            scope,
+            cells,
+            next,
+            first,
+            &mut whole,
+            built,
+            to,
+        );
+        if is_refused(put) {
+            return put;
+        }
+        to = to.after(put);
+        next.old += start_of(put);
+        from += mid;
+        built += len_of(put);
+    }
+    whole[built] = 2;
+    let size = built + 1;
+    let v = &whole[..size];
+    let put = put_node(sheet, table, arena, slots, scope, cells, by.subject, v, to);
+    later(put, at.left - to.left)
+}
+
+// Each (1C): the members of the view, each into the section's root, and then the list of what they are into the subject.
+fn put_each(
+    sheet: &[u8],
+    table: &[u16; 200],
+    arena: &mut [u8],
+    slots: &mut [u16; 110],
+    scope: Scope,
+    cells: &[u8; 110],
+    n: u16,
+    kind: u8,
+    view: &[u8],
+    at: At,
+) -> usize
+    requires { ⌜ Ready (now sheet) (now table) (now arena) (now slots) (Shown (now view)) scope (now cells) (at .cells) (at .cells) (at .top) (suc (at .levels)) (suc (at .left)) (own kind (now sheet) n) ⌝ }
+    requires { ⌜ kind ≡ 0x1C ⌝ }
+    ensures { λ r. ⌜ Gives (now (arena .entry)) (now (arena .exit)) (now (slots .entry)) (now (slots .exit)) (now (sheet .entry)) (Shown (now (view .entry))) scope (now (cells .entry)) (at .cells) (at .cells) (at .top) (at .left) r (at .levels) (own kind (now (sheet .entry)) n) ⌝ }
+{
+    if step::unfit(3, view[0]) {
+        return refused(51);
+    }
+    let subject = sheet::number_of(sheet, n, 1);
+    let got = get_node(sheet, table, arena, scope, subject, at);
+    if is_refused(got) {
+        return got;
+    }
+    let old = start_of(got);
+    if step::unfit(3, arena[old]) {
+        return refused(43);
+    }
+    let x = sheet::number_of(sheet, n, 3);
+    let count = scope.count as usize;
+    if count <= x {
+        return refused(42);
+    }
+    let root = sheet::section_root(sheet, sheet::number_of(sheet, n, 2));
+    let default = sheet::number_of(sheet, n, 4);
+    let by = Members {
+        subject,
+        x,
+        root,
+        default,
+        old,
+    };
+    let to = at.behind(got);
+    let put = put_all(sheet, table, arena, slots, scope, cells, by, view, to);
+    later(put, steps_of(got))
 }

@@ -1,8 +1,9 @@
 //! Scopes, each made whole: the empty one, a plan's, a section's, and a scope with two variables more.
 ghost use mathlib.Core.Path.{_≡_};
 ghost use Prim.Native.Nat.{_+_, _-_, _<_, _≤_};
+ghost use Rattle.rules.specs.Numbers.{SCRATCH};
 ghost use Rattle.step.specs.Step.{picked};
-ghost use Rattle.walk.specs.Scope.{noVariable, withTwo, Stored, Spanned};
+ghost use Rattle.walk.specs.Scope.{noVariable, withMember, withTwo, Stored, Spanned};
 use step::Scope;
 use value::Spans;
 
@@ -29,6 +30,20 @@ pub fn section(scope: Scope, x: usize, y: usize) -> Scope
     two.lens[0] = scope.lens[x];
     two.lens[1] = scope.lens[y];
     two
+}
+
+/// A member, whose value has `len` bytes from `start` on, and the variable x alone.
+pub fn member(scope: Scope, x: usize, start: usize, len: usize) -> Scope
+    requires { ⌜ (x < 110) × (start < SCRATCH) × (1 ≤ len) × (len ≤ 256) ⌝ }
+    ensures { λ r. ⌜ r ≡ withMember scope x start len ⌝ }
+{
+    let mut both = scope;
+    both.count = 2;
+    both.starts[0] = start as u16;
+    both.starts[1] = scope.starts[x];
+    both.lens[0] = (len - 1) as u8;
+    both.lens[1] = scope.lens[x];
+    both
 }
 
 /// Two variables more, whose values stand one after the other.

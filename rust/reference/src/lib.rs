@@ -1,7 +1,8 @@
-//! Document 01, "House sheets, plans and venue lists", in plain safe Rust.
+//! Document 01, "House sheets, plans and venue lists", in plain safe Rust, with the node 1C of document 02, "Requests after the base
+//! version".
 //!
-//! It was written from the paper and shares no line with the Rattle code, so that where the two agree on a job, two readings of the
-//! paper agree. Its tests and the benchmark's baseline are its only uses: programs use the crate `lens`.
+//! It was written from the papers and shares no line with the Rattle code, so that where the two agree on a job, two readings of the
+//! papers agree. Its tests and the benchmark's baseline are its only uses: programs use the crate `lens`.
 //!
 //! [`get`] and [`put`] work in the caller's buffers exactly as the archive's functions do, and answer in the same form.
 

@@ -19,6 +19,16 @@ pub enum Node {
     Split { subject: u8, inner: u8 },
     Call { section: u8, left: u8, right: u8 },
     Add { node: u8, amount: u16 },
+    Each(Each),
+}
+
+/// A section for each member of a list.
+#[derive(Clone, Copy)]
+pub struct Each {
+    pub subject: u8,
+    pub section: u8,
+    pub variable: u8,
+    pub default: u8,
 }
 
 pub struct Sheet {
@@ -74,6 +84,7 @@ impl Sheet {
                 0x17 => 7,
                 0x18 => 5,
                 0x1A | 0x1B => 3,
+                0x1C => 4,
                 _ => return Err(10),
             };
             let full = match kind {
@@ -124,7 +135,8 @@ impl Sheet {
             0x18 => Node::TruthCase { subject: body[0], no: body[1], no_test: body[2], yes: body[3], yes_test: body[4] },
             0x19 => Node::Split { subject: body[0], inner: body[1] },
             0x1A => Node::Call { section: body[0], left: body[1], right: body[2] },
-            _ => Node::Add { node: body[0], amount: u16::from_be_bytes([body[1], body[2]]) },
+            0x1B => Node::Add { node: body[0], amount: u16::from_be_bytes([body[1], body[2]]) },
+            _ => Node::Each(Each { subject: body[0], section: body[1], variable: body[2], default: body[3] }),
         };
         self.nodes[self.node_count] = node;
         self.node_count += 1;
@@ -141,6 +153,7 @@ impl Sheet {
 
     fn node_in_range(&self, own: usize) -> bool {
         let node = |number: u8| own < usize::from(number) && usize::from(number) < self.node_count;
+        let section = |number: u8| usize::from(number) < self.section_count;
         let test = |number: u8| number <= 6;
         match self.nodes[own] {
             Node::Variable(_) | Node::False | Node::True | Node::Empty | Node::Number(_) => true,
@@ -153,8 +166,9 @@ impl Sheet {
                 [subject, no, yes].into_iter().all(node) && test(no_test) && test(yes_test)
             }
             Node::Split { subject, inner } => node(subject) && node(inner),
-            Node::Call { section, .. } => usize::from(section) < self.section_count,
+            Node::Call { section: called, .. } => section(called),
             Node::Add { node: inner, .. } => node(inner),
+            Node::Each(each) => node(each.subject) && section(each.section) && node(each.default),
         }
     }
 }

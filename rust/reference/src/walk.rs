@@ -11,7 +11,7 @@
 //! The variables in scope stand on a stack of their own: a scope is the part of it from `base` to `end`, and whoever adds variables
 //! does so at `end`.
 
-use crate::sheet::{Node, Sheet};
+use crate::sheet::{Each, Node, Sheet};
 use crate::value::{self, EMPTY, FALSE, FRONT, LONGEST, NUMBER, PAIR, TRUE};
 use crate::{Refusal, SCRATCH};
 
@@ -22,6 +22,10 @@ const MOST_VARIABLES: usize = 16 + 2 * 48;
 
 const SLOTS: usize = 3 + 16 * LONGEST;
 const STACK: usize = SLOTS + MOST_VARIABLES * LONGEST;
+
+/// A node leaves at most two values on the stack while it enters another: a subject and the list built so far, or two defaults. Below
+/// them is the view, above them what is being built.
+const _: () = assert!(STACK + (2 * DEEPEST as usize + 2) * LONGEST <= SCRATCH);
 
 /// Where a value stands in the arena.
 #[derive(Clone, Copy)]
@@ -211,6 +215,13 @@ impl<'a> Walk<'a> {
         Ok(Scope { base: scope.end, end: scope.end + 2 })
     }
 
+    /// The scope of a section that is entered for a member of a list: the member is a new variable, the other is the caller's.
+    fn with_member(&mut self, scope: Scope, member: Span, callers: Variable) -> Scope {
+        self.variables[scope.end] = Variable { value: member, cell: scope.end as u8 };
+        self.variables[scope.end + 1] = callers;
+        Scope { base: scope.end, end: scope.end + 2 }
+    }
+
     fn get(&mut self, node: u8, scope: Scope, depth: u32) -> Result<Span, Refusal> {
         self.enter(depth)?;
         let base = self.top;
@@ -274,6 +285,11 @@ impl<'a> Walk<'a> {
                 self.top = base;
                 Ok(self.push_number(sum))
             }
+            Node::Each(each) => {
+                let (list, callers) = self.each_over(each, scope, depth)?;
+                let results = self.get_each(each, list, callers, scope, depth)?;
+                Ok(self.settle(base, results))
+            }
         }
     }
 
@@ -283,6 +299,54 @@ impl<'a> Walk<'a> {
             return Err(46);
         }
         Ok(self.settle(base, value))
+    }
+
+    /// The list whose members an each goes through, and the caller's variable that its section has as variable 1.
+    fn each_over(&mut self, each: Each, scope: Scope, depth: u32) -> Result<(Span, Variable), Refusal> {
+        let list = self.get(each.subject, scope, depth + 1)?;
+        if !value::is_list(self.bytes(list)) {
+            return Err(43);
+        }
+        Ok((list, self.variable(each.variable, scope)?))
+    }
+
+    /// The list of what the section gives for each member.
+    fn get_each(&mut self, each: Each, list: Span, callers: Variable, scope: Scope, depth: u32) -> Result<Span, Refusal> {
+        let root = self.sheet.section(each.section);
+        let start = self.top;
+        let mut left = list;
+        while self.kind(left) == FRONT {
+            let (member, rest) = self.parts(left);
+            let within = self.with_member(scope, member, callers);
+            // The result's `03` goes in front of it.
+            let end = self.top;
+            self.top = end + 1;
+            let result = self.get(root, within, depth + 1)?;
+            self.append(start, end, result)?;
+            left = rest;
+        }
+        Ok(self.end_list(start))
+    }
+
+    /// Adds a member to the list that is built from `start` and has come to `end`, if it then fits with the `02` that would end it.
+    fn append(&mut self, start: usize, end: usize, member: Span) -> Result<(), Refusal> {
+        let (from, len) = (usize::from(member.start), usize::from(member.len));
+        let to = end + 1;
+        if to + len + 1 - start > LONGEST {
+            return Err(44);
+        }
+        self.arena[end] = FRONT;
+        if from != to {
+            self.arena.copy_within(from..from + len, to);
+        }
+        self.top = to + len;
+        Ok(())
+    }
+
+    /// Ends the list that is built from `start` to the top of the stack.
+    fn end_list(&mut self, start: usize) -> Span {
+        self.push(&[EMPTY]);
+        span(start, self.top - start)
     }
 
     fn put(&mut self, node: u8, view: Span, scope: Scope, depth: u32) -> Result<(), Refusal> {
@@ -356,6 +420,15 @@ impl<'a> Walk<'a> {
                 let difference = number.checked_sub(amount).ok_or(52)?;
                 let difference = self.push_number(difference);
                 self.put(node, difference, scope, depth + 1)?;
+            }
+            Node::Each(each) => {
+                if !value::is_list(self.bytes(view)) {
+                    return Err(51);
+                }
+                let (old, callers) = self.each_over(each, scope, depth)?;
+                let rebuilt = self.put_each(each, view, old, callers, scope, depth)?;
+                let rebuilt = self.settle(base, rebuilt);
+                self.put(each.subject, rebuilt, scope, depth + 1)?;
             }
         }
         self.top = base;
@@ -432,6 +505,49 @@ impl<'a> Walk<'a> {
         self.put(inner, view, within, depth + 1)?;
         let (left, right) = (self.value_now(scope.end), self.value_now(scope.end + 1));
         self.build(kind, left, right)
+    }
+
+    /// Puts each member of a list into the section and rebuilds the old list from what its variable 0 then stands for.
+    fn put_each(
+        &mut self,
+        each: Each,
+        view: Span,
+        old: Span,
+        callers: Variable,
+        scope: Scope,
+        depth: u32,
+    ) -> Result<Span, Refusal> {
+        let root = self.sheet.section(each.section);
+        let start = self.top;
+        let (mut views, mut olds) = (view, old);
+        while self.kind(views) == FRONT {
+            let (view, rest) = self.parts(views);
+            views = rest;
+            let member = if self.kind(olds) == FRONT {
+                let (member, rest) = self.parts(olds);
+                olds = rest;
+                member
+            } else {
+                self.default_member(each.default, scope, depth)?
+            };
+            let within = self.with_member(scope, member, callers);
+            self.written[scope.end] = 0;
+            self.put(root, view, within, depth + 1)?;
+            self.append(start, self.top, self.value_now(scope.end))?;
+        }
+        Ok(self.end_list(start))
+    }
+
+    /// What a member past the old end stands for. It is kept in the slot of the section's variable 1, which is the caller's and has
+    /// its slot there.
+    fn default_member(&mut self, default: u8, scope: Scope, depth: u32) -> Result<Span, Refusal> {
+        let base = self.top;
+        let member = self.get(default, Scope { base: scope.end, end: scope.end }, depth + 1)?;
+        self.top = base;
+        let (from, len) = (usize::from(member.start), usize::from(member.len));
+        let to = slot(scope.end + 1);
+        self.arena.copy_within(from..from + len, to);
+        Ok(span(to, len))
     }
 }
 

@@ -11,11 +11,13 @@ pub const JOIN: [u8; 32] = [
 ];
 
 pub fn edge(random: &mut Random) -> Job {
-    match random.below(8) {
+    match random.below(12) {
         0 | 1 => chain(random),
         2 => join(random),
         3 => long(random),
         4..=6 => switch(random),
+        7..=9 => each(random),
+        10 => nest(random),
         _ => full(random),
     }
 }
@@ -23,9 +25,9 @@ pub fn edge(random: &mut Random) -> Job {
 /// A chain of nodes down to about the 48th level.
 fn chain(random: &mut Random) -> Job {
     let length = random.of(42..52);
-    let mut sheet = vec![0x01, 0x01, 0x00];
-    let kind = random.pick(&[0x15, 0x16, 0x17, 0x18, 0x19, 0x1B, 0x00]);
     let end = length as u8;
+    let mut sheet = vec![0x01, 0x01, 0x00, 0x20, end];
+    let kind = random.pick(&[0x15, 0x16, 0x17, 0x18, 0x19, 0x1B, 0x1C, 0x00]);
     for own in 0..length {
         let next = own as u8 + 1;
         // The leaves behind the chain: end the variable, then False, True, an empty list, a number, a pair.
@@ -39,6 +41,7 @@ fn chain(random: &mut Random) -> Job {
             0x18 if random.percent(30) => &[0x18, next, end + 1, 0, end + 2, 0],
             0x18 => &[0x18, end + 2, end + 1, 0, next, 0],
             0x19 => &[0x19, end + 5, next],
+            0x1C => &[0x1C, next, 0, 0, end + 4],
             _ => &[0x1B, next, 0, 1],
         };
         sheet.extend(record);
@@ -47,12 +50,16 @@ fn chain(random: &mut Random) -> Job {
     let variable = if kind == 0x19 && random.percent(70) { 2 * length - random.below(3) } else { 0 };
     sheet.extend([0x10, variable as u8, 0x11, 0x12, 0x13, 0x14, 0, 7, 0x16, end + 6, end + 6, 0x11]);
     let plan = match random.below(4) {
+        _ if kind == 0x1C => numbers(random, 0, 4),
         0 => vec![0x00],
         1 => vec![0x02],
         2 => vec![0x01],
         _ => vec![0x04, 0, random.byte()],
     };
-    Job { sheet, plan, view: None, allowance: random.of(length - 3..2 * length + 8) as u32 }
+    let steps = random.of(length - 3..2 * length + 8) as u32;
+    // A put through the subjects of 1Cs gets them anew at each level.
+    let allowance = if kind == 0x1C { steps * random.pick(&[1, 2, 50, 200]) } else { steps };
+    Job { sheet, plan, view: None, allowance }
 }
 
 fn join(random: &mut Random) -> Job {
@@ -96,6 +103,69 @@ fn switch(random: &mut Random) -> Job {
         _ => numbers(random, 0, 4),
     };
     Job { sheet, plan, view: Some(view), allowance: 1000 }
+}
+
+/// A row of variable 0 whose members each go through a section, with lists of up to 256 bytes and more.
+fn each(random: &mut Random) -> Job {
+    // Behind the 1C and its subject: the section's root, the default, and what both are made of.
+    let mut sheet = vec![0x01, 0x02, 0x00, 0x20, 0x02];
+    let default = random.pick(&[3, 3, 4, 5, 6, 7]);
+    sheet.extend([0x1C, 1, 0, random.pick(&[0, 1, 1, 1, 1, 1, 1, 2]), default, 0x10, 0]);
+    let root: &[u8] = random.pick(&[
+        &[0x10, 0][..],      // the member
+        &[0x10, 1],          // the caller's variable
+        &[0x1B, 7, 0, 1],    // one more than the member
+        &[0x15, 7, 4],       // a list of the member
+        &[0x16, 7, 7],       // the member twice
+        &[0x16, 7, 8],       // the member and the caller's variable
+        &[0x19, 7, 9],       // a pair's second part
+        &[0x1A, 0, 1, 0],    // the section without end
+        &[0x1C, 7, 0, 1, 4], // the same within a member that is a list
+    ]);
+    sheet.extend(root);
+    sheet.extend([0x14, 0, 9, 0x13, 0x16, 6, 6, 0x12, 0x10, 0, 0x10, 1, 0x10, 3]);
+    let mut plan = row(random, root[0]);
+    plan.extend(if random.percent(70) { Value::Number(number(random)).bytes() } else { row(random, 0x10) });
+    let other = random.pick(&[root[0], root[0], 0x10, 0x15, 0x19]);
+    let view = if random.percent(30) { Some(row(random, other)) } else { None };
+    Job { sheet, plan, view, allowance: 1000 }
+}
+
+/// A list whose members a section with a root of this kind can take: of a few members, many, or about as many as fit.
+fn row(random: &mut Random, kind: u8) -> Vec<u8> {
+    let most = random.pick(&[3, 3, 3, 12, 64, 65, 66]);
+    let length = if random.percent(50) { random.below(most) } else { most - 1 };
+    let same = random.percent(40).then_some(vec![random.byte() % 3]);
+    let member = |random: &mut Random| match kind {
+        _ if random.percent(1) => Value::any(random).bytes(),
+        0x15 | 0x1C => {
+            let depth = random.below(3);
+            [vec![0x03; depth], vec![0x02; depth + 1]].concat()
+        }
+        0x19 => vec![0x05, random.byte() % 3, 0x04, 0, random.byte()],
+        _ => same.clone().unwrap_or_else(|| Value::Number(number(random)).bytes()),
+    };
+    let mut row: Vec<u8> = (0..length).flat_map(|_| [vec![0x03], member(random)].concat()).collect();
+    row.push(0x02);
+    row
+}
+
+/// Lists within lists, a 1C for each, down to about the 48th level.
+fn nest(random: &mut Random) -> Job {
+    let mut sheet = vec![0x01, 0x01, 0x00, 0x20, 0x00, 0x1C, 0x01, 0x00, 0x00, 0x02, 0x10, 0x00];
+    let default: &[u8] = random.pick(&[&[0x13][..], &[0x15, 3, 3, 0x13]]);
+    sheet.extend(default);
+    let mut nested = |least: usize| {
+        let depth = random.of(least..50);
+        let mut bytes = vec![0x03; depth];
+        bytes.push(0x02);
+        // Now and then a list has one more member, which is empty.
+        bytes.extend((0..depth).flat_map(|_| if random.percent(10) { vec![0x03, 0x02, 0x02] } else { vec![0x02] }));
+        bytes
+    };
+    let (plan, view) = (nested(40), nested(0));
+    let view = random.percent(40).then_some(view);
+    Job { sheet, plan, view, allowance: random.pick(&[90, 95, 140, 190, 1000]) }
 }
 
 fn numbers(random: &mut Random, least: usize, most: usize) -> Vec<u8> {
@@ -167,7 +237,7 @@ fn full(random: &mut Random) -> Job {
         sheet.extend(record);
     }
     if random.percent(60) {
-        let cut: &[u8] = random.pick(&[&[0x10][..], &[0x20], &[0x17, 1, 2], &[0x1B, 0, 0], &[0x21], &[0x0F]]);
+        let cut: &[u8] = random.pick(&[&[0x10][..], &[0x20], &[0x17, 1, 2], &[0x1B, 0, 0], &[0x1C, 1, 0, 0], &[0x21], &[0x0F]]);
         sheet.extend(cut);
     }
     let mut plan = vec![0x01; usize::from(sheet[1])];

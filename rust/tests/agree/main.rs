@@ -193,17 +193,21 @@ fn told(answer: Answer) -> String {
 /// How often each answer came, of gets and of puts.
 struct Seen {
     counts: [[u64; 2]; 256],
+    /// The same of jobs whose sheet has a 1C.
+    each: [[u64; 2]; 256],
 }
 
 impl Default for Seen {
     fn default() -> Seen {
-        Seen { counts: [[0; 2]; 256] }
+        Seen { counts: [[0; 2]; 256], each: [[0; 2]; 256] }
     }
 }
 
 impl Seen {
     fn count(&mut self, job: &Job, answer: Answer) {
-        self.counts[usize::from(answer.number())][usize::from(job.view.is_some())] += 1;
+        let (number, way) = (usize::from(answer.number()), usize::from(job.view.is_some()));
+        self.counts[number][way] += 1;
+        self.each[number][way] += u64::from(sheets::has(&job.sheet, 0x1C));
     }
 
     /// Every refusal came, and successes were no rarity.
@@ -213,17 +217,20 @@ impl Seen {
             let [gets, puts] = self.counts[number];
             assert!(puts > 0 && (gets > 0 || number / 10 == 3 || number / 10 == 5), "{refusal:?} never came: {self}");
         }
-        let total: u64 = self.counts.iter().flatten().sum();
-        assert!(self.counts[0].iter().all(|&n| n > total / 10), "too few successes: {self}");
+        for (counts, of) in [(&self.counts, "all jobs"), (&self.each, "jobs with a 1C")] {
+            let total: u64 = counts.iter().flatten().sum();
+            assert!(counts[0].iter().all(|&n| n > total / 10), "too few successes of {of}: {self}");
+        }
     }
 }
 
 impl std::fmt::Display for Seen {
     fn fmt(&self, f: &mut std::fmt::Formatter) -> std::fmt::Result {
-        writeln!(f, "{:>8} {:>8} {:>8}", "answer", "gets", "puts")?;
-        for (number, [gets, puts]) in self.counts.iter().enumerate() {
+        writeln!(f, "{:>8} {:>8} {:>8} {:>8} {:>8}", "answer", "gets", "puts", "1C, gets", "puts")?;
+        for (number, ([gets, puts], [each_gets, each_puts])) in self.counts.iter().zip(&self.each).enumerate() {
             if gets + puts > 0 {
-                writeln!(f, "{:>8} {gets:>8} {puts:>8}", if number == 0 { "ok".to_string() } else { format!("no {number}") })?;
+                let answer = if number == 0 { "ok".to_string() } else { format!("no {number}") };
+                writeln!(f, "{answer:>8} {gets:>8} {puts:>8} {each_gets:>8} {each_puts:>8}")?;
             }
         }
         Ok(())

@@ -13,6 +13,9 @@ pub struct Built {
 /// Beyond so many nodes only leaves are added.
 const ENOUGH: usize = 120;
 
+/// The most sections of a sheet.
+const SECTIONS: usize = 8;
+
 #[derive(Clone)]
 struct Variable {
     ty: Type,
@@ -33,6 +36,8 @@ struct Builder<'r> {
     random: &'r mut Random,
     nodes: Vec<Vec<u8>>,
     sections: Vec<Section>,
+    /// So many sections are there from the start; the others go through the members of a list.
+    declared: usize,
     /// Sections below this one may be called.
     callable: usize,
 }
@@ -42,13 +47,13 @@ pub fn by_type(random: &mut Random) -> Built {
     let k = if random.percent(4) { 16 } else { random.of(1..5) };
     let plan: Vec<Type> = (0..k).map(|_| Type::random(random, 2)).collect();
     let view = if random.percent(40) { random_type(random, &plan) } else { Type::random(random, 2) };
-    let mut builder = Builder { random, nodes: Vec::new(), sections: Vec::new(), callable: 0 };
+    let mut builder = Builder { random, nodes: Vec::new(), sections: Vec::new(), declared: 0, callable: 0 };
     builder.declare_sections(&plan, &view);
     let sections_first = builder.random.percent(50);
     if sections_first {
         builder.fill_sections();
     }
-    builder.callable = builder.sections.len();
+    builder.callable = builder.declared;
     let mut scope: Vec<Variable> = plan.iter().map(|ty| Variable { ty: ty.clone(), uses: 0 }).collect();
     let fuel = builder.fuel();
     let root = builder.node(&view, &mut scope, fuel, &mut None);
@@ -83,11 +88,12 @@ impl Builder<'_> {
             let right = random_type(self.random, plan);
             self.sections.push(Section { left, right, result, root: 0 });
         }
+        self.declared = self.sections.len();
     }
 
     fn fill_sections(&mut self) {
-        for number in 0..self.sections.len() {
-            self.callable = if self.random.percent(4) { self.sections.len() } else { number };
+        for number in 0..self.declared {
+            self.callable = if self.random.percent(4) { self.declared } else { number };
             let section = &self.sections[number];
             let (left, right, result) = (section.left.clone(), section.right.clone(), section.result.clone());
             let mut scope = [&left, &right].map(|ty| Variable { ty: ty.clone(), uses: 0 }).to_vec();
@@ -127,7 +133,7 @@ impl Builder<'_> {
         if fuel == 0 || self.nodes.len() > ENOUGH {
             return self.small(ty, scope, fuel);
         }
-        match self.random.below(10) {
+        match self.random.below(12) {
             0..=2 => self.own_kind(ty, scope, fuel, recursion),
             3 => self.small(ty, scope, fuel),
             4 | 5 => {
@@ -139,6 +145,7 @@ impl Builder<'_> {
             }
             6 => self.truth_case(ty, scope, fuel, recursion),
             7 => self.split(ty, scope, fuel, recursion),
+            8 | 9 => self.each(ty, scope, fuel).unwrap_or_else(|| self.own_kind(ty, scope, fuel, recursion)),
             _ => self.call(ty, scope).unwrap_or_else(|| self.own_kind(ty, scope, fuel, recursion)),
         }
     }
@@ -300,18 +307,56 @@ impl Builder<'_> {
         own
     }
 
-    fn call(&mut self, ty: &Type, scope: &mut [Variable]) -> Option<u8> {
+    /// A section that may be called and gives this type, and the types of its two variables.
+    fn section(&mut self, ty: &Type) -> Option<(u8, Type, Type)> {
         let fitting: Vec<usize> = (0..self.callable).filter(|&s| self.sections[s].result == *ty).collect();
         if fitting.is_empty() {
             return None;
         }
         let section = self.random.pick(&fitting);
-        let (left, right) = (self.sections[section].left.clone(), self.sections[section].right.clone());
+        Some((section as u8, self.sections[section].left.clone(), self.sections[section].right.clone()))
+    }
+
+    fn call(&mut self, ty: &Type, scope: &mut [Variable]) -> Option<u8> {
+        let (section, left, right) = self.section(ty)?;
         let left = self.variable(&left, scope)?;
         scope[usize::from(left)].uses += 1;
         let right = self.variable(&right, scope)?;
         scope[usize::from(right)].uses += 1;
-        Some(self.leaf(&[0x1A, section as u8, left, right]))
+        Some(self.leaf(&[0x1A, section, left, right]))
+    }
+
+    /// Each member of a list through a section, where a list is wanted.
+    fn each(&mut self, ty: &Type, scope: &mut Vec<Variable>, fuel: usize) -> Option<u8> {
+        let Type::List(result) = ty else { return None };
+        let own = self.reserve();
+        let called = self.section(result).and_then(|(section, left, right)| Some((section, left, self.variable(&right, scope)?)));
+        let (section, member, variable) = match called {
+            Some(called) if self.random.percent(50) => called,
+            _ => self.section_for_members(result, scope, fuel),
+        };
+        let subject = self.node(&Type::List(Box::new(member.clone())), scope, fuel / 2, &mut None);
+        let default = if self.random.percent(3) { self.leaf(&[0x10, 0]) } else { self.constant(&member) };
+        let variable = if self.random.percent(2) { self.random.pick(&[scope.len() as u8, 200, 255]) } else { variable };
+        self.nodes[usize::from(own)] = vec![0x1C, subject, section, variable, default];
+        Some(own)
+    }
+
+    /// A new section that gives this type for members of a list, or the first one where there are enough.
+    fn section_for_members(&mut self, result: &Type, scope: &[Variable], fuel: usize) -> (u8, Type, u8) {
+        let member = if self.random.percent(50) { result.clone() } else { self.list_member(scope) };
+        let variable = self.random.below(scope.len());
+        if self.sections.len() == SECTIONS {
+            return (0, member, variable as u8);
+        }
+        let right = scope[variable].ty.clone();
+        let number = self.sections.len();
+        self.sections.push(Section { left: member.clone(), right: right.clone(), result: result.clone(), root: 0 });
+        // The second is the same variable for each member, so that the list can be edited more freely where it is not used.
+        let uses = usize::from(self.random.percent(70));
+        let mut inner = vec![Variable { ty: member.clone(), uses: 0 }, Variable { ty: right, uses }];
+        self.sections[number].root = self.node(result, &mut inner, fuel - 1, &mut None);
+        (number as u8, member, variable as u8)
     }
 
     /// A test that says yes to what the node gives, mostly.
@@ -332,6 +377,27 @@ impl Builder<'_> {
             _ => 0,
         }
     }
+}
+
+/// Whether a sheet has a record of this kind.
+pub fn has(sheet: &[u8], kind: u8) -> bool {
+    let mut left = sheet;
+    while let Some((&own, rest)) = left.split_first() {
+        if own == kind {
+            return true;
+        }
+        let width = match own {
+            0x10 | 0x20 => 1,
+            0x01 | 0x14..=0x16 | 0x19 => 2,
+            0x1A | 0x1B => 3,
+            0x1C => 4,
+            0x18 => 5,
+            0x17 => 7,
+            _ => 0,
+        };
+        left = &rest[width.min(rest.len())..];
+    }
+    false
 }
 
 /// A sheet of records in their places with numbers in range, but otherwise random.
@@ -355,7 +421,7 @@ pub fn by_record(random: &mut Random) -> Vec<u8> {
 
 fn record(random: &mut Random, bytes: &mut Vec<u8>, own: usize, nodes: usize, sections: usize) {
     let inner = own + 1 < nodes;
-    let kind = match random.below(16) {
+    let kind = match random.below(18) {
         0..=3 => 0x10,
         4 => random.of(0x11..0x14),
         5 => random.of(0x11..0x15),
@@ -365,6 +431,7 @@ fn record(random: &mut Random, bytes: &mut Vec<u8>, own: usize, nodes: usize, se
         11 if inner => 0x1B,
         12..=14 if inner => random.of(0x15..0x17),
         15 if sections > 0 => 0x1A,
+        16 | 17 if inner && sections > 0 => 0x1C,
         _ => 0x10,
     } as u8;
     bytes.push(kind);
@@ -389,6 +456,7 @@ fn record(random: &mut Random, bytes: &mut Vec<u8>, own: usize, nodes: usize, se
             bytes.push(node(random));
             bytes.extend(number(random).to_be_bytes());
         }
+        0x1C => bytes.extend([node(random), random.below(sections) as u8, variable(random), node(random)]),
         _ => {}
     }
 }

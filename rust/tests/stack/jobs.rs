@@ -36,7 +36,7 @@ struct Chain {
 const PAIR: [u8; 3] = [0x05, 0x00, 0x01];
 const LIST: [u8; 5] = [0x03, 0x04, 0x00, 0x07, 0x02];
 
-const CHAINS: [Chain; 15] = [
+const CHAINS: [Chain; 18] = [
     Chain { record: |own, n| vec![0x15, own + 1, n + EMPTY], view: |n| nested(&[0x03], n, &[0x02]), ..same("first members", 0x00) },
     Chain { record: |own, n| vec![0x15, n + SEVEN, own + 1], view: |n| before(&LIST[..4], n, 0x02), ..same("rests", 0x02) },
     Chain { record: |own, n| vec![0x16, own + 1, n + FALSE], view: |n| nested(&[0x05], n, &[0x00]), ..same("left of pairs", 0x00) },
@@ -81,6 +81,9 @@ const CHAINS: [Chain; 15] = [
         view: |n| vec![0x04, 0, 7 + n],
         ..same("sums", 0x00)
     },
+    Chain { record: |own, n| vec![0x1C, own + 1, 1, 0, n + SEVEN], ..list("subjects of eaches") },
+    Chain { view: within, ..each("eaches within one another", within) },
+    Chain { view: within, unedited: false, ..each("eaches past the old end", |_| vec![0x02]) },
 ];
 
 /// A chain whose plan and list are one value of one byte, until it says otherwise.
@@ -95,6 +98,16 @@ const fn same(name: &'static str, byte: u8) -> Chain {
 /// A chain whose plan and list are [7].
 const fn list(name: &'static str) -> Chain {
     Chain { plan: |_| LIST.to_vec(), view: |_| LIST.to_vec(), ..same(name, 0x02) }
+}
+
+/// A chain of one node that enters itself for each member of a list.
+const fn each(name: &'static str, plan: fn(n: u8) -> Vec<u8>) -> Chain {
+    Chain { record: |_, n| vec![0x1C, n + PLAN, 0, 0, n + EMPTY], plan, ..same(name, 0x02) }
+}
+
+/// n lists within one another.
+fn within(n: u8) -> Vec<u8> {
+    lists(usize::from(n) - 1)
 }
 
 /// A list case with the defaults 7 and the empty list.
@@ -116,7 +129,7 @@ fn nested(front: &[u8], n: u8, behind: &[u8]) -> Vec<u8> {
 type Record = fn(n: u8) -> Vec<u8>;
 
 /// What may stand at the end of a chain in place of a variable: it enters nodes at depth 49.
-const ENDS: [(&str, Record); 7] = [
+const ENDS: [(&str, Record); 8] = [
     ("a front", |n| vec![0x15, n + FALSE, n + EMPTY]),
     ("a pair", |n| vec![0x16, n + FALSE, n + FALSE]),
     ("a list case", |n| case(n + EMPTY, n + EMPTY, 0, n + EMPTY, 0, n)),
@@ -124,6 +137,7 @@ const ENDS: [(&str, Record); 7] = [
     ("a split", |n| vec![0x19, n + FALSE, n + FALSE]),
     ("a call", |_| vec![0x1A, 0, 0, 0]),
     ("a sum", |n| vec![0x1B, n + SEVEN, 0, 0]),
+    ("an each", |n| vec![0x1C, n + EMPTY, 0, 0, n + EMPTY]),
 ];
 
 /// A value of 255 bytes whose kind is that of `like`: as many lists within lists as fit.
@@ -140,8 +154,9 @@ fn lists(n: usize) -> Vec<u8> {
 }
 
 impl Chain {
+    /// The chain, and two sections: from its first node and from its end.
     fn sheet(&self, n: u8, end: &[u8]) -> Vec<u8> {
-        let mut sheet = vec![0x01, 0x01, 0x00, 0x20, 0x00];
+        let mut sheet = vec![0x01, 0x01, 0x00, 0x20, 0x00, 0x20, n];
         sheet.extend((0..n).flat_map(|own| (self.record)(own, n)));
         sheet.extend(end);
         sheet.extend([0x13, 0x14, 0x00, 0x07, 0x11]);

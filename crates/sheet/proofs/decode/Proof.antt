@@ -84,6 +84,18 @@ at-requires-19 c κs = search needs
 pair-at-requires-2 : tie.Need-pair-at-requires-2
 pair-at-requires-2 c κs = search needs
 
+at-requires-20 : tie.Need-at-requires-20
+at-requires-20 c κs = search needs
+
+at-requires-21 : tie.Need-at-requires-21
+at-requires-21 c κs = search needs
+
+at-requires-22 : tie.Need-at-requires-22
+at-requires-22 c κs = search needs
+
+at-requires-23 : tie.Need-at-requires-23
+at-requires-23 c κs = search needs
+
 returns : tie.Need-returns
 unfolding formOf make
 returns c = rw (c .at .ensures)
@@ -168,11 +180,18 @@ returns-12 c = rw (c .before .at19 .ensures, c .pair-at2 .ensures)
     (c .before .before .match .keys12) refl (c .before .before .before .before .before .pre .1)))
 
 returns-13 : tie.Need-returns-13
-returns-13 c = sym (node-unknown (c .before .before .before .args .r .now) (rw (c .before .byte-at .ensures) at (no-form _ (beyond 12 (c .match .rest)))))
+unfolding formOf make
+returns-13 c = rw (c .before .before .before .at20 .ensures, c .before .before .at21 .ensures, c .before .at22 .ensures, c .at23 .ensures)
+    (sym (decoded (c .before .before .before .before .before .before .before .args .r .now) (c .before .before .before .before .before .byte-at .ensures)
+    (c .before .before .before .before .match .keys13) refl (c .before .before .before .before .before .before .before .pre .1)))
+
+returns-14 : tie.Need-returns-14
+returns-14 c = sym (node-unknown (c .before .before .before .args .r .now) (rw (c .before .byte-at .ensures) at (no-form _ (beyond 13 (c .match .rest)))))
 
 pub decode-spec : {M : Type 1} → statement M
 decode-spec = tie.close
     (tie.spec byte-at-requires at-requires pair-at-requires at-requires-2 at-requires-3 at-requires-4 at-requires-5 at-requires-6 at-requires-7
     byte-at-requires-2 at-requires-8 byte-at-requires-3 at-requires-9 at-requires-10 at-requires-11 at-requires-12 byte-at-requires-4 at-requires-13
-    byte-at-requires-5 at-requires-14 at-requires-15 at-requires-16 at-requires-17 at-requires-18 at-requires-19 pair-at-requires-2 returns returns-2
-    returns-3 returns-4 returns-5 returns-6 returns-7 returns-8 returns-9 returns-10 returns-11 returns-12 returns-13)
+    byte-at-requires-5 at-requires-14 at-requires-15 at-requires-16 at-requires-17 at-requires-18 at-requires-19 pair-at-requires-2 at-requires-20
+    at-requires-21 at-requires-22 at-requires-23 returns returns-2 returns-3 returns-4 returns-5 returns-6 returns-7 returns-8 returns-9 returns-10
+    returns-11 returns-12 returns-13 returns-14)

@@ -74,6 +74,15 @@ enum-known-n-8 c = search needs
 is-below-requires-3 : tie.Need-is-below-requires-3
 is-below-requires-3 c κs = search needs
 
+enum-known-n-9 : tie.Need-enum-known-n-9
+enum-known-n-9 c = search needs
+
+is-below-requires-4 : tie.Need-is-below-requires-4
+is-below-requires-4 c κs = search needs
+
+is-below-requires-5 : tie.Need-is-below-requires-5
+is-below-requires-5 c κs = search needs
+
 returns : tie.Need-returns
 unfolding nodeInRange
 returns c = rw (c .enum-told .given .1)
@@ -137,6 +146,10 @@ returns-12 : tie.Need-returns-12
 unfolding nodeInRange
 returns-12 c = simp (c .before .before .n8 .given .1, c .is-below3 .ensures, and-true, and-assoc)
 
+returns-13 : tie.Need-returns-13
+unfolding nodeInRange
+returns-13 c = simp (c .before .before .before .n9 .given .1, c .before .is-below4 .ensures, c .is-below5 .ensures, and-true, and-assoc)
+
 pub in-range-spec : {M : Type 1} → statement M
 in-range-spec =
     tie.close
@@ -164,6 +177,9 @@ in-range-spec =
     enum-known-n-7
     enum-known-n-8
     is-below-requires-3
+    enum-known-n-9
+    is-below-requires-4
+    is-below-requires-5
     returns
     returns-2
     returns-3
@@ -175,4 +191,5 @@ in-range-spec =
     returns-9
     returns-10
     returns-11
-    returns-12)
+    returns-12
+    returns-13)

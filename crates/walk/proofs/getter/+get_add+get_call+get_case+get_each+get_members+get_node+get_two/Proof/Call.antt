@@ -1,0 +1,98 @@
+-- `get_call` meets its contract.
+-- Assumes nothing.
+use borrow.Author.Needs.{needs}
+use mathlib.Core.Path.{_≡_, ap, ap₂, _∙_}
+use Prim.Native.Nat.{ℕ, _+_, _-_}
+use native.Mathlib.Omega.{arith}
+use Rattle.walk.specs.Gets.{here, ready-scope, as-scope}
+use lib.ListN.{getD}
+use Rattle.sheet.specs.Table.{sectionAt}
+use Rattle.step.specs.Step.{picked}
+use Rattle.walk.specs.GetCall.{Looked, call-42₁, call-42₂, call-asks, call-told}
+use Rattle.walk.proofs.getter.get_call.Reads as get-call
+use Rattle.walk.proofs.getter.get_node.Reads as get-node
+use Rattle.sheet.proofs.number_of.Reads as number-of
+use Rattle.answer.proofs.refused.Reads as refused
+use Rattle.walk.proofs.scope.section.Reads as section
+use Rattle.sheet.proofs.section_root.Reads as section-root
+use Rattle.walk.proofs.getter.+get_add+get_call+get_case+get_each+get_members+get_node+get_two as cycle
+use cycle.Lts-get_call as lts
+use cycle.Proof.Frame.{kind, node}
+use Rattle.walk.proofs.Member.{AtMeasure, BelowMeasure, PlacesOf}
+
+abbrev claims : ℕ → lts.Claims
+claims t = (
+  number-of.Asked,
+  number-of.Learnt,
+  refused.Asked,
+  refused.Learnt,
+  section-root.Asked,
+  section-root.Learnt,
+  section.Asked,
+  section.Learnt,
+  BelowMeasure node t,
+  get-node.Post,
+)
+
+module _ (t : ℕ) where
+  abbrev At : PlacesOf (kind get-call.Pre) lts.Claims → Type 0
+  At P = P (claims t) (AtMeasure (kind get-call.Pre) t) get-call.Post
+
+  -- PLACES: the function's entry; both variables are in scope; the section's root is known; its scope is made
+  abbrev entry : At lts.Else2 → At lts.Start
+  entry c = c .before .before .before .before .before .before .before
+
+  abbrev in-scope : At lts.After-section-root → At lts.Else2
+  in-scope c = c .before .before
+
+  abbrev found : At lts.After-section → At lts.After-section-root
+  found c = c .before
+
+  -- WHAT IS KNOWN THERE
+  looked : (c : At lts.After-section-root) → let e = entry (in-scope c) in Looked (here (e .pre .1 .0)) (e .args .kind) (e .args .n) (c .section-root .result)
+  looked c =
+      let i = in-scope c in
+      let w = entry i .pre in
+      record {
+        asked = w .1 .0;
+        call = w .1 .1;
+        first-in = omega (arith, i .before .before .before .before .number-of .ensures, i .before .if1 .left);
+        second-in = omega (arith, i .before .before .before .number-of2 .ensures, i .if2 .left);
+        root-is = c .section-root .ensures ∙ ap (sectionAt (entry i .args .sheet .now)) (c .before .number-of3 .ensures);
+      }
+
+  -- NEEDS
+  returns : At lts.Need-returns
+  returns c =
+      let w = c .before .before .before .before .before .before .before .pre in
+      call-42₁ (w .1 .0) (w .1 .1) (omega (arith, c .before .before .before .before .number-of .ensures, c .before .if1 .taken)) (c .refused .ensures)
+
+  returns-2 : At lts.Need-returns-2
+  returns-2 c =
+      let w = c .before .before .before .before .before .before .before .before .pre in
+      call-42₂ (w .1 .0) (w .1 .1) (omega (arith, c .before .before .before .before .before .number-of .ensures, c .before .before .if1 .left))
+      (omega (arith, c .before .before .before .before .number-of2 .ensures, c .before .if2 .taken)) (c .refused2 .ensures)
+
+  section-requires : At lts.Need-section-requires
+  section-requires c κs =
+      let i = in-scope c in
+      let w = entry i .pre .1 .0 in
+      (omega (arith, w .variables, i .before .if1 .left), omega (arith, w .variables, i .if2 .left))
+
+  section-is : (c : At lts.After-section) → let i = in-scope (found c) in let e = entry i in
+      c .section .result ≡ picked (e .args .scope) (getD (e .args .sheet .now) (e .args .n + 2) 0) (getD (e .args .sheet .now) (e .args .n + 3) 0)
+  section-is c =
+      let i = in-scope (found c) in
+      c .section .ensures ∙ ap₂ (picked (entry i .args .scope)) (i .before .before .before .before .number-of .ensures)
+      (i .before .before .before .number-of2 .ensures)
+
+  get-node-requires : At lts.Need-get-node-requires
+  get-node-requires c κs = let s = c .before in (omega (arith, entry (in-scope (found s)) .pre .0), ready-scope (section-is s) (call-asks (looked (found s))))
+
+  returns-3 : At lts.Need-returns-3
+  returns-3 c = let s = c .before .before .before .before in call-told (looked (found s)) (as-scope (section-is s) (c .before .before .get-node .ensures .0))
+
+pub get-call-met : {M : Type 1} (t : ℕ) → lts.Closed (claims t) (AtMeasure (kind get-call.Pre) t) get-call.Post M
+get-call-met t = lts.spec (claims t) (AtMeasure (kind get-call.Pre) t) get-call.Post
+    (λ c κs. search needs) (λ c κs. search needs) (λ c. search needs) (λ c κs. search needs) (returns t) (λ c κs. search needs) (returns-2 t)
+    (λ c κs. search needs) (λ c κs. search needs) (section-requires t) (get-node-requires t) (λ c. returns-3 t c .kept .long) (returns-3 t)

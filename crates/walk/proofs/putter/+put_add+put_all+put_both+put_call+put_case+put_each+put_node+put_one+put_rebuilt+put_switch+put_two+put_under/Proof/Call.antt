@@ -1,0 +1,123 @@
+-- `put_call` meets its contract.
+-- Assumes nothing.
+use borrow.Author.Needs.{needs}
+use mathlib.Core.Path.{_≡_, refl, ap, ap₂, _∙_}
+use Prim.Native.Nat.{ℕ, _+_, _-_, _<_}
+use native.Mathlib.Omega.{arith}
+use lib.ListN.{getD}
+use Rattle.sheet.specs.Table.{sectionAt}
+use Rattle.step.specs.Step.{picked, pickedTwo}
+use Rattle.walk.specs.Cells.{Shown}
+use Rattle.walk.specs.Puts.{put-here}
+use Rattle.walk.specs.PutReady.{ready-as, gives-as}
+use Rattle.walk.specs.PutCall.{PutLooked, call-42₁, call-42₂, call-asks, call-told}
+use Rattle.sheet.proofs.number_of.Reads as number-of
+use Rattle.step.proofs.pick_cells.Reads as pick-cells
+use Rattle.walk.proofs.putter.put_call.Reads as put-call
+use Rattle.walk.proofs.putter.put_node.Reads as put-node
+use Rattle.answer.proofs.refused.Reads as refused
+use Rattle.walk.proofs.scope.section.Reads as section
+use Rattle.sheet.proofs.section_root.Reads as section-root
+use Rattle.walk.proofs.putter.+put_add+put_all+put_both+put_call+put_case+put_each+put_node+put_one+put_rebuilt+put_switch+put_two+put_under as cycle
+use cycle.Lts-put_call as lts
+use cycle.Proof.Frame.{kind, node}
+use Rattle.walk.proofs.Member.{AtMeasure, BelowMeasure, PlacesOf}
+
+abbrev claims : ℕ → lts.Claims
+claims t = (
+  number-of.Asked,
+  number-of.Learnt,
+  refused.Asked,
+  refused.Learnt,
+  section-root.Asked,
+  section-root.Learnt,
+  section.Asked,
+  section.Learnt,
+  pick-cells.Asked,
+  pick-cells.Learnt,
+  BelowMeasure node t,
+  put-node.Post,
+)
+
+module _ (t : ℕ) where
+  abbrev At : PlacesOf (kind put-call.Pre) lts.Claims → Type 0
+  At P = P (claims t) (AtMeasure (kind put-call.Pre) t) put-call.Post
+
+  -- PLACES: the function's entry; both variables are in scope; the section's root is known; its scope is made, and its cells
+  abbrev entry : At lts.Else2 → At lts.Start
+  entry c = c .before .before .before .before .before .before .before .before
+
+  abbrev in-scope : At lts.After-section-root → At lts.Else2
+  in-scope c = c .before .before
+
+  abbrev found : At lts.After-section → At lts.After-section-root
+  found c = c .before
+
+  abbrev scoped : At lts.After-pick-cells → At lts.After-section
+  scoped c = c .before
+
+  -- WHAT IS KNOWN THERE
+  looked : (c : At lts.After-section-root) → let e = entry (in-scope c) in PutLooked (put-here (e .pre .1 .0)) (Shown (e .args .view .now)) (e .args .kind)
+      (e .args .n) (c .section-root .result)
+  looked c =
+      let i = in-scope c in
+      let w = entry i .pre in
+      record {
+        asked = w .1 .0;
+        call = w .1 .1;
+        first-in = omega (arith, i .before .before .before .before .number-of .ensures, i .before .if1 .left);
+        second-in = omega (arith, i .before .before .before .number-of2 .ensures, i .if2 .left);
+        root-is = c .section-root .ensures ∙ ap (sectionAt (entry i .args .sheet .now)) (c .before .number-of3 .ensures);
+      }
+
+  few : (c : At lts.Else2) → (c .before .before .before .before .number-of .result < 110) × (c .before .before .before .number-of2 .result < 110)
+  few c = let w = entry c .pre .1 .0 in (omega (arith, w .variables, c .before .if1 .left), omega (arith, w .variables, c .if2 .left))
+
+  section-is : (c : At lts.After-section) → let i = in-scope (found c) in let e = entry i in
+      c .section .result ≡ picked (e .args .scope) (getD (e .args .sheet .now) (e .args .n + 2) 0) (getD (e .args .sheet .now) (e .args .n + 3) 0)
+  section-is c =
+      let i = in-scope (found c) in
+      c .section .ensures ∙ ap₂ (picked (entry i .args .scope)) (i .before .before .before .before .number-of .ensures)
+      (i .before .before .before .number-of2 .ensures)
+
+  cells-are : (c : At lts.After-pick-cells) → let i = in-scope (found (scoped c)) in let e = entry i in
+      c .pick-cells .result ≡ pickedTwo (e .args .cells .now) (getD (e .args .sheet .now) (e .args .n + 2) 0) (getD (e .args .sheet .now) (e .args .n + 3) 0)
+  cells-are c =
+      let i = in-scope (found (scoped c)) in
+      c .pick-cells .ensures .inside (few i) ∙ ap₂ (pickedTwo (entry i .args .cells .now)) (i .before .before .before .before .number-of .ensures)
+      (i .before .before .before .number-of2 .ensures)
+
+  -- NEEDS
+  returns : At lts.Need-returns
+  returns c =
+      let w = c .before .before .before .before .before .before .before .before .pre in
+      call-42₁ (w .1 .0) (w .1 .1) (omega (arith, c .before .before .before .before .number-of .ensures, c .before .if1 .taken)) (c .refused .ensures)
+
+  returns-2 : At lts.Need-returns-2
+  returns-2 c =
+      let w = c .before .before .before .before .before .before .before .before .before .pre in
+      call-42₂ (w .1 .0) (w .1 .1) (omega (arith, c .before .before .before .before .before .number-of .ensures, c .before .before .if1 .left))
+      (omega (arith, c .before .before .before .before .number-of2 .ensures, c .before .if2 .taken)) (c .refused2 .ensures)
+
+  section-requires : At lts.Need-section-requires
+  section-requires c κs = few (in-scope c)
+
+  put-node-requires : At lts.Need-put-node-requires
+  put-node-requires c κs =
+      let p = c .before .before .before in
+      let s = scoped p in
+      let e = entry (in-scope (found s)) in
+      (omega (arith, e .pre .0), ready-as {at = e .args .at} refl (section-is s) (cells-are p) refl (call-asks (looked (found s))))
+
+  returns-3 : At lts.Need-returns-3
+  returns-3 c =
+      let p = c .before .before .before .before .before .before in
+      let s = scoped p in
+      call-told (looked (found s))
+      (gives-as {at = entry (in-scope (found s)) .args .at} refl (section-is s) (cells-are p) refl (c .before .before .put-node .ensures .0))
+
+pub put-call-met : {M : Type 1} (t : ℕ) → lts.Closed (claims t) (AtMeasure (kind put-call.Pre) t) put-call.Post M
+put-call-met t = lts.spec (claims t) (AtMeasure (kind put-call.Pre) t) put-call.Post
+    (λ c κs. search needs) (λ c κs. search needs) (λ c. search needs) (λ c κs. search needs) (returns t) (λ c κs. search needs) (returns-2 t)
+    (λ c κs. search needs) (λ c κs. search needs) (section-requires t) (λ c κs. search needs) (put-node-requires t) (λ c. returns-3 t c .frame .long)
+    (returns-3 t)

@@ -1,0 +1,172 @@
+-- `put_under` meets its contract.
+-- Assumes nothing.
+use borrow.Author.Needs.{needs}
+use mathlib.Core.Path.{_≡_, refl, sym, _∙_}
+use Prim.Native.Nat.{ℕ, _+_, _-_, _≤_}
+use native.Mathlib.Omega.{arith}
+use mathlib.Core.Bool.{false}
+use Rattle.answer.specs.Answer.{isRefusal, later-as}
+use Rattle.step.specs.Step.{addedTwo}
+use Rattle.walk.specs.Cells.{Shown}
+use Rattle.walk.specs.Gets.{levels-as}
+use Rattle.walk.specs.Puts.{enter, put-there, PutTold, Few}
+use Rattle.walk.specs.PutReady.{ready-as, gives-as, few-at}
+use Rattle.walk.specs.PutUnder.{
+  Under,
+  inner-here,
+  under-stored,
+  under-asks₁,
+  under-refused,
+  under-asks₂,
+  under-parts,
+  under-told,
+  some-at,
+  rest-ready,
+  rest-as,
+}
+use Rattle.step.proofs.add_cells.Reads as add-cells
+use Rattle.walk.proofs.at.At.after.Reads as after
+use Rattle.answer.proofs.is_refused.Reads as is-refused
+use Rattle.answer.proofs.later.Reads as later
+use Rattle.walk.proofs.putter.put_node.Reads as put-node
+use Rattle.walk.proofs.putter.put_rebuilt.Reads as put-rebuilt
+use Rattle.walk.proofs.putter.put_under.Reads as put-under
+use Rattle.answer.proofs.steps_of.Reads as steps-of
+use Rattle.walk.proofs.at.At.wider.Reads as wider
+use Rattle.walk.proofs.scope.with_two.Reads as with-two
+use Rattle.walk.proofs.putter.+put_add+put_all+put_both+put_call+put_case+put_each+put_node+put_one+put_rebuilt+put_switch+put_two+put_under as cycle
+use cycle.Lts-put_under as lts
+use cycle.Proof.Frame.{node, rebuilt, under}
+use Rattle.walk.proofs.Member.{AtMeasure, BelowMeasure, PlacesOf}
+
+abbrev claims : ℕ → lts.Claims
+claims t = (
+  with-two.Asked,
+  with-two.Learnt,
+  add-cells.Asked,
+  add-cells.Learnt,
+  wider.Asked,
+  wider.Learnt,
+  BelowMeasure node t,
+  put-node.Post,
+  is-refused.Asked,
+  is-refused.Learnt,
+  after.Asked,
+  after.Learnt,
+  BelowMeasure rebuilt t,
+  put-rebuilt.Post,
+  steps-of.Asked,
+  steps-of.Learnt,
+  later.Asked,
+  later.Learnt,
+)
+
+module _ (t : ℕ) where
+  abbrev At : PlacesOf under lts.Claims → Type 0
+  At P = P (claims t) (AtMeasure under t) put-under.Post
+
+  -- PLACES: the function's entry; the branch's scope is made, and its cells; the view was put there; that is done
+  abbrev entry : At lts.After-with-two → At lts.Start
+  entry c = c .before .before .before .before
+
+  abbrev scoped : At lts.After-add-cells → At lts.After-with-two
+  scoped c = c .before .before .before .before
+
+  abbrev deeper : At lts.After-wider → At lts.After-add-cells
+  deeper c = c .before
+
+  abbrev made : At lts.After-put-node → At lts.After-wider
+  made c = c .before .before .before .before
+
+  abbrev one : At lts.Else1 → At lts.After-put-node
+  one c = c .before .before .before .before
+
+  -- WHAT IS KNOWN THERE
+  asked : (c : At lts.Start) → let a = c .args in
+      Under (put-there (c .pre .1 .0)) (Shown (a .view .now)) (a .kind) (a .branch) (a .subject) (a .parts .start) (a .parts .first) (a .parts .second)
+  asked c = record { asked = c .pre .1 .0; inner = c .pre .1 .1 .0; parts = c .pre .1 .1 .1 }
+
+  room : (c : At lts.Start) → (c .args .at .cells + 2 ≤ 110) × (c .args .scope .count + 2 ≤ 110)
+  room c = let i = c .pre .1 .1 .0 in (omega (arith, i .more-cells, i .some), omega (arith, i .variables, i .some))
+
+  cells-are : (c : At lts.After-add-cells) → let a = entry (scoped c) .args in c .add-cells .last .0 ≡ addedTwo (a .cells .now) (a .scope .count)
+      (a .at .cells) (a .at .cells + 1)
+  cells-are c = c .add-cells .ensures .inside (room (entry (scoped c)))
+
+  told : (c : At lts.After-put-node) → let e = entry (scoped (deeper (made c))) in
+      PutTold (inner-here (asked e)) (Shown (e .args .view .now)) (c .put-node .last .1 .1 .0) (c .put-node .last .1 .1 .1 .0) (c .put-node .result)
+      (enter (e .args .branch))
+  told c =
+      let w = made c in
+      let s = scoped (deeper w) in
+      gives-as (w .wider .ensures) (s .with-two .ensures) (cells-are (deeper w)) refl (c .put-node .ensures .0)
+
+  few : (c : At lts.After-put-node) → Few (entry (scoped (deeper (made c))) .args .at .left) (c .put-node .result)
+  few c = few-at (made c .wider .ensures) (c .put-node .ensures .1)
+
+  done : (c : At lts.Else1) → isRefusal (one c .put-node .result) ≡ false
+  done c = sym (c .before .is-refused .ensures) ∙ c .if1 .left
+
+  -- NEEDS
+  mul-slots : At lts.Need-mul-slots
+  mul-slots c = let r = room (c .before .before .before) in record { fits = omega arith }
+
+  element-write-slots : At lts.Need-element-write-slots
+  element-write-slots c = omega (arith, room (c .before .before .before) .0)
+
+  add-slots : At lts.Need-add-slots
+  add-slots c = let r = room (c .before .before .before) in record { fits = omega arith }
+
+  mul-slots-2 : At lts.Need-mul-slots-2
+  mul-slots-2 c = let r = room (c .before .before .before) in record { fits = omega arith }
+
+  element-write-slots-2 : At lts.Need-element-write-slots-2
+  element-write-slots-2 c = omega (arith, room (c .before .before .before) .0)
+
+  with-two-requires : At lts.Need-with-two-requires
+  with-two-requires c κs = under-stored (asked (c .before .before .before))
+
+  wider-requires : At lts.Need-wider-requires
+  wider-requires c κs = room (entry (scoped c)) .0
+
+  put-node-requires : At lts.Need-put-node-requires
+  put-node-requires c κs =
+      let w = c .before .before .before in
+      let s = scoped (deeper w) in
+      let l = levels-as (w .wider .ensures) in
+      (omega (arith, entry s .pre .0), ready-as (w .wider .ensures) (s .with-two .ensures) (cells-are (deeper w)) refl (under-asks₁ (asked (entry s))))
+
+  returns : At lts.Need-returns
+  returns c =
+      let p = c .before .before .before .before in
+      under-refused (asked (entry (scoped (deeper (made p))))) (told p) (sym (c .before .is-refused .ensures) ∙ c .if1 .taken)
+
+  after-requires : At lts.Need-after-requires
+  after-requires c κs = few (one c) .at (done c)
+
+  put-rebuilt-requires : At lts.Need-put-rebuilt-requires
+  put-rebuilt-requires c κs =
+      let i = c .before .before .before in
+      let p = one i in
+      let s = entry (scoped (deeper (made p))) in
+      let e = c .before .before .after .ensures in
+      let l = levels-as e in
+      (omega (arith, s .pre .0), (rest-ready e (under-asks₂ (asked s) (told p) (done i)), some-at e refl (under-parts (asked s) (told p) (done i))))
+
+  returns-2 : At lts.Need-returns-2
+  returns-2 c =
+      let p = one (c .before .before .before .before .before .before .before .before) in
+      let e = c .before .before .before .before .before .before .before .after .ensures in
+      let o = c .before .before .before .before .put-rebuilt .ensures in
+      under-told (asked (entry (scoped (deeper (made p))))) (told p) (done (c .before .before .before .before .before .before .before .before)) (few p)
+      (few-at e (o .1)) (rest-as e (o .0)) (later-as _ (c .before .steps-of .ensures) (c .later .ensures))
+
+pub put-under-met : {M : Type 1} (t : ℕ) → lts.Closed (claims t) (AtMeasure under t) put-under.Post M
+put-under-met t = lts.spec (claims t) (AtMeasure under t) put-under.Post
+    (mul-slots t) (element-write-slots t) (add-slots t) (mul-slots-2 t) (element-write-slots-2 t) (with-two-requires t) (λ c. search needs)
+    (λ c κs. search needs) (wider-requires t) (put-node-requires t) (λ c κs. search needs)
+    (λ c. let p = entry t (scoped t (deeper t (made t (c .before .before .before .before)))) .pre .1 .1 .1 in returns t c _ _ (p .parts) .frame .long)
+    (returns t) (after-requires t)
+    (put-rebuilt-requires t) (λ c κs. search needs) (λ c κs. search needs)
+    (λ c. let p = entry t (scoped t (deeper t (made t (one t (c .before .before .before .before .before .before .before .before))))) .pre .1 .1 .1 in
+    returns-2 t c _ _ (p .parts) .frame .long) (returns-2 t)
