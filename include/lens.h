@@ -1,13 +1,17 @@
-/* Gabqweshi's archive (rt staticlib lens): one sheet of rules, read both ways.
+/* Gabqweshi's archive (rt staticlib lens): one sheet of rules, read both ways, and the values of a plan found by their number.
  *
- *   lens_get   a plan to its list (the "view")
- *   lens_put   the old plan and an edited list to the new plan
+ *   lens_get          a plan to its list (the "view")
+ *   lens_put          the old plan and an edited list to the new plan
+ *   lens_put_starts   the same, and where the values of the new plan start
+ *   lens_load         where the values of a plan start
+ *   lens_find         where the value of a variable stands, by those starts
  *
  * Bytes of sheets, plans and lists, and what each refusal means, are in docs/SHEETS.md.
  *
- * Neither function allocates, keeps a pointer, or touches anything but the output and scratch that it is lent, so threads may call
- * both at once with buffers of their own. Every pointer must be good for the length behind it and must not be NULL, also where the
- * length is 0. Output and scratch must overlap neither each other nor any input. No byte of an input is ever changed.
+ * No function allocates, keeps a pointer, or touches anything but what it is lent to write to (output, scratch, starts, *start and
+ * *end), so threads may call all of them at once with buffers of their own. Every pointer must be good for the length behind it (starts:
+ * for LENS_STARTS_MAX numbers) and must not be NULL, also where the length is 0. No two buffers that are written to may overlap, nor one
+ * of them and an input. No byte of an input is ever changed.
  */
 #ifndef LENS_H
 #define LENS_H
@@ -21,9 +25,10 @@ extern "C" {
 
 /* What a caller lends. Smaller buffers and other allowances are refused; larger buffers are fine. */
 #define LENS_GET_OUT 256u         /* bytes of output for lens_get */
-#define LENS_PUT_OUT 4096u        /* bytes of output for lens_put */
-#define LENS_SCRATCH 65536u       /* bytes of scratch for either */
+#define LENS_PUT_OUT 4096u        /* bytes of output for lens_put and lens_put_starts */
+#define LENS_SCRATCH 65536u       /* bytes of scratch for each of them */
 #define LENS_ALLOWANCE_MAX 1000000u /* the most steps that may be allowed; the least is 1 */
+#define LENS_STARTS_MAX 16u       /* the most values of a plan: starts are an array of so many numbers, always */
 
 /* The most bytes of stack that a call takes: measured on the deepest jobs (rust/tests/stack), not proved, and rounded up to a page. A
  * thread needs this much free when it calls. */
@@ -37,11 +42,24 @@ uint64_t lens_get(const uint8_t *sheet, size_t sheet_len, const uint8_t *plan, s
 uint64_t lens_put(const uint8_t *sheet, size_t sheet_len, const uint8_t *plan, size_t plan_len, const uint8_t *view,
                   size_t view_len, uint32_t allowance, uint8_t *out, size_t out_len, uint8_t *scratch, size_t scratch_len);
 
-/* The answer taken apart: the refusal's number in the low 8 bits (LENS_OK: success), the length in the next 24, the steps in the
- * upper 32. Length and steps are 0 with a refusal. */
+/* lens_put, which also gives where the values of the new plan start: as lens_load does of that plan. */
+uint64_t lens_put_starts(const uint8_t *sheet, size_t sheet_len, const uint8_t *plan, size_t plan_len, const uint8_t *view,
+                         size_t view_len, uint32_t allowance, uint8_t *out, size_t out_len, uint8_t *scratch, size_t scratch_len,
+                         uint16_t starts[LENS_STARTS_MAX]);
+
+/* Where the values of the plan start, that of variable 0 first. Refusals are the sheet's, then the plan's. */
+uint64_t lens_load(const uint8_t *sheet, size_t sheet_len, const uint8_t *plan, size_t plan_len, uint16_t starts[LENS_STARTS_MAX]);
+
+/* The answer of these four taken apart: the refusal's number in the low 8 bits (LENS_OK: success), the length in the next 16, the count
+ * of starts in the next 8, the steps in the upper 32. What a function does not give is 0, and with a refusal all but the number. */
 #define LENS_NUMBER(answer) ((unsigned)((answer) & 0xFFu))
-#define LENS_LENGTH(answer) ((size_t)(((answer) >> 8) & 0xFFFFFFu))
+#define LENS_LENGTH(answer) ((size_t)(((answer) >> 8) & 0xFFFFu))
+#define LENS_COUNT(answer) ((size_t)(((answer) >> 24) & 0xFFu))
 #define LENS_STEPS(answer) ((uint32_t)((answer) >> 32))
+
+/* Where the value of a variable stands in a plan of plan_len bytes whose values start at the first `count` numbers of starts: its bytes
+ * are plan[*start] to plan[*end - 1]. No plan is read. The answer is the refusal's number alone: LENS_STARTS, then LENS_VARIABLE. */
+uint8_t lens_find(const uint16_t starts[LENS_STARTS_MAX], size_t count, size_t plan_len, size_t variable, size_t *start, size_t *end);
 
 /* What the buffers hold afterwards:
  *
@@ -50,10 +68,18 @@ uint64_t lens_put(const uint8_t *sheet, size_t sheet_len, const uint8_t *plan, s
  *               at its front, those behind as before
  *   scratch     its first LENS_SCRATCH bytes are 0,       as before          its first LENS_SCRATCH bytes are 0,
  *               others as before                                            others as before
+ *   starts      LENS_COUNT numbers at its front,          as before          as before
+ *               those behind as before
+ *   *start,     where the value stands                                       as before
+ *   *end
  *
  * After a put that succeeds, the get of the new plan under the same sheet and allowance succeeds, gives exactly the list, and
  * takes no more steps. After a get of n steps with 48 n <= LENS_ALLOWANCE_MAX, the put of its list under every allowance from 48 n
- * to LENS_ALLOWANCE_MAX succeeds and gives the old plan byte for byte. */
+ * to LENS_ALLOWANCE_MAX succeeds and gives the old plan byte for byte.
+ *
+ * With the starts that lens_load gives of a plan, or lens_put_starts of its new plan, lens_find gives for each of LENS_COUNT variables the
+ * bytes of its value as a reading from the front gives them. Starts may be kept beside a plan and lent again: other numbers than a plan's
+ * own are refused, or give some part of the plan's bytes. */
 
 /* Refusal numbers. The first that is met ends the call. */
 #define LENS_OK 0u
@@ -74,6 +100,10 @@ uint64_t lens_put(const uint8_t *sheet, size_t sheet_len, const uint8_t *plan, s
 #define LENS_PLAN_MALFORMED 20u   /* a value is malformed */
 #define LENS_PLAN_LONG 21u        /* a value is over 256 bytes */
 #define LENS_PLAN_COUNT 22u       /* fewer than k values, or bytes behind them */
+
+/* a value found by its number */
+#define LENS_VARIABLE 23u         /* the variable is not below the count of starts */
+#define LENS_STARTS 24u           /* the starts are not 1 to 16 numbers rising from 0, all below the plan's length; judged before 23 */
 
 /* the list sent back */
 #define LENS_VIEW_MALFORMED 30u   /* malformed */

@@ -1,5 +1,6 @@
 //! The jobs of the table.
 
+use reference::answer::taken;
 use reference::job::Job;
 use reference::{ALLOWANCE, PUT_OUT, SCRATCH};
 
@@ -163,9 +164,9 @@ fn chosen(weights: &[u32]) -> Vec<u8> {
 /// What the reference gives, and its steps.
 pub fn run(job: &Job) -> (Vec<u8>, u32) {
     let mut out = vec![0; PUT_OUT];
-    let answer = job.run(&mut out, &mut vec![0; SCRATCH]);
-    out.truncate((answer >> 8 & 0xFF_FFFF) as usize);
-    (out, (answer >> 32) as u32)
+    let success = taken(job.run(&mut out, &mut vec![0; SCRATCH])).unwrap_or_default();
+    out.truncate(success.length);
+    (out, success.steps)
 }
 
 fn numbers(range: std::ops::Range<u16>) -> Vec<u8> {
@@ -219,7 +220,8 @@ fn nested(depth: u8) -> Vec<u8> {
     value
 }
 
-fn full_plan() -> Vec<u8> {
+/// Sixteen values of 255 bytes.
+pub fn full_plan() -> Vec<u8> {
     // Two bytes more than 63 numbers have: a pair of True and that list.
     let value = [vec![0x05, 0x01], numbers(0..63)].concat();
     assert_eq!(value.len(), 255);

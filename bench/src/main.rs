@@ -1,10 +1,13 @@
-//! The archive and the independent Rust implementation on the same jobs in the same buffers, for release.
+//! The archive and the independent Rust implementation on the same jobs in the same buffers, for release; and a value of a plan by its
+//! number, beside readings from the front.
 //!
-//! Both clear 65,536 bytes of scratch in every call, and that is counted on both sides.
+//! Both clear 65,536 bytes of scratch in every call of a job, and that is counted on both sides.
 
 mod jobs;
+mod lookup;
 
 use jobs::{rows, Row};
+use reference::answer::taken;
 use reference::job::Job;
 use reference::{PUT_OUT, SCRATCH};
 use std::hint::black_box;
@@ -67,10 +70,14 @@ fn median(mut times: Vec<f64>) -> f64 {
     times[times.len() / 2]
 }
 
+/// The median of the ratios of batches that follow one another: a machine that is busy for a while slows both.
+fn ratio(ours: &[f64], theirs: &[f64]) -> f64 {
+    median(ours.iter().zip(theirs).map(|(ours, theirs)| ours / theirs).collect())
+}
+
 struct Measured {
     ours: f64,
     theirs: f64,
-    /// The median of the ratios of batches that follow one another: a machine that is busy for a while slows both.
     ratio: f64,
 }
 
@@ -80,21 +87,22 @@ fn measure(job: &Job, buffers: &mut [Buffers; 2]) -> Measured {
         black_box(run(black_box(job), buffers));
     };
     let [ours, theirs] = times([&mut || side(run_archive, ours), &mut || side(run_reference, theirs)]);
-    let ratio = median(ours.iter().zip(&theirs).map(|(ours, theirs)| ours / theirs).collect());
+    let ratio = ratio(&ours, &theirs);
     Measured { ours: median(ours), theirs: median(theirs), ratio }
 }
 
 fn same_answers(row: &Row, buffers: &mut [Buffers; 2]) -> Result<u32, String> {
     let answer = run_archive(&row.job, &mut buffers[0]);
     let wanted = run_reference(&row.job, &mut buffers[1]);
-    let length = (wanted >> 8 & 0xFF_FFFF) as usize;
+    let success = taken(wanted);
+    let length = success.unwrap_or_default().length;
     if answer != wanted || buffers[0].out[..length] != buffers[1].out[..length] {
         return Err(format!("{}: the archive answers {answer:016X}, the reference {wanted:016X}, or other bytes", row.name));
     }
-    if wanted & 0xFF != 0 && !row.name.starts_with("refused") {
-        return Err(format!("{}: refused with {}", row.name, wanted & 0xFF));
+    match success {
+        Err(refusal) if !row.name.starts_with("refused") => Err(format!("{}: refused with {refusal}", row.name)),
+        _ => Ok(success.unwrap_or_default().steps),
     }
-    Ok((wanted >> 32) as u32)
 }
 
 fn main() {
@@ -130,6 +138,11 @@ fn main() {
             (clearing / ours * 100.0).min(100.0),
         ));
     }
+    let mut lookups = Vec::new();
+    if lookup::NAME.contains(&word) {
+        progress(lookup::NAME);
+        lookups = lookup::lines();
+    }
     progress("");
 
     println!("{}", machine());
@@ -144,6 +157,9 @@ fn main() {
         println!("{line}");
     }
     println!("\n{within} of {} jobs within their limit", rows.len());
+    for line in &lookups {
+        println!("{line}");
+    }
 }
 
 /// Shows where the run is: in one line on a terminal, or else line by line.

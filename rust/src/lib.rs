@@ -1,12 +1,13 @@
 //! One sheet of rules for a venue, read both ways: forwards it gives the list from the plan, backwards the new plan from the old plan
-//! and the edited list.
+//! and the edited list. And the values of a plan, found by their number.
 //!
 //! The work is done by an archive that is proved to follow the definitions of sheets, whose manual is `docs/SHEETS.md`; this crate lends it
-//! its buffers and turns its answers into Rust. Two laws are proved of those answers:
+//! its buffers and turns its answers into Rust. Three laws are proved of those answers:
 //!
 //! - after a [`put`](Sheet::put) that succeeds, the [`get`](Sheet::get) of the new plan, under the same allowance, gives exactly the
 //!   list, in no more steps;
-//! - after a get of n steps, the put of its list under an allowance of 48 × n or more (up to 1,000,000) gives the old plan.
+//! - after a get of n steps, the put of its list under an allowance of 48 × n or more (up to 1,000,000) gives the old plan;
+//! - a value found by its number ([`Plan::value`], [`Put::value`]) is the one that a reading of the plan from the front gives.
 //!
 //! A sheet that joins two lists, the edit of a joined list, and the new plan:
 //!
@@ -36,12 +37,18 @@
 //!
 //! assert_eq!(join.get(&new.plan, 1000)?.view, edited);
 //! assert_eq!(join.put(&old, &got.view, 48 * got.steps)?.plan, old);
+//!
+//! // The second list of each plan, without reading the first.
+//! assert_eq!(join.load(&old)?.value(1), [0x03, 0x04, 0, 2, 0x02]);
+//! assert_eq!(new.value(1), [0x03, 0x04, 0, 9, 0x02]);
 //! # Ok::<(), lens::Refusal>(())
 //! ```
 
+mod plan;
 pub mod raw;
 mod refusal;
 
+pub use plan::{Plan, Starts};
 pub use refusal::Refusal;
 
 /// The largest allowance; the least is 1.
@@ -73,8 +80,17 @@ pub struct Got {
 pub struct Put {
     /// The new plan, as many values as the old one.
     pub plan: Vec<u8>,
+    /// Where its values start.
+    pub starts: Starts,
     /// The nodes entered.
     pub steps: u32,
+}
+
+impl Put {
+    /// The new plan's value of a variable, as [`Plan::value`].
+    pub fn value(&self, variable: usize) -> &[u8] {
+        Plan::with_starts(&self.plan, self.starts).value(variable)
+    }
 }
 
 impl<'a> Sheet<'a> {
@@ -98,8 +114,8 @@ impl<'a> Sheet<'a> {
     /// ```
     pub fn get(self, plan: &[u8], allowance: u32) -> Result<Got, Refusal> {
         let mut buffers = Buffers::new();
-        let done = buffers.get(self, plan, allowance)?;
-        Ok(Got { view: done.bytes.to_vec(), steps: done.steps })
+        let got = buffers.get(self, plan, allowance)?;
+        Ok(Got { view: got.view.to_vec(), steps: got.steps })
     }
 
     /// The plan that the edited list `view` makes of the old `plan`, in at most `allowance` steps.
@@ -115,8 +131,27 @@ impl<'a> Sheet<'a> {
     /// ```
     pub fn put(self, plan: &[u8], view: &[u8], allowance: u32) -> Result<Put, Refusal> {
         let mut buffers = Buffers::new();
-        let done = buffers.put(self, plan, view, allowance)?;
-        Ok(Put { plan: done.bytes.to_vec(), steps: done.steps })
+        let put = buffers.put(self, plan, view, allowance)?;
+        Ok(Put { plan: put.plan.bytes().to_vec(), starts: put.plan.starts(), steps: put.steps })
+    }
+
+    /// Reads `plan` once for where its values start, so that each is then found by its number.
+    ///
+    /// ```
+    /// use lens::{Refusal, Sheet};
+    ///
+    /// let sheet = Sheet::new(&[0x01, 0x03, 0x00, 0x10, 0x01]); // three values
+    /// let plan = sheet.load(&[0x03, 0x04, 0x00, 0x07, 0x02, 0x01, 0x04, 0x00, 0x09])?; // [7], True, 9
+    /// assert_eq!(plan.value(2), [0x04, 0x00, 0x09]);
+    /// assert_eq!(plan.starts().numbers(), [0, 5, 6]);
+    /// assert_eq!(sheet.load(&[0x01]), Err(Refusal::PLAN_COUNT));
+    /// # Ok::<(), lens::Refusal>(())
+    /// ```
+    pub fn load<'p>(self, plan: &'p [u8]) -> Result<Plan<'p>, Refusal> {
+        let mut starts = [0; raw::STARTS_MAX];
+        let answer = raw::load(self.bytes, plan, &mut starts);
+        Refusal::check(answer.number())?;
+        Ok(Plan::with_starts(plan, Starts::new(&starts[..answer.count()])))
     }
 }
 
@@ -128,10 +163,11 @@ impl<'a> Sheet<'a> {
 /// let sheet = Sheet::new(&[0x01, 0x01, 0x00, 0x1B, 0x01, 0x00, 0x64, 0x10, 0x00]); // adds 100
 /// let mut buffers = Buffers::new();
 /// for number in 0..10 {
-///     let done = buffers.get(sheet, &[0x04, 0x00, number], 1000)?;
-///     assert_eq!(done.bytes, [0x04, 0x00, number + 100]);
-///     let done = buffers.put(sheet, &[0x04, 0x00, number], &[0x04, 0x00, 100], 1000)?;
-///     assert_eq!(done.bytes, [0x04, 0x00, 0x00]);
+///     let got = buffers.get(sheet, &[0x04, 0x00, number], 1000)?;
+///     assert_eq!(got.view, [0x04, 0x00, number + 100]);
+///     let put = buffers.put(sheet, &[0x04, 0x00, number], &[0x04, 0x00, 100], 1000)?;
+///     assert_eq!(put.plan.bytes(), [0x04, 0x00, 0x00]);
+///     assert_eq!(put.plan.value(0), [0x04, 0x00, 0x00]);
 /// }
 /// # Ok::<(), lens::Refusal>(())
 /// ```
@@ -140,11 +176,20 @@ pub struct Buffers {
     scratch: Box<[u8]>,
 }
 
-/// What a call gave, within the buffers lent to it.
+/// A list read out of a plan, within the buffers lent.
 #[derive(Clone, Copy, Debug, PartialEq, Eq)]
-pub struct Done<'b> {
-    /// The list of a get, or the new plan of a put.
-    pub bytes: &'b [u8],
+pub struct GotRef<'b> {
+    /// The list, one value.
+    pub view: &'b [u8],
+    /// The nodes entered.
+    pub steps: u32,
+}
+
+/// A plan with a list read back into it, within the buffers lent.
+#[derive(Clone, Copy, Debug, PartialEq, Eq)]
+pub struct PutRef<'b> {
+    /// The new plan, as many values as the old one.
+    pub plan: Plan<'b>,
     /// The nodes entered.
     pub steps: u32,
 }
@@ -155,22 +200,19 @@ impl Buffers {
     }
 
     /// [`Sheet::get`] in these buffers.
-    pub fn get(&mut self, sheet: Sheet, plan: &[u8], allowance: u32) -> Result<Done<'_>, Refusal> {
+    pub fn get(&mut self, sheet: Sheet, plan: &[u8], allowance: u32) -> Result<GotRef<'_>, Refusal> {
         let answer = raw::get(sheet.bytes, plan, allowance, &mut self.out, &mut self.scratch);
-        self.done(answer)
+        Refusal::check(answer.number())?;
+        Ok(GotRef { view: &self.out[..answer.length()], steps: answer.steps() })
     }
 
     /// [`Sheet::put`] in these buffers.
-    pub fn put(&mut self, sheet: Sheet, plan: &[u8], view: &[u8], allowance: u32) -> Result<Done<'_>, Refusal> {
-        let answer = raw::put(sheet.bytes, plan, view, allowance, &mut self.out, &mut self.scratch);
-        self.done(answer)
-    }
-
-    fn done(&self, answer: raw::Answer) -> Result<Done<'_>, Refusal> {
-        match Refusal::from_number(answer.number()) {
-            None => Ok(Done { bytes: &self.out[..answer.length()], steps: answer.steps() }),
-            Some(refusal) => Err(refusal),
-        }
+    pub fn put(&mut self, sheet: Sheet, plan: &[u8], view: &[u8], allowance: u32) -> Result<PutRef<'_>, Refusal> {
+        let mut starts = [0; raw::STARTS_MAX];
+        let answer = raw::put_starts(sheet.bytes, plan, view, allowance, &mut self.out, &mut self.scratch, &mut starts);
+        Refusal::check(answer.number())?;
+        let plan = Plan::with_starts(&self.out[..answer.length()], Starts::new(&starts[..answer.count()]));
+        Ok(PutRef { plan, steps: answer.steps() })
     }
 }
 

@@ -1,4 +1,4 @@
-//! The archive's two functions on lent buffers, as `include/lens.h` has them, but safe to call.
+//! The archive's functions on lent buffers, as `include/lens.h` has them, but safe to call.
 //!
 //! Buffers of any size may be lent: what is too small is refused.
 
@@ -6,12 +6,14 @@
 pub const GET_OUT: usize = 256;
 /// Bytes of output that a put asks for.
 pub const PUT_OUT: usize = 4096;
-/// Bytes of scratch that both ask for.
+/// Bytes of scratch that get and put ask for.
 pub const SCRATCH: usize = 65_536;
+/// The most values of a plan: starts are an array of so many numbers.
+pub const STARTS_MAX: usize = 16;
 /// The most bytes of stack that a call takes, measured on the deepest jobs (`tests/stack`) and rounded up.
 pub const STACK: usize = 204_800;
 
-/// The archive's answer.
+/// The archive's answer. What a function does not give is 0, and with a refusal all but the number.
 #[derive(Clone, Copy, Debug, PartialEq, Eq)]
 pub struct Answer(pub u64);
 
@@ -23,7 +25,12 @@ impl Answer {
 
     /// How many bytes at the front of the output are the list or the plan.
     pub fn length(self) -> usize {
-        (self.0 >> 8 & 0xFF_FFFF) as usize
+        (self.0 >> 8 & 0xFFFF) as usize
+    }
+
+    /// How many starts were given.
+    pub fn count(self) -> usize {
+        (self.0 >> 24 & 0xFF) as usize
     }
 
     /// The nodes entered.
@@ -59,6 +66,32 @@ mod archive {
             scratch: *mut u8,
             scratch_len: usize,
         ) -> u64;
+
+        pub fn lens_put_starts(
+            sheet: *const u8,
+            sheet_len: usize,
+            plan: *const u8,
+            plan_len: usize,
+            view: *const u8,
+            view_len: usize,
+            allowance: u32,
+            out: *mut u8,
+            out_len: usize,
+            scratch: *mut u8,
+            scratch_len: usize,
+            starts: *mut u16,
+        ) -> u64;
+
+        pub fn lens_load(sheet: *const u8, sheet_len: usize, plan: *const u8, plan_len: usize, starts: *mut u16) -> u64;
+
+        pub fn lens_find(
+            starts: *const u16,
+            count: usize,
+            plan_len: usize,
+            variable: usize,
+            start: *mut usize,
+            end: *mut usize,
+        ) -> u8;
     }
 }
 
@@ -98,4 +131,45 @@ pub fn put(sheet: &[u8], plan: &[u8], view: &[u8], allowance: u32, out: &mut [u8
             scratch.len(),
         )
     })
+}
+
+/// Reads a list back into `out`, and gives where the values of the new plan start.
+pub fn put_starts(
+    sheet: &[u8],
+    plan: &[u8],
+    view: &[u8],
+    allowance: u32,
+    out: &mut [u8],
+    scratch: &mut [u8],
+    starts: &mut [u16; STARTS_MAX],
+) -> Answer {
+    // Safety: as in `get`; the starts are as many numbers as the archive may write.
+    Answer(unsafe {
+        archive::lens_put_starts(
+            sheet.as_ptr(),
+            sheet.len(),
+            plan.as_ptr(),
+            plan.len(),
+            view.as_ptr(),
+            view.len(),
+            allowance,
+            out.as_mut_ptr(),
+            out.len(),
+            scratch.as_mut_ptr(),
+            scratch.len(),
+            starts.as_mut_ptr(),
+        )
+    })
+}
+
+/// Gives where the values of a plan start.
+pub fn load(sheet: &[u8], plan: &[u8], starts: &mut [u16; STARTS_MAX]) -> Answer {
+    // Safety: as in `put_starts`.
+    Answer(unsafe { archive::lens_load(sheet.as_ptr(), sheet.len(), plan.as_ptr(), plan.len(), starts.as_mut_ptr()) })
+}
+
+/// Gives where the value of a variable stands, by the first `count` starts: the refusal's number, 0 for success.
+pub fn find(starts: &[u16; STARTS_MAX], count: usize, plan_len: usize, variable: usize, start: &mut usize, end: &mut usize) -> u8 {
+    // Safety: the starts are as many numbers as the archive may read; the other pointers are those of exclusive references.
+    unsafe { archive::lens_find(starts.as_ptr(), count, plan_len, variable, start, end) }
 }

@@ -61,6 +61,8 @@ refusals! {
     20 PLAN_MALFORMED "a value of the plan is malformed: correct its kinds, and let every rest be a list"
     21 PLAN_LONG "a value of the plan is too long: at most 256 bytes each"
     22 PLAN_COUNT "the plan has too few values or bytes behind them: send exactly as many values as the sheet's k"
+    23 VARIABLE "the variable's number is not below the count of starts: ask for one that the plan has"
+    24 STARTS "the starts are not 1 to 16 numbers that rise from 0, all below the plan's length: load the plan anew"
     30 VIEW_MALFORMED "the list sent back is malformed: correct its kinds, and let every rest be a list"
     31 VIEW_LONG "the list sent back is too long: at most 256 bytes"
     32 VIEW_COUNT "the list sent back is no single value: send one, with nothing behind it"
@@ -79,9 +81,12 @@ refusals! {
 }
 
 impl Refusal {
-    /// The refusal that an answer names; none for 0, which is success.
-    pub(crate) fn from_number(number: u8) -> Option<Refusal> {
-        (number > 0).then_some(Refusal { number })
+    /// The refusal of this number as an error; 0 is success.
+    pub(crate) fn check(number: u8) -> Result<(), Refusal> {
+        match number {
+            0 => Ok(()),
+            _ => Err(Refusal { number }),
+        }
     }
 
     /// The refusal's number.

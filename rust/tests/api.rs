@@ -1,6 +1,6 @@
 //! The safe API beyond the examples of its documentation.
 
-use lens::{Buffers, Refusal, Sheet, ALLOWANCE_MAX};
+use lens::{Buffers, Plan, Refusal, Sheet, Starts, ALLOWANCE_MAX};
 
 const WRAP: Sheet = Sheet::new(&[0x01, 0x01, 0x00, 0x15, 0x01, 0x02, 0x10, 0x00, 0x13]);
 
@@ -9,10 +9,10 @@ fn buffers_serve_after_a_refusal() {
     let mut buffers = Buffers::default();
     for _ in 0..3 {
         assert_eq!(buffers.get(WRAP, &[0x04, 0x00], 1000), Err(Refusal::PLAN_MALFORMED));
-        assert_eq!(buffers.get(WRAP, &[0x00], 1000).unwrap().bytes, [0x03, 0x00, 0x02]);
+        assert_eq!(buffers.get(WRAP, &[0x00], 1000).unwrap().view, [0x03, 0x00, 0x02]);
         assert_eq!(buffers.put(WRAP, &[0x00], &[0x02], 1000), Err(Refusal::VIEW_KIND));
-        let done = buffers.put(WRAP, &[0x00], &[0x03, 0x01, 0x02], 1000).unwrap();
-        assert_eq!((done.bytes, done.steps), (&[0x01][..], 3));
+        let put = buffers.put(WRAP, &[0x00], &[0x03, 0x01, 0x02], 1000).unwrap();
+        assert_eq!((put.plan.bytes(), put.plan.value(0), put.steps), (&[0x01][..], &[0x01][..], 3));
     }
 }
 
@@ -35,4 +35,67 @@ fn a_refusal_is_an_error_with_a_sentence() {
     for refusal in Refusal::ALL {
         assert!(refusal.to_string().contains(": ") && refusal.name() != "UNKNOWN", "{refusal:?}");
     }
+}
+
+/// A pair of variables 0 and 1 out of three.
+const PAIR: Sheet = Sheet::new(&[0x01, 0x03, 0x00, 0x16, 0x01, 0x02, 0x10, 0x00, 0x10, 0x01]);
+/// [1], True, 7.
+const PLAN: [u8; 9] = [0x03, 0x04, 0x00, 0x01, 0x02, 0x01, 0x04, 0x00, 0x07];
+
+#[test]
+fn a_value_outlives_the_plan_that_found_it() {
+    fn last(bytes: &[u8]) -> &[u8] {
+        PAIR.load(bytes).unwrap().value(2)
+    }
+    // The very bytes of the plan, and no copy.
+    assert!(std::ptr::eq(last(&PLAN), &PLAN[6..]));
+}
+
+#[test]
+fn the_values_of_a_plan() {
+    let plan = PAIR.load(&PLAN).unwrap();
+    assert_eq!((plan.bytes(), plan.starts().numbers()), (&PLAN[..], &[0, 5, 6][..]));
+    assert_eq!([0, 1, 2].map(|variable| plan.value(variable)), [&PLAN[..5], &PLAN[5..6], &PLAN[6..]]);
+    for none in [3, 16, 256, usize::MAX] {
+        assert_eq!(plan.value(none), []);
+        assert_eq!(plan.starts().find(PLAN.len(), none), Err(Refusal::VARIABLE));
+    }
+}
+
+#[test]
+fn loading_refuses() {
+    assert_eq!(Sheet::new(&[]).load(&[]), Err(Refusal::SHEET_EMPTY));
+    assert_eq!(Sheet::new(&[0x01, 0x11, 0x00, 0x10, 0x00]).load(&[]), Err(Refusal::SHEET_RANGE));
+    assert_eq!(PAIR.load(&PLAN[..8]), Err(Refusal::PLAN_MALFORMED));
+    assert_eq!(PAIR.load(&PLAN[..6]), Err(Refusal::PLAN_COUNT));
+    assert_eq!(PAIR.load(&[0x05; 300]), Err(Refusal::PLAN_LONG));
+}
+
+#[test]
+fn the_starts_of_a_put() {
+    let put = PAIR.put(&PLAN, &[0x05, 0x02, 0x04, 0x00, 0x09], 1000).unwrap();
+    assert_eq!(put.plan, [0x02, 0x04, 0x00, 0x09, 0x04, 0x00, 0x07]);
+    assert_eq!(put.starts.numbers(), [0, 1, 4]);
+    assert_eq!([0, 1, 2].map(|variable| put.value(variable)), [&put.plan[..1], &put.plan[1..4], &put.plan[4..]]);
+    assert_eq!(put.value(3), []);
+    assert_eq!(PAIR.load(&put.plan), Ok(Plan::with_starts(&put.plan, put.starts)));
+    let mut buffers = Buffers::new();
+    let within = buffers.put(PAIR, &PLAN, &[0x05, 0x02, 0x04, 0x00, 0x09], 1000).unwrap();
+    assert_eq!((within.plan, within.steps), (Plan::with_starts(&put.plan, put.starts), put.steps));
+}
+
+#[test]
+fn damaged_starts_are_held_and_refused() {
+    let many: Vec<u16> = (0..20).collect();
+    for damaged in [&[][..], &[1], &[1, 5, 6], &[0, 6, 5], &[0, 5, 5], &[0, 5, 9], &[0, 65_535], &many[..17], &many] {
+        let starts = Starts::new(damaged);
+        assert_eq!(starts.numbers(), &damaged[..damaged.len().min(16)]);
+        for variable in [0, 2, 17, usize::MAX] {
+            assert_eq!(starts.find(PLAN.len(), variable), Err(Refusal::STARTS), "{damaged:?}");
+            assert_eq!(Plan::with_starts(&PLAN, starts).value(variable), []);
+        }
+    }
+    assert_ne!(Starts::new(&many[..16]), Starts::new(&many[..17]));
+    assert_eq!(Starts::new(&many[..16]).find(16, 15), Ok(15..16));
+    assert_eq!(Starts::new(&[0, 9]).find(usize::MAX, 1), Ok(9..usize::MAX));
 }

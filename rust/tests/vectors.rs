@@ -1,16 +1,39 @@
-//! Jobs of a file that `LENS_VECTORS` names, done by the archive: a line is an input of document 01's program in hexadecimal (`-` for
-//! no byte), and what the program prints.
+//! Files of test vectors, done by the archive: a line is an input of a program in hexadecimal (`-` for no byte), and what the program
+//! prints. `LENS_VECTORS` names a file for document 01's program, `LENS_TOOL_VECTORS` one for `tools`.
 
-use reference::job::{wrong_lines, Job};
+use lens::{raw, Plan, Refusal, Sheet, Starts};
+use reference::job::{self, Job};
+use reference::tool::{self, Given, Tool};
+use reference::vectors::check_file;
 
 #[test]
 fn jobs_of_a_file() {
-    let Some(path) = std::env::var_os("LENS_VECTORS") else { return };
     let run = |job: &Job, out: &mut [u8], scratch: &mut [u8]| match &job.view {
-        None => lens::raw::get(&job.sheet, &job.plan, job.allowance, out, scratch).0,
-        Some(view) => lens::raw::put(&job.sheet, &job.plan, view, job.allowance, out, scratch).0,
+        None => raw::get(&job.sheet, &job.plan, job.allowance, out, scratch).0,
+        Some(view) => raw::put(&job.sheet, &job.plan, view, job.allowance, out, scratch).0,
     };
-    let (count, wrong) = wrong_lines(&std::fs::read_to_string(path).unwrap(), run);
-    assert!(wrong.is_empty(), "{} of {count} jobs wrong:\n{}", wrong.len(), wrong.join("\n"));
-    println!("{count} jobs");
+    check_file("LENS_VECTORS", |input| job::printed(input, run));
+}
+
+fn run_tool(tool: &Tool) -> Result<Given, Refusal> {
+    match tool {
+        Tool::Load { sheet, plan } => {
+            let plan = Sheet::new(sheet).load(plan)?;
+            Ok(Given::Starts(plan.starts().numbers().to_vec()))
+        }
+        Tool::Value { variable, starts, plan } => {
+            let starts = Starts::new(starts);
+            starts.find(plan.len(), *variable)?;
+            Ok(Given::Part(Plan::with_starts(plan, starts).value(*variable).to_vec()))
+        }
+        Tool::Put { sheet, plan, view, allowance } => {
+            let put = Sheet::new(sheet).put(plan, view, *allowance)?;
+            Ok(Given::Put { steps: put.steps, starts: put.starts.numbers().to_vec(), plan: put.plan })
+        }
+    }
+}
+
+#[test]
+fn tools_of_a_file() {
+    check_file("LENS_TOOL_VECTORS", |input| tool::printed(input, |tool| run_tool(tool).map_err(Refusal::number)));
 }

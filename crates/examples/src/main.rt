@@ -1,7 +1,7 @@
 //! Runs the readers and the program's jobs on the lines of data/ and prints what each says.
 //!
 //! A line is a letter, a space and bytes in hexadecimal: `v` a value, `p` a plan behind the byte k, `w` a view, `s` a sheet,
-//! `j` a job, `t` a job whose call is followed by the one that turns it back.
+//! `j` a job, `t` a job whose call is followed by the one that turns it back, `k` a job of the program `tools`.
 mod buffers;
 mod lines;
 mod turns;
@@ -101,6 +101,17 @@ fn job_line(bytes: &[u8], text: &mut [u8; job::LINE]) -> usize
     job::line(bytes, &mut out, &mut scratch, text)
 }
 
+// The line of a job of `tools`, as far as there is room.
+fn tool_line(bytes: &[u8], text: &mut [u8]) -> usize
+    ensures { λ r. ⌜ Counts r (now (text .exit)) ⌝ }
+{
+    let mut out = io::buffer();
+    let mut scratch = io::large_buffer();
+    let mut line = [0u8; tool::LINE];
+    let end = tool::line(bytes, &mut out, &mut scratch, &mut line);
+    report::bytes(text, 0, &line[..end])
+}
+
 // What a line of data/ makes: the line to print, at the front of the text, and its length.
 fn answer(letter: u8, bytes: &[u8], text: &mut [u8; job::LINE]) -> usize
     ensures { λ r. ⌜ Counts r (now (text .exit)) ⌝ }
@@ -111,6 +122,7 @@ fn answer(letter: u8, bytes: &[u8], text: &mut [u8; job::LINE]) -> usize
         b's' => sheet_line(bytes, text),
         b'j' => job_line(bytes, text),
         b't' => turns::line(bytes, text),
+        b'k' => tool_line(bytes, text),
         b'p' => {
             if bytes.len() == 0 {
                 return 0;
@@ -162,4 +174,5 @@ fn main() {
     run_named(b"jobs.txt");
     run_named(b"turns.txt");
     run_named(b"manual.txt");
+    run_named(b"tools.txt");
 }

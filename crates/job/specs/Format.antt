@@ -1,12 +1,16 @@
 -- A job, as the program reads it: 47 (get) or 50 (put), allowance in three bytes, sheet length in two, sheet, plan length in two, plan,
 -- then for put the view to the end, for get nothing.
-use mathlib.Core.Bool.{Bool, true, false}
+use mathlib.Core.Bool.{Bool, true, false, cond}
 use mathlib.Core.List.{List}
 use mathlib.Core.Path.{_≡_, refl, sym, _∙_}
-use Prim.Native.Nat.{ℕ, _+_, _*_, _≤_, _<_, zero-le}
+use Prim.Native.Nat.{ℕ, _+_, _-_, _*_, _≤_, _<_, zero-le}
+use native.Mathlib.Omega.{arith}
 use lib.Dec.{leb, eqb}
-use lib.ListN.{length, getD}
+use lib.ListN.{length, getD, take, drop, length-drop, List·getD-eq-default}
+use lib.Seq.{take-all, drop-drop}
 use borrow.Author.Tests.{le-leb, lt-leb, eq-eqb, ne-eqb, leb-true}
+use Rattle.job.specs.declared.fields.Fields.{Fields}
+use Rattle.job.specs.declared.fields.Fields.the-variants.{Whole, Cut}
 use Rattle.job.specs.declared.Job.{Job}
 use Rattle.job.specs.declared.Job.the-variants.{Get, Put, Other}
 
@@ -14,8 +18,19 @@ use Rattle.job.specs.declared.Job.the-variants.{Get, Put, Other}
 abbrev pub two : List ℕ → ℕ → ℕ
 two bs i = 256 * getD bs i 0 + getD bs (i + 1) 0
 
+-- n bytes from place i on
+abbrev pub part : List ℕ → ℕ → ℕ → List ℕ
+part bs i n = take n (drop i bs)
+
 abbrev pub allowance : List ℕ → ℕ
 allowance bs = 65536 * getD bs 1 0 + two bs 2
+
+-- what stands behind the letter: the lengths of the sheet and of the plan
+unfoldable pub fieldsOf : List ℕ → Fields
+fieldsOf bs =
+    let n = two bs 4 in
+    let m = two bs (6 + n) in
+    cond (leb (8 + n) (length bs)) (cond (leb (8 + n + m) (length bs)) (Whole (allowance bs) n m) Cut) Cut
 
 -- the number of each case in document 01: the byte that a job begins with, and the refusal of what is none
 abbrev pub jobNumber : Job → ℕ
@@ -23,88 +38,83 @@ jobNumber (Get a n m) = 0x47
 jobNumber (Put a n m) = 0x50
 jobNumber Other = 60
 
-unfoldable pub pick : Bool → Job → Job → Job
-pick true a b = a
-pick false a b = b
+-- the letter says which it is, of these fields; a get has nothing behind its plan
+unfoldable pub jobBy : List ℕ → Fields → Job
+jobBy bs Cut = Other
+jobBy bs (Whole a n m) =
+    cond (eqb (getD bs 0 0) (jobNumber (Get a n m)))
+    (cond (eqb (length bs) (8 + n + m)) (Get a n m) Other)
+    (cond (eqb (getD bs 0 0) (jobNumber (Put a n m))) (Put a n m) Other)
 
--- the lengths of the sheet and of the plan
 unfoldable pub jobOf : List ℕ → Job
-unfolding pick
-jobOf bs =
-    let n = two bs 4 in
-    let m = two bs (6 + n) in
-    let get = Get (allowance bs) n m in
-    let put = Put (allowance bs) n m in
-    pick (leb (8 + n) (length bs))
-    (pick (leb (8 + n + m) (length bs))
-    (pick (eqb (getD bs 0 0) (jobNumber get))
-    (pick (eqb (length bs) (8 + n + m)) get Other)
-    (pick (eqb (getD bs 0 0) (jobNumber put)) put Other))
-    Other)
-    Other
+jobOf bs = jobBy bs (fieldsOf bs)
+
+-- NUMBERS AND PARTS
+
+pub two-none : (bs : List ℕ) (i : ℕ) → length bs ≤ i → 0 ≡ two bs i
+two-none bs i h = sym (rw (List·getD-eq-default bs 0 h, List·getD-eq-default bs 0 {n = i + 1} (omega arith)))
+
+-- from a place up to the end
+pub to-end : (bs : List ℕ) (i : ℕ) → part bs i (length bs - i) ≡ drop i bs
+to-end bs i = take-all (length bs - i) (drop i bs) (omega (arith, length-drop i bs))
+
+-- a place behind another
+pub part-behind : (bs : List ℕ) (i j n : ℕ) → part (drop i bs) j n ≡ part bs (i + j) n
+part-behind bs i j n = rw (drop-drop j i bs)
 
 -- WHAT SHOWS EACH CASE
 
 module _ (bs : List ℕ) where
-  pub job-cut : length bs < 8 + two bs 4 → jobOf bs ≡ Other
-  unfolding jobOf
-  job-cut h = rw (lt-leb (8 + two bs 4) (length bs) h)
+  pub fields-cut : {n : ℕ} → n ≡ two bs 4 → length bs < 8 + n → Cut ≡ fieldsOf bs
+  unfolding fieldsOf
+  fields-cut {n} e h = sym (rw (← e, lt-leb (8 + n) (length bs) h))
 
-  module _ {n : ℕ} (en : n ≡ two bs 4) (hn : 8 + n ≤ length bs) where
-    pub job-cut-plan : length bs < 8 + n + two bs (6 + n) → jobOf bs ≡ Other
-    unfolding jobOf
-    job-cut-plan h = rw (← en, le-leb (8 + n) (length bs) hn, lt-leb (8 + n + two bs (6 + n)) (length bs) h)
+  module _ {n m : ℕ} (en : n ≡ two bs 4) (hn : 8 + n ≤ length bs) (em : m ≡ two bs (6 + n)) where
+    pub fields-cut-plan : length bs < 8 + n + m → Cut ≡ fieldsOf bs
+    unfolding fieldsOf
+    fields-cut-plan h = sym (rw (← en, le-leb (8 + n) (length bs) hn, ← em, lt-leb (8 + n + m) (length bs) h))
 
-    module _ {m : ℕ} (em : m ≡ two bs (6 + n)) (hm : 8 + n + m ≤ length bs) where
-      whole : jobOf bs
-          ≡ pick (eqb (getD bs 0 0) 0x47) (pick (eqb (length bs) (8 + n + m)) (Get (allowance bs) n m) Other)
-          (pick (eqb (getD bs 0 0) 0x50) (Put (allowance bs) n m) Other)
-      unfolding jobOf
-      whole = rw (← en, le-leb (8 + n) (length bs) hn, ← em, le-leb (8 + n + m) (length bs) hm)
+    pub fields-whole : {a : ℕ} → 8 + n + m ≤ length bs → a ≡ allowance bs → Whole a n m ≡ fieldsOf bs
+    unfolding fieldsOf
+    fields-whole h e = sym (rw (← en, le-leb (8 + n) (length bs) hn, ← em, le-leb (8 + n + m) (length bs) h, e))
 
-      pub job-get : {a : ℕ} → getD bs 0 0 ≡ 0x47 → length bs ≡ 8 + n + m → a ≡ allowance bs → Get a n m ≡ jobOf bs
-      unfolding pick
-      job-get e l ea = sym (whole ∙ rw (eq-eqb (getD bs 0 0) 0x47 e, eq-eqb (length bs) (8 + n + m) l, ea))
+  module _ {f : Fields} (e : f ≡ fieldsOf bs) where
+    pub job-cut : f ≡ Cut → Other ≡ jobOf bs
+    unfolding jobOf jobBy
+    job-cut q = sym (rw (sym e ∙ q))
+
+    module _ {a n m : ℕ} (q : f ≡ Whole a n m) where
+      pub job-get : getD bs 0 0 ≡ 0x47 → length bs ≡ 8 + n + m → Get a n m ≡ jobOf bs
+      unfolding jobOf jobBy
+      job-get k l = sym (rw (sym e ∙ q, eq-eqb (getD bs 0 0) 0x47 k, eq-eqb (length bs) (8 + n + m) l))
 
       pub job-more : getD bs 0 0 ≡ 0x47 → (length bs ≡ 8 + n + m → ⊥) → Other ≡ jobOf bs
-      unfolding pick
-      job-more e l = sym (whole ∙ rw (eq-eqb (getD bs 0 0) 0x47 e, ne-eqb (length bs) (8 + n + m) l))
+      unfolding jobOf jobBy
+      job-more k l = sym (rw (sym e ∙ q, eq-eqb (getD bs 0 0) 0x47 k, ne-eqb (length bs) (8 + n + m) l))
 
-      pub job-put : {a : ℕ} → (getD bs 0 0 ≡ 0x47 → ⊥) → getD bs 0 0 ≡ 0x50 → a ≡ allowance bs → Put a n m ≡ jobOf bs
-      unfolding pick
-      job-put e p ea = sym (whole ∙ rw (ne-eqb (getD bs 0 0) 0x47 e, eq-eqb (getD bs 0 0) 0x50 p, ea))
+      pub job-put : (getD bs 0 0 ≡ 0x47 → ⊥) → getD bs 0 0 ≡ 0x50 → Put a n m ≡ jobOf bs
+      unfolding jobOf jobBy
+      job-put k p = sym (rw (sym e ∙ q, ne-eqb (getD bs 0 0) 0x47 k, eq-eqb (getD bs 0 0) 0x50 p))
 
       pub job-other : (getD bs 0 0 ≡ 0x47 → ⊥) → (getD bs 0 0 ≡ 0x50 → ⊥) → Other ≡ jobOf bs
-      unfolding pick
-      job-other e p = sym (whole ∙ rw (ne-eqb (getD bs 0 0) 0x47 e, ne-eqb (getD bs 0 0) 0x50 p))
+      unfolding jobOf jobBy
+      job-other k p = sym (rw (sym e ∙ q, ne-eqb (getD bs 0 0) 0x47 k, ne-eqb (getD bs 0 0) 0x50 p))
 
--- a job's parts lie within its input
-unfoldable pub taken : Job → ℕ
-taken (Get a n m) = 8 + n + m
-taken (Put a n m) = 8 + n + m
-taken Other = 0
+-- the parts of whole fields lie within the input
+unfoldable pub taken : Fields → ℕ
+taken (Whole a n m) = 8 + n + m
+taken Cut = 0
 
-pub job-inside : (bs : List ℕ) → taken (jobOf bs) ≤ length bs
-unfolding jobOf pick taken
-job-inside bs =
-    let n = two bs 4 in
-    let m = two bs (6 + n) in
-    go (leb (8 + n) (length bs)) (leb (8 + n + m) (length bs)) refl (eqb (getD bs 0 0) 0x47) (eqb (length bs) (8 + n + m)) (eqb (getD bs 0 0) 0x50)
+fields-inside : (bs : List ℕ) → taken (fieldsOf bs) ≤ length bs
+unfolding fieldsOf taken
+fields-inside bs = let n = two bs 4 in go (leb (8 + n) (length bs)) (leb (8 + n + two bs (6 + n)) (length bs)) refl
   where
-    go : (p q : Bool) → leb (8 + two bs 4 + two bs (6 + two bs 4)) (length bs) ≡ q → (r s t : Bool)
-        → let n = two bs 4 in let m = two bs (6 + n) in let a = allowance bs in
-        taken (pick p (pick q (pick r (pick s (Get a n m) Other) (pick t (Put a n m) Other)) Other) Other) ≤ length bs
-    go false q e r s t = zero-le
-    go true false e r s t = zero-le
-    go true true e true true t = leb-true _ _ e
-    go true true e true false t = zero-le
-    go true true e false s true = leb-true _ _ e
-    go true true e false s false = zero-le
+    go : (p q : Bool) → leb (8 + two bs 4 + two bs (6 + two bs 4)) (length bs) ≡ q
+        → let n = two bs 4 in taken (cond p (cond q (Whole (allowance bs) n (two bs (6 + n))) Cut) Cut) ≤ length bs
+    go false q e = zero-le
+    go true false e = zero-le
+    go true true e = leb-true _ _ e
 
-pub get-inside : (bs : List ℕ) {j : Job} {a n m : ℕ} → j ≡ jobOf bs → j ≡ Get a n m → 8 + n + m ≤ length bs
+pub whole-inside : (bs : List ℕ) {f : Fields} {a n m : ℕ} → f ≡ fieldsOf bs → f ≡ Whole a n m → 8 + n + m ≤ length bs
 unfolding taken
-get-inside bs {a = a} {n = n} {m = m} e q = rw (sym e ∙ q) at (job-inside bs)
-
-pub put-inside : (bs : List ℕ) {j : Job} {a n m : ℕ} → j ≡ jobOf bs → j ≡ Put a n m → 8 + n + m ≤ length bs
-unfolding taken
-put-inside bs {a = a} {n = n} {m = m} e q = rw (sym e ∙ q) at (job-inside bs)
+whole-inside bs {a = a} {n = n} {m = m} e q = rw (sym e ∙ q) at (fields-inside bs)

@@ -14,11 +14,7 @@ use Rattle.report.specs.Text.{refusalLine, successLine}
 use Rattle.report.specs.Writing.{Front}
 use Rattle.job.specs.declared.Job.{Job}
 use Rattle.job.specs.declared.Job.the-variants.{Get, Put, Other}
-use Rattle.job.specs.Format.{jobOf, jobNumber}
-
--- n bytes from place i on
-abbrev pub part : List ℕ → ℕ → ℕ → List ℕ
-part bs i n = take n (drop i bs)
+use Rattle.job.specs.Format.{part, jobOf, jobNumber}
 
 -- a job's answer: what the call answers on buffers of the sizes that document 01 asks for, or the number of what is no job
 unfoldable pub answerOf : List ℕ → Job → Answer

@@ -1,18 +1,17 @@
 -- Laws of the program's line: how long it is, that 8,193 bytes of the input decide it, and what shows it of the code.
-use mathlib.Core.Bool.{Bool, true, false, cond, _||_, false≢true}
+use mathlib.Core.Bool.{Bool, true, false, cond}
 use mathlib.Core.Path.{_≡_, refl, sym, ap}
-use mathlib.Core.List.{List, [], _∷_}
-use Prim.Native.Nat.{ℕ, _+_, _-_, _≤_, _<_}
+use mathlib.Core.List.{List, []}
+use Prim.Native.Nat.{ℕ, _+_, _≤_, _<_}
 use native.Mathlib.Omega.{arith}
 use native.Mathlib.Decide.{decLe}
-use borrow.Author.Tests.{le-leb, lt-leb, ltb-true, eqb-true}
-use lib.Dec.{leb, ltb, eqb}
-use lib.ListN.{length, take, drop, length-drop}
+use borrow.Author.Tests.{le-leb, lt-leb}
+use lib.Dec.{leb}
+use lib.ListN.{length, take, drop}
 use lib.Seq.{length-take-le, take-all, take-append-seam}
 use Rattle.rules.specs.Outcome.{when, given}
 use Rattle.rules.specs.Numbers.{SCRATCH, GET-OUTPUT, PUT-OUTPUT}
 use Rattle.rules.specs.Answer.{Answer, refusal, success, door, getAnswer, putAnswer}
-use Rattle.rules.specs.Refusals.{Stated, among, table, get-refusals, put-refusals}
 use Rattle.lens.specs.declared.Reply.{Reply}
 use Rattle.lens.specs.declared.Reply.the-variants.{Done, Refused}
 use Rattle.lens.specs.Calls.{reply, written, cleared, Answered}
@@ -23,46 +22,25 @@ use Rattle.report.specs.TextLaws.{refusal-length, success-length}
 use Rattle.report.specs.Writing.{Wrote, Front, wrote-front, wrote-text}
 use Rattle.job.specs.declared.Job.{Job}
 use Rattle.job.specs.declared.Job.the-variants.{Get, Put, Other}
-use Rattle.job.specs.Format.{jobOf}
-use Rattle.job.specs.Line.{part, answerOf, jobAnswer, answerLine, jobLine, replyLine, Within, Said, clearedBy, Lent}
+use Rattle.job.specs.Format.{part, jobOf}
+use Rattle.job.specs.Line.{answerOf, jobAnswer, answerLine, jobLine, replyLine, Within, Said, clearedBy, Lent}
 
 -- HOW LONG A LINE IS
 
-unfoldable below : List ℕ → Bool
-below [] = true
-below (x ∷ xs) = cond (ltb x 256) (below xs) false
-
-among-below : (c : ℕ) (xs : List ℕ) → below xs ≡ true → among c xs ≡ true → c < 256
-unfolding among below
-among-below c [] h e = absurd (false≢true e)
-among-below c (x ∷ xs) h e = go (ltb x 256) refl (eqb c x) refl h e (among-below c xs)
-  where
-    go : (p : Bool) → ltb x 256 ≡ p → (b : Bool) → eqb c x ≡ b → cond p (below xs) false ≡ true → (b || among c xs) ≡ true
-        → (below xs ≡ true → among c xs ≡ true → c < 256) → c < 256
-    go true l true q h e r = omega (arith, eqb-true c x q, ltb-true x 256 l)
-    go true l false q h e r = r h e
-    go false l b q h e r = absurd (false≢true h)
-
-stated-small : (c : ℕ) → Stated c → c < 256
-unfolding below table
-stated-small c h = among-below c (1 ∷ 2 ∷ 3 ∷ table) refl h
-
-fits : (a : Answer) → ((c : ℕ) → a ≡ refusal c → c < 256) → Small (reply a) → length (answerLine a) ≤ 8204
+fits : (a : Answer) → Small (reply a) → length (answerLine a) ≤ 8204
 unfolding answerLine reply
-fits (refusal c) h s = omega (arith, refusal-length c (h c refl))
-fits (success bs n) h s = omega (arith, s .0, success-length n bs (s .1))
+fits (refusal c) s = omega (arith, refusal-length c (s .1))
+fits (success bs n) s = omega (arith, s .0, success-length n bs (s .1))
 
 -- a call that answers a, on buffers of no bytes
 answered : (a : Answer) → Answered a (reply a) [] (written a []) [] (cleared a [])
 answered a = record { answer = refl; output = refl; scratch = refl }
 
 fits-get : (sheet plan : List ℕ) (allowance output scratch : ℕ) → length (answerLine (getAnswer sheet plan allowance output scratch)) ≤ 8204
-fits-get sheet plan allowance output scratch =
-    fits _ (λ c e. stated-small c (get-refusals sheet plan allowance output scratch c e)) (small-get sheet plan allowance output scratch (answered _))
+fits-get sheet plan allowance output scratch = fits _ (small-get sheet plan allowance output scratch (answered _))
 
 fits-put : (sheet plan view : List ℕ) (allowance output scratch : ℕ) → length (answerLine (putAnswer sheet plan view allowance output scratch)) ≤ 8204
-fits-put sheet plan view allowance output scratch =
-    fits _ (λ c e. stated-small c (put-refusals sheet plan view allowance output scratch c e)) (small-put sheet plan view allowance output scratch (answered _))
+fits-put sheet plan view allowance output scratch = fits _ (small-put sheet plan view allowance output scratch (answered _))
 
 fits-refusal : (c : ℕ) → c < 256 → length (answerLine (refusal c)) ≤ 8204
 unfolding answerLine
@@ -139,13 +117,6 @@ module _ {o s t : List ℕ} (eo : length o ≡ PUT-OUTPUT) (es : length s ≡ SC
   pub said-put : (view : List ℕ) → Answered (putAnswer sheet plan view allowance (length o) (length s)) q o o′ s s′ → Wrote (replyLine q o′) 0 t t′ r
       → Said (putAnswer sheet plan view allowance PUT-OUTPUT SCRATCH) r t t′ o o′ s s′
   said-put view w l = said (rw (eo, es) at w) l (rw et (fits-put sheet plan view allowance PUT-OUTPUT SCRATCH))
-
--- a part from its start up to its end
-pub up-to : (bs : List ℕ) (i n : ℕ) → part bs i (i + n - i) ≡ part bs i n
-up-to bs i n = let e : i + n - i ≡ n = omega arith in ap (part bs i) e
-
-pub to-end : (bs : List ℕ) (i : ℕ) → part bs i (length bs - i) ≡ drop i bs
-to-end bs i = take-all (length bs - i) (drop i bs) (omega (arith, length-drop i bs))
 
 -- an input: over 8,192 bytes, no job, a get, a put
 module _ (bs : List ℕ) where

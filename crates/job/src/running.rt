@@ -1,14 +1,14 @@
 //! A job run, and the line of its answer written.
-ghost use mathlib.Core.Path.{_≡_};
-ghost use Prim.Native.Nat.{_+_, _≤_};
-ghost use lib.ListN.{length, drop};
 ghost use Rattle.rules.specs.Numbers.{SCRATCH, GET-OUTPUT, PUT-OUTPUT};
 ghost use Rattle.rules.specs.Answer.{getAnswer, putAnswer};
 ghost use Rattle.report.specs.Writing.{Wrote, Front};
-ghost use Rattle.job.specs.Line.{part, jobLine, Within, replyLine, Said, Lent};
+ghost use Rattle.job.specs.Line.{jobLine, Within, replyLine, Said, Lent};
 use crate::INPUT;
 use crate::Job;
 use crate::LINE;
+use crate::fields::plan_of;
+use crate::fields::sheet_of;
+use crate::fields::view_of;
 use crate::parse;
 use lens::Reply;
 
@@ -50,32 +50,9 @@ fn put_line(
 ) -> usize
     ensures { λ r. ⌜ Said (putAnswer (now (sheet .entry)) (now (plan .entry)) (now (view .entry)) allowance PUT-OUTPUT SCRATCH) r (now (text .entry)) (now (text .exit)) (now (out .entry)) (now (out .exit)) (now (scratch .entry)) (now (scratch .exit)) ⌝ }
 {
-    let reply = lens::put(sheet, plan, view, allowance, out, scratch);
+    let answer = lens::put(sheet, plan, view, allowance, out, scratch);
+    let reply = answer.reply;
     reply_line(reply, out, text)
-}
-
-// The parts of a job: its sheet of n bytes, the plan of m bytes behind that, the view behind both.
-fn sheet_of(input: &[u8], n: usize) -> &[u8]
-    requires { ⌜ 6 + n ≤ length (now input) ⌝ }
-    ensures { λ r. ⌜ now r ≡ part (now (input .entry)) 6 n ⌝ }
-{
-    &input[6..6 + n]
-}
-
-fn plan_of(input: &[u8], n: usize, m: usize) -> &[u8]
-    requires { ⌜ 8 + n + m ≤ length (now input) ⌝ }
-    ensures { λ r. ⌜ now r ≡ part (now (input .entry)) (8 + n) m ⌝ }
-{
-    let start = 8 + n;
-    &input[start..start + m]
-}
-
-fn view_of(input: &[u8], n: usize, m: usize) -> &[u8]
-    requires { ⌜ 8 + n + m ≤ length (now input) ⌝ }
-    ensures { λ r. ⌜ now r ≡ drop (8 + n + m) (now (input .entry)) ⌝ }
-{
-    let start = 8 + n + m;
-    &input[start..]
 }
 
 /// The line that the program prints for an input, at the front of `text`; and how long it is.

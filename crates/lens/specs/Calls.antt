@@ -6,6 +6,9 @@ use Prim.Native.Nat.{ℕ}
 use lib.Dec.{leb}
 use lib.ListN.{length, drop}
 use Rattle.rules.specs.Answer.{Answer, refusal, success}
+use Rattle.starts.specs.declared.Starts.{Starts}
+use Rattle.starts.specs.Starts.{noStarts, loadOf}
+use Rattle.lens.specs.declared.PutReply.{PutReply}
 use Rattle.lens.specs.declared.Reply.{Reply}
 use Rattle.lens.specs.declared.Reply.the-variants.{Done, Refused}
 use Rattle.lens.specs.Buffers.{zeroed}
@@ -34,3 +37,15 @@ pub record Answered (a : Answer) (r : Reply) (o o′ s s′ : List ℕ) : Type 0
   pub answer : r ≡ reply a
   pub output : o′ ≡ written a o
   pub scratch : s′ ≡ cleared a s
+
+-- WHAT A PUT GIVES BESIDE ITS REPLY
+
+-- the starts of the new plan's values, as loading the new plan gives them; no start with a refusal
+unfoldable pub newStarts : (sheet : List ℕ) → Answer → Starts
+newStarts sheet (refusal c) = noStarts
+newStarts sheet (success new n) = loadOf sheet new .starts
+
+-- a put's answer is a, for this sheet: its reply says so, output and scratch became o′ and s′, and the starts are those of the new plan
+pub record PutAnswered (sheet : List ℕ) (a : Answer) (r : PutReply) (o o′ s s′ : List ℕ) : Type 0 where
+  pub call : Answered a (r .reply) o o′ s s′
+  pub starts : r .starts ≡ newStarts sheet a

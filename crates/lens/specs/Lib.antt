@@ -3,5 +3,8 @@ pub mod Calls
 pub mod Door
 pub mod CallLaws
 pub mod Trips
+pub mod Told
 pub mod WalkCalls
 pub mod Packing
+pub mod HandedOut
+pub mod StartsLaws

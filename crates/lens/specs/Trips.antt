@@ -8,9 +8,10 @@ use lib.Seq.{take-at}
 use Rattle.rules.specs.Numbers.{ALLOWANCE, FACTOR, SCRATCH, GET-OUTPUT, PUT-OUTPUT}
 use Rattle.rules.specs.Answer.{Answer, refusal, success, getAnswer, putAnswer}
 use Rattle.rules.specs.Trips.{consistency, acceptability}
+use Rattle.lens.specs.declared.PutReply.{PutReply}
 use Rattle.lens.specs.declared.Reply.{Reply}
 use Rattle.lens.specs.declared.Reply.the-variants.{Done}
-use Rattle.lens.specs.Calls.{reply, written, Answered}
+use Rattle.lens.specs.Calls.{reply, written, Answered, newStarts, PutAnswered}
 
 -- a list that was taken back stands: the get of the new plan, the bytes at the front of the output, under the same sheet and allowance
 -- succeeds, gives exactly that list, in no more steps
@@ -54,7 +55,8 @@ pub with-unmoved : (sheet plan : List ℕ) (allowance output scratch : ℕ) {r :
     → Answered (getAnswer sheet plan allowance output scratch) r o o′ s s′ × Unmoved sheet plan r o′
 with-unmoved sheet plan allowance output scratch w = (w, get-unmoved sheet plan allowance output scratch w)
 
-pub with-stands : (sheet plan view : List ℕ) (allowance output scratch : ℕ) {r : Reply} {o o′ s s′ : List ℕ}
-    → Answered (putAnswer sheet plan view allowance output scratch) r o o′ s s′
-    → Answered (putAnswer sheet plan view allowance output scratch) r o o′ s s′ × Stands sheet view allowance r o′
-with-stands sheet plan view allowance output scratch w = (w, put-stands sheet plan view allowance output scratch w)
+pub with-stands : (sheet plan view : List ℕ) (allowance output scratch : ℕ) {r : PutReply} {o o′ s s′ : List ℕ}
+    → Answered (putAnswer sheet plan view allowance output scratch) (r .reply) o o′ s s′
+    → r .starts ≡ newStarts sheet (putAnswer sheet plan view allowance output scratch)
+    → PutAnswered sheet (putAnswer sheet plan view allowance output scratch) r o o′ s s′ × Stands sheet view allowance (r .reply) o′
+with-stands sheet plan view allowance output scratch w e = (record { call = w; starts = e }, put-stands sheet plan view allowance output scratch w)

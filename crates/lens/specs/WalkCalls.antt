@@ -1,22 +1,26 @@
 -- From the walk's answer to the call's, for get and for put.
 use mathlib.Core.Path.{_≡_, refl, sym, ap, _∙_}
 use mathlib.Core.List.{List}
-use Prim.Native.Nat.{ℕ, _+_, _≤_}
+use Prim.Native.Nat.{ℕ, _≤_}
 use native.Mathlib.Omega.{arith}
 use lib.ListN.{length, take, drop}
 use lib.Seq.{paste}
 use Rattle.rules.specs.Numbers.{SCRATCH, STACK, GET-OUTPUT, PUT-OUTPUT}
 use Rattle.rules.specs.Outcome.{Out, done, refused}
-use Rattle.rules.specs.Answer.{Answer, answer, door, getBytes, getAnswer, putBytes, putAnswer}
-use Rattle.rules.specs.AnswerLaws.{Lent}
+use Rattle.rules.specs.Answer.{Answer, refusal, success, answer, door, getBytes, getAnswer, putBytes, putAnswer}
+use Rattle.rules.specs.AnswerLaws.{Lent, door-open}
 use Rattle.rules.specs.Refusals.{Lists, lists-get-bytes, lists-put-bytes}
+use Rattle.starts.specs.Starts.{noStarts, loadOf}
 use Rattle.walk.specs.declared.Walked.{Walked}
 use Rattle.walk.specs.declared.Walked.the-variants.{Done as Walked·Done, Refused as Walked·Refused}
 use Rattle.walk.specs.Entry.{Says, says-done, says-refused, WalkCall}
+use Rattle.lens.specs.declared.Reply.{Reply}
 use Rattle.lens.specs.declared.Reply.the-variants.{Done, Refused}
 use Rattle.lens.specs.Buffers.{zeroed}
 use Rattle.lens.specs.Door.{shut}
-use Rattle.lens.specs.Calls.{Answered}
+use Rattle.walk.specs.NewStarts.{newStarts as Walk·newStarts}
+use Rattle.lens.specs.Calls.{reply, Answered, newStarts}
+use Rattle.lens.specs.Told.{Fits, replyOf, outputOf}
 use Rattle.lens.specs.CallLaws.{zeros-same, shut-call, refused-behind, done-behind, at-front}
 
 -- what a walk that is done says
@@ -54,6 +58,12 @@ pub put-behind : (sheet plan view : List ℕ) (allowance : ℕ) (o s : List ℕ)
 unfolding putAnswer
 put-behind sheet plan view allowance o s = record { is = refl; small = omega arith; listed = lists-put-bytes sheet plan view allowance }
 
+-- there is no start with a refusal
+pub none-refused : (sheet : List ℕ) (x : Answer) {c : ℕ} → Refused c ≡ reply x → noStarts ≡ newStarts sheet x
+unfolding reply newStarts
+none-refused sheet (refusal c) e = refl
+none-refused sheet (success bs n) e = let z : _≡_ {A = ℕ} 0 1 = cc in absurd (omega arith)
+
 -- THE RETURNS OF A CALL
 module _ {need : ℕ} {w : Out (List ℕ)} {allowance : ℕ} {o s : List ℕ} {x : Answer} (b : Behind need w allowance o s x) where
   pub call-shut : {c : ℕ} → c ≡ shut need (length o) (length s) allowance → (c ≡ 0 → ⊥) → Answered x (Refused c) o o s s
@@ -63,18 +73,41 @@ module _ {need : ℕ} {w : Out (List ℕ)} {allowance : ℕ} {o s : List ℕ} {x
     says : Says need a r w
     says = g .says (l .scratch-long) (l .few-steps)
 
-    pub call-refused : {c : ℕ} {s′ : List ℕ} → r ≡ Walked·Refused c → s′ ≡ zeroed a → Answered x (Refused c) o o s s′
+    call-refused : {c : ℕ} {s′ : List ℕ} → r ≡ Walked·Refused c → s′ ≡ zeroed a → Answered x (Refused c) o o s s′
     call-refused e z = rw (b .is) (refused-behind need o s allowance w l (b .listed) (said-refused says e .1) (z ∙ zeros-same SCRATCH s a (g .free .behind)))
 
-    pub call-done : {len n : ℕ} {o′ s′ : List ℕ} → r ≡ Walked·Done len n → o′ ≡ paste o 0 (drop STACK a) len → s′ ≡ zeroed a
+    call-done : {len n : ℕ} {o′ s′ : List ℕ} → r ≡ Walked·Done len n → o′ ≡ paste o 0 (drop STACK a) len → s′ ≡ zeroed a
         → Answered x (Done len n) o o′ s s′
     call-done {len} e p z =
         let d = said-done says e in
         let q = p ∙ at-front o a (d .bytes) STACK len (d .stands) in
         rw (b .is) (done-behind need o s allowance w l (d .is) (d .long) q (z ∙ zeros-same SCRATCH s a (g .free .behind)))
 
-    pub call-fits : {len n : ℕ} → r ≡ Walked·Done len n → (SCRATCH ≤ length a) × ((STACK + len ≤ length a) × (len ≤ length o))
-    call-fits e =
-        let d = said-done says e in
-        let k : SCRATCH ≤ length a = omega (arith, g .free .long, l .scratch-long) in
-        (k, (omega (arith, d .short, b .small), omega (arith, d .short, l .output-long)))
+    -- what the walk's answer asks of the buffers, and what becomes of it
+    pub call-fits : (SCRATCH ≤ length a) × Fits r o a
+    call-fits = (omega (arith, g .free .long, l .scratch-long), go r refl)
+      where
+        go : (t : Walked) → r ≡ t → Fits t o a
+        go (Walked·Refused c) e = tt
+        go (Walked·Done len n) e =
+            let d = said-done says e in
+            (omega (arith, d .short, b .small, g .free .long, l .scratch-long), omega (arith, d .short, l .output-long))
+
+    pub call-told : {q : Reply} {o′ s′ : List ℕ} → q ≡ replyOf r → o′ ≡ outputOf r o a → s′ ≡ zeroed a → Answered x q o o′ s s′
+    unfolding replyOf outputOf
+    call-told {q} {o′} {s′} e p z = go r refl
+      where
+        go : (t : Walked) → r ≡ t → Answered x q o o′ s s′
+        go (Walked·Refused c) h = rw (e ∙ ap replyOf h, p ∙ ap (λ (t : Walked). outputOf t o a) h) (call-refused h z)
+        go (Walked·Done len n) h = rw (e ∙ ap replyOf h) (call-done h (p ∙ ap (λ (t : Walked). outputOf t o a) h) z)
+
+    -- the starts that a walk gives beside its answer are those of the call
+    pub call-starts : (sheet : List ℕ) → Walk·newStarts sheet a r ≡ newStarts sheet x
+    unfolding answer newStarts Walk·newStarts
+    call-starts sheet = go r refl
+      where
+        go : (t : Walked) → r ≡ t → Walk·newStarts sheet a r ≡ newStarts sheet x
+        go (Walked·Refused c) h = rw (h, b .is, door-open {o = w} l, said-refused says h .1)
+        go (Walked·Done len n) h =
+            let d = said-done says h in
+            rw (h, b .is, door-open {o = w} l, d .is) (ap (λ (new : List ℕ). loadOf sheet new .starts) (d .stands))

@@ -6,8 +6,9 @@ ghost use lib.Seq.{paste};
 ghost use Rattle.rules.specs.Numbers.{SCRATCH, STACK};
 ghost use Rattle.rules.specs.Answer.{getAnswer, putAnswer};
 ghost use Rattle.lens.specs.Buffers.{zeroed};
-ghost use Rattle.lens.specs.Calls.{Answered};
+ghost use Rattle.lens.specs.Calls.{Answered, PutAnswered};
 ghost use Rattle.lens.specs.Door.{shut};
+ghost use Rattle.lens.specs.Told.{Fits, replyOf, outputOf};
 ghost use Rattle.lens.specs.Trips.{Stands, Unmoved};
 
 mod buffers;
@@ -15,14 +16,24 @@ mod exports;
 
 use crate::buffers::clear;
 use crate::buffers::copy_out;
+pub use exports::lens_find;
 pub use exports::lens_get;
+pub use exports::lens_load;
 pub use exports::lens_put;
+pub use exports::lens_put_starts;
+use starts::Starts;
 use walk::Walked;
 
 /// What a call answers: the length of the output and the steps taken, or a refusal's number in document 01's table.
 pub enum Reply {
     Done { len: usize, steps: usize },
     Refused(u8),
+}
+
+/// What a put answers: the reply, and where the values of its new plan start. With a refusal there is no start.
+pub struct PutReply {
+    pub reply: Reply,
+    pub starts: Starts,
 }
 
 /// What a call refuses before it reads anything, 0 for nothing: 1 an output under `need` bytes (rules::GET_OUTPUT,
@@ -65,6 +76,18 @@ fn given(len: usize, steps: usize, out: &mut [u8], scratch: &mut [u8]) -> Reply
     Reply::Done { len, steps }
 }
 
+// A walk's answer, told to the caller: what a walk that is done built goes to the output, and scratch is cleared.
+fn answered(walked: Walked, out: &mut [u8], scratch: &mut [u8]) -> Reply
+    requires { ⌜ SCRATCH ≤ length (now scratch) ⌝ }
+    requires { ⌜ Fits walked (now out) (now scratch) ⌝ }
+    ensures { λ r. ⌜ (r ≡ replyOf walked) × (now (out .exit) ≡ outputOf walked (now (out .entry)) (now (scratch .entry))) × (now (scratch .exit) ≡ zeroed (now (scratch .entry))) ⌝ }
+{
+    match walked {
+        Walked::Refused(code) => refused(code, scratch),
+        Walked::Done { len, steps } => given(len, steps, out, scratch),
+    }
+}
+
 /// Get: the list that a sheet reads out of a plan, at the front of `out`, which takes 256 bytes. Scratch takes 65,536.
 pub fn get(sheet: &[u8], plan: &[u8], allowance: u32, out: &mut [u8], scratch: &mut [u8]) -> Reply
     ensures { λ r. ⌜ Answered (getAnswer (now (sheet .entry)) (now (plan .entry)) allowance (length (now (out .entry))) (length (now (scratch .entry)))) r (now (out .entry)) (now (out .exit)) (now (scratch .entry)) (now (scratch .exit)) ⌝ }
@@ -75,14 +98,12 @@ pub fn get(sheet: &[u8], plan: &[u8], allowance: u32, out: &mut [u8], scratch: &
     if refusal != 0 {
         return Reply::Refused(refusal);
     }
-    match walk::get(sheet, plan, steps_allowed, scratch) {
-        Walked::Refused(c) => refused(c, scratch),
-        Walked::Done { len, steps } => given(len, steps, out, scratch),
-    }
+    let walked = walk::get(sheet, plan, steps_allowed, scratch);
+    answered(walked, out, scratch)
 }
 
-/// Put: the new plan that a list edited by the venue gives back, at the front of `out`, which takes 4,096 bytes. Scratch
-/// takes 65,536.
+/// Put: the new plan that a list edited by the venue gives back, at the front of `out`, which takes 4,096 bytes, and where its values
+/// start. Scratch takes 65,536.
 pub fn put(
     sheet: &[u8],
     plan: &[u8],
@@ -90,17 +111,22 @@ pub fn put(
     allowance: u32,
     out: &mut [u8],
     scratch: &mut [u8],
-) -> Reply
-    ensures { λ r. ⌜ Answered (putAnswer (now (sheet .entry)) (now (plan .entry)) (now (view .entry)) allowance (length (now (out .entry))) (length (now (scratch .entry)))) r (now (out .entry)) (now (out .exit)) (now (scratch .entry)) (now (scratch .exit)) ⌝ }
-    ensures { λ r. ⌜ Stands (now (sheet .entry)) (now (view .entry)) allowance r (now (out .exit)) ⌝ }
+) -> PutReply
+    ensures { λ r. ⌜ PutAnswered (now (sheet .entry)) (putAnswer (now (sheet .entry)) (now (plan .entry)) (now (view .entry)) allowance (length (now (out .entry))) (length (now (scratch .entry)))) r (now (out .entry)) (now (out .exit)) (now (scratch .entry)) (now (scratch .exit)) ⌝ }
+    ensures { λ r. ⌜ Stands (now (sheet .entry)) (now (view .entry)) allowance (r .reply) (now (out .exit)) ⌝ }
 {
     let steps_allowed = allowance as usize;
     let refusal = door(rules::PUT_OUTPUT, out.len(), scratch.len(), steps_allowed);
     if refusal != 0 {
-        return Reply::Refused(refusal);
+        let starts = starts::none();
+        return PutReply {
+            reply: Reply::Refused(refusal),
+            starts,
+        };
     }
-    match walk::put(sheet, plan, view, steps_allowed, scratch) {
-        Walked::Refused(code) => refused(code, scratch),
-        Walked::Done { len, steps } => given(len, steps, out, scratch),
-    }
+    let put = walk::put(sheet, plan, view, steps_allowed, scratch);
+    let walked = put.walked;
+    let reply = answered(walked, out, scratch);
+    let starts = put.starts;
+    PutReply { reply, starts }
 }

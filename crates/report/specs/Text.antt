@@ -22,10 +22,19 @@ decimalIn (suc turns) n = cond (ltb n 10) (digitOf n ∷ []) (decimalIn turns (n
 unfoldable pub decimalOf : ℕ → List ℕ
 decimalOf n = decimalIn (suc n) n
 
+-- words, each behind a space
+unfoldable pub words : List (List ℕ) → List ℕ
+words [] = []
+words (w ∷ ws) = 0x20 ∷ (w ++ words ws)
+
 -- `no`, the refusal's number, line feed
 unfoldable pub refusalLine : ℕ → List ℕ
-refusalLine code = 0x6E ∷ 0x6F ∷ 0x20 ∷ (decimalOf code ++ (0x0A ∷ []))
+refusalLine code = 0x6E ∷ 0x6F ∷ (words (decimalOf code ∷ []) ++ (0x0A ∷ []))
 
--- `ok`, the steps, the output, line feed
+-- `ok`, the words of what is answered, line feed
+unfoldable pub okLine : List (List ℕ) → List ℕ
+okLine ws = 0x6F ∷ 0x6B ∷ (words ws ++ (0x0A ∷ []))
+
+-- the answer of a get or a put: the steps, the output
 unfoldable pub successLine : (steps : ℕ) (output : List ℕ) → List ℕ
-successLine steps output = 0x6F ∷ 0x6B ∷ 0x20 ∷ (decimalOf steps ++ (0x20 ∷ (hexOf output ++ (0x0A ∷ []))))
+successLine steps output = okLine (decimalOf steps ∷ hexOf output ∷ [])

@@ -1,8 +1,8 @@
 -- What is written reads back: a byte is its two digits, and decimal text is its number. How long text is, and how it grows.
 use mathlib.Core.Bool.{cond}
 use mathlib.Core.Path.{_≡_, refl, sym, _∙_}
-use mathlib.Core.List.{List, [], _∷_, _++_}
-use Prim.Native.Nat.{ℕ, zero, suc, _+_, _-_, _*_, _/_, _%_, _^_, _≤_, _<_}
+use mathlib.Core.List.{List, [], _∷_, _++_, map, append-nil, append-assoc}
+use Prim.Native.Nat.{ℕ, zero, suc, _+_, _-_, _*_, _/_, _%_, _^_, _≤_, _<_, zero-le}
 use native.Mathlib.Nat.{pow-suc}
 use native.Mathlib.Numerals.{add-one}
 use native.Mathlib.Omega.{arith}
@@ -11,7 +11,8 @@ use borrow.Author.Tests.{lt-ltb, le-ltb}
 use lib.Dec.{ltb}
 use lib.ListN.{length, take, getD, length-append}
 use lib.Seq.{take-suc}
-use Rattle.report.specs.Text.{digitOf, hexOf, decimalIn, decimalOf, refusalLine, successLine}
+use Rattle.report.specs.Text.{digitOf, hexOf, decimalIn, decimalOf, words, refusalLine, okLine, successLine}
+use Rattle.report.specs.Writing.{Wrote, wrote-then, wrote-text}
 
 -- DIGITS
 
@@ -38,14 +39,15 @@ bytesOf (h ∷ l ∷ t) = (16 * valueOf h + valueOf l) ∷ bytesOf t
 pub byte-reads : (b : ℕ) → b < 256 → 16 * valueOf (digitOf (b / 16)) + valueOf (digitOf (b % 16)) ≡ b
 byte-reads b h = rw (digit-reads (b / 16) (omega arith), digit-reads (b % 16) (omega arith)) (omega arith)
 
-pub data Bytes : List ℕ → Type 0 where
-  none : Bytes []
-  each : {b : ℕ} {bs : List ℕ} → b < 256 → Bytes bs → Bytes (b ∷ bs)
+-- numbers that are all below n
+pub data Below (n : ℕ) : List ℕ → Type 0 where
+  none : Below n []
+  each : {a : ℕ} {l : List ℕ} → a < n → Below n l → Below n (a ∷ l)
 
-pub hex-reads : {bs : List ℕ} → Bytes bs → bytesOf (hexOf bs) ≡ bs
+pub hex-reads : {bs : List ℕ} → Below 256 bs → bytesOf (hexOf bs) ≡ bs
 unfolding hexOf bytesOf
 hex-reads none = refl
-hex-reads (each {b} {bs} h r) = rw (byte-reads b h, hex-reads r)
+hex-reads (each {a} h r) = rw (byte-reads a h, hex-reads r)
 
 hex-append : (s t : List ℕ) → hexOf (s ++ t) ≡ hexOf s ++ hexOf t
 unfolding hexOf
@@ -133,24 +135,59 @@ decimal-length = by-digits (λ n. (k : ℕ) → n < 10 ^ suc k → length (decim
     more n s r zero h = absurd (omega arith)
     more n s r (suc k) h = omega (arith, r k (omega (arith, pow-suc 10 (suc k))))
 
+-- WORDS
+
+words-append : (ws vs : List (List ℕ)) → words (ws ++ vs) ≡ words ws ++ words vs
+unfolding words
+words-append [] vs = refl
+words-append (w ∷ ws) vs = rw (words-append ws vs, append-assoc w (words ws) (words vs))
+
+pub wrote-words : (ws vs : List (List ℕ)) {i m r : ℕ} {b b₁ b₂ : List ℕ} → Wrote (words ws) i b b₁ m → Wrote (words vs) m b₁ b₂ r
+    → Wrote (words (ws ++ vs)) i b b₂ r
+wrote-words ws vs p q = wrote-text (wrote-then p q) (sym (words-append ws vs))
+
+-- one word: a space, and the word
+pub wrote-word : {w : List ℕ} {i m r : ℕ} {b b₁ b₂ : List ℕ} → Wrote (0x20 ∷ []) i b b₁ m → Wrote w m b₁ b₂ r → Wrote (words (w ∷ [])) i b b₂ r
+unfolding words
+wrote-word {w} p q = wrote-text (wrote-then p q) (rw append-nil)
+
+-- numbers below 10 ^ k, for k from 1: each takes a space and at most k digits
+pub numbers-length : (k : ℕ) {ns : List ℕ} → Below (10 ^ suc k) ns → length (words (map decimalOf ns)) ≤ (2 + k) * length ns
+unfolding words
+numbers-length k none = zero-le
+numbers-length k (each {a} h r) = rw length-append (omega (arith, decimal-length a k h, numbers-length k r))
+
 -- THE LINES
 
+pub wrote-ok : (ws : List (List ℕ)) {i m n r : ℕ} {b b₁ b₂ b₃ : List ℕ}
+    → Wrote (0x6F ∷ 0x6B ∷ []) i b b₁ m → Wrote (words ws) m b₁ b₂ n → Wrote (0x0A ∷ []) n b₂ b₃ r → Wrote (okLine ws) i b b₃ r
+unfolding okLine
+wrote-ok ws p q f = wrote-then p (wrote-then q f)
+
+pub ok-length : (ws : List (List ℕ)) → length (okLine ws) ≡ 3 + length (words ws)
+unfolding okLine
+ok-length ws = rw length-append (omega arith)
+
 pub refusal-length : (c : ℕ) → c < 256 → length (refusalLine c) ≤ 7
-unfolding refusalLine
-refusal-length c h = rw length-append (omega (arith, decimal-length c 2 (omega arith)))
+unfolding refusalLine words
+refusal-length c h = simp length-append (omega (arith, decimal-length c 2 (omega arith)))
 
 -- a line with at most so many steps and an output of at most so many bytes
 pub success-length : (n : ℕ) (bs : List ℕ) → n ≤ 1000000 → length (successLine n bs) ≤ 12 + 2 * length bs
-unfolding successLine
-success-length n bs h = simp (length-append, hex-length) (omega (arith, decimal-length n 6 (omega arith)))
+unfolding successLine words
+success-length n bs h = simp (ok-length, length-append, hex-length) (omega (arith, decimal-length n 6 (omega arith)))
 
--- EXAMPLES: `no 61`, `ok 1000 0ABA`
+-- EXAMPLES: `no 61`, `ok 1000 0ABA`, `ok 0 12`
 
 refusal-61 : refusalLine 61 ≡ 0x6E ∷ 0x6F ∷ 0x20 ∷ 0x36 ∷ 0x31 ∷ 0x0A ∷ []
-unfolding refusalLine decimalOf decimalIn digitOf
+unfolding refusalLine words decimalOf decimalIn digitOf
 refusal-61 = refl
 
 success-1000 : successLine 1000 (0x0A ∷ 0xBA ∷ [])
     ≡ 0x6F ∷ 0x6B ∷ 0x20 ∷ 0x31 ∷ 0x30 ∷ 0x30 ∷ 0x30 ∷ 0x20 ∷ 0x30 ∷ 0x41 ∷ 0x42 ∷ 0x41 ∷ 0x0A ∷ []
-unfolding successLine hexOf decimalOf decimalIn digitOf
+unfolding successLine okLine words hexOf decimalOf decimalIn digitOf
 success-1000 = refl
+
+ok-numbers : okLine (map decimalOf (0 ∷ 12 ∷ [])) ≡ 0x6F ∷ 0x6B ∷ 0x20 ∷ 0x30 ∷ 0x20 ∷ 0x31 ∷ 0x32 ∷ 0x0A ∷ []
+unfolding okLine words decimalOf decimalIn digitOf
+ok-numbers = refl

@@ -1,9 +1,10 @@
-//! Text, written into a buffer that the caller lends: a byte, bytes as they stand, bytes in hexadecimal, a number in decimal, the
-//! line of an answer. Each takes the buffer and the place, and gives the place behind what it wrote; text that has no room is cut.
+//! Text, written into a buffer that the caller lends: a byte, bytes as they stand, bytes in hexadecimal, a number in decimal, both as
+//! words of a line, the line of an answer. Each takes the buffer and the place, and gives the place behind what it wrote; text that has no
+//! room is cut.
 ghost use mathlib.Core.Path.{_≡_};
 ghost use mathlib.Core.List.{[], _∷_};
 ghost use Prim.Native.Nat.{_<_, _/_, _%_};
-ghost use Rattle.report.specs.Text.{digitOf, hexOf, decimalOf, refusalLine, successLine};
+ghost use Rattle.report.specs.Text.{digitOf, hexOf, decimalOf, words, refusalLine, successLine};
 ghost use Rattle.report.specs.Writing.{Wrote};
 
 // An upper-case hexadecimal digit.
@@ -14,8 +15,8 @@ fn digit(n: u8) -> u8
     if n < 10 { 48 + n } else { 55 + n }
 }
 
-// The place, or the buffer's end where that comes first: nothing is written.
-fn place(text: &[u8], at: usize) -> usize
+/// The place, or the buffer's end where that comes first: nothing is written.
+pub fn place(text: &[u8], at: usize) -> usize
     ensures { λ r. ⌜ Wrote [] at (now (text .entry)) (now (text .entry)) r ⌝ }
 {
     if at < text.len() { at } else { text.len() }
@@ -77,12 +78,28 @@ pub fn decimal(text: &mut [u8], at: usize, n: usize) -> usize
     byte(text, end, digit((n % 10) as u8))
 }
 
+/// A word of a line: a space, and a number in decimal.
+pub fn decimal_word(text: &mut [u8], at: usize, n: usize) -> usize
+    ensures { λ r. ⌜ Wrote (words (decimalOf n ∷ [])) at (now (text .entry)) (now (text .exit)) r ⌝ }
+{
+    let end = byte(text, at, b' ');
+    decimal(text, end, n)
+}
+
+/// A word of a line: a space, and bytes in hexadecimal.
+pub fn hex_word(text: &mut [u8], at: usize, bytes: &[u8]) -> usize
+    ensures { λ r. ⌜ Wrote (words (hexOf (now (bytes .entry)) ∷ [])) at (now (text .entry)) (now (text .exit)) r ⌝ }
+{
+    let end = byte(text, at, b' ');
+    hex(text, end, bytes)
+}
+
 /// The line of a refusal: `no` and its number.
 pub fn refusal(text: &mut [u8], at: usize, code: usize) -> usize
     ensures { λ r. ⌜ Wrote (refusalLine code) at (now (text .entry)) (now (text .exit)) r ⌝ }
 {
-    let mut end = bytes(text, at, b"no ");
-    end = decimal(text, end, code);
+    let mut end = bytes(text, at, b"no");
+    end = decimal_word(text, end, code);
     byte(text, end, b'\n')
 }
 
@@ -90,9 +107,8 @@ pub fn refusal(text: &mut [u8], at: usize, code: usize) -> usize
 pub fn success(text: &mut [u8], at: usize, steps: usize, output: &[u8]) -> usize
     ensures { λ r. ⌜ Wrote (successLine steps (now (output .entry))) at (now (text .entry)) (now (text .exit)) r ⌝ }
 {
-    let mut end = bytes(text, at, b"ok ");
-    end = decimal(text, end, steps);
-    end = byte(text, end, b' ');
-    end = hex(text, end, output);
+    let mut end = bytes(text, at, b"ok");
+    end = decimal_word(text, end, steps);
+    end = hex_word(text, end, output);
     byte(text, end, b'\n')
 }

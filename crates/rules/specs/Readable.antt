@@ -125,19 +125,19 @@ unfolding mkPair
 mkPair-readable a b u e ga gb z = let e′ = Option·some-injective _ _ e in rw (← e′) (pair-readable ga gb (rw (← e′) at z))
 
 -- a list that is made member by member, behind others that have n bytes with the 02 that would end them
-abbrev pub Behind : ℕ → Values → Type 0
-Behind n l = Encodable (list l) × (n + size (list l) ≤ 257)
+abbrev pub TailFits : ℕ → Values → Type 0
+TailFits n l = Encodable (list l) × (n + size (list l) ≤ 257)
 
-pub behind-nil : {n : ℕ} → n ≤ 256 → Behind n nil
+pub tail-nil : {n : ℕ} → n ≤ 256 → TailFits n nil
 unfolding size
-behind-nil h = (eList eNil, omega arith)
+tail-nil h = (eList eNil, omega arith)
 
-pub behind-cons : (n : ℕ) {v : Value} {l : Values} → Readable v → Behind (n + suc (size v)) l → Behind n (cons v l)
+pub tail-cons : (n : ℕ) {v : Value} {l : Values} → Readable v → TailFits (n + suc (size v)) l → TailFits n (cons v l)
 unfolding size
-behind-cons n g h = (encodable-front (g .encodable) (h .0), omega (arith, h .1))
+tail-cons n g h = (encodable-front (g .encodable) (h .0), omega (arith, h .1))
 
-pub behind-readable : {l : Values} → Behind 1 l → Readable (list l)
-behind-readable h = record { fits = omega (arith, h .1); encodable = h .0 }
+pub tail-readable : {l : Values} → TailFits 1 l → Readable (list l)
+tail-readable h = record { fits = omega (arith, h .1); encodable = h .0 }
 
 pub rest-readable : {l : Values} → Readable (list l) → Readable (list (restOf l))
 unfolding restOf
@@ -161,11 +161,11 @@ unfolding Text.tested
 after-tested t o h = after-bind h λ v s _ g. after-given _ λ _ _. fine g
 
 module _ (g : Getter) (ih : GetsReadable g) (root : ℕ) {a : Value} (ga : Readable a) where
-  pub get-each-readable : (n : ℕ) (l : Values) → n ≤ 256 → Readable (list l) → After (Unit {0}) (λ ws s. Behind n ws) (getEach g root a n l)
+  pub get-each-readable : (n : ℕ) (l : Values) → n ≤ 256 → Readable (list l) → After (Unit {0}) (λ ws s. TailFits n ws) (getEach g root a n l)
   unfolding Text.getEach
-  get-each-readable n nil z gl = fine (behind-nil z)
+  get-each-readable n nil z gl = fine (tail-nil z)
   get-each-readable n (cons m r) z gl = after-bind (ih root _ (all-two (readable-front gl .0) ga)) λ w i _ gw. after-given _ λ z′ _.
-      after-bind (get-each-readable _ r z′ (readable-front gl .1)) λ ws j _ b. fine (behind-cons n gw b)
+      after-bind (get-each-readable _ r z′ (readable-front gl .1)) λ ws j _ b. fine (tail-cons n gw b)
 
 module _ (g : Getter) (ih : GetsReadable g) (sh : Sheet) where
   get-node-readable : (nd : Node) → NumberFits nd → (μ : Env) → All Readable μ → After (Unit {0}) (λ v s. Readable v) (getNode g sh nd μ)
@@ -188,7 +188,7 @@ module _ (g : Getter) (ih : GetsReadable g) (sh : Sheet) where
   get-node-readable (Call sec x y) nf μ ok = after-given _ λ a ea. after-given _ λ b eb. ih _ _ (all-two (all-at x ok ea) (all-at y ok eb))
   get-node-readable (Add n k) nf μ ok = after-bind (ih n μ ok) λ v s _ _. after-given _ λ m _. after-given _ λ q _. fine (number-readable q)
   get-node-readable (Each s sec x d) nf μ ok = after-bind (ih s μ ok) λ v i _ gv. after-given _ λ l _. after-given _ λ a ea.
-      after-bind (get-each-readable g ih _ (all-at x ok ea) _ (l .0) (omega arith) (rw (l .1) at gv)) λ ws j _ b. fine (behind-readable b)
+      after-bind (get-each-readable g ih _ (all-at x ok ea) _ (l .0) (omega arith) (rw (l .1) at gv)) λ ws j _ b. fine (tail-readable b)
 
 pub get-readable : (l : ℕ) (sh : Sheet) → NumbersFit sh → GetsReadable (get l sh)
 unfolding Text.get
@@ -207,13 +207,13 @@ module _ (g : Getter) (gets : GetsReadable g) (p : Putter) (ih : PutsReadable p)
   stood-readable old go = after-list old (λ _. gets d [] none) λ m r e. fine (readable-front (rw e at go) .0)
 
   pub put-each-readable : (n : ℕ) (old l : Values) (W : Cells) → n ≤ 256 → Readable (list old) → Readable (list l) → All ReadableCell W
-      → After (Unit {0}) (λ q s. Behind n (q .0) × All ReadableCell (q .1)) (putEach g p root d c a n old l W)
+      → After (Unit {0}) (λ q s. TailFits n (q .0) × All ReadableCell (q .1)) (putEach g p root d c a n old l W)
   unfolding Text.putEach
-  put-each-readable n old nil W z go gl gw = fine (behind-nil z, gw)
+  put-each-readable n old nil W z go gl gw = fine (tail-nil z, gw)
   put-each-readable n old (cons v r) W z go gl gw = after-bind (stood-readable old go) λ m i _ gm.
       after-bind (ih root _ _ v _ (all-two gm ga) (readable-front gl .0) (all-append gw (each blank none))) λ X j _ gX. after-given _ λ o eo.
       after-given _ λ z′ _. after-bind (put-each-readable _ _ r _ z′ (rest-readable go) (readable-front gl .1) (all-take (length W) gX)) λ q k _ h.
-      fine (behind-cons n (old-readable (all-at _ gX eo) gm) (h .0), h .1)
+      fine (tail-cons n (old-readable (all-at _ gX eo) gm) (h .0), h .1)
 
 module _ (g : Getter) (gets : GetsReadable g) (p : Putter) (ih : PutsReadable p) (sh : Sheet) (μ : Env) (σ : List ℕ) (v : Value) (W : Cells)
     (ok : All Readable μ) (gv : Readable v) (gw : All ReadableCell W) where
@@ -269,7 +269,7 @@ module _ (g : Getter) (gets : GetsReadable g) (p : Putter) (ih : PutsReadable p)
   put-node-readable (Each s sec x d) = after-given _ λ l _. after-bind (gets s μ ok) λ o i _ go. after-given _ λ old _. after-given _ λ a ea.
       after-given _ λ c _. after-bind
       (put-each-readable g gets p ih _ d c (all-at x ok ea) _ (old .0) (l .0) W (omega arith) (rw (old .1) at go) (rw (l .1) at gv) gw) λ q j _ h.
-      ih s μ σ _ _ ok (behind-readable (h .0)) (h .1)
+      ih s μ σ _ _ ok (tail-readable (h .0)) (h .1)
 
 pub put-readable : (l : ℕ) (sh : Sheet) → NumbersFit sh → PutsReadable (put l sh)
 unfolding Text.put

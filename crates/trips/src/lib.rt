@@ -50,7 +50,9 @@ pub fn put_then_get(
     ensures { λ r. ⌜ Tripped (putAnswer (now (sheet .entry)) (now (plan .entry)) (now (view .entry)) allowance (length (now (new .entry))) (length (now (scratch .entry)))) (backAndOut (now (sheet .entry)) allowance (length (now (out .entry))) (length (now (scratch .entry)))) r (now (new .entry)) (now (new .exit)) (now (out .entry)) (now (out .exit)) (now (scratch .entry)) (now (scratch .exit)) ⌝ }
     ensures { λ r. ⌜ ListStands (now (sheet .entry)) (now (plan .entry)) (now (view .entry)) allowance (length (now (new .entry))) (length (now (out .entry))) (length (now (scratch .entry))) r (now (out .exit)) ⌝ }
 {
-    match lens::put(sheet, plan, view, allowance, new, scratch) {
+    let answer = lens::put(sheet, plan, view, allowance, new, scratch);
+    let reply = answer.reply;
+    match reply {
         Reply::Refused(c) => Trip::Stopped(c),
         Reply::Done { len, steps } => {
             let refusal = lens::door(
@@ -90,7 +92,8 @@ pub fn get_then_put(
             if refusal != 0 {
                 return Trip::Stopped(refusal);
             }
-            let again = lens::put(sheet, plan, &view[..len], most as u32, out, scratch);
+            let answer = lens::put(sheet, plan, &view[..len], most as u32, out, scratch);
+            let again = answer.reply;
             judged(steps, again, most, out, plan)
         }
     }

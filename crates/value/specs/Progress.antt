@@ -99,6 +99,13 @@ starts-more at (w ∷ vs) v =
     let e : at + size w + length (flat vs) ≡ at + length (encode w ++ flat vs) = rw (length-append, size-encode) (omega arith) in
     ap (λ (l : List ℕ). at ∷ l) (starts-more (at + size w) vs v ∙ rw e)
 
+-- the places of the starts of one value more, which starts where the others end
+pub starts-filled : (vs : List Value) (v : Value) {ss : List ℕ} {at i : ℕ} → ss ≡ places (starts 0 vs) → length vs ≡ i → i < 16 → at ≡ length (flat vs)
+    → set ss i at ≡ places (starts 0 (vs ++ (v ∷ [])))
+starts-filled vs v {at = at} e c h z =
+    let y : at ≡ 0 + length (flat vs) = omega (arith, z) in
+    filled (starts 0 vs) at e (starts-length 0 vs ∙ c) h ∙ ap places (ap (λ (x : ℕ). starts 0 vs ++ (x ∷ [])) y ∙ sym (starts-more 0 vs v))
+
 sizes-more : (vs : List Value) (v : Value) → map size (vs ++ (v ∷ [])) ≡ map size vs ++ (size v ∷ [])
 sizes-more [] v = refl
 sizes-more (w ∷ vs) v = ap (λ (l : List ℕ). size w ∷ l) (sizes-more vs v)
@@ -166,15 +173,13 @@ module _ {k : ℕ} {s ss ls : List ℕ} {at i : ℕ} (p : Progress k s ss ls at 
       let g : drop (at + n) s ≡ more = sym (drop-drop n at s) ∙ rw d (drop-at (encode v) more n (size-encode v ∙ l)) in
       let q : length (drop at s) ≡ size v + length more = rw d (length-append (encode v) more ∙ rw size-encode) in
       let t : length (encode v ++ []) ≡ n = ap length (append-nil (encode v)) ∙ size-encode v ∙ l in
-      let a : length (starts 0 vs) ≡ i = starts-length 0 vs ∙ p .count in
       let c : length (map size vs) ≡ i = length-map vs size ∙ p .count in
-      let z : at ≡ 0 + length (flat vs) = omega (arith, p .ends) in
       record {
         vs = vs ++ (v ∷ []);
         count = length-append vs (v ∷ []) ∙ ap (λ (j : ℕ). j + 1) (p .count);
         ends = ap length (flat-append vs (v ∷ [])) ∙ length-append (flat vs) (encode v ++ []) ∙ ap₂ _+_ (p .ends) t;
         goes = p .goes ∙ rw (m, ← from-drop at s, f (k - (i + 1)), g) (map-map vs v (readValues 20 (k - (i + 1)) more));
-        ss-are = filled (starts 0 vs) at (p .ss-are) a (omega arith) ∙ ap places (ap (λ (x : ℕ). starts 0 vs ++ (x ∷ [])) z ∙ sym (starts-more 0 vs v));
+        ss-are = starts-filled vs v (p .ss-are) (p .count) (omega arith) (sym (p .ends));
         ls-are = filled (map size vs) n (p .ls-are) c (omega arith) ∙ ap places (ap (λ (x : ℕ). map size vs ++ (x ∷ [])) (sym l) ∙ sym (sizes-more vs v));
         inside = omega (arith, q, length-drop at s, p .inside);
         small = omega (arith, p .small, h .fits);

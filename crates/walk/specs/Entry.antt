@@ -13,6 +13,7 @@ use Rattle.value.specs.Encoding.{size-encode, size-pos}
 use Rattle.value.specs.Laws.{ReadAs, readValues-sound}
 use Rattle.value.specs.Reading.{readPlan}
 use Rattle.value.specs.Spans.{places, starts, spansOf}
+use Rattle.value.specs.Progress.{starts-length}
 use Rattle.value.specs.declared.Spans.{Spans}
 use Rattle.sheet.specs.Sheet.{Sheet, readSheet}
 use Rattle.sheet.specs.Table.{tableOf}
@@ -27,7 +28,7 @@ use Rattle.step.specs.declared.Scope.{Scope}
 use Rattle.walk.specs.declared.Walked.{Walked}
 use Rattle.walk.specs.declared.Walked.the-variants.{Done, Refused}
 use Rattle.walk.specs.Parts.{part, CopiedIn}
-use Rattle.walk.specs.Plan.{standing, flat-short, starts-length, sizes-at, sizes-length, placed, spans-refused, spread}
+use Rattle.walk.specs.Plan.{standing, flat-short, sizes-at, sizes-length, placed, spans-refused, spread}
 use Rattle.walk.specs.Scope.{Spanned}
 use Rattle.walk.specs.Arena.{Held, inPlan, Scoped}
 use Rattle.walk.specs.Seen.{held-short}
@@ -202,11 +203,11 @@ planned {plan = plan} {table = table} b room few t read z s =
     }
 
 -- what stands in the front stands in the whole
+pub front-part : (a x : List ℕ) (len : ℕ) → length a ≡ SCRATCH → len ≤ 4096 → part (a ++ x) STACK len ≡ part a STACK len
+front-part a x len l h = rw (drop-append-le STACK a x (omega arith)) (take-append-le len (drop STACK a) x (rw length-drop (omega arith)))
+
 says-whole : (x : List ℕ) {most : ℕ} {a : List ℕ} {r : Walked} {o : Out (List ℕ)} → most ≤ 4096 → length a ≡ SCRATCH → Says most a r o → Says most (a ++ x) r o
-says-whole x {a = a} t l (says-done {bs = bs} len e q h p) =
-    let z : part (a ++ x) STACK len ≡ part a STACK len
-    = rw (drop-append-le STACK a x (omega arith)) (take-append-le len (drop STACK a) x (rw length-drop (omega arith))) in
-    says-done len e q h (z ∙ p)
+says-whole x {a = a} t l (says-done len e q h p) = says-done len e q h (front-part a x len l (omega arith) ∙ p)
 says-whole x t l (says-refused e) = says-refused e
 
 nothing-moved : (b : List ℕ) → Free SCRATCH b b

@@ -39,5 +39,6 @@ pub mod PutEnter
 pub mod PutCase
 pub mod Plan
 pub mod Entry
+pub mod NewStarts
 pub mod Gather
 pub mod PutEntry

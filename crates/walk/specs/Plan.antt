@@ -45,11 +45,6 @@ unfolding flat
 flat-short none = omega arith
 flat-short (each {a = v} {l = μ} g gs) = omega (arith, length-append (encode v) (flat μ), size-encode v, g .fits, flat-short gs)
 
-pub starts-length : (p : ℕ) (μ : List Value) → length (starts p μ) ≡ length μ
-unfolding starts
-starts-length p [] = refl
-starts-length p (v ∷ μ) = ap suc (starts-length (p + size v) μ)
-
 pub sizes-at : (μ : List Value) (i : ℕ) → i < length μ → getD (map size μ) i 0 ≡ size (getD μ i vfalse)
 sizes-at [] i h = absurd (omega arith)
 sizes-at (v ∷ μ) zero h = refl

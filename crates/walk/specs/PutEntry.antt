@@ -1,5 +1,5 @@
 -- Put on bytes: what the walk from the root asks, and that the plan gathered behind it is the rules' answer.
-use mathlib.Core.Path.{_≡_, refl, sym, ap, _∙_}
+use mathlib.Core.Path.{_≡_, refl, sym, ap, ap₂, _∙_}
 use mathlib.Core.Bool.{true, false}
 use mathlib.Core.Option.{Option, none}
 use mathlib.Core.List.{List, [], _∷_, append-nil}
@@ -13,14 +13,17 @@ use Rattle.value.specs.Result.{ok, refusal}
 use Rattle.value.specs.All.{All, none, each}
 use Rattle.value.specs.Value.{Value, vfalse, encode, flat}
 use Rattle.value.specs.Encoding.{size-pos}
-use Rattle.value.specs.Laws.{Readable, readValues-sound}
+use Rattle.value.specs.Laws.{Readable, readValues-sound, readValues-back}
 use Rattle.value.specs.Reading.{readPlan, readView}
-use Rattle.value.specs.Spans.{viewCode}
+use Rattle.value.specs.Spans.{places, starts, viewCode}
 use Rattle.value.specs.SpansLaws.{view-ok, view-refusal}
 use Rattle.sheet.specs.Sheet.{Sheet, readSheet}
 use Rattle.sheet.specs.Table.{tableOf}
 use Rattle.sheet.specs.declared.Table.{Table}
 use Rattle.sheet.specs.Laws.{sheet-ranges}
+use Rattle.starts.specs.declared.Loaded.{Loaded}
+use Rattle.starts.specs.Starts.{startsOf, loadOf}
+use Rattle.starts.specs.StartsLaws.{load-gives}
 use Rattle.rules.specs.Outcome.{Out, done, refused, mapOut, reading}
 use Rattle.rules.specs.Allowance.{within}
 use Rattle.rules.specs.Text
@@ -30,6 +33,7 @@ use Rattle.rules.specs.Numbers.{LEVELS, SCRATCH, STACK}
 use Rattle.step.specs.declared.Scope.{Scope}
 use Rattle.step.specs.Step.{placeOf}
 use Rattle.step.specs.StepLaws.{was-written}
+use Rattle.walk.specs.declared.NewPlan.{NewPlan}
 use Rattle.walk.specs.declared.Walked.the-variants.{Done, Refused}
 use Rattle.walk.specs.Parts.{part, part-length, CopiedIn}
 use Rattle.walk.specs.Arena.{Held, Scoped, below-ends}
@@ -38,7 +42,8 @@ use Rattle.walk.specs.Answers.{Had, had, not-had}
 use Rattle.walk.specs.Cells.{Slot, blank, full, Written, Named, Shown}
 use Rattle.walk.specs.Frames.{env-framed}
 use Rattle.walk.specs.Puts.{enter, run, Given, Wrote, PutHere, PutAsks, PutTold}
-use Rattle.walk.specs.Gather.{Rests, Placed, SomePlaced, Gathered, Counted}
+use Rattle.walk.specs.NewStarts.{newStarts}
+use Rattle.walk.specs.Gather.{Rests, Placed, SomePlaced, AllGathered, Counted}
 use Rattle.walk.specs.Entry.{Unread, says-done, says-refused, Planned, PlanWalked, plan-small, plan-env, root-is}
 
 -- the view is read
@@ -117,10 +122,10 @@ new-at (o ∷ X) (v ∷ μ) (suc i) e h = new-at X μ i (omega arith) (omega ari
 rests : {a : List ℕ} {start len c w : ℕ} {o : Option Value} {v : Value} → Slot a (4096 + 256 * c) w o → c < 110 → Held a STACK start len v
     → Rests a (placeOf w c start len) (orOld o v)
 unfolding placeOf Text.orOld
-rests (blank z) h k = rw z (record { bytes = k .bytes; short = held-short k; inside = below-ends (k .place) (le-refl STACK) })
+rests (blank z) h k = rw z (record { bytes = k .bytes; readable = k .readable; short = held-short k; inside = below-ends (k .place) (le-refl STACK) })
 rests {start = start} {len = len} {c = c} {w = w} (full {v = u} z p r) h k =
     let n : w ≡ 0 → ⊥ = λ e. omega (arith, size-pos u) in
-    rw (← was-written w c start len n) (record { bytes = p; short = omega (arith, r .fits); inside = omega (arith, r .fits) })
+    rw (← was-written w c start len n) (record { bytes = p; readable = r; short = omega (arith, r .fits); inside = omega (arith, r .fits) })
 
 new-placed : {a slots : List ℕ} {sc : Scope} {n : ℕ} {μ : Env} {X : Cells} → length a ≡ SCRATCH → length μ ≤ 16 → n ≡ length μ → Scoped a sc STACK μ
     → Written a slots n X → Placed a slots sc (newPlan X μ)
@@ -135,6 +140,10 @@ new-placed {a} {slots} {sc} {n} {μ} {X} long few e w x =
           let j : i < length μ = omega arith in
           rw (new-at X μ i l j) (rests (x .each i (omega arith)) (omega arith) (w .each i j));
     }
+
+readable-all : (ws : List Value) → ((i : ℕ) → i < length ws → Readable (getD ws i vfalse)) → All Readable ws
+readable-all [] f = none
+readable-all (v ∷ ws) f = each (f 0 (omega arith)) (readable-all ws λ i h. f (suc i) (omega arith))
 
 -- THE WALK FROM THE ROOT
 
@@ -219,18 +228,35 @@ module _ {sheet plan view : List ℕ} {table : Table} {sc : Scope} {allowance : 
         pub put-placed : SomePlaced a slots sc
         put-placed = record { values = newPlan (wrote .value) (w .μ); placed = placed-new }
 
-        pub put-done : {a′ : List ℕ} {len n : ℕ} → Gathered (sc .count) slots sc a a′ len → n ≡ stepsOf r
-            → PlanWalked 4096 (putBytes sheet plan view allowance) b a′ (Done len n)
-        unfolding mapOut
-        put-done {a′} {len} {n} h q =
-            let ws = newPlan (wrote .value) (w .μ) in
-            let z : putBytes sheet plan view allowance ≡ done (flat ws) n
-            = put-is ∙ ap (mapOut (λ X. flat (newPlan X (w .μ)))) (wrote .is) ∙ ap (done (flat ws)) (sym q) in
-            let p = placed-new in
-            let y : part a′ STACK len ≡ flat ws = h .told p ∙ ap flat (ap (λ (i : ℕ). take i ws) (p .count) ∙ take-length ws) in
-            let few : len ≤ 4096 = omega (arith, h .short, few-variables) in
-            let l : length (part a′ STACK len) ≡ len = part-length a′ STACK len (omega (arith, h .kept .long, p .long)) in
-            record { long = h .kept .long ∙ g .frame .long ∙ c .long; says = rw z (says-done len refl (sym l ∙ ap length y) few y) }
+        module _ {a′ : List ℕ} {new : NewPlan} (all : AllGathered slots sc a a′ new) where
+          abbrev ws : Env
+          ws = newPlan (wrote .value) (w .μ)
+
+          new-bytes : part a′ STACK (new .len) ≡ flat ws
+          new-bytes = let p = placed-new in all .all .told p ∙ ap flat (ap (λ (i : ℕ). take i ws) (p .count) ∙ take-length ws)
+
+          pub put-done : {n : ℕ} → n ≡ stepsOf r → PlanWalked 4096 (putBytes sheet plan view allowance) b a′ (Done (new .len) n)
+          unfolding mapOut
+          put-done {n} q =
+              let h = all .all in
+              let z : putBytes sheet plan view allowance ≡ done (flat ws) n
+              = put-is ∙ ap (mapOut (λ X. flat (newPlan X (w .μ)))) (wrote .is) ∙ ap (done (flat ws)) (sym q) in
+              let few : new .len ≤ 4096 = omega (arith, h .short, few-variables) in
+              let l : length (part a′ STACK (new .len)) ≡ new .len = part-length a′ STACK (new .len) (omega (arith, h .kept .long, placed-new .long)) in
+              record { long = h .kept .long ∙ g .frame .long ∙ c .long; says = rw z (says-done (new .len) refl (sym l ∙ ap length new-bytes) few new-bytes) }
+
+          -- the starts are those that loading the new plan gives
+          pub put-starts : (n : ℕ) → new .starts ≡ newStarts sheet a′ (Done (new .len) n)
+          unfolding newStarts startsOf
+          put-starts n =
+              let p = placed-new in
+              let k : length ws ≡ w .sh .k = sym (p .count) ∙ w .spanned .count in
+              let read : readPlan (w .sh .k) (flat ws) ≡ ok ws
+              = ap (λ (i : ℕ). readPlan i (flat ws)) (sym k) ∙ readValues-back 20 (readable-all ws λ i h. p .each i h .readable) in
+              let at : new .starts .at ≡ places (starts 0 ws)
+              = all .all .starting p ∙ ap (λ (l : List Value). places (starts 0 l)) (ap (λ (i : ℕ). take i ws) (p .count) ∙ take-length ws) in
+              ap₂ (λ (x : ℕ) (l : List ℕ). record { count = x; at = l }) (all .count ∙ p .count) at
+              ∙ sym (ap (λ (l : Loaded). l .starts) (ap (loadOf sheet) new-bytes ∙ load-gives sheet (flat ws) (w .read) read))
 
 -- THE REFUSALS
 

@@ -2,10 +2,12 @@
 //!
 //! The arena is 65,536 bytes: the plan from 0, the 256 bytes of each cell from 4,096, and from 32,256 a stack of the values
 //! that are being built. A walk at `top` leaves the stack below `top` and the plan alone.
+ghost use mathlib.Core.Path.{_≡_};
 ghost use Rattle.rules.specs.Answer.{getBytes, putBytes};
 ghost use Rattle.rules.specs.Numbers.{GET-OUTPUT, PUT-OUTPUT};
 ghost use Rattle.walk.specs.Entry.{Planned, PlanWalked, Unread, WalkCall};
-ghost use Rattle.walk.specs.Gather.{SomePlaced, Gathered};
+ghost use Rattle.walk.specs.Gather.{SomePlaced, AllGathered};
+ghost use Rattle.walk.specs.NewStarts.{newStarts, refusedPut};
 ghost use Rattle.walk.specs.PutEntry.{PutUnread, Viewed};
 
 mod at;
@@ -29,12 +31,25 @@ use answer::is_refused;
 use answer::len_of;
 use answer::steps_of;
 use sheet::Table;
+use starts::Starts;
 use step::Scope;
 
 /// What a walk gives: `len` bytes at the top of the stack and the steps taken, or a refusal.
 pub enum Walked {
     Done { len: usize, steps: usize },
     Refused(u8),
+}
+
+/// What a put gives: the walk's answer, and where the values of the new plan start. With a refusal there is no start.
+pub struct PutWalked {
+    pub walked: Walked,
+    pub starts: Starts,
+}
+
+// The new plan: how many bytes it has, and where its values start.
+struct NewPlan {
+    len: usize,
+    starts: Starts,
 }
 
 // The walk from the root, over an arena of 65,536 bytes.
@@ -98,20 +113,34 @@ pub fn get(sheet: &[u8], plan: &[u8], allowance: usize, arena: &mut [u8]) -> Wal
 }
 
 // The new plan, from byte 32,256 on: each variable's value, from where it now stands.
-fn gather(arena: &mut [u8], slots: &[u16; 110], scope: Scope) -> usize
+fn gather(arena: &mut [u8], slots: &[u16; 110], scope: Scope) -> NewPlan
     requires { ⌜ SomePlaced (now arena) (now slots) scope ⌝ }
-    ensures { λ r. ⌜ Gathered (scope .count) (now (slots .entry)) scope (now (arena .entry)) (now (arena .exit)) r ⌝ }
+    ensures { λ r. ⌜ AllGathered (now (slots .entry)) scope (now (arena .entry)) (now (arena .exit)) r ⌝ }
 {
+    let mut at = [0u16; 16];
     let mut len = 0;
     let mut i = 0;
     while i < scope.count as usize {
         let stood = step::length_of(scope.lens[i]);
-        let from = step::place_of(slots[i], i, scope.starts[i] as usize, stood);
+        let start = scope.starts[i] as usize;
+        let from = step::place_of(slots[i], i, start, stood);
         copy(arena, from.start, rules::STACK + len, from.len);
+        at[i] = len as u16;
         len += from.len;
         i += 1;
     }
-    len
+    let count = scope.count as u8;
+    let starts = Starts { count, at };
+    NewPlan { len, starts }
+}
+
+// A refusal of a put, with no start.
+fn refused(number: u8) -> PutWalked
+    ensures { λ r. ⌜ r ≡ refusedPut number ⌝ }
+{
+    let walked = Walked::Refused(number);
+    let starts = starts::none();
+    PutWalked { walked, starts }
 }
 
 // The walk of put from the root, over an arena of 65,536 bytes.
@@ -123,10 +152,11 @@ fn put_plan(
     scope: Scope,
     allowance: usize,
     arena: &mut [u8],
-) -> Walked
+) -> PutWalked
     requires { ⌜ Planned (now sheet) (now plan) table scope allowance (now arena) ⌝ }
     requires { ⌜ Viewed (now view) ⌝ }
-    ensures { λ r. ⌜ PlanWalked PUT-OUTPUT (putBytes (now (sheet .entry)) (now (plan .entry)) (now (view .entry)) allowance) (now (arena .entry)) (now (arena .exit)) r ⌝ }
+    ensures { λ r. ⌜ PlanWalked PUT-OUTPUT (putBytes (now (sheet .entry)) (now (plan .entry)) (now (view .entry)) allowance) (now (arena .entry)) (now (arena .exit)) (r .walked) ⌝ }
+    ensures { λ r. ⌜ r .starts ≡ newStarts (now (sheet .entry)) (now (arena .exit)) (r .walked) ⌝ }
 {
     copy_in(plan, arena);
     let mut slots = [0u16; 110];
@@ -150,37 +180,40 @@ fn put_plan(
         at,
     );
     if is_refused(put) {
-        return Walked::Refused(code_of(put));
+        return refused(code_of(put));
     }
-    let len = gather(arena, &slots, scope);
-    Walked::Done {
-        len,
+    let new = gather(arena, &slots, scope);
+    let walked = Walked::Done {
+        len: new.len,
         steps: steps_of(put),
-    }
+    };
+    let starts = new.starts;
+    PutWalked { walked, starts }
 }
 
 /// Put: the plan for which a sheet's root is the view, at byte 32,256 of the arena, of which the first 65,536 bytes are
-/// used. Where the sheet or the plan is refused the arena is as it was; otherwise those bytes are free, and may hold anything.
-pub fn put(sheet: &[u8], plan: &[u8], view: &[u8], allowance: usize, arena: &mut [u8]) -> Walked
-    ensures { λ r. ⌜ WalkCall (PutUnread (now (sheet .entry)) (now (plan .entry)) (now (view .entry))) PUT-OUTPUT (putBytes (now (sheet .entry)) (now (plan .entry)) (now (view .entry)) allowance) allowance (now (arena .entry)) (now (arena .exit)) r ⌝ }
+/// used, and where its values start. Where the sheet or the plan is refused the arena is as it was; otherwise those bytes are free, and may hold anything.
+pub fn put(sheet: &[u8], plan: &[u8], view: &[u8], allowance: usize, arena: &mut [u8]) -> PutWalked
+    ensures { λ r. ⌜ WalkCall (PutUnread (now (sheet .entry)) (now (plan .entry)) (now (view .entry))) PUT-OUTPUT (putBytes (now (sheet .entry)) (now (plan .entry)) (now (view .entry)) allowance) allowance (now (arena .entry)) (now (arena .exit)) (r .walked) ⌝ }
+    ensures { λ r. ⌜ r .starts ≡ newStarts (now (sheet .entry)) (now (arena .exit)) (r .walked) ⌝ }
 {
     if arena.len() < rules::SCRATCH {
-        return Walked::Refused(2);
+        return refused(2);
     }
     if rules::ALLOWANCE < allowance {
-        return Walked::Refused(3);
+        return refused(3);
     }
     let table = sheet::read_sheet(sheet);
     if table.refusal != 0 {
-        return Walked::Refused(table.refusal);
+        return refused(table.refusal);
     }
     let spans = value::read_plan(table.k, plan);
     if spans.refusal != 0 {
-        return Walked::Refused(spans.refusal);
+        return refused(spans.refusal);
     }
     let code = value::read_view(view);
     if code != 0 {
-        return Walked::Refused(code);
+        return refused(code);
     }
     let scope = of_spans(table.k, spans);
     put_plan(

@@ -1,5 +1,7 @@
 //! Jobs: the input of document 01's program, and what it prints.
 
+use crate::answer::taken;
+use crate::vectors::hex;
 use crate::{GET_OUT, PUT_OUT, SCRATCH};
 
 /// One call.
@@ -13,7 +15,7 @@ pub struct Job {
 }
 
 /// The most bytes of a program's input.
-const LONGEST_INPUT: usize = 8192;
+pub(crate) const LONGEST_INPUT: usize = 8192;
 
 impl Job {
     /// A program's input taken apart, or the refusal 60 or 61.
@@ -26,15 +28,21 @@ impl Job {
 
     fn take_apart(input: &[u8]) -> Option<Job> {
         let (&kind, rest) = input.split_first()?;
-        let (&[a, b, c], rest) = rest.split_first_chunk()?;
+        let put = Job::put(rest)?;
+        match kind {
+            0x47 if put.view == Some(Vec::new()) => Some(Job { view: None, ..put }),
+            0x50 => Some(put),
+            _ => None,
+        }
+    }
+
+    /// The fields of a put taken apart.
+    pub(crate) fn put(fields: &[u8]) -> Option<Job> {
+        let (&[a, b, c], rest) = fields.split_first_chunk()?;
         let (sheet, rest) = counted(rest)?;
-        let (plan, rest) = counted(rest)?;
-        let view = match kind {
-            0x47 if rest.is_empty() => None,
-            0x50 => Some(rest.to_vec()),
-            _ => return None,
-        };
-        Some(Job { sheet: sheet.to_vec(), plan: plan.to_vec(), view, allowance: u32::from_be_bytes([0, a, b, c]) })
+        let (plan, view) = counted(rest)?;
+        let allowance = u32::from_be_bytes([0, a, b, c]);
+        Some(Job { sheet: sheet.to_vec(), plan: plan.to_vec(), view: Some(view.to_vec()), allowance })
     }
 
     /// The program's input for this job: none where the allowance or a length does not fit its field.
@@ -70,7 +78,8 @@ impl Job {
     }
 }
 
-fn counted(bytes: &[u8]) -> Option<(&[u8], &[u8])> {
+/// Bytes behind their length, which has two bytes, and what follows them.
+pub(crate) fn counted(bytes: &[u8]) -> Option<(&[u8], &[u8])> {
     let (&length, rest) = bytes.split_first_chunk()?;
     rest.split_at_checked(usize::from(u16::from_be_bytes(length)))
 }
@@ -82,44 +91,8 @@ pub fn printed(input: &[u8], run: impl Fn(&Job, &mut [u8], &mut [u8]) -> u64) ->
         Err(refusal) => return format!("no {refusal}"),
     };
     let mut out = vec![0; job.out_size()];
-    let answer = run(&job, &mut out, &mut vec![0; SCRATCH]);
-    match answer & 0xFF {
-        0 => format!("ok {} {}", answer >> 32, hex(&out[..(answer >> 8 & 0xFF_FFFF) as usize])),
-        refusal => format!("no {refusal}"),
+    match taken(run(&job, &mut out, &mut vec![0; SCRATCH])) {
+        Ok(success) => format!("ok {} {}", success.steps, hex(&out[..success.length])),
+        Err(refusal) => format!("no {refusal}"),
     }
-}
-
-/// Bytes in upper-case hexadecimal.
-pub fn hex(bytes: &[u8]) -> String {
-    bytes.iter().map(|byte| format!("{byte:02X}")).collect()
-}
-
-/// Bytes from hexadecimal, spaces left out.
-pub fn unhex(text: &str) -> Option<Vec<u8>> {
-    let digits: Vec<u8> =
-        text.chars().filter(|c| !c.is_whitespace()).map(|c| c.to_digit(16).map(|d| d as u8)).collect::<Option<_>>()?;
-    if digits.len() % 2 == 1 {
-        return None;
-    }
-    Some(digits.chunks(2).map(|pair| pair[0] << 4 | pair[1]).collect())
-}
-
-/// The lines of a file of jobs that `run` answers otherwise: each has an input in hexadecimal (`-` for no byte), a space, and what
-/// the program prints. Also how many lines there were.
-pub fn wrong_lines(file: &str, run: impl Fn(&Job, &mut [u8], &mut [u8]) -> u64) -> (usize, Vec<String>) {
-    let mut wrong = Vec::new();
-    let mut count = 0;
-    for line in file.lines() {
-        let Some((input, wanted)) = line.split_once(' ') else {
-            wrong.push(format!("{line}: no such line"));
-            continue;
-        };
-        count += 1;
-        let bytes = if input == "-" { Some(Vec::new()) } else { unhex(input) };
-        let got = bytes.map_or("no hexadecimal".to_string(), |bytes| printed(&bytes, &run));
-        if got != wanted {
-            wrong.push(format!("{input}: expected {wanted}, got {got}"));
-        }
-    }
-    (count, wrong)
 }

@@ -1,18 +1,26 @@
-//! Document 01, "House sheets, plans and venue lists", in plain safe Rust, with the node 1C of document 02, "Requests after the base
-//! version".
+//! Document 01, "House sheets, plans and venue lists", in plain safe Rust, with requests 1 (the node 1C) and 2 (the
+//! starts of a plan's values) of document 02, "Requests after the base version".
 //!
 //! It was written from the papers and shares no line with the Rattle code, so that where the two agree on a job, two readings of the
 //! papers agree. Its tests and the benchmark's baseline are its only uses: programs use the crate `lens`.
 //!
-//! [`get`] and [`put`] work in the caller's buffers exactly as the archive's functions do, and answer in the same form.
+//! [`get`], [`put`], [`load`] and [`put_starts`] work in the caller's buffers exactly as the archive's functions do, and answer in the
+//! same form, which [`answer`] takes apart.
 
 #![forbid(unsafe_code)]
 
+pub mod answer;
 pub mod job;
+mod plan;
 mod sheet;
+pub mod tool;
 mod value;
+pub mod vectors;
 mod walk;
 
+pub use plan::{find, from_front, part};
+
+use answer::{made, Success};
 use sheet::Sheet;
 use value::Flaw;
 use walk::Walk;
@@ -25,41 +33,77 @@ pub const PUT_OUT: usize = 4096;
 pub const SCRATCH: usize = 65_536;
 /// The largest allowance.
 pub const ALLOWANCE: u32 = 1_000_000;
+/// The most values of a plan, and so the most starts.
+pub const STARTS_MAX: usize = 16;
 
-/// The number of a refusal in document 01.
+/// The number of a refusal in documents 01 and 02.
 pub type Refusal = u8;
 
-/// The length of what stands at the front of the output, and the steps it took.
-type Success = (usize, u32);
-
 /// Reads a plan out: the list that `sheet` makes of `plan`, at the front of `out`.
-///
-/// The answer has the refusal's number in its low 8 bits (0: success), the length in the next 24 and the steps in the upper 32.
 pub fn get(sheet: &[u8], plan: &[u8], allowance: u32, out: &mut [u8], scratch: &mut [u8]) -> u64 {
     let Some(arena) = scratch.first_chunk_mut::<SCRATCH>() else {
-        return answer(Err(if out.len() < GET_OUT { 1 } else { 2 }));
+        return made(Err(if out.len() < GET_OUT { 1 } else { 2 }));
     };
     if let Err(refusal) = door(out.len() >= GET_OUT, allowance) {
-        return answer(Err(refusal));
+        return made(Err(refusal));
     }
     let result = get_past_door(sheet, plan, allowance, out, arena);
     arena.fill(0);
-    answer(result)
+    made(result)
 }
 
 /// Reads a list back: the plan that `view` makes of the old `plan`, at the front of `out`.
-///
-/// The answer has the form of [`get`]'s.
 pub fn put(sheet: &[u8], plan: &[u8], view: &[u8], allowance: u32, out: &mut [u8], scratch: &mut [u8]) -> u64 {
+    let result = put_from_door(sheet, plan, view, allowance, out, scratch, &mut [0; STARTS_MAX]);
+    made(result.map(|success| Success { count: 0, ..success }))
+}
+
+/// Reads a list back as [`put`] does, and gives the starts of the new plan's values.
+pub fn put_starts(
+    sheet: &[u8],
+    plan: &[u8],
+    view: &[u8],
+    allowance: u32,
+    out: &mut [u8],
+    scratch: &mut [u8],
+    starts: &mut [u16; STARTS_MAX],
+) -> u64 {
+    made(put_from_door(sheet, plan, view, allowance, out, scratch, starts))
+}
+
+/// Reads the plan of a sheet for the starts of its values.
+pub fn load(sheet: &[u8], plan: &[u8], starts: &mut [u16; STARTS_MAX]) -> u64 {
+    made(load_starts(sheet, plan, starts))
+}
+
+fn load_starts(sheet: &[u8], plan: &[u8], starts: &mut [u16; STARTS_MAX]) -> Result<Success, Refusal> {
+    let sheet = Sheet::read(sheet)?;
+    let mut found = [0; STARTS_MAX];
+    let mut count = 0;
+    plan::read(sheet.k, plan, |start, _| {
+        found[count] = start as u16;
+        count += 1;
+    })?;
+    starts[..count].copy_from_slice(&found[..count]);
+    Ok(Success { count, ..Success::default() })
+}
+
+fn put_from_door(
+    sheet: &[u8],
+    plan: &[u8],
+    view: &[u8],
+    allowance: u32,
+    out: &mut [u8],
+    scratch: &mut [u8],
+    starts: &mut [u16; STARTS_MAX],
+) -> Result<Success, Refusal> {
     let Some(arena) = scratch.first_chunk_mut::<SCRATCH>() else {
-        return answer(Err(if out.len() < PUT_OUT { 1 } else { 2 }));
+        return Err(if out.len() < PUT_OUT { 1 } else { 2 });
     };
-    if let Err(refusal) = door(out.len() >= PUT_OUT, allowance) {
-        return answer(Err(refusal));
-    }
-    let result = put_past_door(sheet, plan, view, allowance, out, arena);
+    door(out.len() >= PUT_OUT, allowance)?;
+    let result = put_past_door(sheet, plan, view, allowance, out, arena, starts);
     arena.fill(0);
-    answer(result)
+    result
 }
 
 fn door(room: bool, allowance: u32) -> Result<(), Refusal> {
@@ -75,11 +119,11 @@ fn door(room: bool, allowance: u32) -> Result<(), Refusal> {
 fn get_past_door(sheet: &[u8], plan: &[u8], allowance: u32, out: &mut [u8], arena: &mut [u8; SCRATCH]) -> Result<Success, Refusal> {
     let sheet = Sheet::read(sheet)?;
     let mut walk = Walk::new(&sheet, arena, allowance);
-    read_plan(&mut walk, sheet.k, plan)?;
+    plan::read(sheet.k, plan, |_, value| walk.add_to_plan(value))?;
     let list = walk.get_root()?;
     let bytes = walk.bytes(list);
     out[..bytes.len()].copy_from_slice(bytes);
-    Ok((bytes.len(), walk.steps()))
+    Ok(Success { length: bytes.len(), count: 0, steps: walk.steps() })
 }
 
 fn put_past_door(
@@ -89,10 +133,11 @@ fn put_past_door(
     allowance: u32,
     out: &mut [u8],
     arena: &mut [u8; SCRATCH],
+    starts: &mut [u16; STARTS_MAX],
 ) -> Result<Success, Refusal> {
     let sheet = Sheet::read(sheet)?;
     let mut walk = Walk::new(&sheet, arena, allowance);
-    read_plan(&mut walk, sheet.k, plan)?;
+    plan::read(sheet.k, plan, |_, value| walk.add_to_plan(value))?;
     if view.is_empty() {
         return Err(32);
     }
@@ -106,37 +151,10 @@ fn put_past_door(
     walk.put_root(view)?;
     let mut length = 0;
     for variable in 0..sheet.k {
+        starts[usize::from(variable)] = length as u16;
         let bytes = walk.bytes(walk.new_value(variable));
         out[length..length + bytes.len()].copy_from_slice(bytes);
         length += bytes.len();
     }
-    Ok((length, walk.steps()))
-}
-
-/// Reads the `k` values of a plan and makes them the root's scope.
-fn read_plan(walk: &mut Walk, k: u8, plan: &[u8]) -> Result<(), Refusal> {
-    let mut rest = plan;
-    for _ in 0..k {
-        if rest.is_empty() {
-            return Err(22);
-        }
-        let length = value::read(rest).map_err(|flaw| match flaw {
-            Flaw::Malformed => 20,
-            Flaw::TooLong => 21,
-        })?;
-        walk.add_to_plan(&rest[..length]);
-        rest = &rest[length..];
-    }
-    if rest.is_empty() {
-        Ok(())
-    } else {
-        Err(22)
-    }
-}
-
-fn answer(result: Result<Success, Refusal>) -> u64 {
-    match result {
-        Ok((length, steps)) => (length as u64) << 8 | u64::from(steps) << 32,
-        Err(refusal) => u64::from(refusal),
-    }
+    Ok(Success { length, count: usize::from(sheet.k), steps: walk.steps() })
 }

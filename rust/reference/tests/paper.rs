@@ -1,6 +1,7 @@
 //! The examples of document 01, the node 1C of document 02, and a file of jobs named by `LENS_VECTORS`.
 
-use reference::job::{printed, unhex, wrong_lines, Job};
+use reference::job::{printed, Job};
+use reference::vectors::{check_file, unhex};
 
 const P: &str = "01 01 00 10 00";
 const Q: &str = "01 01 00 15 01 02 10 00 13";
@@ -174,8 +175,5 @@ fn the_program_example() {
 
 #[test]
 fn jobs_of_a_file() {
-    let Some(path) = std::env::var_os("LENS_VECTORS") else { return };
-    let (count, wrong) = wrong_lines(&std::fs::read_to_string(path).unwrap(), Job::run);
-    assert!(wrong.is_empty(), "{} of {count} jobs wrong:\n{}", wrong.len(), wrong.join("\n"));
-    println!("{count} jobs");
+    check_file("LENS_VECTORS", |input| printed(input, Job::run));
 }

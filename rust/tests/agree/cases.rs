@@ -4,6 +4,7 @@ use crate::edges::edge;
 use crate::random::Random;
 use crate::sheets::{by_record, by_type};
 use crate::values::{damage, Type, Value};
+use reference::answer::taken;
 use reference::job::Job;
 use reference::{ALLOWANCE, PUT_OUT, SCRATCH};
 
@@ -147,11 +148,8 @@ fn junk(random: &mut Random) -> Vec<u8> {
 /// The reference's output and steps; no byte and 0 with a refusal.
 fn answer(job: &Job, scratch: &mut [u8]) -> (Vec<u8>, u32) {
     let mut out = [0; PUT_OUT];
-    let answer = job.run(&mut out, scratch);
-    if answer & 0xFF != 0 {
-        return (Vec::new(), 0);
-    }
-    (out[..(answer >> 8 & 0xFF_FFFF) as usize].to_vec(), (answer >> 32) as u32)
+    let success = taken(job.run(&mut out, scratch)).unwrap_or_default();
+    (out[..success.length].to_vec(), success.steps)
 }
 
 /// A list to put: the plan's own, edited or not, or another.

@@ -1,18 +1,25 @@
-//! The archive and the reference agree, and both laws of document 01 hold of the archive's answers.
+//! The archive and the reference agree, and the laws hold of the archive's answers: both of document 01, and that of a plan's starts.
 //!
 //! Each case is made from its number. `LENS_CASES` says how many there are (200,000), `LENS_FIRST` which is the first (0).
 
 mod cases;
 mod edges;
+mod lookups;
 mod random;
+mod seen;
 mod sheets;
+mod starts;
 mod values;
 
 use cases::{case, Case, MORE};
-use lens::raw::{self, Answer, PUT_OUT, SCRATCH};
-use lens::{Refusal, ALLOWANCE_MAX};
+use lens::raw::{self, Answer, PUT_OUT, SCRATCH, STARTS_MAX};
+use lens::ALLOWANCE_MAX;
+use lookups::lookup;
 use random::Random;
-use reference::job::{hex, Job};
+use reference::job::Job;
+use reference::vectors::hex;
+use seen::Seen;
+use starts::{check_behind, check_load, check_values, Given, BEFORE};
 
 const CASES: u64 = 200_000;
 
@@ -32,9 +39,8 @@ fn archive_and_reference_agree() {
     let mut seen = Seen::default();
     for number in first..first + count {
         let case = case(number, &mut bench.spare);
-        match bench.check(&case) {
-            Ok(answer) => seen.count(&case.job, answer),
-            Err(fault) => panic!("{}", report(number, &case, &fault)),
+        if let Err(fault) = bench.check(&case, &mut seen).and_then(|()| check_lookups(number, &case.job, &mut seen)) {
+            panic!("{}", report(number, &case, &fault));
         }
         if (number - first + 1) % 20_000 == 0 {
             eprintln!("{} of {count} cases", number - first + 1);
@@ -44,6 +50,16 @@ fn archive_and_reference_agree() {
     if count >= CASES {
         seen.assert_wide();
     }
+}
+
+/// Loads the job's plan, and looks up a value by its starts or by others.
+fn check_lookups(number: u64, job: &Job, seen: &mut Seen) -> Result<(), String> {
+    let loaded = check_load(&job.sheet, &job.plan)?;
+    seen.load(loaded.as_ref().err().copied().unwrap_or(0));
+    let starts = loaded.as_ref().map_or(&[][..], Given::numbers);
+    let found = lookup(&mut Random::new(!number), starts, job.plan.len()).check()?;
+    seen.lookup(found.err().unwrap_or(0));
+    Ok(())
 }
 
 /// A fault as a person needs it: the job is ready for `bin/seats`.
@@ -62,20 +78,25 @@ fn report(number: u64, case: &Case, fault: &str) -> String {
 struct Side {
     out: Vec<u8>,
     scratch: Vec<u8>,
+    starts: [u16; STARTS_MAX],
 }
+
+/// A job done in lent output, scratch and starts.
+type Run = fn(&Job, &mut [u8], &mut [u8], &mut [u16; STARTS_MAX]) -> u64;
 
 impl Side {
     fn new() -> Side {
-        Side { out: vec![0; OUT], scratch: vec![0; ROOM] }
+        Side { out: vec![0; OUT], scratch: vec![0; ROOM], starts: BEFORE }
     }
 
-    fn call(&mut self, noise: &[u8], case: &Case, run: impl Fn(&Job, &mut [u8], &mut [u8]) -> u64) -> Answer {
+    fn call(&mut self, noise: &[u8], case: &Case, run: Run) -> Answer {
         self.out.copy_from_slice(&noise[..OUT]);
         self.scratch.copy_from_slice(&noise[..ROOM]);
-        Answer(run(&case.job, &mut self.out[..case.out_len], &mut self.scratch[..case.scratch_len]))
+        self.starts = BEFORE;
+        Answer(run(&case.job, &mut self.out[..case.out_len], &mut self.scratch[..case.scratch_len], &mut self.starts))
     }
 
-    /// What document 01 says of the buffers after an answer.
+    /// What the papers say of the buffers after an answer.
     fn judge(&self, noise: &[u8], answer: Answer) -> Result<(), String> {
         let written = if answer.number() == 0 { answer.length() } else { 0 };
         if self.out[written..] != noise[written..OUT] {
@@ -88,14 +109,30 @@ impl Side {
         if self.scratch[cleared..] != noise[cleared..ROOM] {
             return Err("scratch bytes that are to stay changed".into());
         }
-        Ok(())
+        check_behind(&self.starts, answer)
     }
 }
 
-fn run_archive(job: &Job, out: &mut [u8], scratch: &mut [u8]) -> u64 {
+/// A get, or a put without starts.
+fn run_plain(job: &Job, out: &mut [u8], scratch: &mut [u8]) -> u64 {
     match &job.view {
         None => raw::get(&job.sheet, &job.plan, job.allowance, out, scratch).0,
         Some(view) => raw::put(&job.sheet, &job.plan, view, job.allowance, out, scratch).0,
+    }
+}
+
+/// A get, or a put with starts.
+fn run_archive(job: &Job, out: &mut [u8], scratch: &mut [u8], starts: &mut [u16; STARTS_MAX]) -> u64 {
+    match &job.view {
+        None => run_plain(job, out, scratch),
+        Some(view) => raw::put_starts(&job.sheet, &job.plan, view, job.allowance, out, scratch, starts).0,
+    }
+}
+
+fn run_reference(job: &Job, out: &mut [u8], scratch: &mut [u8], starts: &mut [u16; STARTS_MAX]) -> u64 {
+    match &job.view {
+        None => job.run(out, scratch),
+        Some(view) => reference::put_starts(&job.sheet, &job.plan, view, job.allowance, out, scratch, starts),
     }
 }
 
@@ -104,6 +141,8 @@ struct Bench {
     noise: Vec<u8>,
     archive: Side,
     reference: Side,
+    /// The archive's, for a put without starts.
+    plain: Side,
     spare: Vec<u8>,
     laws: u64,
 }
@@ -116,14 +155,15 @@ impl Bench {
             noise: (0..ROOM).map(|_| random.byte() | 1).collect(),
             archive: Side::new(),
             reference: Side::new(),
+            plain: Side::new(),
             spare: vec![0; SCRATCH],
             laws: 0,
         }
     }
 
-    fn check(&mut self, case: &Case) -> Result<Answer, String> {
+    fn check(&mut self, case: &Case, seen: &mut Seen) -> Result<(), String> {
         let answer = self.archive.call(&self.noise, case, run_archive);
-        let wanted = self.reference.call(&self.noise, case, Job::run);
+        let wanted = self.reference.call(&self.noise, case, run_reference);
         if answer != wanted {
             return Err(format!("the archive answers {}, the reference {}", told(answer), told(wanted)));
         }
@@ -131,19 +171,39 @@ impl Bench {
             let [got, wanted] = [&self.archive, &self.reference].map(|side| hex(&side.out[..answer.length()]));
             return Err(format!("the archive gives {got}, the reference {wanted}, or other bytes behind it"));
         }
+        if self.archive.starts != self.reference.starts {
+            let [got, wanted] = [&self.archive, &self.reference].map(|side| side.starts);
+            return Err(format!("the archive gives the starts {got:?}, the reference {wanted:?}"));
+        }
         self.archive.judge(&self.noise, answer).map_err(|fault| format!("after {}, {fault}", told(answer)))?;
         self.reference.judge(&self.noise, wanted).map_err(|fault| format!("the reference, after {}: {fault}", told(wanted)))?;
+        if case.job.view.is_some() {
+            self.check_plain(case, answer)?;
+        }
         if answer.number() == 0 {
             let bytes = self.archive.out[..answer.length()].to_vec();
-            self.check_laws(&case.job, &bytes, answer.steps())?;
+            self.check_laws(&case.job, &bytes, answer)?;
         }
-        Ok(answer)
+        seen.job(&case.job, answer);
+        Ok(())
     }
 
-    /// Demand 3, of the archive's answers.
-    fn check_laws(&mut self, job: &Job, bytes: &[u8], steps: u32) -> Result<(), String> {
+    /// A put without starts answers and leaves its buffers as the one with starts did.
+    fn check_plain(&mut self, case: &Case, answer: Answer) -> Result<(), String> {
+        let plain = self.plain.call(&self.noise, case, |job, out, scratch, _| run_plain(job, out, scratch));
+        let wanted = Answer(answer.0 & !(0xFF << 24));
+        if plain != wanted || self.plain.out != self.archive.out || self.plain.scratch != self.archive.scratch {
+            return Err(format!("lens_put answers {}, lens_put_starts {}, or other buffers", told(plain), told(answer)));
+        }
+        Ok(())
+    }
+
+    /// Demand 3, and the starts of a new plan, of the archive's answers.
+    fn check_laws(&mut self, job: &Job, bytes: &[u8], answer: Answer) -> Result<(), String> {
+        let steps = answer.steps();
         match &job.view {
             Some(view) => {
+                self.check_new_starts(job, bytes, answer.count())?;
                 let get = Job { plan: bytes.to_vec(), view: None, ..job.clone() };
                 let (answer, list) = self.law(&get);
                 if answer.number() != 0 || list != *view || answer.steps() > steps {
@@ -174,65 +234,32 @@ impl Bench {
         Ok(())
     }
 
+    /// The starts that a put gave are those that loading the new plan gives, and its values are found by them.
+    fn check_new_starts(&mut self, job: &Job, plan: &[u8], count: usize) -> Result<(), String> {
+        self.laws += 1;
+        let given = Given { lent: self.archive.starts, count };
+        check_values(&given, plan)?;
+        match check_load(&job.sheet, plan)? {
+            Ok(loaded) if loaded.numbers() == given.numbers() => Ok(()),
+            Ok(loaded) => {
+                Err(format!("the put gives the starts {:?}, loading the new plan {:?}", given.numbers(), loaded.numbers()))
+            }
+            Err(refusal) => Err(format!("the new plan {} is refused with {refusal} when it is loaded", hex(plan))),
+        }
+    }
+
     fn law(&mut self, job: &Job) -> (Answer, Vec<u8>) {
         self.laws += 1;
         let mut out = [0; PUT_OUT];
-        let answer = Answer(run_archive(job, &mut out, &mut self.spare));
+        let answer = Answer(run_plain(job, &mut out, &mut self.spare));
         (answer, out[..answer.length().min(PUT_OUT)].to_vec())
     }
 }
 
 fn told(answer: Answer) -> String {
     match answer.number() {
-        0 => format!("ok {} ({} bytes)", answer.steps(), answer.length()),
+        0 => format!("ok {} ({} bytes, {} starts)", answer.steps(), answer.length(), answer.count()),
         number if answer.0 == u64::from(number) => format!("no {number}"),
         number => format!("no {number} (the whole answer is {:016X})", answer.0),
-    }
-}
-
-/// How often each answer came, of gets and of puts.
-struct Seen {
-    counts: [[u64; 2]; 256],
-    /// The same of jobs whose sheet has a 1C.
-    each: [[u64; 2]; 256],
-}
-
-impl Default for Seen {
-    fn default() -> Seen {
-        Seen { counts: [[0; 2]; 256], each: [[0; 2]; 256] }
-    }
-}
-
-impl Seen {
-    fn count(&mut self, job: &Job, answer: Answer) {
-        let (number, way) = (usize::from(answer.number()), usize::from(job.view.is_some()));
-        self.counts[number][way] += 1;
-        self.each[number][way] += u64::from(sheets::has(&job.sheet, 0x1C));
-    }
-
-    /// Every refusal came, and successes were no rarity.
-    fn assert_wide(&self) {
-        for refusal in Refusal::ALL {
-            let number = usize::from(refusal.number());
-            let [gets, puts] = self.counts[number];
-            assert!(puts > 0 && (gets > 0 || number / 10 == 3 || number / 10 == 5), "{refusal:?} never came: {self}");
-        }
-        for (counts, of) in [(&self.counts, "all jobs"), (&self.each, "jobs with a 1C")] {
-            let total: u64 = counts.iter().flatten().sum();
-            assert!(counts[0].iter().all(|&n| n > total / 10), "too few successes of {of}: {self}");
-        }
-    }
-}
-
-impl std::fmt::Display for Seen {
-    fn fmt(&self, f: &mut std::fmt::Formatter) -> std::fmt::Result {
-        writeln!(f, "{:>8} {:>8} {:>8} {:>8} {:>8}", "answer", "gets", "puts", "1C, gets", "puts")?;
-        for (number, ([gets, puts], [each_gets, each_puts])) in self.counts.iter().zip(&self.each).enumerate() {
-            if gets + puts > 0 {
-                let answer = if number == 0 { "ok".to_string() } else { format!("no {number}") };
-                writeln!(f, "{answer:>8} {gets:>8} {puts:>8} {each_gets:>8} {each_puts:>8}")?;
-            }
-        }
-        Ok(())
     }
 }

@@ -80,6 +80,12 @@ impl Value {
         Value::take(&mut bytes.iter().copied())
     }
 
+    /// The values that bytes known to be some encode, read from the front.
+    pub fn decode_all(bytes: &[u8]) -> Vec<Value> {
+        let mut bytes = bytes.iter().copied().peekable();
+        std::iter::from_fn(|| bytes.peek().is_some().then(|| Value::take(&mut bytes))).collect()
+    }
+
     fn take(bytes: &mut impl Iterator<Item = u8>) -> Value {
         match bytes.next().unwrap() {
             0x00 => Value::Truth(false),

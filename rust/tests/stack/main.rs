@@ -9,16 +9,23 @@ use reference::job::Job;
 struct Lent {
     out: Vec<u8>,
     scratch: Vec<u8>,
+    starts: [u16; raw::STARTS_MAX],
 }
 
 fn lent() -> Lent {
-    Lent { out: vec![0; raw::PUT_OUT], scratch: vec![0; raw::SCRATCH] }
+    Lent { out: vec![0; raw::PUT_OUT], scratch: vec![0; raw::SCRATCH], starts: [0; raw::STARTS_MAX] }
 }
 
+/// Loads the job's plan and does the job, a put with and without starts; gives the answer without.
 fn run(job: &Job, lent: &mut Lent) -> u64 {
+    let Lent { out, scratch, starts } = lent;
+    raw::load(&job.sheet, &job.plan, starts);
     let answer = match &job.view {
-        None => raw::get(&job.sheet, &job.plan, job.allowance, &mut lent.out, &mut lent.scratch),
-        Some(view) => raw::put(&job.sheet, &job.plan, view, job.allowance, &mut lent.out, &mut lent.scratch),
+        None => raw::get(&job.sheet, &job.plan, job.allowance, out, scratch),
+        Some(view) => {
+            raw::put_starts(&job.sheet, &job.plan, view, job.allowance, out, scratch, starts);
+            raw::put(&job.sheet, &job.plan, view, job.allowance, out, scratch)
+        }
     };
     answer.0
 }

@@ -1,63 +1,44 @@
--- `get` meets its contract: refused at the door, behind it by the walk, or done. Assumes nothing.
-use native.Mathlib.Omega.{arith}
+-- `get` meets its contract: refused at the door, or answered behind it by the walk. Assumes nothing.
 use lib.ListN.{length}
 use Rattle.rules.specs.Numbers.{GET-OUTPUT}
 use Rattle.rules.specs.AnswerLaws.{Lent}
 use Rattle.lens.specs.Door.{door-lent}
 use Rattle.lens.specs.Trips.{with-unmoved}
-use Rattle.lens.specs.WalkCalls.{get-behind, call-shut, call-refused, call-done, call-fits}
+use Rattle.lens.specs.WalkCalls.{get-behind, call-shut, call-fits, call-told}
 use borrow.Author.Needs.{needs}
 use Rattle.lens.proofs.get.Statement.{statement}
 use Rattle.lens.proofs.get.Tie as tie
 
--- PLACES: the door was asked; it opens; the walk was made, and it refused, or is done
+-- PLACES: the door was asked; it opens; the walk was made
 abbrev entry : tie.After-door → tie.Start
 entry c = c .before .before .before .before .before
 
 abbrev opened : tie.After-get → tie.Else1
 opened c = c .before .before
 
-abbrev stopped : tie.After-refused-arg → tie.After-get
-stopped c = c .before .before .before .before .before .before
-
-abbrev walked : tie.After-given-arg2 → tie.After-get
-walked c = c .before .before .before .before .before .before .before
+abbrev walked : tie.After-answered-arg2 → tie.After-get
+walked c = c .before .before .before .before
 
 -- what is lent behind the door
 lent : (c : tie.Else1) → let a = entry (c .before) .args in Lent GET-OUTPUT (length (a .out .now)) (length (a .scratch .now)) (a .allowance)
 lent c = door-lent (c .before .door .ensures) (c .if1 .left)
 
+-- NEEDS
 returns : tie.Need-returns
 returns c = with-unmoved _ _ _ _ _ (call-shut (get-behind _ _ _ _ _) (c .before .door .ensures) (c .if1 .taken))
 
-refused-requires : tie.Need-refused-requires
-refused-requires c κs = let w = stopped c in omega (arith, lent (opened w) .scratch-long, w .get .ensures .free .long)
-
-given-requires : tie.Need-given-requires
-given-requires c κs =
+answered-requires : tie.Need-answered-requires
+answered-requires c κs =
     let w = walked c in
     let a = entry (opened w .before) .args in
-    call-fits (get-behind (a .sheet .now) (a .plan .now) (a .allowance) (a .out .now) (a .scratch .now))
-    (lent (opened w)) (w .get .ensures) (c .before .before .before .len .given .1)
+    call-fits (get-behind (a .sheet .now) (a .plan .now) (a .allowance) (a .out .now) (a .scratch .now)) (lent (opened w)) (w .get .ensures)
 
 returns-2 : tie.Need-returns-2
 returns-2 c =
-    let r = c .before .before in
-    let w = stopped (r .before) in
-    let e = r .before .before .before .c .given .1 in
-    rw (r .refused .ensures .0) (with-unmoved _ _ _ _ _
-    (call-refused (get-behind _ _ _ _ _) (lent (opened w)) (w .get .ensures) e (r .refused .ensures .1)))
-
-returns-3 : tie.Need-returns-3
-returns-3 c =
     let r = c .before .before .before .before in
     let w = walked (r .before) in
-    let e = r .before .before .before .before .len .given .1 in
-    rw (r .given .ensures .0) (with-unmoved _ _ _ _ _
-    (call-done (get-behind _ _ _ _ _) (lent (opened w)) (w .get .ensures) e (r .given .ensures .1) (r .given .ensures .2)))
+    let t = r .answered .ensures in
+    with-unmoved _ _ _ _ _ (call-told (get-behind _ _ _ _ _) (lent (opened w)) (w .get .ensures) (t .0) (t .1) (t .2))
 
 pub get-spec : {M : Type 1} → statement M
-get-spec =
-    tie.close
-    (tie.spec (λ c κs. search needs) returns (λ c κs. search needs) (λ c. search needs) refused-requires (λ c. search needs)
-    given-requires (λ c. search needs) returns-2 (λ c. search needs) (λ c. search needs) returns-3)
+get-spec = tie.close (tie.spec (λ c κs. search needs) returns (λ c κs. search needs) answered-requires (λ c. search needs) (λ c. search needs) returns-2)

@@ -11,8 +11,8 @@ slice-aggregate-bytes c = search needs
 bytes-requires : tie.Need-bytes-requires
 bytes-requires c κs = search needs
 
-decimal-requires : tie.Need-decimal-requires
-decimal-requires c κs = search needs
+decimal-word-requires : tie.Need-decimal-word-requires
+decimal-word-requires c κs = search needs
 
 byte-requires : tie.Need-byte-requires
 byte-requires c κs = search needs
@@ -26,7 +26,7 @@ returns c =
     let feed = c .before .before in
     let code = feed .before .before .before .before in
     let word = code .before .before .before .before in
-    wrote-then (word .bytes .ensures) (wrote-then (code .decimal .ensures) (feed .byte .ensures))
+    wrote-then (word .bytes .ensures) (wrote-then (code .decimal-word .ensures) (feed .byte .ensures))
 
 pub refusal-spec : {M : Type 1} → statement M
 refusal-spec =
@@ -34,7 +34,7 @@ refusal-spec =
     (tie.spec
     slice-aggregate-bytes
     bytes-requires
-    decimal-requires
+    decimal-word-requires
     byte-requires
     same-length
     returns)

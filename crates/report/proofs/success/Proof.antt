@@ -1,7 +1,8 @@
--- `success` meets its contract: the parts of the line, one behind the other. Assumes nothing.
+-- `success` meets its contract: the words of the line, one behind the other. Assumes nothing.
+use mathlib.Core.List.{[], _∷_}
 use borrow.Author.Needs.{needs}
-use Rattle.report.specs.Text.{successLine}
-use Rattle.report.specs.Writing.{wrote-then}
+use Rattle.report.specs.Text.{decimalOf, hexOf, successLine}
+use Rattle.report.specs.TextLaws.{wrote-words, wrote-ok}
 use Rattle.report.proofs.success.Statement.{statement}
 use Rattle.report.proofs.success.Tie as tie
 
@@ -11,17 +12,14 @@ slice-aggregate-bytes c = search needs
 bytes-requires : tie.Need-bytes-requires
 bytes-requires c κs = search needs
 
-decimal-requires : tie.Need-decimal-requires
-decimal-requires c κs = search needs
+decimal-word-requires : tie.Need-decimal-word-requires
+decimal-word-requires c κs = search needs
+
+hex-word-requires : tie.Need-hex-word-requires
+hex-word-requires c κs = search needs
 
 byte-requires : tie.Need-byte-requires
 byte-requires c κs = search needs
-
-hex-requires : tie.Need-hex-requires
-hex-requires c κs = search needs
-
-byte-requires-2 : tie.Need-byte-requires-2
-byte-requires-2 c κs = search needs
 
 same-length : tie.Need-same-length
 same-length c = search needs
@@ -31,11 +29,13 @@ unfolding successLine
 returns c =
     let feed = c .before .before in
     let output = feed .before .before .before .before in
-    let space = output .before .before .before .before in
-    let steps = space .before .before .before .before in
+    let steps = output .before .before .before .before in
     let word = steps .before .before .before .before in
-    wrote-then (word .bytes .ensures)
-    (wrote-then (steps .decimal .ensures) (wrote-then (space .byte .ensures) (wrote-then (output .hex .ensures) (feed .byte2 .ensures))))
+    let a = word .before .before .before .before .before .args in
+    let n = decimalOf (a .steps) in
+    let o = hexOf (a .output .now) in
+    wrote-ok (n ∷ o ∷ []) (word .bytes .ensures)
+    (wrote-words (n ∷ []) (o ∷ []) (steps .decimal-word .ensures) (output .hex-word .ensures)) (feed .byte .ensures)
 
 pub success-spec : {M : Type 1} → statement M
 success-spec =
@@ -43,9 +43,8 @@ success-spec =
     (tie.spec
     slice-aggregate-bytes
     bytes-requires
-    decimal-requires
+    decimal-word-requires
+    hex-word-requires
     byte-requires
-    hex-requires
-    byte-requires-2
     same-length
     returns)

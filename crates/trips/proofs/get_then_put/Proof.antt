@@ -32,7 +32,7 @@ cast-put : tie.Need-cast-put
 cast-put c = let a = asked (c .before .before) in omega (arith, get-few _ _ _ _ _ (done a .get .ensures .0) (a .len .given .1))
 
 judged-requires : tie.Need-judged-requires
-judged-requires c κs = λ len n e. done-inside (back c .put .ensures .0) e
+judged-requires c κs = λ len n e. done-inside (back c .put .ensures .0 .call) e
 
 returns : tie.Need-returns
 returns c =
@@ -50,7 +50,7 @@ returns-3 c =
     let a = asked (d .before) in
     let g = done a .get in
     put-judged _ _ _ _ _ _ (g .ensures .0) (g .kept .1 .1 .1 .1 .0) (a .len .given .1) (d .before .door .ensures) (d .if1 .left)
-    (p .put .ensures .0) (c .judged .ensures)
+    (p .put .ensures .0 .call) (c .judged .ensures)
 
 pub get-then-put-spec : {M : Type 1} → statement M
 get-then-put-spec =

@@ -6,10 +6,10 @@ use Rattle.trips.proofs.put_then_get.Statement.{statement}
 use Rattle.trips.proofs.put_then_get.Tie as tie
 
 -- PLACES: the list was put back, and that succeeded; the door was asked; the new plan was read out
-abbrev done : tie.After-len → tie.After-put
+abbrev done : tie.After-reply2 → tie.After-put
 done c = c .before .before .before .before .before .before
 
-abbrev asked : tie.After-door → tie.After-len
+abbrev asked : tie.After-door → tie.After-reply2
 asked c = c .before .before
 
 abbrev opened : tie.After-get → tie.Else1
@@ -19,10 +19,10 @@ abbrev read : tie.After-judged-arg → tie.After-get
 read c = c .before .before .before .before .before
 
 slice-reshare-prefix-get : tie.Need-slice-reshare-prefix-get
-slice-reshare-prefix-get c = let a = asked (c .before) in done-inside (done a .put .ensures .0) (a .len .given .1)
+slice-reshare-prefix-get c = let a = asked (c .before) in done-inside (done a .put .ensures .0 .call) (a .reply2 .given .1)
 
 slice-aggregate-get : tie.Need-slice-aggregate-get
-slice-aggregate-get c = let a = asked (c .before .before) in front-long _ _ (done-inside (done a .put .ensures .0) (a .len .given .1))
+slice-aggregate-get c = let a = asked (c .before .before) in front-long _ _ (done-inside (done a .put .ensures .0 .call) (a .reply2 .given .1))
 
 judged-requires : tie.Need-judged-requires
 judged-requires c κs = λ len n e. done-inside (read c .get .ensures .0) e
@@ -31,10 +31,10 @@ returns : tie.Need-returns
 returns c =
     let a = asked (c .before) in
     let p = done a .put in
-    get-shut _ _ _ _ _ _ _ (p .ensures .0) (p .kept .1 .1 .1 .1 .1 .0) (a .len .given .1) (c .before .door .ensures) (c .if1 .taken)
+    get-shut _ _ _ _ _ _ _ (p .ensures .0 .call) (p .kept .1 .1 .1 .1 .1 .0) (a .reply2 .given .1) (c .before .door .ensures) (c .if1 .taken)
 
 returns-2 : tie.Need-returns-2
-returns-2 c = put-stopped _ _ _ _ _ _ _ (c .before .before .before .before .before .before .before .put .ensures .0) (c .before .c .given .1)
+returns-2 c = put-stopped _ _ _ _ _ _ _ (c .before .before .before .before .before .before .before .put .ensures .0 .call) (c .before .reply .given .1)
 
 returns-3 : tie.Need-returns-3
 returns-3 c =
@@ -42,7 +42,7 @@ returns-3 c =
     let d = opened g in
     let a = asked (d .before) in
     let p = done a .put in
-    get-judged _ _ _ _ _ _ _ (p .ensures .0) (p .kept .1 .1 .1 .1 .1 .0) (a .len .given .1) (d .before .door .ensures) (d .if1 .left)
+    get-judged _ _ _ _ _ _ _ (p .ensures .0 .call) (p .kept .1 .1 .1 .1 .1 .0) (a .reply2 .given .1) (d .before .door .ensures) (d .if1 .left)
     (g .get .ensures .0) (c .judged .ensures)
 
 pub put-then-get-spec : {M : Type 1} → statement M

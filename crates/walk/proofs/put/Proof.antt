@@ -1,6 +1,6 @@
 -- `put` meets its contract.
 -- Assumes nothing.
-use mathlib.Core.Path.{sym}
+use mathlib.Core.Path.{sym, _∙_}
 use Prim.Native.Nat.{_≤_}
 use native.Mathlib.Omega.{arith}
 use denote.Ref.{now}
@@ -8,6 +8,7 @@ use lib.ListN.{length}
 use lib.Seq.{length-take-le}
 use Rattle.rules.specs.Numbers.{ALLOWANCE, SCRATCH}
 use Rattle.walk.specs.Entry.{TableRead, table-read, call-2, call-3, call-refused, call-done, sheet-refusal, plan-refusal, plan-values, all-read, planned}
+use Rattle.walk.specs.NewStarts.{walked-is, none-with, starts-whole}
 use Rattle.walk.specs.PutEntry.{put-all-read, viewed, view-refused, put-sheet-refused, put-plan-refused, put-view-refused}
 use borrow.Author.Needs.{needs}
 use Rattle.walk.proofs.put.Statement.{statement}
@@ -38,30 +39,43 @@ table c = table-read _ (c .before .before .read-sheet .ensures) (c .if3 .left)
 
 -- NEEDS
 returns : tie.Need-returns
-returns c = call-2 (c .if1 .taken)
+returns c =
+    let e = c .refused .ensures in
+    (rw (walked-is _ e) (call-2 (c .before .if1 .taken)), none-with _ e _ _)
 
 returns-2 : tie.Need-returns-2
-returns-2 c = call-3 (omega (arith, c .before .if1 .left)) (c .if2 .taken)
+returns-2 c =
+    let e = c .refused2 .ensures in
+    (rw (walked-is _ e) (call-3 (omega (arith, c .before .before .if1 .left)) (c .before .if2 .taken)), none-with _ e _ _)
 
 returns-3 : tie.Need-returns-3
 returns-3 c =
-    let h = room (c .before .before .before) in
-    call-refused (h .0) (h .1) (put-sheet-refused _ _ _ _ (sheet-refusal _ (c .before .before .read-sheet .ensures) (c .if3 .taken)))
+    let s = c .before in
+    let h = room (s .before .before .before) in
+    let e = c .refused3 .ensures in
+    let no = put-sheet-refused _ _ _ _ (sheet-refusal _ (s .before .before .read-sheet .ensures) (s .if3 .taken)) in
+    (rw (walked-is _ e) (call-refused (h .0) (h .1) no), none-with _ e _ _)
 
 returns-4 : tie.Need-returns-4
 returns-4 c =
-    let s = c .before .before .before in
+    let p = c .before in
+    let s = p .before .before .before in
     let h = room (lent s) in
     let t = table s in
-    call-refused (h .0) (h .1) (put-plan-refused _ _ _ _ (t .read) (plan-refusal _ t (c .before .before .read-plan .ensures) (c .if4 .taken)))
+    let e = c .refused4 .ensures in
+    let no = put-plan-refused _ _ _ _ (t .read) (plan-refusal _ t (p .before .before .read-plan .ensures) (p .if4 .taken)) in
+    (rw (walked-is _ e) (call-refused (h .0) (h .1) no), none-with _ e _ _)
 
 returns-5 : tie.Need-returns-5
 returns-5 c =
-    let p = c .before .before in
+    let v = c .before in
+    let p = v .before .before in
     let h = room (lent (of-sheet p)) in
     let t = table (of-sheet p) in
-    call-refused (h .0) (h .1) (put-view-refused _ _ _ _ (t .read) (plan-values _ t (p .before .before .read-plan .ensures) (p .if4 .left) .1)
-    (view-refused _ (c .before .read-view .ensures) (c .if5 .taken)))
+    let e = c .refused5 .ensures in
+    let μ = plan-values _ t (p .before .before .read-plan .ensures) (p .if4 .left) .1 in
+    let no = put-view-refused _ _ _ _ (t .read) μ (view-refused _ (v .before .read-view .ensures) (v .if5 .taken)) in
+    (rw (walked-is _ e) (call-refused (h .0) (h .1) no), none-with _ e _ _)
 
 of-spans-requires : tie.Need-of-spans-requires
 of-spans-requires c κs = table (of-sheet (of-plan c)) .few
@@ -83,13 +97,19 @@ put-plan-requires c κs =
 
 returns-6 : tie.Need-returns-6
 returns-6 c =
-    let v = of-view (c .before .before .before .before) in
+    let w = c .before .before in
+    let v = of-view (w .before .before) in
     let p = of-plan v in
     let t = table (of-sheet p) in
     let h = room (lent (of-sheet p)) in
+    let g = w .put-plan .ensures in
     let read = all-read (t .read) (plan-values _ t (p .before .before .read-plan .ensures) (p .if4 .left) .1) in
-    call-done (h .0) (h .1) (put-all-read read (viewed _ (v .before .read-view .ensures) (v .if5 .left))) (omega arith) (c .before .before .put-plan .ensures)
+    let b = now (entry (lent (of-sheet p)) .args .arena) in (
+      call-done (h .0) (h .1) (put-all-read read (viewed _ (v .before .read-view .ensures) (v .if5 .left))) (omega arith) (g .0),
+      g .1 ∙ starts-whole _ _ (omega arith) (g .0 .long ∙ length-take-le SCRATCH b (h .0)) (g .0 .says),
+    )
 
 pub put-spec : {M : Type 1} → statement M
-put-spec = tie.close (tie.spec returns returns-2 (λ c κs. search needs) returns-3 (λ c κs. search needs) returns-4 (λ c κs. search needs) returns-5
-    of-spans-requires (λ c. search needs) slice-aggregate-put-plan put-plan-requires (λ c. search needs) returns-6)
+put-spec = tie.close (tie.spec (λ c κs. search needs) returns (λ c κs. search needs) returns-2 (λ c κs. search needs) (λ c κs. search needs) returns-3
+    (λ c κs. search needs) (λ c κs. search needs) returns-4 (λ c κs. search needs) (λ c κs. search needs) returns-5 of-spans-requires
+    (λ c. search needs) slice-aggregate-put-plan put-plan-requires (λ c. search needs) returns-6)

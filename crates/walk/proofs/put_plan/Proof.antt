@@ -4,7 +4,8 @@ use mathlib.Core.Bool.{false}
 use mathlib.Core.Path.{_≡_, sym, _∙_}
 use Rattle.answer.specs.Answer.{isRefusal}
 use Rattle.walk.specs.Entry.{plan-fits}
-use Rattle.walk.specs.PutEntry.{few-variables, put-ready, put-placed, put-refused, put-done}
+use Rattle.walk.specs.NewStarts.{walked-is, none-with}
+use Rattle.walk.specs.PutEntry.{few-variables, put-ready, put-placed, put-refused, put-done, put-starts}
 use borrow.Author.Needs.{needs}
 use Rattle.walk.proofs.put_plan.Statement.{statement}
 use Rattle.walk.proofs.put_plan.Tie as tie
@@ -40,11 +41,15 @@ put-node-requires c κs =
 
 returns : tie.Need-returns
 returns c =
-    let q = c .before .before .before .before .before in
+    let f = c .before .before in
+    let q = f .before .before .before .before in
     let n = made q in
     let p = copied n in
-    put-refused (entry p .pre .0) (entry p .pre .1) (p .copy-in .ensures) (n .first-cells .ensures) (q .put-node .ensures .0)
-    (sym (c .before .before .is-refused .ensures) ∙ c .before .if1 .taken) (c .code-of .ensures)
+    let e = c .refused .ensures in (
+      rw (walked-is _ e) (put-refused (entry p .pre .0) (entry p .pre .1) (p .copy-in .ensures) (n .first-cells .ensures) (q .put-node .ensures .0)
+          (sym (f .before .is-refused .ensures) ∙ f .if1 .taken) (c .before .code-of .ensures)),
+      none-with _ e _ _,
+    )
 
 gather-requires : tie.Need-gather-requires
 gather-requires c κs =
@@ -56,13 +61,18 @@ gather-requires c κs =
 
 returns-2 : tie.Need-returns-2
 returns-2 c =
-    let f = c .before .before .before .before .before .before in
+    let g = c .before .before .before .before in
+    let f = g .before .before .before in
     let q = was-put f in
     let n = made q in
     let p = copied n in
-    put-done (entry p .pre .0) (entry p .pre .1) (p .copy-in .ensures) (n .first-cells .ensures) (q .put-node .ensures .0) (fine f)
-    (c .before .before .before .gather .ensures) (c .steps-of .ensures)
+    let e = entry p .pre in (
+      put-done (e .0) (e .1) (p .copy-in .ensures) (n .first-cells .ensures) (q .put-node .ensures .0) (fine f) (g .gather .ensures)
+          (c .before .steps-of .ensures),
+      put-starts (e .0) (e .1) (p .copy-in .ensures) (n .first-cells .ensures) (q .put-node .ensures .0) (fine f) (g .gather .ensures) _,
+    )
 
 pub put-plan-spec : {M : Type 1} → statement M
 put-plan-spec = tie.close (tie.spec copy-in-requires (λ c. search needs) first-cells-requires put-node-requires (λ c κs. search needs)
-    (λ c κs. search needs) (λ c. returns c .long) returns gather-requires (λ c κs. search needs) (λ c. returns-2 c .long) returns-2)
+    (λ c κs. search needs) (λ c κs. search needs) (λ c. returns c .0 .long) returns gather-requires (λ c κs. search needs)
+    (λ c. returns-2 c .0 .long) returns-2)

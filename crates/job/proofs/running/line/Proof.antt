@@ -1,7 +1,6 @@
--- `line` meets its contract: a case for each case of the definition, and the parts of a job lie within its input. Assumes nothing.
+-- `line` meets its contract: a case for each case of the definition. Assumes nothing.
 use native.Mathlib.Omega.{arith}
 use borrow.Author.Needs.{needs}
-use Rattle.job.specs.Format.{get-inside, put-inside}
 use Rattle.job.specs.LineLaws.{prints-over, prints-none, prints-get, prints-put}
 use Rattle.job.proofs.running.line.Statement.{statement}
 use Rattle.job.proofs.running.line.Tie as tie
@@ -19,10 +18,10 @@ enum-known-allowance : tie.Need-enum-known-allowance
 enum-known-allowance c = search needs
 
 sheet-of-requires : tie.Need-sheet-of-requires
-sheet-of-requires c κs = let told = c .before in omega (arith, get-inside _ (told .before .before .parse .ensures) (told .allowance .given .1))
+sheet-of-requires c κs = search needs
 
 plan-of-requires : tie.Need-plan-of-requires
-plan-of-requires c κs = let told = c .before .before in omega (arith, get-inside _ (told .before .before .parse .ensures) (told .allowance .given .1))
+plan-of-requires c κs = search needs
 
 get-line-requires : tie.Need-get-line-requires
 get-line-requires c κs = search needs
@@ -31,13 +30,13 @@ enum-known-allowance-2 : tie.Need-enum-known-allowance-2
 enum-known-allowance-2 c = search needs
 
 sheet-of-requires-2 : tie.Need-sheet-of-requires-2
-sheet-of-requires-2 c κs = let told = c .before in omega (arith, put-inside _ (told .before .before .parse .ensures) (told .allowance2 .given .1))
+sheet-of-requires-2 c κs = search needs
 
 plan-of-requires-2 : tie.Need-plan-of-requires-2
-plan-of-requires-2 c κs = let told = c .before .before in omega (arith, put-inside _ (told .before .before .parse .ensures) (told .allowance2 .given .1))
+plan-of-requires-2 c κs = search needs
 
 view-of-requires : tie.Need-view-of-requires
-view-of-requires c κs = let told = c .before .before .before in omega (arith, put-inside _ (told .before .before .parse .ensures) (told .allowance2 .given .1))
+view-of-requires c κs = search needs
 
 put-line-requires : tie.Need-put-line-requires
 put-line-requires c κs = search needs

@@ -5,12 +5,13 @@ use Rattle.lens.proofs.exports.lens_put.Statement.{statement}
 use Rattle.lens.proofs.exports.lens_put.Tie as tie
 
 pack-requires : tie.Need-pack-requires
-pack-requires c κs = small-put _ _ _ _ _ _ (c .before .before .before .before .put .ensures .0)
+pack-requires c κs = small-put _ _ _ _ _ _ (c .before .before .before .before .put .ensures .0 .call)
 
 returns : tie.Need-returns
 returns c =
-    let a = c .before .before .before .before .before .put in
-    (pack-answered (a .ensures .0) (c .pack .ensures), rw (packed-back _ (small-put _ _ _ _ _ _ (a .ensures .0)) (c .pack .ensures)) (a .ensures .1))
+    let p = c .before .before .before .before .before .put .ensures in
+    let a = p .0 .call in
+    (pack-answered a (c .pack .ensures), rw (packed-back _ (small-put _ _ _ _ _ _ a) (c .pack .ensures)) (p .1))
 
 pub lens-put-spec : {M : Type 1} → statement M
 lens-put-spec = tie.close (tie.spec (λ c κs. search needs) pack-requires (λ c. search needs) (λ c. search needs) returns)

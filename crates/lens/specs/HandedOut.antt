@@ -1,0 +1,125 @@
+-- What the calls for other languages give of starts: numbers that the caller lends, and a count in the answer.
+use mathlib.Core.Path.{_≡_, refl, sym, ap, ap₂, _∙_}
+use mathlib.Core.List.{List, _∷_, _++_}
+use Prim.Native.Nat.{ℕ, suc, _+_, _*_, _^_, _≤_, _<_}
+use native.Mathlib.Numerals.{add-one}
+use native.Mathlib.Omega.{arith}
+use lib.ListN.{length, getD, drop, set, length-set}
+use lib.Seq.{append-snoc, drop-cons, set-append-seam}
+use Rattle.starts.specs.declared.Starts.{Starts}
+use Rattle.starts.specs.declared.Loaded.{Loaded}
+use Rattle.starts.specs.declared.Found.{Found}
+use Rattle.starts.specs.declared.Found.the-variants.{At, Refused}
+use Rattle.starts.specs.Starts.{loadOf, firsts, numbers}
+use Rattle.starts.specs.Lookup.{length-firsts, firsts-more}
+use Rattle.starts.specs.StartsLaws.{load-few}
+use Rattle.rules.specs.Answer.{Answer, putAnswer}
+use Rattle.lens.specs.declared.PutReply.{PutReply}
+use Rattle.lens.specs.Calls.{written, cleared, newStarts, PutAnswered}
+use Rattle.lens.specs.StartsLaws.{put-few}
+use Rattle.lens.specs.Packing.{packed, packedReply, unpacked, Small, packed-with, pack-answered, small-put, packed-small}
+
+-- the starts at the front of the caller's numbers t; those behind them do not change, and where there is no start none does
+unfoldable pub handedOut : Starts → List ℕ → List ℕ
+handedOut s t = numbers s ++ drop (s .count) t
+
+-- an answer with a count of starts: the 8 bits behind the length
+abbrev pub counted : ℕ → Starts → ℕ
+counted r s = r + 16777216 * s .count
+
+-- a put's answer is a, for this sheet: the number r says so and how many starts there are; output, scratch and the caller's numbers became
+-- o′, s′ and t′
+pub record PackedPut (sheet : List ℕ) (a : Answer) (r : ℕ) (o o′ s s′ t t′ : List ℕ) : Type 0 where
+  pub answer : r ≡ counted (packed a) (newStarts sheet a)
+  pub output : o′ ≡ written a o
+  pub scratch : s′ ≡ cleared a s
+  pub starts : t′ ≡ handedOut (newStarts sheet a) t
+
+-- loading gave l
+pub record PackedLoad (l : Loaded) (r : ℕ) (t t′ : List ℕ) : Type 0 where
+  pub answer : r ≡ counted (l .refusal) (l .starts)
+  pub starts : t′ ≡ handedOut (l .starts) t
+
+-- a lookup found f: 0 and where the value starts and ends; or the refusal's number, and both numbers are what they were
+unfoldable pub foundNumber : Found → ℕ
+foundNumber (At start end) = 0
+foundNumber (Refused c) = c
+
+unfoldable pub startOr : Found → ℕ → ℕ
+startOr (At start end) old = start
+startOr (Refused c) old = old
+
+unfoldable pub endOr : Found → ℕ → ℕ
+endOr (At start end) old = end
+endOr (Refused c) old = old
+
+pub record Lookup (f : Found) (r start start′ end end′ : ℕ) : Type 0 where
+  pub number : r ≡ foundNumber f
+  pub starts-at : start′ ≡ startOr f start
+  pub ends-at : end′ ≡ endOr f end
+
+-- WHAT SHOWS IT
+
+-- i starts are handed out
+pub record Handing (s : Starts) (i : ℕ) (t t′ : List ℕ) : Type 0 where
+  pub made : t′ ≡ firsts i (s .at) ++ drop i t
+  pub long : length t′ ≡ length t
+
+pub handing-none : (s : Starts) (t : List ℕ) → Handing s 0 t t
+handing-none s t = record { made = refl; long = refl }
+
+pub handing-more : {s : Starts} {i : ℕ} {t t′ : List ℕ} → Handing s i t t′ → i < length t → Handing s (i + 1) t (set t′ i (getD (s .at) i 0))
+handing-more {s} {i} {t} {t′} h l = record {
+  made =
+      let x = getD (s .at) i 0 in
+      let e : set (firsts i (s .at) ++ drop i t) i x ≡ firsts i (s .at) ++ (x ∷ drop (suc i) t)
+      = rw (drop-cons t i 0 l) (ap (λ (j : ℕ). set (firsts i (s .at) ++ (getD t i 0 ∷ drop (suc i) t)) j x) (sym (length-firsts i (s .at)))
+      ∙ set-append-seam (firsts i (s .at)) (getD t i 0) (drop (suc i) t) x) in
+      ap (λ (m : List ℕ). set m i x) (h .made) ∙ e ∙ sym (rw (add-one, firsts-more i (s .at)) (append-snoc (firsts i (s .at)) x (drop (suc i) t)));
+  long = length-set t′ i (getD (s .at) i 0) ∙ h .long;
+}
+
+pub handing-all : {s : Starts} {i : ℕ} {t t′ : List ℕ} → Handing s i t t′ → i ≡ s .count → t′ ≡ handedOut s t
+unfolding handedOut
+handing-all {s} {t = t} h e = h .made ∙ ap (λ (j : ℕ). firsts j (s .at) ++ drop j t) e
+
+-- the returns of a lookup
+pub found-at : {f : Found} {a b : ℕ} → f ≡ At a b → (start end : ℕ) → Lookup f 0 start a end b
+unfolding foundNumber startOr endOr
+found-at e start end = rw e (record { number = refl; starts-at = refl; ends-at = refl })
+
+pub found-none : {f : Found} {c : ℕ} → f ≡ Refused c → (start end : ℕ) → Lookup f c start start end end
+unfolding foundNumber startOr endOr
+found-none e start end = rw e (record { number = refl; starts-at = refl; ends-at = refl })
+
+-- what was loaded, with its count
+pub few-loaded : (sheet plan : List ℕ) {l : Loaded} → l ≡ loadOf sheet plan → l .starts .count ≤ 16
+few-loaded sheet plan e = rw e (load-few sheet plan)
+
+pub counted-load : {l m : Loaded} → m ≡ l → {r : ℕ} {t t′ : List ℕ} → r ≡ counted (m .refusal) (m .starts) → t′ ≡ handedOut (m .starts) t → PackedLoad l r t t′
+counted-load e {t = t} f h = record {
+  answer = f ∙ ap (λ (l : Loaded). counted (l .refusal) (l .starts)) e;
+  starts = h ∙ ap (λ (l : Loaded). handedOut (l .starts) t) e;
+}
+
+-- a put's answer with its count
+module _ (sheet plan view : List ℕ) (allowance output scratch : ℕ) {q : PutReply} {o o′ s s′ : List ℕ}
+    (w : PutAnswered sheet (putAnswer sheet plan view allowance output scratch) q o o′ s s′) where
+  small : Small (q .reply)
+  small = small-put sheet plan view allowance output scratch (w .call)
+
+  module _ {p : ℕ} (e : p ≡ packedReply (q .reply)) where
+    pub count-fits : p + 16777216 * q .starts .count < 2 ^ 64
+    count-fits = omega (arith, put-few w, packed-small (q .reply) small e)
+
+    pub counted-put : {r : ℕ} {t t′ : List ℕ} → r ≡ p + 16777216 * q .starts .count → t′ ≡ handedOut (q .starts) t
+        → PackedPut sheet (putAnswer sheet plan view allowance output scratch) r o o′ s s′ t t′
+    counted-put {r} {t} f h = record {
+      answer = f ∙ ap₂ (λ (x : ℕ) (y : Starts). counted x y) (pack-answered (w .call) e .answer) (w .starts);
+      output = w .call .output;
+      scratch = w .call .scratch;
+      starts = h ∙ ap (λ (y : Starts). handedOut y t) (w .starts);
+    }
+
+    pub counted-back : {r : ℕ} → r ≡ p + 16777216 * q .starts .count → unpacked r ≡ q .reply
+    counted-back f = packed-with (q .reply) small (omega (arith, put-few w)) (f ∙ ap (λ (x : ℕ). x + 16777216 * q .starts .count) e) .0

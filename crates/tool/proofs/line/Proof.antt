@@ -1,0 +1,56 @@
+-- `line` meets its contract: a case for each letter. Assumes nothing.
+use borrow.Author.Needs.{needs}
+use native.Mathlib.Omega.{arith}
+use borrow.Author.Needs.{needs}
+use Rattle.tool.specs.LineLaws.{ending-over}
+use Rattle.tool.specs.Told.{said, printed, letter-L, letter-V, letter-S, letter-none}
+use Rattle.tool.proofs.line.Statement.{statement}
+use Rattle.tool.proofs.line.Tie as tie
+
+-- PLACES: the letter is read; the input is not too long; the entry
+abbrev short : tie.After-byte-at → tie.Else1
+short c = c .before
+
+abbrev entry : tie.After-byte-at → tie.Start
+entry c = short c .before .before
+
+-- NEEDS
+returns : tie.Need-returns
+returns c =
+    let long = c .before .before in
+    let bs = long .before .before .args .input .now in
+    printed bs (ending-over bs (long .if1 .taken)) (omega arith) (said (c .refusal .ensures))
+
+returns-2 : tie.Need-returns-2
+returns-2 c =
+    let told = c .before .before in
+    let read = told .before in
+    let bs = entry read .args .input .now in
+    printed bs (letter-L bs (short read .if1 .left) (read .byte-at .ensures) (told .match .keys1)) (omega arith) (said (c .load-line .ensures))
+
+returns-3 : tie.Need-returns-3
+returns-3 c =
+    let told = c .before .before in
+    let read = told .before in
+    let bs = entry read .args .input .now in
+    printed bs (letter-V bs (short read .if1 .left) (read .byte-at .ensures) (told .match .keys2)) (omega arith) (said (c .value-line .ensures))
+
+returns-4 : tie.Need-returns-4
+returns-4 c =
+    let told = c .before .before .before .before in
+    let read = told .before in
+    let bs = entry read .args .input .now in
+    printed bs (letter-S bs (short read .if1 .left) (read .byte-at .ensures) (told .match .keys3)) (omega arith) (c .put-line .ensures)
+
+returns-5 : tie.Need-returns-5
+returns-5 c =
+    let told = c .before .before in
+    let read = told .before in
+    let bs = entry read .args .input .now in
+    let other = told .match .rest in
+    printed bs (letter-none bs (short read .if1 .left) (read .byte-at .ensures) (other .0 .0 .1) (other .0 .1) (other .1)) (omega arith)
+    (said (c .refusal2 .ensures))
+
+pub line-spec : {M : Type 1} → statement M
+line-spec = tie.close (tie.spec (λ c κs. search needs) returns (λ c κs. search needs) (λ c κs. search needs) (λ c κs. search needs)
+    (λ c κs. search needs) (λ c κs. search needs) returns-2 returns-3 returns-4 returns-5)

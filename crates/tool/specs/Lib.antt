@@ -1,0 +1,4 @@
+pub mod Line
+pub mod StartLaws
+pub mod LineLaws
+pub mod Told

@@ -1,0 +1,119 @@
+-- The program `tools` (docs/TOOLS.md): from the bytes of its input to the bytes of the line that it prints. An input is a letter, then fields.
+use mathlib.Core.Path.{_≡_}
+use mathlib.Core.Bool.{cond}
+use mathlib.Core.List.{List, [], _∷_, map}
+use Prim.Native.Nat.{ℕ, zero, suc, _+_, _*_}
+use lib.Dec.{leb, eqb}
+use lib.ListN.{length, getD, take, drop}
+use Rattle.rules.specs.Numbers.{SCRATCH, PUT-OUTPUT}
+use Rattle.rules.specs.Answer.{Answer, refusal, success, putAnswer}
+use Rattle.lens.specs.declared.Reply.{Reply}
+use Rattle.lens.specs.declared.Reply.the-variants.{Done, Refused as Reply·Refused}
+use Rattle.lens.specs.Calls.{written, cleared, newStarts}
+use Rattle.report.specs.Text.{hexOf, decimalOf, refusalLine, okLine}
+use Rattle.report.specs.Writing.{Wrote}
+use Rattle.job.specs.declared.fields.Fields.{Fields}
+use Rattle.job.specs.declared.fields.Fields.the-variants.{Whole, Cut}
+use Rattle.job.specs.Format.{two, part, fieldsOf}
+use Rattle.starts.specs.declared.Starts.{Starts}
+use Rattle.starts.specs.declared.Loaded.{Loaded}
+use Rattle.starts.specs.declared.Found.{Found}
+use Rattle.starts.specs.declared.Found.the-variants.{At, Refused}
+use Rattle.starts.specs.Starts.{loadOf, firsts, numbers, findOf, partOf}
+
+-- what an input comes to: the line, and the call on output and scratch that was made for it, where one was
+pub data Call : Type 0 where
+  none : Call
+  made : Answer → Call
+
+pub record Ending : Type 0 where
+  pub line : List ℕ
+  pub call : Call
+
+abbrev pub says : List ℕ → Ending
+says l = record { line = l; call = none }
+
+-- L: a sheet behind its length in two bytes, then a plan: the starts of the plan's values
+
+unfoldable pub loadedLine : Loaded → List ℕ
+loadedLine l = cond (eqb (l .refusal) 0) (okLine (map decimalOf (numbers (l .starts)))) (refusalLine (l .refusal))
+
+unfoldable pub loadLine : List ℕ → List ℕ
+loadLine bs = let n = two bs 1 in cond (leb (3 + n) (length bs)) (loadedLine (loadOf (part bs 3 n) (drop (3 + n) bs))) (refusalLine 60)
+
+-- V: a variable's number, a count, that many starts of two bytes, then a plan: the part of the plan that holds the variable's value
+
+-- n numbers of two bytes, from place i on
+unfoldable pub numbersAt : List ℕ → (i n : ℕ) → List ℕ
+numbersAt bs i zero = []
+numbersAt bs i (suc n) = two bs i ∷ numbersAt bs (i + 2) n
+
+-- `Starts` has room for 16 of the numbers; a count over 16 stays as it is, and a lookup refuses it
+unfoldable pub startsIn : List ℕ → Starts
+startsIn bs = record { count = getD bs 2 0; at = firsts 16 (numbersAt bs 3 (getD bs 2 0)) }
+
+unfoldable pub foundLine : Found → (plan : List ℕ) → List ℕ
+foundLine (At i j) plan = okLine (hexOf (partOf (At i j) plan) ∷ [])
+foundLine (Refused c) plan = refusalLine c
+
+unfoldable pub valueLine : List ℕ → List ℕ
+valueLine bs =
+    let k = 3 + 2 * getD bs 2 0 in
+    let plan = drop k bs in
+    cond (leb k (length bs)) (foundLine (findOf (startsIn bs) (length plan) (getD bs 1 0)) plan) (refusalLine 60)
+
+-- S: the fields of a put, as document 01's program has them behind another letter: the steps, the new plan, the starts of its values
+
+unfoldable pub putLine : (sheet : List ℕ) → Answer → List ℕ
+putLine sheet (refusal c) = refusalLine c
+putLine sheet (success new n) = okLine (decimalOf n ∷ hexOf new ∷ map decimalOf (numbers (newStarts sheet (success new n))))
+
+unfoldable pub puts : List ℕ → Fields → Ending
+puts bs Cut = says (refusalLine 60)
+puts bs (Whole a n m) =
+    let sheet = part bs 6 n in
+    let answer = putAnswer sheet (part bs (8 + n) m) (drop (8 + n + m) bs) a PUT-OUTPUT SCRATCH in
+    record { line = putLine sheet answer; call = made answer }
+
+-- BY ITS LETTER: a row for each
+unfoldable pub byLetter : List ℕ → Ending
+byLetter bs =
+    let letter = getD bs 0 0 in
+    cond (eqb letter 0x4C) (says (loadLine bs))
+    (cond (eqb letter 0x56) (says (valueLine bs))
+    (cond (eqb letter 0x53) (puts bs (fieldsOf bs))
+    (says (refusalLine 60))))
+
+-- over 8,192 bytes: 61, whatever they are
+unfoldable pub toolEnding : List ℕ → Ending
+toolEnding bs = cond (leb (length bs) 8192) (byLetter bs) (says (refusalLine 61))
+
+-- THE LINE THAT THE PROGRAM PRINTS FOR AN INPUT
+unfoldable pub toolLine : List ℕ → List ℕ
+toolLine bs = toolEnding bs .line
+
+-- WHAT THE CODE LEAVES
+
+-- output and scratch are as the call leaves them; where none is made, as they were
+unfoldable pub outputAfter : Call → List ℕ → List ℕ
+outputAfter none o = o
+outputAfter (made a) o = written a o
+
+unfoldable pub scratchAfter : Call → List ℕ → List ℕ
+scratchAfter none s = s
+scratchAfter (made a) s = cleared a s
+
+pub record Lent (bs o o′ s s′ : List ℕ) : Type 0 where
+  pub output : o′ ≡ outputAfter (toolEnding bs .call) o
+  pub scratch : s′ ≡ scratchAfter (toolEnding bs .call) s
+
+-- the line of e was written from the front of the text t on, which became t′, and r is the place behind it
+pub record Ended (e : Ending) (r : ℕ) (t t′ o o′ s s′ : List ℕ) : Type 0 where
+  pub text : Wrote (e .line) 0 t t′ r
+  pub output : o′ ≡ outputAfter (e .call) o
+  pub scratch : s′ ≡ scratchAfter (e .call) s
+
+-- the line of a put's reply whose bytes are at the front of the output
+unfoldable pub replyLine : Reply → Starts → List ℕ → List ℕ
+replyLine (Reply·Refused c) starts o = refusalLine c
+replyLine (Done len n) starts o = okLine (decimalOf n ∷ hexOf (take len o) ∷ map decimalOf (numbers starts))

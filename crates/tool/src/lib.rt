@@ -1,0 +1,35 @@
+//! What the program `tools` is handed, taken apart and run: docs/TOOLS.md has the letters and their fields.
+ghost use Rattle.report.specs.Writing.{Front};
+ghost use Rattle.tool.specs.Line.{toolLine, Lent};
+
+mod lookups;
+mod puts;
+
+use crate::lookups::load_line;
+use crate::lookups::value_line;
+use crate::puts::put_line;
+
+/// The most bytes of a line: `ok`, a space, a part of 8,187 bytes in hexadecimal, a line feed.
+pub const LINE: usize = 16_378;
+
+/// The line that the program prints for an input, at the front of `text`; and how long it is.
+pub fn line(
+    input: &[u8],
+    out: &mut [u8; rules::PUT_OUTPUT],
+    scratch: &mut [u8; rules::SCRATCH],
+    text: &mut [u8; LINE],
+) -> usize
+    ensures { λ r. ⌜ Front (toolLine (now (input .entry))) (now (text .entry)) (now (text .exit)) r ⌝ }
+    ensures { λ _. ⌜ Lent (now (input .entry)) (now (out .entry)) (now (out .exit)) (now (scratch .entry)) (now (scratch .exit)) ⌝ }
+{
+    if job::INPUT < input.len() {
+        return report::refusal(text, 0, 61);
+    }
+    let letter = job::byte_at(input, 0);
+    match letter {
+        0x4C => load_line(input, text),
+        0x56 => value_line(input, text),
+        0x53 => put_line(input, out, scratch, text),
+        _ => report::refusal(text, 0, 60),
+    }
+}

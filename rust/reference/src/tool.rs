@@ -1,0 +1,93 @@
+//! The inputs of the program `tools`, and what it prints.
+
+use crate::answer::taken;
+use crate::job::{counted, Job, LONGEST_INPUT};
+use crate::vectors::hex;
+use crate::{Refusal, PUT_OUT, SCRATCH, STARTS_MAX};
+
+/// One call.
+#[derive(Clone, Debug, PartialEq, Eq)]
+pub enum Tool {
+    /// 4C: the starts of a plan's values.
+    Load { sheet: Vec<u8>, plan: Vec<u8> },
+    /// 56: a value by its number and the plan's starts.
+    Value { variable: usize, starts: Vec<u16>, plan: Vec<u8> },
+    /// 53: a put, with the starts of its new plan.
+    Put { sheet: Vec<u8>, plan: Vec<u8>, view: Vec<u8>, allowance: u32 },
+}
+
+/// What a call gives.
+#[derive(Clone, Debug, PartialEq, Eq)]
+pub enum Given {
+    Starts(Vec<u16>),
+    Part(Vec<u8>),
+    Put { steps: u32, plan: Vec<u8>, starts: Vec<u16> },
+}
+
+impl Tool {
+    /// A program's input taken apart, or the refusal 60 or 61.
+    pub fn from_input(input: &[u8]) -> Result<Tool, Refusal> {
+        if input.len() > LONGEST_INPUT {
+            return Err(61);
+        }
+        Tool::take_apart(input).ok_or(60)
+    }
+
+    fn take_apart(input: &[u8]) -> Option<Tool> {
+        let (&letter, fields) = input.split_first()?;
+        match letter {
+            0x4C => {
+                let (sheet, plan) = counted(fields)?;
+                Some(Tool::Load { sheet: sheet.to_vec(), plan: plan.to_vec() })
+            }
+            0x56 => {
+                let (&[variable, count], rest) = fields.split_first_chunk()?;
+                let (starts, plan) = rest.split_at_checked(2 * usize::from(count))?;
+                let starts = starts.chunks(2).map(|start| u16::from_be_bytes([start[0], start[1]])).collect();
+                Some(Tool::Value { variable: variable.into(), starts, plan: plan.to_vec() })
+            }
+            0x53 => {
+                let Job { sheet, plan, view, allowance } = Job::put(fields)?;
+                Some(Tool::Put { sheet, plan, view: view?, allowance })
+            }
+            _ => None,
+        }
+    }
+
+    /// Runs the call on the reference.
+    pub fn run(&self) -> Result<Given, Refusal> {
+        let mut starts = [0; STARTS_MAX];
+        match self {
+            Tool::Load { sheet, plan } => {
+                let answer = taken(crate::load(sheet, plan, &mut starts))?;
+                Ok(Given::Starts(starts[..answer.count].to_vec()))
+            }
+            Tool::Value { variable, starts, plan } => {
+                crate::find(starts, plan.len(), *variable)?;
+                Ok(Given::Part(crate::part(starts, plan, *variable).to_vec()))
+            }
+            Tool::Put { sheet, plan, view, allowance } => {
+                let mut out = [0; PUT_OUT];
+                let answer = crate::put_starts(sheet, plan, view, *allowance, &mut out, &mut [0; SCRATCH], &mut starts);
+                let answer = taken(answer)?;
+                let (plan, starts) = (out[..answer.length].to_vec(), starts[..answer.count].to_vec());
+                Ok(Given::Put { steps: answer.steps, plan, starts })
+            }
+        }
+    }
+}
+
+/// What the program prints for an input, without the line feed, where `run` does the call.
+pub fn printed(input: &[u8], run: impl Fn(&Tool) -> Result<Given, Refusal>) -> String {
+    match Tool::from_input(input).and_then(|tool| run(&tool)) {
+        Ok(Given::Starts(starts)) => format!("ok {}", decimal(&starts)),
+        Ok(Given::Part(part)) => format!("ok {}", hex(&part)),
+        Ok(Given::Put { steps, plan, starts }) => format!("ok {steps} {} {}", hex(&plan), decimal(&starts)),
+        Err(refusal) => format!("no {refusal}"),
+    }
+}
+
+/// Numbers in decimal, with single spaces between them.
+fn decimal(numbers: &[u16]) -> String {
+    numbers.iter().map(u16::to_string).collect::<Vec<_>>().join(" ")
+}

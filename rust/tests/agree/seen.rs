@@ -1,0 +1,85 @@
+//! How often each answer came.
+
+use crate::sheets;
+use lens::raw::Answer;
+use lens::Refusal;
+use reference::job::Job;
+use std::fmt;
+
+/// Calls by the number of their answer.
+pub struct Seen {
+    /// Gets and puts.
+    jobs: [[u64; 2]; 256],
+    /// The same of jobs whose sheet has a 1C.
+    each: [[u64; 2]; 256],
+    loads: [u64; 256],
+    lookups: [u64; 256],
+}
+
+impl Default for Seen {
+    fn default() -> Seen {
+        Seen { jobs: [[0; 2]; 256], each: [[0; 2]; 256], loads: [0; 256], lookups: [0; 256] }
+    }
+}
+
+impl Seen {
+    pub fn job(&mut self, job: &Job, answer: Answer) {
+        let (number, way) = (usize::from(answer.number()), usize::from(job.view.is_some()));
+        self.jobs[number][way] += 1;
+        self.each[number][way] += u64::from(sheets::has(&job.sheet, 0x1C));
+    }
+
+    pub fn load(&mut self, number: u8) {
+        self.loads[usize::from(number)] += 1;
+    }
+
+    pub fn lookup(&mut self, number: u8) {
+        self.lookups[usize::from(number)] += 1;
+    }
+
+    /// Every refusal came of each function that has it, and successes were no rarity.
+    pub fn assert_wide(&self) {
+        for refusal in Refusal::ALL {
+            let number = usize::from(refusal.number());
+            let [gets, puts] = self.jobs[number];
+            let came = match number {
+                10..=22 => gets > 0 && puts > 0 && self.loads[number] > 0,
+                23 | 24 => self.lookups[number] > 0,
+                30..=32 | 50..=54 => puts > 0,
+                _ => gets > 0 && puts > 0,
+            };
+            assert!(came, "{refusal:?} never came: {self}");
+        }
+        let columns = |counts: &[[u64; 2]; 256]| [0, 1].map(|way| counts.map(|numbers| numbers[way]));
+        let all: u64 = self.jobs.iter().flatten().sum();
+        let each: u64 = self.each.iter().flatten().sum();
+        let [gets, puts] = columns(&self.jobs);
+        let [each_gets, each_puts] = columns(&self.each);
+        for (counts, total, of) in [
+            (gets, all, "gets"),
+            (puts, all, "puts"),
+            (each_gets, each, "gets with a 1C"),
+            (each_puts, each, "puts with a 1C"),
+            (self.loads, all, "loads"),
+            (self.lookups, all, "lookups"),
+        ] {
+            assert!(counts[0] > total / 10, "too few successes of {of}: {self}");
+        }
+    }
+}
+
+impl fmt::Display for Seen {
+    fn fmt(&self, f: &mut fmt::Formatter) -> fmt::Result {
+        let heads = ["answer", "gets", "puts", "1C, gets", "puts", "loads", "lookups"];
+        writeln!(f, "{}", heads.map(|head| format!("{head:>8}")).join(" "))?;
+        for number in 0..256 {
+            let ([gets, puts], [each_gets, each_puts]) = (self.jobs[number], self.each[number]);
+            let counts = [gets, puts, each_gets, each_puts, self.loads[number], self.lookups[number]];
+            if counts.iter().any(|&count| count > 0) {
+                let answer = if number == 0 { "ok".to_string() } else { format!("no {number}") };
+                writeln!(f, "{answer:>8} {}", counts.map(|count| format!("{count:>8}")).join(" "))?;
+            }
+        }
+        Ok(())
+    }
+}
