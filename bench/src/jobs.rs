@@ -76,6 +76,7 @@ pub fn rows() -> Vec<Row> {
         )],
         both("typical: 16 numbers to a list", &listing(), (0..16).flat_map(|n| [0x04, 0, n]).collect(), Some(numbers(20..36))),
         both("typical: splits 40 deep", &splits(40), nested(40), None),
+        both("typical: 40 tests of a list of 61 numbers", &tested(40), numbers(0..61), None),
         limited(EACH_LIMIT, both("typical: add to each of 63 numbers", RAISE_EACH, numbers(0..63), Some(numbers(200..263)))),
         limited(EACH_LIMIT, both("typical: split each of 21 pairs", TURN_EACH, pairs(0..21), Some(pairs(40..61)))),
         both("heavy: full plan, 16 values of 255 bytes", &[0x01, 0x10, 0x00, 0x10, 0x00], full_plan(), None),
@@ -210,6 +211,17 @@ fn splits(depth: u8) -> Vec<u8> {
     for level in 0..depth {
         sheet.extend([0x10, 2 * level]);
     }
+    sheet
+}
+
+/// `depth` truth cases, one in another, each of which tests its branch for two or more members; the innermost gives the plan's value.
+fn tested(depth: u8) -> Vec<u8> {
+    let (variable, truth) = (depth, depth + 1);
+    let mut sheet = vec![0x01, 0x01, 0x00];
+    for next in 1..=depth {
+        sheet.extend([0x18, truth, variable, 5, next, 6]);
+    }
+    sheet.extend([0x10, 0x00, 0x12]);
     sheet
 }
 

@@ -1,9 +1,10 @@
 //! Runs the readers and the program's jobs on the lines of data/ and prints what each says.
 //!
-//! A line is a letter, a space and bytes in hexadecimal: `v` a value, `p` a plan behind the byte k, `w` a view, `s` a sheet,
-//! `j` a job, `t` a job whose call is followed by the one that turns it back, `k` a job of the program `tools`.
+//! A line is a letter, a space and bytes in hexadecimal: `v` a value, `c` bytes that each test is asked of, `p` a plan behind the byte k,
+//! `w` a view, `s` a sheet, `j` a job, `t` a job whose call is followed by the one that turns it back, `k` a job of the program `tools`.
 mod buffers;
 mod lines;
+mod tests;
 mod turns;
 
 ghost use Rattle.io.specs.Counts.{Counts};
@@ -118,6 +119,7 @@ fn answer(letter: u8, bytes: &[u8], text: &mut [u8; job::LINE]) -> usize
 {
     match letter {
         b'v' => value_line(bytes, text),
+        b'c' => tests::line(bytes, text),
         b'w' => view_line(bytes, text),
         b's' => sheet_line(bytes, text),
         b'j' => job_line(bytes, text),
@@ -169,6 +171,7 @@ fn run_named(name: &[u8]) {
 fn main() {
     buffers::run();
     run_named(b"readers.txt");
+    run_named(b"tests.txt");
     run_named(b"examples.txt");
     run_named(b"sizes.txt");
     run_named(b"jobs.txt");

@@ -12,6 +12,9 @@ use Rattle.step.specs.declared.Branch.the-variants.{Plain, Parts, Switch
 use Rattle.step.specs.declared.Apart.{Apart}
 use Rattle.step.specs.declared.Apart.the-variants.{At, Other}
 use Rattle.answer.specs.Answer.{doneAs}
+use Rattle.value.specs.Value.{Value}
+use Rattle.value.specs.Laws.{Readable}
+use Rattle.value.specs.Tests.{holds, Agrees}
 use Rattle.value.specs.declared.Shape.{Shape}
 use Rattle.value.specs.declared.Shape.the-variants.{False, True, Empty, Front, Number, Pair, Malformed}
 
@@ -92,6 +95,10 @@ takenFrom kind (Refused c) p q = Refused 43
 -- the branch that a view takes, by the shape of the old subject and what the two tests say to the view
 unfoldable pub takeOf : (kind : ℕ) (subject : Shape) (first-says second-says : Bool) → Branch
 takeOf kind s p q = takenFrom kind (fitOf kind s) p q
+
+-- r is the branch that every view takes with whose bytes these agree as far as both tests need
+abbrev pub TakenBy : (kind : ℕ) (subject : Shape) (first second : ℕ) → List ℕ → Branch → Type 0
+TakenBy kind s t u bs r = (v : Value) → Readable v → Agrees t v bs → Agrees u v bs → r ≡ takeOf kind s (holds t v) (holds u v)
 
 -- a view taken apart for a front (15) or a pair
 unfoldable pub apartOf : ℕ → Shape → Apart

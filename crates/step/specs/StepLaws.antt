@@ -1,10 +1,13 @@
 -- Laws of those definitions, for the code here and for callers.
-use mathlib.Core.Path.{_≡_, refl, sym, ap, _∙_}
+use mathlib.Core.Path.{_≡_, refl, sym, ap, ap₂, _∙_}
+use mathlib.Core.List.{List}
 use mathlib.Core.Bool.{Bool, true, false, false≢true}
 use Prim.Native.Nat.{ℕ, zero, suc, _+_, _*_, _≤_, _<_}
 use native.Mathlib.Omega.{arith}
 use lib.Dec.{eqb, ltb}
 use borrow.Author.Tests.{eqb-true, ne-eqb, eq-eqb, lt-ltb, le-ltb}
+use Rattle.value.specs.Parts.{passesBytes}
+use Rattle.value.specs.TestsLaws.{passes-enough}
 use Rattle.value.specs.declared.Shape.{Shape}
 use Rattle.value.specs.declared.Shape.the-variants.{False, True, Empty, Front, Number, Pair, Malformed}
 use Rattle.step.specs.declared.Branch.{Branch}
@@ -22,6 +25,7 @@ use Rattle.step.specs.Step.{
   choice,
   takenFrom,
   takeOf,
+  TakenBy,
   apartOf,
   madeOf,
   judged,
@@ -258,6 +262,11 @@ none-from kind (Refused c) p q e = refl
 pub takes-none : (kind : ℕ) (s : Shape) (p q : Bool) {d : Branch} → d ≡ fitOf kind s → unfitting d ≡ true → Refused 43 ≡ takeOf kind s p q
 unfolding takeOf
 takes-none kind s p q {d} x h = rw (← x) (none-from kind d p q h)
+
+-- what is said of a view's bytes is said of every view with whose bytes they agree as far as both tests need
+pub taken : (kind : ℕ) (s : Shape) (t u : ℕ) (bs : List ℕ) {r : Branch} → r ≡ takeOf kind s (passesBytes t bs) (passesBytes u bs)
+    → (r ≡ takeOf kind s (passesBytes t bs) (passesBytes u bs)) × TakenBy kind s t u bs r
+taken kind s t u bs e = (e, λ v h a b. e ∙ ap₂ (takeOf kind s) (passes-enough t v h bs a) (passes-enough u v h bs b))
 
 -- WHAT THE BRANCH THAT A VIEW TAKES TELLS of the case and of its old subject
 pub data Took (k : ℕ) (q : Shape) : Branch → Type 0 where

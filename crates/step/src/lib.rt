@@ -8,7 +8,7 @@ ghost use lib.ListN.{length, getD};
 ghost use lib.Seq.{paste};
 ghost use Rattle.value.specs.Parts.{shapeOf, passesBytes, sameBytes};
 ghost use Rattle.answer.specs.Answer.{doneAs};
-ghost use Rattle.step.specs.Step.{When, frontTwo, pickedTwo, addedTwo, nowhere, placeOf, entryRefusal, fitsKind, fitOf, otherOf, choice, takeOf, apartOf, madeOf, judged, unfitRest};
+ghost use Rattle.step.specs.Step.{When, frontTwo, pickedTwo, addedTwo, nowhere, placeOf, entryRefusal, fitsKind, fitOf, otherOf, choice, takeOf, TakenBy, apartOf, madeOf, judged, unfitRest};
 use answer::done;
 use answer::refused;
 use value::Shape;
@@ -126,6 +126,7 @@ fn choose(kept: Branch, other: Branch, kept_test: u8, other_test: u8, view: &[u8
 /// the other. A split has one branch and no test.
 pub fn takes(kind: u8, subject: Shape, first_test: u8, second_test: u8, view: &[u8]) -> Branch
     ensures { λ r. ⌜ r ≡ takeOf kind subject (passesBytes «first_test» (now (view .entry))) (passesBytes «second_test» (now (view .entry))) ⌝ }
+    ensures { λ r. ⌜ TakenBy kind subject «first_test» «second_test» (now (view .entry)) r ⌝ }
 {
     match fits(kind, subject) {
         Branch::Plain(i, byte) => {

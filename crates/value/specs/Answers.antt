@@ -14,6 +14,8 @@ use Rattle.value.specs.Value.{size}
 use Rattle.value.specs.Reading.{Kind, Found, whole, malformed, tooLong, value, nothing, aValue, kindOf, readValue}
 use Rattle.value.specs.Laws.{Names, names, is0, is1, is2, is3, is4, is5, isOther, read-sound}
 use Rattle.value.specs.Reader.{outcome, from, from-drop}
+use Rattle.value.specs.Tests.{Enough}
+use Rattle.value.specs.TestsLaws.{passes-enough}
 use Rattle.value.specs.Parts.{
   behind,
   numberIn,
@@ -25,6 +27,7 @@ use Rattle.value.specs.Parts.{
   kindAt,
   kindBehind,
   restKind,
+  byKinds,
   passesBytes,
   both,
   sameBytes,
@@ -153,14 +156,19 @@ pub first-out : (v : List ℕ) (at : ℕ) → length v < at → [] ≡ firstPart
 unfolding firstPart partWhere
 first-out v at h = rw (lt-leb at (length v) h)
 
+-- passes: the arm of test n
+pub answered : (t : ℕ) (bs : List ℕ) {n : ℕ} {r : Bool} → t ≡ n → r ≡ passesBytes n bs → (r ≡ passesBytes t bs) × Enough t bs r
+answered t bs k e =
+    let is = e ∙ ap (λ (m : ℕ). passesBytes m bs) (sym k) in
+    (is, λ v h a. is ∙ passes-enough t v h bs a)
+
 -- passes: a number that is no test
 pub beyond : {t n : ℕ} → n ≤ t → (t ≡ n → ⊥) → suc n ≤ t
 beyond h k = omega arith
 
 pub no-test : (t : ℕ) (v : List ℕ) → 7 ≤ t → passesBytes t v ≡ false
-unfolding passesBytes
-no-test t v h = List·getD-eq-default
-    (true ∷ eqb (kindAt v 0) 2 ∷ eqb (kindAt v 0) 3 ∷ eqb (kindAt v 0) 0 ∷ eqb (kindAt v 0) 1 ∷ eqb (restKind v) 2 ∷ eqb (restKind v) 3 ∷ []) false h
+unfolding passesBytes byKinds
+no-test t v h = List·getD-eq-default (byKinds (kindAt v 0) (restKind v)) false h
 
 -- same
 both-false : (c : Bool) → both c false ≡ false
@@ -217,31 +225,7 @@ kind-there [] at h = absurd (omega arith)
 kind-there (b ∷ v) zero h = refl
 kind-there (b ∷ v) (suc at) h = kind-there v at (omega arith)
 
--- rest_kind: no list with members, one whose first member is refused, and one that is read
-pub rest-none : (v : List ℕ) → (kindAt v 0 ≡ 3 → ⊥) → 255 ≡ restKind v
-unfolding restKind kindBehind shapeOf shapeAs numberIn behind
-rest-none [] h = refl
-rest-none (b ∷ bs) h = go (names b) h
-  where
-    of-number : (l bs : List ℕ) → 255 ≡ kindBehind l (numberIn bs)
-    of-number l [] = refl
-    of-number l (x ∷ []) = refl
-    of-number l (x ∷ y ∷ bs) = refl
-
-    of-pair : (l : List ℕ) (r : Read) → 255 ≡ kindBehind l (behind Pair r)
-    of-pair l (Whole n) = refl
-    of-pair l NotRead = refl
-    of-pair l TooLong = refl
-
-    go : {b : ℕ} {k : Kind} → Names b k → (b ≡ 3 → ⊥) → 255 ≡ kindBehind (b ∷ bs) (shapeAs bs k)
-    go is0 h = refl
-    go is1 h = refl
-    go is2 h = refl
-    go is3 h = absurd (h refl)
-    go is4 h = of-number (4 ∷ bs) bs
-    go is5 h = of-pair (5 ∷ bs) (outcome (readValue bs))
-    go isOther h = refl
-
+-- rest_kind: a list with members whose first is refused, and one whose first is read
 front-there : (v : List ℕ) → kindAt v 0 ≡ 3 → (length v ≡ 0 → ⊥) × (getD v 0 0 ≡ 3)
 front-there [] e = absurd (omega arith)
 front-there (b ∷ v) e = (λ z. omega arith, e)

@@ -9,8 +9,9 @@ pub mod Laws
 pub mod Reader
 pub mod Turns
 pub mod Parts
-pub mod Answers
 pub mod PartsLaws
+pub mod TestsLaws
+pub mod Answers
 pub mod Spans
 pub mod Progress
 pub mod SpansLaws

@@ -74,13 +74,13 @@ kindBehind bs Malformed = 255
 unfoldable pub restKind : List ℕ → ℕ
 restKind bs = kindBehind bs (shapeOf bs)
 
--- what test t says of the value that the bytes begin with, by its kind byte and that of its rest; a number that is no test says no
+-- what each test says, 0 to 6, by a value's kind byte and that of its rest
+unfoldable pub byKinds : ℕ → ℕ → List Bool
+byKinds k r = true ∷ eqb k 2 ∷ eqb k 3 ∷ eqb k 0 ∷ eqb k 1 ∷ eqb r 2 ∷ eqb r 3 ∷ []
+
+-- what test t says of the value that the bytes begin with; a number that is no test says no
 unfoldable pub passesBytes : ℕ → List ℕ → Bool
-passesBytes t bs =
-    getD
-    (true ∷ eqb (kindAt bs 0) 2 ∷ eqb (kindAt bs 0) 3 ∷ eqb (kindAt bs 0) 0 ∷ eqb (kindAt bs 0) 1 ∷ eqb (restKind bs) 2 ∷ eqb (restKind bs) 3 ∷ [])
-    t
-    false
+passesBytes t bs = getD (byKinds (kindAt bs 0) (restKind bs)) t false
 
 unfoldable pub both : Bool → Bool → Bool
 both true b = b

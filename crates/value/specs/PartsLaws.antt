@@ -1,17 +1,16 @@
 -- Laws of values taken apart: what the definitions on bytes say where the bytes are a value's.
 use mathlib.Core.Path.{_≡_, refl, sym, ap, ap₂, _∙_}
 use mathlib.Core.Bool.{Bool, true, false}
-use mathlib.Core.List.{List, [], _∷_, _++_, map, append-nil}
+use mathlib.Core.List.{List, [], _∷_, _++_, append-nil}
 use Prim.Native.Nat.{ℕ, _+_, _-_}
 use native.Mathlib.Omega.{arith}
 use native.Mathlib.Numerals.{one-add}
 use borrow.Author.Tests.{le-leb, eqb-true, eq-eqb}
 use lib.Dec.{eqb}
-use lib.ListN.{length, getD, length-append, List·getD-map}
-use lib.Seq.{take-at, drop-at, getD-at}
+use lib.ListN.{length, length-append}
+use lib.Seq.{take-at, drop-at}
 use Rattle.value.specs.Value.{Value, Values, vfalse, vtrue, list, number, pair, nil, cons, encode, encodes, size}
 use Rattle.value.specs.Encoding.{size-encode, encode-injective, Opened, opened, oFalse, oTrue, oNil, oCons, oNumber, oPair}
-use Rattle.value.specs.Tests.{class, table, holds}
 use Rattle.value.specs.Reading.{kindOf, readValue}
 use Rattle.value.specs.Laws.{Readable, readable-front, readable-pair, read-back}
 use Rattle.value.specs.Reader.{outcome}
@@ -23,10 +22,6 @@ use Rattle.value.specs.Parts.{
   partWhere,
   firstPart,
   secondPart,
-  kindAt,
-  kindBehind,
-  restKind,
-  passesBytes,
   both,
   sameBytes,
 }
@@ -76,6 +71,11 @@ shape-encode {v} h more = go h (opened v more refl)
 pub shape-whole : {v : Value} → Readable v → shapeOf (encode v) ≡ shape v
 shape-whole {v} h = ap shapeOf (sym (append-nil (encode v))) ∙ shape-encode h []
 
+-- a list with members: the first alone decides where the rest starts
+pub front-shape : {f : Value} → Readable f → (x : List ℕ) → shapeOf (3 ∷ (encode f ++ x)) ≡ Front (1 + size f)
+unfolding shapeOf shapeAs kindOf
+front-shape h x = behind-value Front h x refl
+
 -- the parts of a list with members and of a pair
 module _ (k : ℕ) (a : Value) (x : List ℕ) where
   first-of : firstPart (k ∷ (encode a ++ x)) (1 + size a) ≡ encode a
@@ -103,65 +103,6 @@ first-of-pair a b = first-of 5 a (encode b)
 pub second-of-pair : (a b : Value) → secondPart (encode (pair a b)) (1 + size a) ≡ encode b
 unfolding encode
 second-of-pair a b = second-of 5 a (encode b)
-
--- what the tests look at: a value's kind byte, and that of its rest
-unfoldable pub restByte : Values → ℕ
-restByte nil = 2
-restByte (cons f r) = 3
-
-unfoldable kinds : Value → ℕ × ℕ
-kinds vfalse = (0, 255)
-kinds vtrue = (1, 255)
-kinds (list nil) = (2, 255)
-kinds (list (cons f r)) = (3, restByte r)
-kinds (number n) = (4, 255)
-kinds (pair a b) = (5, 255)
-
--- the column of the table for a value, by its kind bytes
-column : (v : Value) → map (λ row. getD row (class v) false) table ≡
-    true ∷ eqb (kinds v .0) 2 ∷ eqb (kinds v .0) 3 ∷ eqb (kinds v .0) 0 ∷ eqb (kinds v .0) 1 ∷ eqb (kinds v .1) 2 ∷ eqb (kinds v .1) 3 ∷ []
-unfolding class table kinds restByte
-column vfalse = refl
-column vtrue = refl
-column (list nil) = refl
-column (list (cons f nil)) = refl
-column (list (cons f (cons g r))) = refl
-column (number n) = refl
-column (pair a b) = refl
-
-by-kinds : (t : ℕ) (v : Value) (bs : List ℕ) → kindAt bs 0 ≡ kinds v .0 → restKind bs ≡ kinds v .1 → passesBytes t bs ≡ holds t v
-unfolding passesBytes holds
-by-kinds t v bs e f = rw (e, f, ← column v) (List·getD-map (λ row. getD row (class v) false) table t [])
-
--- a list's bytes as far as the kind byte of its rest, whatever follows, give the list's answer
-front-shape : {f : Value} → Readable f → (x : List ℕ) → shapeOf (3 ∷ (encode f ++ x)) ≡ Front (1 + size f)
-unfolding shapeOf shapeAs kindOf
-front-shape h x = behind-value Front h x refl
-
-pub passes-front : (t : ℕ) {f : Value} (r : Values) → Readable f → (more : List ℕ)
-    → passesBytes t (3 ∷ (encode f ++ (restByte r ∷ more))) ≡ holds t (list (cons f r))
-unfolding kinds restKind kindBehind
-passes-front t {f} r h more =
-    by-kinds t (list (cons f r)) (3 ∷ (encode f ++ (restByte r ∷ more))) refl
-    (ap (kindBehind (3 ∷ (encode f ++ (restByte r ∷ more)))) (front-shape h (restByte r ∷ more))
-    ∙ rw one-add (getD-at (encode f) (restByte r) more 255 (size f) (size-encode f)))
-
--- the bytes of a value, whatever stands behind them, give the value's answer
-pub passes-encode : (t : ℕ) {v : Value} → Readable v → (more : List ℕ) → passesBytes t (encode v ++ more) ≡ holds t v
-unfolding kinds restKind kindBehind shape restByte encodes
-passes-encode t {v} h more = go h (opened v more refl) (shape-encode h more)
-  where
-    go : {v : Value} {x l : List ℕ} → Readable v → Opened v x l → shapeOf l ≡ shape v → passesBytes t l ≡ holds t v
-    go h (oFalse {x}) s = by-kinds t vfalse (0 ∷ x) refl (ap (kindBehind (0 ∷ x)) s)
-    go h (oTrue {x}) s = by-kinds t vtrue (1 ∷ x) refl (ap (kindBehind (1 ∷ x)) s)
-    go h (oNil {x}) s = by-kinds t (list nil) (2 ∷ x) refl (ap (kindBehind (2 ∷ x)) s)
-    go h (oCons {f} {r = nil} {x} e) s = rw (← e) (passes-front t nil (readable-front h .0) x)
-    go h (oCons {f} {r = cons g r} {x} e) s = rw (← e) (passes-front t (cons g r) (readable-front h .0) (encode g ++ encodes r ++ x))
-    go h (oNumber {n} {z} e) s = by-kinds t (number n) (4 ∷ z) refl (ap (kindBehind (4 ∷ z)) s)
-    go h (oPair {a} {b} {z} e) s = by-kinds t (pair a b) (5 ∷ z) refl (ap (kindBehind (5 ∷ z)) s)
-
-pub passes-whole : (t : ℕ) {v : Value} → Readable v → passesBytes t (encode v) ≡ holds t v
-passes-whole t {v} h = ap (passesBytes t) (sym (append-nil (encode v))) ∙ passes-encode t h []
 
 -- equal values are equal bytes
 same-bytes : (a b : List ℕ) → sameBytes a b ≡ true → a ≡ b

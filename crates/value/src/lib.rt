@@ -5,6 +5,7 @@ ghost use Rattle.value.specs.Reader.{Reads, PartBegins, NumberBegins, ou
 ghost use Rattle.value.specs.Reading.{readValue, value, rest};
 ghost use Rattle.value.specs.Result.{refusal};
 ghost use Rattle.value.specs.Spans.{nextOf, spans, spansOf, viewCode};
+ghost use Rattle.value.specs.Tests.{Enough};
 ghost use Rattle.value.specs.Parts.{shapeOf, middleOf, firstPart, secondPart, kindAt, restKind, passesBytes, sameBytes};
 
 // What the bytes begin with: a whole value and its length, or why none.
@@ -322,24 +323,25 @@ fn kind_at(v: &[u8], at: usize) -> u8
     if at < v.len() { v[at] } else { 255 }
 }
 
-// The kind byte of a list's rest: the byte behind the first member.
+// The kind byte of a list's rest: the byte that follows the first member. Nothing behind it is read; 255 where it is not there.
 fn rest_kind(v: &[u8]) -> u8
     ensures { λ r. ⌜ r ≡ restKind (now (v .entry)) ⌝ }
 {
     if kind_at(v, 0) != 3 {
         return 255;
     }
-    let at = middle(v);
-    if at == 0 {
+    let rest = middle(v);
+    if rest == 0 {
         return 255;
     }
-    kind_at(v, at)
+    kind_at(v, rest)
 }
 
 // Whether a test says yes to a value: 0 anything, 1 empty list, 2 list with members, 3 False, 4 True, 5 exactly one
-// member, 6 two or more. Nothing is read behind the kind byte of a list's rest.
+// member, 6 two or more. Tests 1 to 4 read the kind byte, 5 and 6 of a list with members also the first and the byte that follows it.
 pub fn passes(test: u8, v: &[u8]) -> bool
     ensures { λ r. ⌜ r ≡ passesBytes test (now (v .entry)) ⌝ }
+    ensures { λ r. ⌜ Enough test (now (v .entry)) r ⌝ }
 {
     match test {
         0 => true,

@@ -24,7 +24,8 @@ use Rattle.value.specs.Value.{Value, vfalse, vtrue, list, number, pair as aPair
 use Rattle.value.specs.Views.{asList, asPair, asTruth}
 use Rattle.value.specs.Tests.{passes, holds}
 use Rattle.value.specs.Parts.{shapeOf, passesBytes}
-use Rattle.value.specs.PartsLaws.{shape, passes-whole}
+use Rattle.value.specs.PartsLaws.{shape}
+use Rattle.value.specs.TestsLaws.{passes-whole}
 use Rattle.value.specs.declared.Shape.{Shape}
 use Rattle.value.specs.declared.Shape.the-variants as shapes
 use Rattle.sheet.specs.Sheet.{Sheet}

@@ -7,15 +7,15 @@ use Rattle.step.proofs.choose.Statement.{statement}
 use Rattle.step.proofs.choose.Tie as tie
 
 returns : tie.Need-returns
-returns c = kept-yes _ _ _ _ (sym (c .before .passes .ensures) ∙ c .if1 .taken)
+returns c = kept-yes _ _ _ _ (sym (c .before .passes .ensures .0) ∙ c .if1 .taken)
 
 returns-2 : tie.Need-returns-2
-returns-2 c = other-yes _ _ _ _ (sym (c .before .before .before .passes .ensures) ∙ c .before .before .if1 .left)
-    (sym (c .before .passes2 .ensures) ∙ c .if2 .taken)
+returns-2 c = other-yes _ _ _ _ (sym (c .before .before .before .passes .ensures .0) ∙ c .before .before .if1 .left)
+    (sym (c .before .passes2 .ensures .0) ∙ c .if2 .taken)
 
 returns-3 : tie.Need-returns-3
-returns-3 c = neither-says _ _ _ _ (sym (c .before .before .before .passes .ensures) ∙ c .before .before .if1 .left)
-    (sym (c .before .passes2 .ensures) ∙ c .if2 .left)
+returns-3 c = neither-says _ _ _ _ (sym (c .before .before .before .passes .ensures .0) ∙ c .before .before .if1 .left)
+    (sym (c .before .passes2 .ensures .0) ∙ c .if2 .left)
 
 pub choose-spec : {M : Type 1} → statement M
 choose-spec = tie.close (tie.spec

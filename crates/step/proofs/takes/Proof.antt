@@ -1,6 +1,6 @@
 -- `takes` meets its contract.
 -- Assumes nothing.
-use Rattle.step.specs.StepLaws.{plain-first, plain-second, parts-split, parts-list, takes-none}
+use Rattle.step.specs.StepLaws.{taken, plain-first, plain-second, parts-split, parts-list, takes-none}
 use mathlib.Core.Path.{refl}
 use Rattle.step.proofs.Tags.{is-unfitting}
 use borrow.Author.Needs.{needs}
@@ -10,24 +10,26 @@ use Rattle.step.proofs.takes.Tie as tie
 returns : tie.Need-returns
 returns c =
     let m = c .before .before .before .before .before in
-    plain-first _ _ _ _ (m .before .fits2 .ensures) (c .before .before .before .before .i .given .1) (c .before .before .if1 .taken)
-    (c .before .second .ensures) (c .choose .ensures)
+    taken _ _ _ _ _ (plain-first _ _ _ _ (m .before .fits2 .ensures) (c .before .before .before .before .i .given .1) (c .before .before .if1 .taken)
+    (c .before .second .ensures) (c .choose .ensures))
 
 returns-2 : tie.Need-returns-2
-returns-2 c = let m = c .before .before .before in parts-split _ _ _ _ (m .before .fits2 .ensures) (c .before .before .i2 .given .1) (c .if2 .taken) refl
+returns-2 c =
+    let m = c .before .before .before in
+    taken _ _ _ _ _ (parts-split _ _ _ _ (m .before .fits2 .ensures) (c .before .before .i2 .given .1) (c .if2 .taken) refl)
 
 returns-3 : tie.Need-returns-3
 returns-3 c =
     let m = c .before .before .before .before in
-    plain-second _ _ _ _ (m .before .fits2 .ensures) (c .before .before .before .i .given .1) (c .before .if1 .left) (c .choose2 .ensures)
+    taken _ _ _ _ _ (plain-second _ _ _ _ (m .before .fits2 .ensures) (c .before .before .before .i .given .1) (c .before .if1 .left) (c .choose2 .ensures))
 
 returns-4 : tie.Need-returns-4
 returns-4 c =
     let m = c .before .before .before .before in
-    parts-list _ _ _ _ (m .before .fits2 .ensures) (c .before .before .before .i2 .given .1) (c .before .if2 .left) (c .choose3 .ensures)
+    taken _ _ _ _ _ (parts-list _ _ _ _ (m .before .fits2 .ensures) (c .before .before .before .i2 .given .1) (c .before .if2 .left) (c .choose3 .ensures))
 
 returns-5 : tie.Need-returns-5
-returns-5 c = takes-none _ _ _ _ (c .before .fits2 .ensures) (is-unfitting _ (c .match .keys3))
+returns-5 c = taken _ _ _ _ _ (takes-none _ _ _ _ (c .before .fits2 .ensures) (is-unfitting _ (c .match .keys3)))
 
 pub takes-spec : {M : Type 1} → statement M
 takes-spec = tie.close (tie.spec

@@ -1,7 +1,8 @@
 -- `value::rest_kind` meets its contract.
 use denote.Ref.{now}
 use mathlib.Core.Path.{sym, _∙_}
-use Rattle.value.specs.Answers.{rest-none, rest-lost, rest-found}
+use Rattle.value.specs.TestsLaws.{rest-none}
+use Rattle.value.specs.Answers.{rest-lost, rest-found}
 use borrow.Author.Needs.{needs}
 use Rattle.value.proofs.rest_kind.Statement.{statement}
 use Rattle.value.proofs.rest_kind.Tie as tie

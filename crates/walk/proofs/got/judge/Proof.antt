@@ -30,14 +30,14 @@ returns-2 c =
     let i = c .before .before .before .before .before .before .before in
     fails (sym (i .before .is-refused .ensures) ∙ i .if1 .left)
     (says-part _ _ _ (c .before .before .before .before .before .before .start-of .ensures) (c .before .before .before .before .before .len-of .ensures)
-    (c .before .before .passes .ensures) (not-true _ (c .before .if2 .taken))) (c .refused .ensures) refl
+    (c .before .before .passes .ensures .0) (not-true _ (c .before .if2 .taken))) (c .refused .ensures) refl
 
 returns-3 : tie.Need-returns-3
 returns-3 c =
     let i = c .before .before .before .before .before .before .before in
     stays (sym (i .before .is-refused .ensures) ∙ i .if1 .left)
     (says-part _ _ _ (c .before .before .before .before .before .before .start-of .ensures) (c .before .before .before .before .before .len-of .ensures)
-    (c .before .before .passes .ensures) (not-false _ (c .before .if2 .left)))
+    (c .before .before .passes .ensures .0) (not-false _ (c .before .if2 .left)))
     (omega (arith, c .before .before .before .before .before .before .start-of .ensures, c .if3 .taken)) refl refl
 
 copy-requires : tie.Need-copy-requires
@@ -54,7 +54,7 @@ returns-4 c =
     let s = c .before .before .before .before .before .before .before .before .before .before .before .before .start-of .ensures in
     let l = c .before .before .before .before .before .before .before .before .before .before .before .len-of .ensures in
     moves (sym (i .before .is-refused .ensures) ∙ i .if1 .left)
-    (says-part _ _ _ s l (c .before .before .before .before .before .before .before .before .passes .ensures)
+    (says-part _ _ _ s l (c .before .before .before .before .before .before .before .before .passes .ensures .0)
     (not-false _ (c .before .before .before .before .before .before .before .if2 .left)))
     (omega (arith, s, c .before .before .before .before .before .before .if3 .left)) (rw (← l, ← c .before .steps-of .ensures) (c .done .ensures))
     (rw (← s, ← l) (c .before .before .before .before .copy .ensures))

@@ -131,7 +131,7 @@ module _ (t : ℕ) where
       let g = got i in
       let e = entry g in
       let v = e .args .view .now in
-      let r = c .takes .ensures ∙ ap₂ (λ (x y : ℕ). takeOf (e .args .kind) (s .shape-at .result) (passesBytes x v) (passesBytes y v))
+      let r = c .takes .ensures .0 ∙ ap₂ (λ (x y : ℕ). takeOf (e .args .kind) (s .shape-at .result) (passesBytes x v) (passesBytes y v))
       (s .before .before .before .byte-of .ensures) (s .before .before .byte-of2 .ensures) in
       record {
         asked = e .pre .1 .0;
