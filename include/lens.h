@@ -93,11 +93,11 @@ uint8_t lens_find(const uint16_t starts[LENS_STARTS_MAX], size_t count, size_t p
 #define LENS_SHEET_KIND 10u       /* a record's kind is unknown or out of its place */
 #define LENS_SHEET_CUT 11u        /* a record is cut */
 #define LENS_SHEET_FULL 12u       /* a 9th section or 201st node */
-#define LENS_SHEET_RANGE 13u      /* k, a node, a section or a test is out of range */
+#define LENS_SHEET_RANGE 13u      /* k, a node, a section, a test or a number of four bytes is out of range */
 #define LENS_SHEET_EMPTY 14u      /* no byte or no node */
 
 /* the plan */
-#define LENS_PLAN_MALFORMED 20u   /* a value is malformed */
+#define LENS_PLAN_MALFORMED 20u   /* a value is malformed: also a number of four bytes that is not over 65,535 */
 #define LENS_PLAN_LONG 21u        /* a value is over 256 bytes */
 #define LENS_PLAN_COUNT 22u       /* fewer than k values, or bytes behind them */
 
@@ -106,7 +106,7 @@ uint8_t lens_find(const uint16_t starts[LENS_STARTS_MAX], size_t count, size_t p
 #define LENS_STARTS 24u           /* the starts are not 1 to 16 numbers rising from 0, all below the plan's length; judged before 23 */
 
 /* the list sent back */
-#define LENS_VIEW_MALFORMED 30u   /* malformed */
+#define LENS_VIEW_MALFORMED 30u   /* malformed, as a value of the plan */
 #define LENS_VIEW_LONG 31u        /* over 256 bytes */
 #define LENS_VIEW_COUNT 32u       /* no value, or bytes behind it */
 
@@ -114,7 +114,7 @@ uint8_t lens_find(const uint16_t starts[LENS_STARTS_MAX], size_t count, size_t p
 #define LENS_DEPTH 40u            /* deeper than 48 nodes */
 #define LENS_SPENT 41u            /* the allowance is spent */
 #define LENS_SCOPE 42u            /* a variable is not in scope */
-#define LENS_VALUE_KIND 43u       /* a subject, added-to value or rest is of the wrong kind */
+#define LENS_VALUE_KIND 43u       /* a subject, added-to value or rest is of the wrong kind: only a number of two bytes is added to */
 #define LENS_VALUE_LONG 44u       /* a built value is over 256 bytes */
 #define LENS_SUM 45u              /* a sum is over 65,535 */
 #define LENS_TEST 46u             /* a branch's test says no to what the branch gave */

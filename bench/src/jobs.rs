@@ -60,6 +60,17 @@ const TURN_EACH: &[u8] = &[
     0x11, // 8
 ];
 
+/// A pair of each price of a list and a fixed price, by a 1C; numbers of four bytes all.
+const PRICE_EACH: &[u8] = &[
+    0x01, 0x01, 0x00, 0x20, 0x03, // section 0 from node 3
+    0x1C, 0x01, 0x00, 0x00, 0x02, // 0: each
+    0x10, 0x00, // 1: the list
+    0x1D, 0x00, 0x01, 0x11, 0x70, // 2: the default, 70,000
+    0x16, 0x04, 0x05, // 3: the pair
+    0x10, 0x00, // 4: of the member
+    0x1D, 0x00, 0x01, 0x86, 0xA0, // 5: and 100,000
+];
+
 pub fn rows() -> Vec<Row> {
     let one = numbers(1..2);
     let mut rows = vec![
@@ -79,6 +90,7 @@ pub fn rows() -> Vec<Row> {
         both("typical: 40 tests of a list of 61 numbers", &tested(40), numbers(0..61), None),
         limited(EACH_LIMIT, both("typical: add to each of 63 numbers", RAISE_EACH, numbers(0..63), Some(numbers(200..263)))),
         limited(EACH_LIMIT, both("typical: split each of 21 pairs", TURN_EACH, pairs(0..21), Some(pairs(40..61)))),
+        limited(EACH_LIMIT, both("typical: 21 prices, each beside another", PRICE_EACH, prices(0..21), Some(beside(40..61)))),
         both("heavy: full plan, 16 values of 255 bytes", &[0x01, 0x10, 0x00, 0x10, 0x00], full_plan(), None),
         walking("walking: truth cases", truths, &[0x01]),
         walking("walking: list cases of 63 numbers", lists, &numbers(0..63)),
@@ -181,6 +193,26 @@ fn pairs(range: std::ops::Range<u8>) -> Vec<u8> {
     let mut list: Vec<u8> = range.flat_map(|n| [0x03, 0x05, 0x04, 0, n, 0x04, 0, n + 100]).collect();
     list.push(0x02);
     list
+}
+
+/// A list of prices: 80,000 and n.
+fn prices(range: std::ops::Range<u32>) -> Vec<u8> {
+    let mut list: Vec<u8> = range.flat_map(|n| [&[0x03][..], &price(80_000 + n)].concat()).collect();
+    list.push(0x02);
+    list
+}
+
+/// A list of pairs: 80,000 and n, and the fixed price of the sheet.
+fn beside(range: std::ops::Range<u32>) -> Vec<u8> {
+    let mut list: Vec<u8> = range.flat_map(|n| [&[0x03, 0x05][..], &price(80_000 + n), &price(100_000)].concat()).collect();
+    list.push(0x02);
+    list
+}
+
+/// A number of four bytes.
+fn price(number: u32) -> [u8; 5] {
+    let [a, b, c, d] = number.to_be_bytes();
+    [0x06, a, b, c, d]
 }
 
 /// Sixteen variables to a list of sixteen members.

@@ -62,6 +62,29 @@ fn the_values_of_a_plan() {
     }
 }
 
+/// A number of four bytes, over 65,535, beside one of two.
+#[test]
+fn numbers_of_four_bytes() {
+    let plan = [0x06, 0x00, 0x01, 0x86, 0xA0, 0x04, 0xFF, 0xFF, 0x01]; // 100,000, 65,535, True
+    let loaded = PAIR.load(&plan).unwrap();
+    assert_eq!(loaded.starts().numbers(), [0, 5, 8]);
+    assert_eq!((loaded.value(0), loaded.value(1)), (&plan[..5], &plan[5..8]));
+    let got = PAIR.get(&plan, 1000).unwrap();
+    assert_eq!(got.view, [&[0x05][..], &plan[..8]].concat());
+    assert_eq!(PAIR.put(&plan, &got.view, 1000).unwrap().plan, plan);
+
+    let turned = [0x05, 0x04, 0xFF, 0xFF, 0x06, 0xFF, 0xFF, 0xFF, 0xFF];
+    let put = PAIR.put(&plan, &turned, 1000).unwrap();
+    assert_eq!((put.value(0), put.value(1), put.value(2)), (&turned[1..4], &turned[4..], &[0x01][..]));
+
+    let small = [0x06, 0x00, 0x00, 0xFF, 0xFF];
+    assert_eq!(WRAP.get(&small, 1000), Err(Refusal::PLAN_MALFORMED));
+    assert_eq!(WRAP.put(&plan[..5], &small, 1000), Err(Refusal::VIEW_MALFORMED));
+    let constant = |second: u8| [0x01, 0x01, 0x00, 0x1D, 0x00, second, 0xFF, 0xFF];
+    assert_eq!(Sheet::new(&constant(1)).get(&[0x00], 1000).unwrap().view, [0x06, 0x00, 0x01, 0xFF, 0xFF]);
+    assert_eq!(Sheet::new(&constant(0)).get(&[0x00], 1000), Err(Refusal::SHEET_RANGE));
+}
+
 #[test]
 fn loading_refuses() {
     assert_eq!(Sheet::new(&[]).load(&[]), Err(Refusal::SHEET_EMPTY));

@@ -1,10 +1,11 @@
 //! Files of test vectors, done by the archive: a line is an input of a program in hexadecimal (`-` for no byte), and what the program
-//! prints. `LENS_VECTORS` names a file for document 01's program, `LENS_TOOL_VECTORS` one for `tools`.
+//! prints. `LENS_VECTORS` names a file for document 01's program (`check_jobs` has the one that is taken where it is not set),
+//! `LENS_TOOL_VECTORS` one for `tools`.
 
 use lens::{raw, Plan, Refusal, Sheet, Starts};
 use reference::job::{self, Job};
 use reference::tool::{self, Given, Tool};
-use reference::vectors::check_file;
+use reference::vectors::{check_jobs, check_tools};
 
 #[test]
 fn jobs_of_a_file() {
@@ -12,7 +13,7 @@ fn jobs_of_a_file() {
         None => raw::get(&job.sheet, &job.plan, job.allowance, out, scratch).0,
         Some(view) => raw::put(&job.sheet, &job.plan, view, job.allowance, out, scratch).0,
     };
-    check_file("LENS_VECTORS", |input| job::printed(input, run));
+    check_jobs(|input| job::printed(input, run));
 }
 
 fn run_tool(tool: &Tool) -> Result<Given, Refusal> {
@@ -35,5 +36,5 @@ fn run_tool(tool: &Tool) -> Result<Given, Refusal> {
 
 #[test]
 fn tools_of_a_file() {
-    check_file("LENS_TOOL_VECTORS", |input| tool::printed(input, |tool| run_tool(tool).map_err(Refusal::number)));
+    check_tools(|input| tool::printed(input, |tool| run_tool(tool).map_err(Refusal::number)));
 }

@@ -6,11 +6,11 @@ use Prim.Native.Nat.{ℕ, zero, suc, _+_, _*_, _≤_}
 use native.Mathlib.Omega.{arith}
 use native.Mathlib.Nat.{add-sub-cancel}
 use lib.ListN.{length, getElem?}
-use Rattle.value.specs.Value.{Value, Values, vfalse, vtrue, list, number, pair, nil, cons, size, sizes, Fits}
+use Rattle.value.specs.Value.{Value, Values, vfalse, vtrue, list, number, wide, pair, nil, cons, size, sizes, Fits}
 use Rattle.value.specs.Encoding.{size-pos}
 use Rattle.value.specs.Views.{asList, asFront, asPair, asNumber, asTruth}
 use Rattle.sheet.specs.declared.Node.{Node}
-use Rattle.sheet.specs.declared.Node.the-variants.{Var, False, True, Empty, Number, Front, Pair, ListCase, TruthCase, Split, Call, Add, Each}
+use Rattle.sheet.specs.declared.Node.the-variants.{Var, False, True, Empty, Number, Front, Pair, ListCase, TruthCase, Split, Call, Add, Each, Wide}
 use Rattle.sheet.specs.Sheet.{Sheet}
 use Rattle.rules.specs.Outcome.{Out, done, _>>=_}
 use Rattle.rules.specs.Text
@@ -163,6 +163,7 @@ module _ (g : Getter) (p : Putter) (l : ℕ) (ih : Stable g p l) (sh : Sheet) (�
   node-accepts True = fine (omega arith, take-same vtrue ω _)
   node-accepts Empty = fine (omega arith, take-same (list nil) ω _)
   node-accepts (Number n) = fine (omega arith, take-same (number n) ω _)
+  node-accepts (Wide n) = fine (omega arith, take-same (wide n) ω _)
   node-accepts (Front a b) = after-bind (ih a μ σ ω old) λ f s _ hf. after-bind (ih b μ σ ω old) λ r t _ hr. after-given _ λ c _. after-given _ λ z _.
       fine (z, λ W k. given-some _ _ refl (kept-le (both-takes a b _ _ _ _ hf (rw (c .1) at hr) W k) (omega arith)))
   node-accepts (Pair a b) = after-bind (ih a μ σ ω old) λ f s _ hf. after-bind (ih b μ σ ω old) λ r t _ hr. after-given _ λ z _.

@@ -7,12 +7,12 @@ use Prim.Native.Nat.{ℕ, zero, suc, _+_, _-_, _≤_}
 use native.Mathlib.Omega.{arith}
 use lib.ListN.{length, take, set, getElem?}
 use native.Mathlib.Nat.{sub-add-cancel}
-use Rattle.value.specs.Value.{Value, Values, vfalse, vtrue, list, number, pair, nil, cons, size, sizes, truth, Fits}
+use Rattle.value.specs.Value.{Value, Values, vfalse, vtrue, list, number, wide, pair, nil, cons, size, sizes, truth, Fits}
 use Rattle.value.specs.Encoding.{size-pos}
 use Rattle.value.specs.Views.{asList, asPair, asNumber, asTruth}
 use Rattle.value.specs.Tests.{Passes}
 use Rattle.sheet.specs.declared.Node.{Node}
-use Rattle.sheet.specs.declared.Node.the-variants.{Var, False, True, Empty, Number, Front, Pair, ListCase, TruthCase, Split, Call, Add, Each}
+use Rattle.sheet.specs.declared.Node.the-variants.{Var, False, True, Empty, Number, Front, Pair, ListCase, TruthCase, Split, Call, Add, Each, Wide}
 use Rattle.sheet.specs.Sheet.{Sheet}
 use Rattle.rules.specs.Outcome.{Out, done, _>>=_}
 use Rattle.rules.specs.Text
@@ -187,6 +187,7 @@ module _ (g : Getter) (p : Putter) (ih : Lawful g p) (sh : Sheet) (μ : Env) (σ
   node-law True z = put-same _ σ v vtrue W (λ _. refl)
   node-law Empty z = put-same _ σ v (list nil) W (λ _. refl)
   node-law (Number n) z = put-same _ σ v (number n) W (λ _. refl)
+  node-law (Wide n) z = put-same _ σ v (wide n) W (λ _. refl)
   node-law (Front a b) z = after-given _ λ c _. let z′ : Fits (list (cons (c .0) (c .1))) = rw (c .2) at z in
       both-law _ a b _ _ (omega arith) (omega arith) λ μ′ i j ha hb. gives-bind _ ha λ s hs. gives-bind _ hb λ t ht.
       given-some _ _ refl (given-when _ _ z′ λ _. fine (sym (c .2), omega arith))

@@ -13,11 +13,16 @@ use Rattle.value.specs.Reading.{
   onWhole,
   kindOf,
   makeFront,
+  joined,
   makeNumber,
+  makeWide,
+  makeBody,
   makePair,
   makeRest,
   beginValue,
   beginRest,
+  due,
+  mayBe,
   beginByte,
   read,
   readValue,
@@ -100,12 +105,13 @@ unfolding rows run call getAnswer getBytes getWalk putAnswer putBytes putWalk an
     plus steps when _>>=_ mapOut given reading choose Text.bounded Text.tested onList Text.getNode Text.get Text.orOld Text.constant Text.write Text.both
     Text.under mkList mkPair Text.putNode Text.put
     andThen mapResult orRefuse unless encode encodes size sizes flat sameValue asList asFront asPair asNumber ifSmall asTruth class table holds passes
-    onWhole kindOf makeFront makeNumber makePair makeRest beginValue beginRest beginByte read readValue onValue readValues
+    onWhole kindOf makeFront joined makeNumber makeWide makeBody makePair makeRest beginValue beginRest due mayBe beginByte read readValue onValue readValues
     formOf bodyWidth make readNodes oneSection ifSection readRecords withNodes readBody nodeInRange nodesInRange rootsInRange inRange readHeader readSheet
     decLe ℕ-discrete
 starred = refl
 
--- Rows that tell the rules from document 01's plausible but mistaken builds; of the each, from those of document 02, request 1
+-- Rows that tell the rules from document 01's plausible but mistaken builds; of the each and of wide numbers,
+-- from those of document 02, requests 1 and 4
 
 -- a truth case whose two tests are both True
 abbrev pub first : List ℕ
@@ -159,6 +165,17 @@ unbound = 0x01 ∷ 0x01 ∷ 0x00 ∷ 0x20 ∷ 0x02 ∷ 0x1C ∷ 0x01 ∷ 0x00 �
 abbrev pub shared : List ℕ
 shared = 0x01 ∷ 0x02 ∷ 0x00 ∷ 0x20 ∷ 0x02 ∷ 0x1C ∷ 0x01 ∷ 0x00 ∷ 0x01 ∷ 0x01 ∷ 0x10 ∷ 0x00 ∷ 0x10 ∷ 0x01 ∷ []
 
+-- a constant of four bytes, 01020304; and one that two bytes hold, 65,535
+abbrev pub price : List ℕ
+price = 0x01 ∷ 0x01 ∷ 0x00 ∷ 0x1D ∷ 0x01 ∷ 0x02 ∷ 0x03 ∷ 0x04 ∷ []
+
+abbrev pub cheap : List ℕ
+cheap = 0x01 ∷ 0x01 ∷ 0x00 ∷ 0x1D ∷ 0x00 ∷ 0x00 ∷ 0xFF ∷ 0xFF ∷ []
+
+-- the least wide number
+abbrev pub least : List ℕ
+least = 0x06 ∷ 0x00 ∷ 0x01 ∷ 0x00 ∷ 0x00 ∷ []
+
 unfoldable pub telling : List Row
 telling =
     (puts first (0x01 ∷ []) (0x01 ∷ []) (success (0x01 ∷ []) 4))
@@ -190,6 +207,24 @@ telling =
     -- the section's variable 1 is the caller's, for every member
     ∷ (puts shared (0x03 ∷ 0x04 ∷ 0x00 ∷ 0x05 ∷ 0x02 ∷ 0x01 ∷ []) (0x03 ∷ 0x00 ∷ 0x02 ∷ []) (success (0x03 ∷ 0x04 ∷ 0x00 ∷ 0x05 ∷ 0x02 ∷ 0x00 ∷ []) 4))
     ∷ (puts shared (0x03 ∷ 0x04 ∷ 0x00 ∷ 0x05 ∷ 0x03 ∷ 0x04 ∷ 0x00 ∷ 0x06 ∷ 0x02 ∷ 0x01 ∷ []) (0x03 ∷ 0x00 ∷ 0x03 ∷ 0x01 ∷ 0x02 ∷ []) (refusal 54))
+    -- wide numbers: the high byte first, both ways; 65,535 is none, in a sheet, a plan and a view
+    ∷ (gets price (0x00 ∷ []) (success (0x06 ∷ 0x01 ∷ 0x02 ∷ 0x03 ∷ 0x04 ∷ []) 1))
+    ∷ (puts price (0x00 ∷ []) (0x06 ∷ 0x01 ∷ 0x02 ∷ 0x03 ∷ 0x04 ∷ []) (success (0x00 ∷ []) 1))
+    ∷ (puts price (0x00 ∷ []) (0x06 ∷ 0x04 ∷ 0x03 ∷ 0x02 ∷ 0x01 ∷ []) (refusal 50))
+    ∷ (puts price (0x00 ∷ []) (0x04 ∷ 0x03 ∷ 0x04 ∷ []) (refusal 50))
+    ∷ (gets cheap (0x00 ∷ []) (refusal 13))
+    ∷ (gets P least (success least 1))
+    ∷ (gets P (0x06 ∷ 0x00 ∷ 0x00 ∷ 0xFF ∷ 0xFF ∷ []) (refusal 20))
+    ∷ (puts P least (0x06 ∷ 0x00 ∷ 0x00 ∷ 0xFF ∷ 0xFF ∷ []) (refusal 30))
+    -- one that is too small is malformed at its last byte: behind the end of the room within it, before the end of the room behind it
+    ∷ (gets P (0x05 ∷ (nest 125 ++ 0x06 ∷ 0x00 ∷ 0x00 ∷ 0x00 ∷ 0x00 ∷ [])) (refusal 21))
+    ∷ (gets P (0x05 ∷ 0x06 ∷ 0x00 ∷ 0x00 ∷ 0x00 ∷ 0x00 ∷ nest 125) (refusal 20))
+    -- an added amount takes none, both ways, and no case or split does
+    ∷ (gets H least (refusal 43))
+    ∷ (puts H (0x04 ∷ 0x00 ∷ 0x07 ∷ []) least (refusal 51))
+    ∷ (gets first least (refusal 43))
+    ∷ (gets opens least (refusal 43))
+    ∷ (gets renewed (0x00 ∷ least) (refusal 43))
     ∷ []
 
 pub told-apart : map run telling ≡ map (λ (r : Row). r .expected) telling
@@ -198,7 +233,7 @@ unfolding telling run call getAnswer getBytes getWalk putAnswer putBytes putWalk
     Text.write Text.both
     Text.under Text.stoodFor Text.putEach mkList mkPair Text.putNode Text.put
     andThen mapResult orRefuse unless encode encodes size sizes flat sameValue asList asFront asPair asNumber ifSmall asTruth class table holds passes
-    onWhole kindOf makeFront makeNumber makePair makeRest beginValue beginRest beginByte read readValue onValue readValues
+    onWhole kindOf makeFront joined makeNumber makeWide makeBody makePair makeRest beginValue beginRest due mayBe beginByte read readValue onValue readValues
     formOf bodyWidth make readNodes oneSection ifSection readRecords withNodes readBody nodeInRange nodesInRange rootsInRange inRange readHeader readSheet
     decLe ℕ-discrete
 told-apart = refl

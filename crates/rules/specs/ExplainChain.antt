@@ -7,7 +7,7 @@ use native.Mathlib.Omega.{arith}
 use lib.ListN.{length}
 use Rattle.value.specs.Value.{Value, Values, nil, cons, size}
 use Rattle.sheet.specs.declared.Node.{Node}
-use Rattle.sheet.specs.declared.Node.the-variants.{Var, False, True, Empty, Number, Front, Pair, ListCase, TruthCase, Split, Call, Add, Each}
+use Rattle.sheet.specs.declared.Node.the-variants.{Var, False, True, Empty, Number, Front, Pair, ListCase, TruthCase, Split, Call, Add, Each, Wide}
 use Rattle.sheet.specs.Sheet.{Sheet}
 use Rattle.rules.specs.Text
 use Rattle.rules.specs.Text.{Env, onList}
@@ -123,6 +123,7 @@ module _ {k : ℕ} (g : Getter) (ih : Gets k g) (sh : Sheet) (μ : Env) where
   get-node-short True = gives-short _
   get-node-short Empty = gives-short _
   get-node-short (Number n) = gives-short _
+  get-node-short (Wide n) = gives-short _
   get-node-short (Front a b) = short-next (ih a μ) λ f. short-next (ih b μ) λ r. asked 43 none _ λ l. bounded-short _
   get-node-short (Pair a b) = short-next (ih a μ) λ u. short-next (ih b μ) λ v. bounded-short _
   get-node-short (ListCase s e te n tn df dr) = short-next (ih s μ) λ v. asked 43 none _ λ l. short-list (l .0) (tested-short te (ih e μ)) λ f r.
@@ -177,6 +178,7 @@ module _ {k : ℕ} (g : Getter) (gets : Gets k g) (p : Putter) (ih : Puts k p) (
   put-node-short n True = constant-short _
   put-node-short n Empty = constant-short _
   put-node-short n (Number m) = constant-short _
+  put-node-short n (Wide m) = constant-short _
   put-node-short n (Front a b) = asked 51 none _ λ c. both-short _ _ _ _
   put-node-short n (Pair a b) = asked 51 none _ λ c. both-short _ _ _ _
   put-node-short n (ListCase s e te m tn df dr) = short-next (gets s μ) λ o. asked 43 none _ λ l. short-list (l .0)

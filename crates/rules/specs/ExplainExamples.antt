@@ -12,11 +12,16 @@ use Rattle.value.specs.Reading.{
   onWhole,
   kindOf,
   makeFront,
+  joined,
   makeNumber,
+  makeWide,
+  makeBody,
   makePair,
   makeRest,
   beginValue,
   beginRest,
+  due,
+  mayBe,
   beginByte,
   read,
   readValue,
@@ -54,7 +59,7 @@ unfolding explainings explainGet explainPut explained afterwards more below ente
     plus steps when _>>=_ mapOut given reading choose Text.bounded Text.tested onList Text.getNode Text.get Text.orOld Text.constant Text.write Text.both
     Text.under mkList mkPair Text.putNode Text.put
     andThen mapResult orRefuse unless encode encodes size sizes flat sameValue asList asFront asPair asNumber ifSmall asTruth class table holds passes
-    onWhole kindOf makeFront makeNumber makePair makeRest beginValue beginRest beginByte read readValue onValue readValues
+    onWhole kindOf makeFront joined makeNumber makeWide makeBody makePair makeRest beginValue beginRest due mayBe beginByte read readValue onValue readValues
     formOf bodyWidth make readNodes oneSection ifSection readRecords withNodes readBody nodeInRange nodesInRange rootsInRange inRange readHeader readSheet
     decLe ℕ-discrete
 worked = refl

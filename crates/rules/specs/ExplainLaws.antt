@@ -7,7 +7,7 @@ use native.Mathlib.Omega.{arith}
 use lib.ListN.{length, length-map, take, set, getElem?}
 use Rattle.value.specs.Value.{Value, Values, nil, cons}
 use Rattle.sheet.specs.declared.Node.{Node}
-use Rattle.sheet.specs.declared.Node.the-variants.{Var, False, True, Empty, Number, Front, Pair, ListCase, TruthCase, Split, Call, Add, Each}
+use Rattle.sheet.specs.declared.Node.the-variants.{Var, False, True, Empty, Number, Front, Pair, ListCase, TruthCase, Split, Call, Add, Each, Wide}
 use Rattle.sheet.specs.Sheet.{Sheet}
 use Rattle.rules.specs.Outcome.{Out, done, refused, plus, steps, _>>=_, given, choose}
 use Rattle.rules.specs.Allowance.{within}
@@ -131,6 +131,7 @@ module _ (g : Explain.Getter) (k : Count.Getter) (ih : Gets g k) (sh : Sheet) (�
   get-node-erases True = erases-give _
   get-node-erases Empty = erases-give _
   get-node-erases (Number n) = erases-give _
+  get-node-erases (Wide n) = erases-give _
   get-node-erases (Front a b) = erases-bind _ (ih a μ) λ f. erases-bind _ (ih b μ) λ r. asked 43 _ _ λ l. bounded-erases _
   get-node-erases (Pair a b) = erases-bind _ (ih a μ) λ u. erases-bind _ (ih b μ) λ v. bounded-erases _
   get-node-erases (ListCase s e te n tn df dr) = erases-bind _ (ih s μ) λ v. asked 43 _ _ λ l. erases-list (l .0) (tested-erases te (ih e μ)) λ f r.
@@ -220,6 +221,7 @@ module _ (g : Explain.Getter) (k : Count.Getter) (gets : Gets g k) (p : Explain.
   put-node-erases n True = constant-erases v _ W
   put-node-erases n Empty = constant-erases v _ W
   put-node-erases n (Number m) = constant-erases v _ W
+  put-node-erases n (Wide m) = constant-erases v _ W
   put-node-erases n (Front a b) = asked 51 _ _ λ c. both-erases _ _ _ _
   put-node-erases n (Pair a b) = asked 51 _ _ λ c. both-erases _ _ _ _
   put-node-erases n (ListCase s e te m tn df dr) = erases-bind _ (gets s μ) λ o. asked 43 _ _ λ l. erases-list (l .0)

@@ -6,10 +6,10 @@ use mathlib.Core.Option.{Option, none, some}
 use mathlib.Core.List.{List, [], _∷_, _++_}
 use Prim.Native.Nat.{ℕ, _+_, _-_, _≤_}
 use lib.ListN.{getD, set, getElem?}
-use Rattle.value.specs.Value.{Value, Values, vfalse, vtrue, list, number, pair, nil, cons}
+use Rattle.value.specs.Value.{Value, Values, vfalse, vtrue, list, number, wide, pair, nil, cons}
 use Rattle.value.specs.Tests.{Passes}
 use Rattle.sheet.specs.declared.Node.{Node}
-use Rattle.sheet.specs.declared.Node.the-variants.{Var, False, True, Empty, Number, Front, Pair, ListCase, TruthCase, Split, Call, Add, Each}
+use Rattle.sheet.specs.declared.Node.the-variants.{Var, False, True, Empty, Number, Front, Pair, ListCase, TruthCase, Split, Call, Add, Each, Wide}
 use Rattle.sheet.specs.Sheet.{Sheet}
 use Rattle.rules.specs.Rules.{Env, two, pick, restOf, orOld}
 use Rattle.rules.specs.Related.{All2}
@@ -101,6 +101,7 @@ expr False = const vfalse
 expr True = const vtrue
 expr Empty = const (list nil)
 expr (Number n) = const (number n)  -- (an extension)
+expr (Wide n) = const (wide n)  -- (an extension)
 expr (Front a b) = front a b
 expr (Pair a b) = couple a b
 expr (ListCase s e te n tn df dr) = case s (plain pEmpty e te) (opened n tn df dr)

@@ -6,12 +6,12 @@ use mathlib.Core.List.{[], _++_, append-nil}
 use Prim.Native.Nat.{ℕ, zero, suc, _+_, _≤_}
 use native.Mathlib.Omega.{arith}
 use lib.ListN.{getD}
-use Rattle.value.specs.Value.{Value, Values, vfalse, vtrue, list, number, pair, nil, cons, size, truth}
+use Rattle.value.specs.Value.{Value, Values, vfalse, vtrue, list, number, wide, pair, nil, cons, size, truth}
 use Rattle.value.specs.Encoding.{size-pos}
 use Rattle.value.specs.Views.{asList, asPair, asTruth}
 use Rattle.value.specs.Tests.{Passes}
 use Rattle.sheet.specs.declared.Node.{Node}
-use Rattle.sheet.specs.declared.Node.the-variants.{Var, False, True, Empty, Number, Front, Pair, ListCase, TruthCase, Split, Call, Add, Each}
+use Rattle.sheet.specs.declared.Node.the-variants.{Var, False, True, Empty, Number, Front, Pair, ListCase, TruthCase, Split, Call, Add, Each, Wide}
 use Rattle.sheet.specs.Sheet.{Sheet}
 use Rattle.rules.specs.Outcome.{Out, done}
 use Rattle.rules.specs.Allowance.{within}
@@ -95,6 +95,7 @@ module _ (sh : Sheet) (g : Getter) (ih : GetsSoundly sh g) where
   get-node-sound True μ = fine g-const
   get-node-sound Empty μ = fine g-const
   get-node-sound (Number n) μ = fine g-const
+  get-node-sound (Wide n) μ = fine g-const
   get-node-sound (Front a b) μ = after-bind (ih a μ) λ f s _ df. after-bind (ih b μ) λ r t _ dr. after-given _ λ l _. after-given _ λ _ _.
       fine (g-cons df (rw (l .1) at dr))
   get-node-sound (Pair a b) μ = after-bind (ih a μ) λ f s _ df. after-bind (ih b μ) λ r t _ dr. after-given _ λ _ _. fine (g-pair df dr)
@@ -154,6 +155,7 @@ module _ {l a : ℕ} (sh : Sheet) (g : Getter) (ih : GetsAll l a sh g) where
   get-node-complete True μ v g-const = reach refl
   get-node-complete Empty μ v g-const = reach refl
   get-node-complete (Number n) μ v g-const = reach refl
+  get-node-complete (Wide n) μ v g-const = reach refl
   get-node-complete (Front a b) μ v (g-cons df dr) = comes-bind _ (ih a μ _ df) (comes-bind _ (ih b μ _ dr) (up-given _ _ refl (bounded-all _)))
   get-node-complete (Pair a b) μ v (g-pair df dr) = comes-bind _ (ih a μ _ df) (comes-bind _ (ih b μ _ dr) (bounded-all _))
   get-node-complete (ListCase s e te n tn df dr) μ v (g-case i ds m d p) = go i _ _ ds m d p
@@ -202,6 +204,7 @@ shape vtrue = pTrue
 shape (list nil) = pEmpty
 shape (list (cons f r)) = pFront
 shape (number n) = pPair
+shape (wide n) = pPair
 shape (pair a b) = pPair
 
 match-shape : {p : Pattern} {v : Value} {μ : Env} → Match p v μ → shape v ≡ p
@@ -240,6 +243,7 @@ fair False = tt
 fair True = tt
 fair Empty = tt
 fair (Number n) = tt
+fair (Wide n) = tt
 fair (Front a b) = tt
 fair (Pair a b) = tt
 fair (ListCase s e te n tn df dr) = apart-of (plain pEmpty e te) (opened n tn df dr) λ h. let z : _≡_ {A = ℕ} 0 1 = cc in omega arith

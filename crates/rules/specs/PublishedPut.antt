@@ -6,12 +6,12 @@ use mathlib.Core.List.{List, [], _∷_, _++_, append-nil}
 use Prim.Native.Nat.{ℕ, zero, suc, _+_, _-_, _≤_}
 use native.Mathlib.Omega.{arith}
 use lib.ListN.{length, getD, take, getElem?}
-use Rattle.value.specs.Value.{Value, Values, vfalse, vtrue, list, number, pair, nil, cons, size, truth}
+use Rattle.value.specs.Value.{Value, Values, vfalse, vtrue, list, number, wide, pair, nil, cons, size, truth}
 use Rattle.value.specs.Views.{asList, asFront, asPair, asTruth}
 use Rattle.value.specs.Encoding.{size-pos}
 use Rattle.value.specs.Tests.{Passes, passes}
 use Rattle.sheet.specs.declared.Node.{Node}
-use Rattle.sheet.specs.declared.Node.the-variants.{Var, False, True, Empty, Number, Front, Pair, ListCase, TruthCase, Split, Call, Add, Each}
+use Rattle.sheet.specs.declared.Node.the-variants.{Var, False, True, Empty, Number, Front, Pair, ListCase, TruthCase, Split, Call, Add, Each, Wide}
 use Rattle.sheet.specs.Sheet.{Sheet}
 use Rattle.rules.specs.Outcome.{Out, done, _>>=_, choose}
 use Rattle.rules.specs.Allowance.{within}
@@ -345,6 +345,7 @@ module _ (sh : Sheet) (g : Getter) (gets : GetsSoundly sh g) (p : Putter) (ih : 
   put-node-sound True = constant-sound vtrue
   put-node-sound Empty = constant-sound (list nil)
   put-node-sound (Number n) = constant-sound (number n)
+  put-node-sound (Wide n) = constant-sound (wide n)
   put-node-sound (Front a b) = after-given _ λ c _. after-map (both-sound a b _ _) λ X s t. written-front (c .0) (c .1) (c .2) t
   put-node-sound (Pair a b) = after-given _ λ c _. after-map (both-sound a b _ _) λ X s t. written-pair (c .0) (c .1) (c .2) t
   put-node-sound (ListCase s e te n tn df dr) = after-bind (gets s μ) λ o i _ ds. after-given _ λ l _. after-list (l .0)
@@ -538,6 +539,7 @@ module _ {l a : ℕ} (sh : Sheet) (g : Getter) (gets : GetsAll l a sh g) (p : Pu
   put-node-complete True v p-const h = constant-all _
   put-node-complete Empty v p-const h = constant-all _
   put-node-complete (Number n) v p-const h = constant-all _
+  put-node-complete (Wide n) v p-const h = constant-all _
   put-node-complete (Front a b) v (p-cons d₁ d₂ m) h = up-given _ _ refl (both-all a b _ _ _ _ _ (first-all a _ refl refl d₁ (seen-left m h)) d₂ m h)
   put-node-complete (Pair a b) v (p-pair d₁ d₂ m) h = up-given _ _ refl (both-all a b _ _ _ _ _ (first-all a _ refl refl d₁ (seen-left m h)) d₂ m h)
   put-node-complete (ListCase s e te n tn df dr) v {ω} rel h = by-case (Puts (ListCase s e te n tn df dr) v ω) rel stay switch

@@ -1,9 +1,10 @@
--- Whatever a walk gets or writes can be read back (at most 256 bytes, every number one that two bytes hold), if the plan and the view could be read.
+-- Whatever a walk gets or writes can be read back (at most 256 bytes, every number one that the bytes of its kind hold), if the plan and the view
+-- could be read.
 use mathlib.Core.Path.{_≡_, refl}
 use mathlib.Core.Bool.{Bool, true, false, not}
 use mathlib.Core.Option.{Option, none, some, Option·none-ne-some, Option·some-injective, map-eq-some-iff}
 use mathlib.Core.List.{List, [], _++_}
-use Prim.Native.Nat.{ℕ, zero, suc, _+_, _-_, _≤_}
+use Prim.Native.Nat.{ℕ, zero, suc, _+_, _-_, _≤_, _<_}
 use native.Mathlib.Omega.{arith}
 use lib.ListN.{getD, take, set, getElem?, length}
 use Rattle.value.specs.All.{All, none, each}
@@ -14,6 +15,7 @@ use Rattle.value.specs.Value.{
   vtrue,
   list,
   number,
+  wide,
   pair,
   nil,
   cons,
@@ -25,13 +27,14 @@ use Rattle.value.specs.Value.{
   eTrue,
   eList,
   eNumber,
+  eWide,
   ePair,
   eNil,
 }
 use Rattle.value.specs.Laws.{Readable, readable-front, readable-pair, encodable-front}
 use Rattle.value.specs.Views.{asList}
 use Rattle.sheet.specs.declared.Node.{Node}
-use Rattle.sheet.specs.declared.Node.the-variants.{Var, False, True, Empty, Number, Front, Pair, ListCase, TruthCase, Split, Call, Add, Each}
+use Rattle.sheet.specs.declared.Node.the-variants.{Var, False, True, Empty, Number, Front, Pair, ListCase, TruthCase, Split, Call, Add, Each, Wide}
 use Rattle.sheet.specs.Sheet.{Sheet}
 use Rattle.rules.specs.Outcome.{Out}
 use Rattle.rules.specs.Text
@@ -105,6 +108,14 @@ pub number-readable : {n : ℕ} → n ≤ 65535 → Readable (number n)
 unfolding size
 number-readable h = record { fits = omega arith; encodable = eNumber h }
 
+-- a wide one that four bytes hold
+abbrev pub WideFits : ℕ → Type 0
+WideFits n = (65535 < n) × (n ≤ 4294967295)
+
+pub wide-readable : {n : ℕ} → WideFits n → Readable (wide n)
+unfolding size
+wide-readable h = record { fits = omega arith; encodable = eWide (h .0) (omega (arith, h .1)) }
+
 front-readable : {v : Value} {l : Values} → Readable v → Readable (list l) → Fits (list (cons v l)) → Readable (list (cons v l))
 front-readable g h z = record { fits = z; encodable = encodable-front (g .encodable) (h .encodable) }
 
@@ -148,7 +159,7 @@ rest-readable {l = cons m r} h = readable-front h .1
 
 -- the numbers of a sheet's constants
 abbrev pub NumberFits : Node → Type 0
-NumberFits nd = (n : ℕ) → nd ≡ Number n → n ≤ 65535
+NumberFits nd = ((n : ℕ) → nd ≡ Number n → n ≤ 65535) × ((n : ℕ) → nd ≡ Wide n → WideFits n)
 
 abbrev pub NumbersFit : Sheet → Type 0
 NumbersFit sh = (i : ℕ) → NumberFits (getD (sh .nodes) i False)
@@ -174,7 +185,8 @@ module _ (g : Getter) (ih : GetsReadable g) (sh : Sheet) where
   get-node-readable False nf μ ok = fine (truth-readable false)
   get-node-readable True nf μ ok = fine (truth-readable true)
   get-node-readable Empty nf μ ok = fine nil-readable
-  get-node-readable (Number n) nf μ ok = fine (number-readable (nf n refl))
+  get-node-readable (Number n) nf μ ok = fine (number-readable (nf .0 n refl))
+  get-node-readable (Wide n) nf μ ok = fine (wide-readable (nf .1 n refl))
   get-node-readable (Front a b) nf μ ok = after-bind (ih a μ ok) λ f s _ gf. after-bind (ih b μ ok) λ r t _ gr. after-given _ λ l _. after-given _ λ z _.
       fine (front-readable gf (rw (l .1) at gr) z)
   get-node-readable (Pair a b) nf μ ok = after-bind (ih a μ ok) λ f s _ gf. after-bind (ih b μ ok) λ r t _ gr. after-given _ λ z _. fine (pair-readable gf gr z)
@@ -248,6 +260,7 @@ module _ (g : Getter) (gets : GetsReadable g) (p : Putter) (ih : PutsReadable p)
   put-node-readable True = constant-readable vtrue
   put-node-readable Empty = constant-readable (list nil)
   put-node-readable (Number n) = constant-readable (number n)
+  put-node-readable (Wide n) = constant-readable (wide n)
   put-node-readable (Front a b) = after-given _ λ c _. let gc : Readable (list (cons (c .0) (c .1))) = rw (c .2) at gv in both-readable a b _ _
       (readable-front gc .0) (readable-front gc .1)
   put-node-readable (Pair a b) = after-given _ λ c _. let gc : Readable (pair (c .0) (c .1)) = rw (c .2) at gv in both-readable a b _ _ (readable-pair gc .0)

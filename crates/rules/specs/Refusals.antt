@@ -12,7 +12,7 @@ use Rattle.value.specs.Result.{Result, ok, refusal, andThen, mapResult, orRefus
 use Rattle.value.specs.Value.{Value, Values, nil, cons, size}
 use Rattle.value.specs.Reading.{Found, whole, malformed, tooLong, nothing, aValue, value, readValue, onValue, readValues}
 use Rattle.sheet.specs.declared.Node.{Node}
-use Rattle.sheet.specs.declared.Node.the-variants.{Var, False, True, Empty, Number, Front, Pair, ListCase, TruthCase, Split, Call, Add, Each}
+use Rattle.sheet.specs.declared.Node.the-variants.{Var, False, True, Empty, Number, Front, Pair, ListCase, TruthCase, Split, Call, Add, Each, Wide}
 use Rattle.sheet.specs.Sheet.{Sheet, readNodes, oneSection, ifSection, readRecords, Records, withNodes, readBody, readHeader, readSheet}
 use Rattle.sheet.specs.Kinds.{formOf}
 use Rattle.rules.specs.Numbers.{LEVELS, ALLOWANCE, SCRATCH, GET-OUTPUT, PUT-OUTPUT}
@@ -209,6 +209,7 @@ module _ (g : Getter) (gets : (n : ℕ) (μ : Env) → Lists (g n μ)) (sh : She
   lists-get-node True μ = lDone
   lists-get-node Empty μ = lDone
   lists-get-node (Number n) μ = lDone
+  lists-get-node (Wide n) μ = lDone
   lists-get-node (Front a b) μ = lists-bind _ (gets a μ) λ f. lists-bind _ (gets b μ) λ r. lists-given 43 _ _ refl λ _. lists-given 44 _ _ refl λ _. lDone
   lists-get-node (Pair a b) μ = lists-bind _ (gets a μ) λ f. lists-bind _ (gets b μ) λ r. lists-given 44 _ _ refl λ _. lDone
   lists-get-node (ListCase s e te n tn df dr) μ = lists-bind _ (gets s μ) λ v. lists-given 43 _ _ refl λ l.
@@ -259,6 +260,7 @@ module _ (g : Getter) (gets : (n : ℕ) (μ : Env) → Lists (g n μ)) (p : Putt
   lists-put-node True = lists-constant _
   lists-put-node Empty = lists-constant _
   lists-put-node (Number n) = lists-constant _
+  lists-put-node (Wide n) = lists-constant _
   lists-put-node (Front a b) = lists-given 51 _ _ refl λ c. lists-both a b _ _
   lists-put-node (Pair a b) = lists-given 51 _ _ refl λ c. lists-both a b _ _
   lists-put-node (ListCase s e te n tn df dr) = lists-bind _ (gets s μ) λ o. lists-given 43 _ _ refl λ l. lists-list (l .0)

@@ -11,7 +11,7 @@ use Rattle.value.specs.Value.{Value, Values, vfalse, list, nil, cons, size, enc
 use Rattle.value.specs.Reading.{readPlan, readView}
 use Rattle.value.specs.Laws.{readValues-sound}
 use Rattle.sheet.specs.declared.Node.{Node}
-use Rattle.sheet.specs.declared.Node.the-variants.{Var, False, True, Empty, Number, Front, Pair, ListCase, TruthCase, Split, Call, Add, Each}
+use Rattle.sheet.specs.declared.Node.the-variants.{Var, False, True, Empty, Number, Front, Pair, ListCase, TruthCase, Split, Call, Add, Each, Wide}
 use Rattle.sheet.specs.Sheet.{Sheet, readSheet}
 use Rattle.sheet.specs.Laws.{sheet-ranges}
 use Rattle.rules.specs.Numbers.{LEVELS}
@@ -91,6 +91,7 @@ module _ {k : ℕ} {g h : Getter} (same : SameGets k g h) (sh : Sheet) where
   get-ext True μ z = refl
   get-ext Empty μ z = refl
   get-ext (Number n) μ z = refl
+  get-ext (Wide n) μ z = refl
   get-ext (Front a b) μ z = bind-ext (same a μ (omega arith)) λ f. bind-ext (same b μ (omega arith)) λ r. refl
   get-ext (Pair a b) μ z = bind-ext (same a μ (omega arith)) λ f. bind-ext (same b μ (omega arith)) λ r. refl
   get-ext (ListCase s e te n tn df dr) μ z = bind-ext (same s μ (omega arith)) λ v. given-ext _ _ λ l.
@@ -138,6 +139,7 @@ module _ {k : ℕ} {g h : Getter} {p q : Putter} (gets : SameGets k g h) (same :
   put-ext True = refl
   put-ext Empty = refl
   put-ext (Number n) = refl
+  put-ext (Wide n) = refl
   put-ext (Front a b) = given-ext _ _ λ c. both-ext a b _ _
   put-ext (Pair a b) = given-ext _ _ λ c. both-ext a b _ _
   put-ext (ListCase s e te n tn df dr) = bind-ext (gets s μ (omega arith)) λ o. given-ext _ _ λ l. list-ext (l .0)

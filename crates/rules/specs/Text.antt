@@ -6,11 +6,11 @@ use mathlib.Core.List.{List, [], _∷_, _++_}
 use Prim.Native.Nat.{ℕ, zero, suc, _+_, _-_}
 use native.Mathlib.Decide.{decLe}
 use lib.ListN.{length, getD, take, set, getElem?}
-use Rattle.value.specs.Value.{Value, Values, vfalse, vtrue, list, number, pair, nil, cons, size, sameValue, truth}
+use Rattle.value.specs.Value.{Value, Values, vfalse, vtrue, list, number, wide, pair, nil, cons, size, sameValue, truth}
 use Rattle.value.specs.Views.{asList, asFront, asPair, asNumber, asTruth}
 use Rattle.value.specs.Tests.{passes}
 use Rattle.sheet.specs.declared.Node.{Node}
-use Rattle.sheet.specs.declared.Node.the-variants.{Var, False, True, Empty, Number, Front, Pair, ListCase, TruthCase, Split, Call, Add, Each}
+use Rattle.sheet.specs.declared.Node.the-variants.{Var, False, True, Empty, Number, Front, Pair, ListCase, TruthCase, Split, Call, Add, Each, Wide}
 use Rattle.sheet.specs.Sheet.{Sheet}
 use Rattle.rules.specs.Outcome.{when}
 
@@ -96,6 +96,7 @@ module _ (R : Reading) where
   getNode g sh True μ = give vtrue
   getNode g sh Empty μ = give (list nil)
   getNode g sh (Number n) μ = give (number n)
+  getNode g sh (Wide n) μ = give (wide n)
   getNode g sh (Front a b) μ = g a μ >>= λ f. g b μ >>= λ r. given 43 (asList r) λ l. bounded (list (cons f (l .0)))
   getNode g sh (Pair a b) μ = g a μ >>= λ u. g b μ >>= λ v. bounded (pair u v)
   getNode g sh (ListCase s e te n tn df dr) μ =
@@ -165,6 +166,7 @@ module _ (R : Reading) where
   putNode new g p sh True μ σ v W = constant v vtrue W
   putNode new g p sh Empty μ σ v W = constant v (list nil) W
   putNode new g p sh (Number n) μ σ v W = constant v (number n) W
+  putNode new g p sh (Wide n) μ σ v W = constant v (wide n) W
   putNode new g p sh (Front a b) μ σ v W = given 51 (asFront v) λ c. both p μ σ W a (c .0) b (list (c .1))
   putNode new g p sh (Pair a b) μ σ v W = given 51 (asPair v) λ c. both p μ σ W a (c .0) b (c .1)
   putNode new g p sh (ListCase s e te n tn df dr) μ σ v W =

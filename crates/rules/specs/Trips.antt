@@ -14,7 +14,7 @@ use Rattle.value.specs.Value.{Value, vfalse, encode, flat, Fits}
 use Rattle.value.specs.Reading.{readPlan, readView}
 use Rattle.value.specs.Encoding.{size-encode}
 use Rattle.value.specs.Laws.{Readable, readValues-sound, readValues-back}
-use Rattle.sheet.specs.declared.Node.the-variants.{False}
+use Rattle.sheet.specs.declared.Node.the-variants.{False, Number, Wide}
 use Rattle.sheet.specs.Sheet.{Sheet, readSheet}
 use Rattle.sheet.specs.Laws.{sheet-ranges}
 use Rattle.rules.specs.Numbers.{LEVELS, ALLOWANCE, FACTOR, SCRATCH, GET-OUTPUT, PUT-OUTPUT}
@@ -25,7 +25,7 @@ use Rattle.rules.specs.Answer.{success, getAnswer, count, newPlan, putAn
 use Rattle.rules.specs.Related.{All2, ends, more, all2-length}
 use Rattle.rules.specs.OutcomeLaws.{after-at, after-out, gives-out}
 use Rattle.rules.specs.AnswerLaws.{Got, PutBack, get-shows, get-answers, put-shows, put-answers}
-use Rattle.rules.specs.Readable.{ReadableCell, blank, old-readable, NumbersFit, get-readable, put-readable}
+use Rattle.rules.specs.Readable.{ReadableCell, blank, old-readable, WideFits, NumbersFit, get-readable, put-readable}
 use Rattle.rules.specs.Consistency.{Reads, or-new, lawful}
 use Rattle.rules.specs.Acceptability.{Old, Keeps, free, stable, or-old}
 
@@ -93,16 +93,20 @@ steps-pos (suc l) sh n μ {v} {s} e = go (getNode (get l sh) sh (getD (sh .nodes
     go (done a t) e = let h : 1 + t ≡ s = cc in omega arith
     go (refused c t) e = let z : _≡_ {A = ℕ} 0 1 = cc in absurd (omega arith)
 
--- a sheet's constants are numbers that two bytes hold
+-- a sheet's constants are numbers that the bytes of their kind hold
 numbers-fit : (bs : List ℕ) (sh : Sheet) → readSheet bs ≡ ok sh → NumbersFit sh
-numbers-fit bs sh e i n q = go (decLt i (length (sh .nodes)))
+numbers-fit bs sh e i = (λ n q. small n q (decLt i (length (sh .nodes))), λ n q. large n q (decLt i (length (sh .nodes))))
   where
-    go : Dec (i < length (sh .nodes)) → n ≤ 65535
-    go (yes h) = rw q at (sheet-ranges bs e .node i h) .0
-    go (no h) =
-        let d : getD (sh .nodes) i False ≡ False = List·getD-eq-default (sh .nodes) False (omega arith) in
-        let z : _≡_ {A = ℕ} 0 1 = cc in
-        absurd (omega arith)
+    none-there : (i < length (sh .nodes) → ⊥) → getD (sh .nodes) i False ≡ False
+    none-there h = List·getD-eq-default (sh .nodes) False (omega arith)
+
+    small : (n : ℕ) → getD (sh .nodes) i False ≡ Number n → Dec (i < length (sh .nodes)) → n ≤ 65535
+    small n q (yes h) = rw q at (sheet-ranges bs e .node i h) .0
+    small n q (no h) = let d = none-there h in let z : _≡_ {A = ℕ} 0 1 = cc in absurd (omega arith)
+
+    large : (n : ℕ) → getD (sh .nodes) i False ≡ Wide n → Dec (i < length (sh .nodes)) → WideFits n
+    large n q (yes h) = rw q at (sheet-ranges bs e .node i h) .0
+    large n q (no h) = let d = none-there h in let z : _≡_ {A = ℕ} 0 1 = cc in absurd (omega arith)
 
 -- one value and its bytes
 one-value : (vs : List Value) → length vs ≡ 1 → All Readable vs → (flat vs ≡ encode (getD vs 0 vfalse)) × Readable (getD vs 0 vfalse)

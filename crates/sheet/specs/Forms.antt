@@ -15,7 +15,7 @@ use Rattle.sheet.specs.Kinds.{Role, Field, _of_, Row, _is_, row, Form, f
 use Rattle.sheet.specs.Kinds.{roles, values, valuesOf, size, sizes, bodyWidth, make, width}
 use Rattle.sheet.specs.Table.{nodeOf, ofForm, ifWhole, formWidth, kindWidth}
 use Rattle.sheet.specs.declared.Node.{Node}
-use Rattle.sheet.specs.declared.Node.the-variants.{Var, False, True, Empty, Number, Front, Pair, ListCase, TruthCase, Split, Call, Add, Each}
+use Rattle.sheet.specs.declared.Node.the-variants.{Var, False, True, Empty, Number, Front, Pair, ListCase, TruthCase, Split, Call, Add, Each, Wide}
 
 -- P at every entry of a list, and its place, counted from i
 abbrev pub AllFrom : {A : Type 0} → (ℕ → A → Type 0) → ℕ → List A → Type 0
@@ -75,6 +75,7 @@ all-told = behind 16 0 forms
     and told (λ v. refl) refl tt
     and told (λ v. refl) refl tt
     and told (λ v. refl) refl tt
+    and told (λ v. refl) refl tt
     and tt)
 
 pub form-told : (b : ℕ) {f : Form} → formOf b ≡ some f → Told b f
@@ -106,6 +107,7 @@ built (Split s i) = by-row refl refl refl
 built (Call c x y) = by-row refl refl refl
 built (Add n a) = by-row refl refl refl
 built (Each s c x d) = by-row refl refl refl
+built (Wide n) = by-row refl refl refl
 
 -- a byte below 10 or behind the last is no node's kind
 pub no-form : (b : ℕ) → (b < 16) ⊎ (past ≤ b) → formOf b ≡ none

@@ -7,15 +7,16 @@ use Prim.Native.Nat.{ℕ, zero, suc, _+_, _*_, _/_, _%_}
 use lib.Dec.{leb, ltb, eqb}
 use lib.ListN.{getD, replicate}
 use Rattle.sheet.specs.declared.Node.{Node}
-use Rattle.sheet.specs.declared.Node.the-variants.{Var, False, True, Empty, Number, Front, Pair, ListCase, TruthCase, Split, Call, Add, Each}
+use Rattle.sheet.specs.declared.Node.the-variants.{Var, False, True, Empty, Number, Front, Pair, ListCase, TruthCase, Split, Call, Add, Each, Wide}
 
--- what a field of a body is: one byte, and a number two, the high byte first
+-- what a field of a body is: one byte, and a number two or, where it is a wide one, four, the high byte first
 pub data Role : Type 0 where
   aNode : Role
   aSection : Role
   aVariable : Role
   aTest : Role
   aNumber : Role
+  aWide : Role
 
 pub record Field : Type 0 where
   pub role : Role
@@ -48,6 +49,9 @@ test v = aTest of v
 abbrev pub number : ℕ → Field
 number v = aNumber of v
 
+abbrev pub wide : ℕ → Field
+wide v = aWide of v
+
 -- THE ROWS
 abbrev pub row : Node → Row
 row (Var x) = 0x10 is (variable x ∷ [])
@@ -63,6 +67,7 @@ row (Split s i) = 0x19 is (node s ∷ node i ∷ [])
 row (Call c x y) = 0x1A is (section c ∷ variable x ∷ variable y ∷ [])
 row (Add n a) = 0x1B is (node n ∷ number a ∷ [])
 row (Each s c x d) = 0x1C is (node s ∷ section c ∷ variable x ∷ node d ∷ [])
+row (Wide n) = 0x1D is (wide n ∷ [])
 
 -- a node for each choice of n values
 abbrev pub Maker : ℕ → Type 0
@@ -76,15 +81,15 @@ pub record Form : Type 0 where
 abbrev pub form : (n : ℕ) → Maker n → Option Form
 form n m = some (record { fields = n; maker = m })
 
--- the constructors with the number of their fields, kinds 10 to 1C in order
+-- the constructors with the number of their fields, kinds 10 to 1D in order
 abbrev pub forms : List (Option Form)
 forms =
     form 1 Var ∷ form 0 False ∷ form 0 True ∷ form 0 Empty ∷ form 1 Number ∷ form 2 Front ∷ form 2 Pair
-    ∷ form 7 ListCase ∷ form 5 TruthCase ∷ form 2 Split ∷ form 3 Call ∷ form 2 Add ∷ form 4 Each ∷ []
+    ∷ form 7 ListCase ∷ form 5 TruthCase ∷ form 2 Split ∷ form 3 Call ∷ form 2 Add ∷ form 4 Each ∷ form 1 Wide ∷ []
 
 -- the first byte behind them
 abbrev pub past : ℕ
-past = 0x1D
+past = 0x1E
 
 -- the form of a kind byte: of a known one it computes, and `formOf` is the same, shut
 abbrev pub formAt : ℕ → Option Form
@@ -102,6 +107,7 @@ size aSection = 1
 size aVariable = 1
 size aTest = 1
 size aNumber = 2
+size aWide = 4
 
 abbrev pub valueOf : Role → (ℕ → ℕ) → ℕ
 valueOf aNode b = b 0
@@ -109,6 +115,7 @@ valueOf aSection b = b 0
 valueOf aVariable b = b 0
 valueOf aTest b = b 0
 valueOf aNumber b = 256 * b 0 + b 1
+valueOf aWide b = 256 * (256 * (256 * b 0 + b 1) + b 2) + b 3
 
 abbrev pub bytesOf : Role → ℕ → List ℕ
 bytesOf aNode v = v ∷ []
@@ -116,6 +123,7 @@ bytesOf aSection v = v ∷ []
 bytesOf aVariable v = v ∷ []
 bytesOf aTest v = v ∷ []
 bytesOf aNumber v = v / 256 ∷ v % 256 ∷ []
+bytesOf aWide v = v / 256 / 256 / 256 ∷ v / 256 / 256 % 256 ∷ v / 256 % 256 ∷ v % 256 ∷ []
 
 abbrev pub sizes : List Role → ℕ
 sizes [] = 0
@@ -168,6 +176,7 @@ place aSection = 1
 place aVariable = 2
 place aTest = 3
 place aNumber = 4
+place aWide = 5
 
 abbrev pub keep : Bool → ℕ → List ℕ → List ℕ
 keep true v vs = v ∷ vs
@@ -194,6 +203,7 @@ module _ (φ ψ : ℕ → ℕ) where
   anew aVariable v = v
   anew aTest v = v
   anew aNumber v = v
+  anew aWide v = v
 
   abbrev pub fieldAnew : Field → Field
   fieldAnew f = f .role of anew (f .role) (f .value)
@@ -213,6 +223,7 @@ module _ (nodes sections : ℕ) where
   fits own aVariable v = true
   fits own aTest v = leb v 6
   fits own aNumber v = leb v 65535  -- (two bytes hold no other)
+  fits own aWide v = ltb 65535 v && leb v 4294967295  -- (four bytes hold none above)
 
   abbrev pub allFit : ℕ → List Field → Bool
   allFit own [] = true

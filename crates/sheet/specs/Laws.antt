@@ -14,7 +14,8 @@ use mathlib.Core.Option.{none, some}
 use native.Mathlib.Decide.{decLt}
 use Rattle.sheet.specs.Forms.{no-form}
 use Rattle.sheet.specs.Sheet.{Sheet, nodesInRange, rootsInRange, inRange, readSheet}
-use Rattle.sheet.specs.Kinds.{Role, aNode, aSection, aVariable, aTest, aNumber, Field, row, Form, past, formOf, make, width, fits, allFit, nodeInRange}
+use Rattle.sheet.specs.Kinds.{Role, aNode, aSection, aVariable, aTest, aNumber, aWide, Field, row, Form, past}
+use Rattle.sheet.specs.Kinds.{formOf, make, width, fits, allFit, nodeInRange}
 use Rattle.sheet.specs.Table.{offsets, firstNode, nodeAt, sectionAt, tableOf}
 use Rattle.sheet.specs.Reading.{Fine, fine, refused, fine-ok, Made, placed-at, made-at, rooted-at, HeaderRead, SheetRead, sheet-fine}
 use Rattle.sheet.specs.declared.Node.{Node}
@@ -82,6 +83,7 @@ module _ (nodes sections own : ℕ) where
   Fits aVariable v = Unit
   Fits aTest v = v ≤ 6
   Fits aNumber v = v ≤ 65535
+  Fits aWide v = (65535 < v) × (v ≤ 4294967295)
 
   abbrev pub AllFit : List Field → Type 0
   AllFit [] = Unit
@@ -99,6 +101,9 @@ module _ (nodes sections own : ℕ) where
   in-role aVariable v e = tt
   in-role aTest v e = leb-true v 6 e
   in-role aNumber v e = leb-true v 65535 e
+  in-role aWide v e =
+      let p = and-true (ltb 65535 v) (leb v 4294967295) e in
+      (ltb-true 65535 v (p .0), leb-true v 4294967295 (p .1))
 
   all-in : (fs : List Field) → allFit nodes sections own fs ≡ true → AllFit fs
   all-in [] e = tt

@@ -4,7 +4,7 @@ use mathlib.Core.Bool.{Bool, true, false}
 use mathlib.Core.Logic.{inl, inr}
 use mathlib.Core.Option.{Option, none, some}
 use mathlib.Core.List.{List, [], _∷_, _++_, map, append-assoc}
-use Prim.Native.Nat.{ℕ, zero, suc, _+_, _≤_, _<_}
+use Prim.Native.Nat.{ℕ, zero, suc, _+_, _≤_, _<_, _/_, _%_}
 use native.Mathlib.Nat.{div-add-mod, mod-lt, div-lt-iff-lt-mul}
 use native.Mathlib.Omega.{arith}
 use native.Mathlib.Decide.{decLt}
@@ -13,7 +13,7 @@ use lib.ListN.{length, getD, drop, length-append}
 use lib.Seq.{getD-append-add, drop-at}
 use borrow.Author.Tests.{le-leb, lt-ltb, eqb-true, ne-eqb}
 use Rattle.value.specs.Result.{ok, andThen, mapResult, orRefuse, unless}
-use Rattle.sheet.specs.Kinds.{Role, aNode, aSection, aVariable, aTest, aNumber, Field, _of_, Row, _is_, row, Form, past, formOf, made, rolesOf}
+use Rattle.sheet.specs.Kinds.{Role, aNode, aSection, aVariable, aTest, aNumber, aWide, Field, _of_, Row, _is_, row, Form, past, formOf, made, rolesOf}
 use Rattle.sheet.specs.Kinds.{roles, values, valueOf, valuesOf, size, sizes, bytesOf, bodyBytes, bodyWidth, make, width, written}
 use Rattle.sheet.specs.Kinds.{place, keep, pick, children, calls, variables, anew, fieldAnew, ofKind, renumber, fits, allFit, nodeInRange}
 use Rattle.sheet.specs.Sheet.{Sheet, Records, readNodes, oneSection, ifSection, readRecords, withNodes, readBody, inRange, readHeader, readSheet}
@@ -75,7 +75,7 @@ same-row n m e = sym (as-kind n) ∙ ap (λ (r : Row). ofKind (formOf (r .kind))
 -- A role by its place
 
 roleAt : ℕ → Role
-roleAt i = getD (aNode ∷ aSection ∷ aVariable ∷ aTest ∷ aNumber ∷ []) i aNode
+roleAt i = getD (aNode ∷ aSection ∷ aVariable ∷ aTest ∷ aNumber ∷ aWide ∷ []) i aNode
 
 role-at : (r : Role) → roleAt (place r) ≡ r
 unfolding roleAt
@@ -84,6 +84,7 @@ role-at aSection = refl
 role-at aVariable = refl
 role-at aTest = refl
 role-at aNumber = refl
+role-at aWide = refl
 
 same-role : (q r : Role) → eqb (place q) (place r) ≡ true → q ≡ r
 same-role q r e = sym (role-at q) ∙ ap roleAt (eqb-true (place q) (place r) e) ∙ role-at r
@@ -156,6 +157,7 @@ module _ (φ ψ : ℕ → ℕ) where
     role-anew aVariable v fs h s = (tt, s)
     role-anew aTest v fs h s = (h, s)
     role-anew aNumber v fs h s = (h, s)
+    role-anew aWide v fs h s = (h, s)
 
     all-anew : (fs : List Field) → AllFit nodes sections own fs → Sent fs → AllFit nodes′ sections′ own′ (map (fieldAnew φ ψ) fs)
     all-anew [] h s = tt
@@ -179,6 +181,7 @@ module _ (φ ψ φ′ ψ′ : ℕ → ℕ) where
   role-agrees aVariable v fs h = (refl, h)
   role-agrees aTest v fs h = (refl, h)
   role-agrees aNumber v fs h = (refl, h)
+  role-agrees aWide v fs h = (refl, h)
 
   fields-agree : (fs : List Field) → Agree fs → map (fieldAnew φ ψ) fs ≡ map (fieldAnew φ′ ψ′) fs
   fields-agree [] h = refl
@@ -197,6 +200,7 @@ module _ (φ ψ φ′ ψ′ : ℕ → ℕ) where
   role-twice aVariable v = refl
   role-twice aTest v = refl
   role-twice aNumber v = refl
+  role-twice aWide v = refl
 
   fields-twice : (fs : List Field) → map (fieldAnew φ′ ψ′) (map (fieldAnew φ ψ) fs) ≡ map (fieldAnew (λ x. φ′ (φ x)) (λ x. ψ′ (ψ x))) fs
   fields-twice [] = refl
@@ -219,6 +223,7 @@ role-still aSection v = refl
 role-still aVariable v = refl
 role-still aTest v = refl
 role-still aNumber v = refl
+role-still aWide v = refl
 
 fields-still : (fs : List Field) → map (fieldAnew (λ x. x) (λ x. x)) fs ≡ fs
 fields-still [] = refl
@@ -261,6 +266,7 @@ module _ (nodes sections own : ℕ) where
   role-fits aVariable v h = refl
   role-fits aTest v h = le-leb v 6 h
   role-fits aNumber v h = le-leb v 65535 h
+  role-fits aWide v h = rw (lt-ltb 65535 v (h .0), le-leb v 4294967295 (h .1))
 
   all-fit : (fs : List Field) → AllFit nodes sections own fs → allFit nodes sections own fs ≡ true
   all-fit [] h = refl
@@ -278,6 +284,7 @@ role-written aSection v l = refl
 role-written aVariable v l = refl
 role-written aTest v l = refl
 role-written aNumber v l = div-add-mod v 256
+role-written aWide v l = rw (div-add-mod (v / 256 / 256) 256, div-add-mod (v / 256) 256) (div-add-mod v 256)
 
 role-length : (r : Role) (v : ℕ) → length (bytesOf r v) ≡ size r
 role-length aNode v = refl
@@ -285,6 +292,7 @@ role-length aSection v = refl
 role-length aVariable v = refl
 role-length aTest v = refl
 role-length aNumber v = refl
+role-length aWide v = refl
 
 body-length : (fs : List Field) → length (bodyBytes fs) ≡ sizes (roles fs)
 body-length [] = refl
@@ -354,6 +362,7 @@ limit aSection = 256
 limit aVariable = 256
 limit aTest = 256
 limit aNumber = 65536
+limit aWide = 4294967296
 
 abbrev pub Small : List Field → Type 0
 Small [] = Unit
@@ -369,6 +378,9 @@ role-bytes aSection v h = (h, tt)
 role-bytes aVariable v h = (h, tt)
 role-bytes aTest v h = (h, tt)
 role-bytes aNumber v h = (div-lt-iff-lt-mul {k = 256} {x = v} {y = 256} (omega arith) .1 h, (mod-lt v {m = 256} (omega arith), tt))
+role-bytes aWide v h =
+    let low : (x : ℕ) → x % 256 < 256 = λ x. mod-lt x {m = 256} (omega arith) in
+    (omega arith, (low (v / 256 / 256), (low (v / 256), (low v, tt))))
 
 body-bytes : (fs : List Field) → Small fs → Every (λ b. b < 256) (bodyBytes fs)
 body-bytes [] h = tt

@@ -10,7 +10,7 @@ use lib.Dec.{leb, eqb}
 use lib.ListN.{length, getD, take, drop, take-append-drop}
 use borrow.Author.Tests.{leb-true, eqb-true}
 use Rattle.value.specs.Result.{Result, ok}
-use Rattle.sheet.specs.Kinds.{Role, aNode, aSection, aVariable, aTest, aNumber, Row, row, Form, formOf, rolesOf, valueOf, valuesOf, size, sizes}
+use Rattle.sheet.specs.Kinds.{Role, aNode, aSection, aVariable, aTest, aNumber, aWide, Row, row, Form, formOf, rolesOf, valueOf, valuesOf, size, sizes}
 use Rattle.sheet.specs.Kinds.{bytesOf, bodyBytes, bodyWidth, make, width, written}
 use Rattle.sheet.specs.Sheet.{Sheet, Records, readNodes, oneSection, ifSection, readRecords, withNodes, readBody, inRange, readHeader, readSheet}
 use Rattle.sheet.specs.Table.{nodeOf}
@@ -56,6 +56,18 @@ module _ (g : ℕ → ℕ) (small : (i : ℕ) → g i < 256) where
       let l : (256 * g 0 + g 1) % 256 ≡ g 1 = omega arith in
       rw (h, l) refl
 
+  wide-back : bytesOf aWide (256 * (256 * (256 * g 0 + g 1) + g 2) + g 3) ≡ listing 4 g
+  wide-back =
+      let n = 256 * (256 * (256 * g 0 + g 1) + g 2) + g 3 in
+      let s₁ = small 1 in
+      let s₂ = small 2 in
+      let s₃ = small 3 in
+      let a : n / 256 / 256 / 256 ≡ g 0 = omega arith in
+      let b : n / 256 / 256 % 256 ≡ g 1 = omega arith in
+      let c : n / 256 % 256 ≡ g 2 = omega arith in
+      let d : n % 256 ≡ g 3 = omega arith in
+      rw (a, b, c, d) refl
+
   -- the bytes of a field's value are those that it was read from
   role-back : (r : Role) → bytesOf r (valueOf r g) ≡ listing (size r) g
   role-back aNode = refl
@@ -63,6 +75,7 @@ module _ (g : ℕ → ℕ) (small : (i : ℕ) → g i < 256) where
   role-back aVariable = refl
   role-back aTest = refl
   role-back aNumber = number-back
+  role-back aWide = wide-back
 
 fields-back : (rs : List Role) (g : ℕ → ℕ) → ((i : ℕ) → g i < 256) → bodyBytes (fieldsOf rs (valuesOf rs g)) ≡ listing (sizes rs) g
 fields-back [] g small = refl
@@ -103,6 +116,7 @@ module _ (g : ℕ → ℕ) (small : (i : ℕ) → g i < 256) where
   role-small aVariable = small 0
   role-small aTest = small 0
   role-small aNumber = omega (arith, small 0, small 1)
+  role-small aWide = omega (arith, small 0, small 1, small 2, small 3)
 
 fields-small : (rs : List Role) (g : ℕ → ℕ) → ((i : ℕ) → g i < 256) → Small (fieldsOf rs (valuesOf rs g))
 fields-small [] g small = tt

@@ -10,7 +10,7 @@ ghost use Rattle.sheet.specs.Kinds.{nodeInRange};
 ghost use Rattle.value.specs.Result.{refusal};
 ghost use Rattle.sheet.specs.Table.{nodeOf, nodeAt, kindWidth, sectionAt, tableOf, NodesTable, RootsJudged, NodesJudged, SheetJudged};
 
-/// A node of a sheet: one variant a kind, 10 to 1C in order. Numbers of nodes, sections and variables are `usize`.
+/// A node of a sheet: one variant a kind, 10 to 1D in order. Numbers of nodes, sections and variables are `usize`.
 pub enum Node {
     Var(usize),
     False,
@@ -60,6 +60,7 @@ pub enum Node {
         variable: usize,
         default: usize,
     },
+    Wide(u32),
 }
 
 /// What reading a sheet gives. A refusal is its number and zeros. Otherwise `refusal` is 0, and `starts` has the
@@ -91,8 +92,8 @@ fn wide(b: u8) -> usize
     b as usize
 }
 
-// The bytes of a node record, the kind byte with them: kinds 10 to 1C in order.
-const WIDTHS: [u8; 13] = [2, 1, 1, 1, 3, 3, 3, 8, 6, 3, 4, 4, 5];
+// The bytes of a node record, the kind byte with them: kinds 10 to 1D in order.
+const WIDTHS: [u8; 14] = [2, 1, 1, 1, 3, 3, 3, 8, 6, 3, 4, 4, 5, 5];
 
 // The bytes of a node record of this kind; 0 where no node has the kind.
 fn record_width(kind: u8) -> usize
@@ -102,7 +103,7 @@ fn record_width(kind: u8) -> usize
         return 0;
     }
     let k = wide(kind) - 0x10;
-    if 13 <= k {
+    if 14 <= k {
         return 0;
     }
     wide(WIDTHS[k])
@@ -127,10 +128,18 @@ fn at(r: &[u8], i: usize) -> usize
 
 // Bytes i and i + 1 of a record as a number, high byte first.
 fn pair_at(r: &[u8], i: usize) -> u16
-    requires { ⌜ i ≤ 8 ⌝ }
+    requires { ⌜ i ≤ 10 ⌝ }
     ensures { λ b. ⌜ b ≡ 256 * getD (now (r .entry)) i 0 + getD (now (r .entry)) (i + 1) 0 ⌝ }
 {
     value::number(byte_at(r, i), byte_at(r, i + 1))
+}
+
+// Bytes i to i + 3 of a record as a number, high byte first.
+fn four_at(r: &[u8], i: usize) -> u32
+    requires { ⌜ i ≤ 8 ⌝ }
+    ensures { λ b. ⌜ b ≡ 65536 * (256 * getD (now (r .entry)) i 0 + getD (now (r .entry)) (i + 1) 0) + (256 * getD (now (r .entry)) (i + 2) 0 + getD (now (r .entry)) (i + 2 + 1) 0) ⌝ }
+{
+    65536 * (pair_at(r, i) as u32) + (pair_at(r, i + 2) as u32)
 }
 
 // The node whose whole record these bytes begin with; `False` where no node has the kind.
@@ -188,6 +197,7 @@ fn decode(r: &[u8]) -> Node
             variable: at(r, 3),
             default: at(r, 4),
         },
+        0x1D => Node::Wide(four_at(r, 1)),
         _ => Node::False,
     }
 }
@@ -286,6 +296,7 @@ pub fn in_range(n: Node, own: usize, nodes: usize, sections: usize) -> bool
             default,
             ..
         } => is_below(own, subject, nodes) & (section < sections) & is_below(own, default, nodes),
+        Node::Wide(v) => (65535 < v) & (v <= 4294967295),
     }
 }
 

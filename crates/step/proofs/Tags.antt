@@ -6,30 +6,32 @@ use types.Run.{OneOf, miss}
 use denote.Enum.Declared.{tagOf}
 use Rattle.value.proofs.Shape as shape
 use Rattle.value.specs.declared.Shape.{Shape}
-use Rattle.value.specs.declared.Shape.the-variants.{False, True, Empty, Front, Number, Pair, Malformed}
+use Rattle.value.specs.declared.Shape.the-variants.{False, True, Empty, Front, Number, Pair, Wide, Malformed}
 use Rattle.step.proofs.Branch as branch
 use Rattle.step.specs.declared.Branch.{Branch}
 use Rattle.step.specs.declared.Branch.the-variants.{Plain, Parts, Switch, Refused}
 use Rattle.step.specs.StepLaws.{neither, whole, unfitting}
 
-pub fits-neither : (q : Shape) → OneOf (4 ∷ 6 ∷ []) (tagOf shape.the-type q) → neither q ≡ true
+pub fits-neither : (q : Shape) → OneOf (4 ∷ 6 ∷ 7 ∷ []) (tagOf shape.the-type q) → neither q ≡ true
 unfolding neither
-fits-neither False h = absurd (miss (4 ∷ 6 ∷ []) 0 tt h)
-fits-neither True h = absurd (miss (4 ∷ 6 ∷ []) 1 tt h)
-fits-neither Empty h = absurd (miss (4 ∷ 6 ∷ []) 2 tt h)
-fits-neither (Front m) h = absurd (miss (4 ∷ 6 ∷ []) 3 tt h)
+fits-neither False h = absurd (miss (4 ∷ 6 ∷ 7 ∷ []) 0 tt h)
+fits-neither True h = absurd (miss (4 ∷ 6 ∷ 7 ∷ []) 1 tt h)
+fits-neither Empty h = absurd (miss (4 ∷ 6 ∷ 7 ∷ []) 2 tt h)
+fits-neither (Front m) h = absurd (miss (4 ∷ 6 ∷ 7 ∷ []) 3 tt h)
 fits-neither (Number n) h = refl
-fits-neither (Pair m) h = absurd (miss (4 ∷ 6 ∷ []) 5 tt h)
+fits-neither (Pair m) h = absurd (miss (4 ∷ 6 ∷ 7 ∷ []) 5 tt h)
+fits-neither Wide h = refl
 fits-neither Malformed h = refl
 
-pub is-whole : (q : Shape) → OneOf (0 ∷ 1 ∷ 2 ∷ 4 ∷ 6 ∷ []) (tagOf shape.the-type q) → whole q ≡ true
+pub is-whole : (q : Shape) → OneOf (0 ∷ 1 ∷ 2 ∷ 4 ∷ 6 ∷ 7 ∷ []) (tagOf shape.the-type q) → whole q ≡ true
 unfolding whole
 is-whole False h = refl
 is-whole True h = refl
 is-whole Empty h = refl
-is-whole (Front m) h = absurd (miss (0 ∷ 1 ∷ 2 ∷ 4 ∷ 6 ∷ []) 3 tt h)
+is-whole (Front m) h = absurd (miss (0 ∷ 1 ∷ 2 ∷ 4 ∷ 6 ∷ 7 ∷ []) 3 tt h)
 is-whole (Number n) h = refl
-is-whole (Pair m) h = absurd (miss (0 ∷ 1 ∷ 2 ∷ 4 ∷ 6 ∷ []) 5 tt h)
+is-whole (Pair m) h = absurd (miss (0 ∷ 1 ∷ 2 ∷ 4 ∷ 6 ∷ 7 ∷ []) 5 tt h)
+is-whole Wide h = refl
 is-whole Malformed h = refl
 
 pub is-unfitting : (b : Branch) → OneOf (2 ∷ 3 ∷ []) (tagOf branch.the-type b) → unfitting b ≡ true

@@ -16,7 +16,7 @@ use Rattle.value.specs.Value.{Value}
 use Rattle.value.specs.Laws.{Readable}
 use Rattle.value.specs.Tests.{holds, Agrees}
 use Rattle.value.specs.declared.Shape.{Shape}
-use Rattle.value.specs.declared.Shape.the-variants.{False, True, Empty, Front, Number, Pair, Malformed}
+use Rattle.value.specs.declared.Shape.the-variants.{False, True, Empty, Front, Number, Pair, Wide, Malformed}
 
 -- r is x where P holds, and y elsewhere
 pub record When {A : Type 0} (P : Type 0) (r x y : A) : Type 0 where
@@ -59,6 +59,10 @@ unfoldable pub where-so : {A : Type 0} → Bool → A → A → A
 where-so true a b = a
 where-so false a b = b
 
+-- whether a node of this kind has no children: 10 to 14, and 1D
+unfoldable pub isLeaf : ℕ → Bool
+isLeaf kind = ltb kind 0x15 || eqb kind 0x1D
+
 -- THE BRANCHES OF A CASE
 
 -- a branch, where the case is of the kind that has it
@@ -73,6 +77,7 @@ fitOf kind False = fitsKind kind 0x18 (Plain 2 0)
 fitOf kind True = fitsKind kind 0x18 (Plain 4 1)
 fitOf kind (Pair mid) = fitsKind kind 0x19 (Parts 2 mid)
 fitOf kind (Number n) = Refused 43
+fitOf kind Wide = Refused 43
 fitOf kind Malformed = Refused 43
 
 -- the second branch, where the subject fits the first: of a list case it is switched to, of a truth case it is True's
@@ -108,6 +113,7 @@ apartOf kind False = Other
 apartOf kind True = Other
 apartOf kind Empty = Other
 apartOf kind (Number n) = Other
+apartOf kind Wide = Other
 apartOf kind Malformed = Other
 
 -- the kind of the value that a front (15), a pair, a list case (17) or a split makes of two

@@ -4,12 +4,13 @@ use mathlib.Core.List.{List}
 use mathlib.Core.Bool.{Bool, true, false, false≢true}
 use Prim.Native.Nat.{ℕ, zero, suc, _+_, _*_, _≤_, _<_}
 use native.Mathlib.Omega.{arith}
+use native.Mathlib.Decide.{decLt}
 use lib.Dec.{eqb, ltb}
 use borrow.Author.Tests.{eqb-true, ne-eqb, eq-eqb, lt-ltb, le-ltb}
 use Rattle.value.specs.Parts.{passesBytes}
 use Rattle.value.specs.TestsLaws.{passes-enough}
 use Rattle.value.specs.declared.Shape.{Shape}
-use Rattle.value.specs.declared.Shape.the-variants.{False, True, Empty, Front, Number, Pair, Malformed}
+use Rattle.value.specs.declared.Shape.the-variants.{False, True, Empty, Front, Number, Pair, Wide, Malformed}
 use Rattle.step.specs.declared.Branch.{Branch}
 use Rattle.step.specs.declared.Branch.the-variants.{Plain, Parts, Switch, Refused}
 use Rattle.step.specs.declared.Apart.the-variants.{At, Other}
@@ -30,6 +31,7 @@ use Rattle.step.specs.Step.{
   madeOf,
   judged,
   unfitRest,
+  isLeaf,
 }
 
 pub when-in : {A P : Type 0} {r x y : A} → P → r ≡ x → When P r x y
@@ -99,6 +101,31 @@ module _ {A : Type 0} {n m : ℕ} (x y : A) where
   unfolding where-so
   where-not e = ap (λ (b : Bool). where-so b x y) (ne-eqb n m e)
 
+-- a node without children, by its kind
+pub low-leaf : {kind : ℕ} → kind < 0x15 → true ≡ isLeaf kind
+unfolding isLeaf
+low-leaf {kind} h = rw (lt-ltb kind 0x15 h)
+
+pub high-leaf : {kind : ℕ} → 0x15 ≤ kind → eqb kind 0x1D ≡ isLeaf kind
+unfolding isLeaf
+high-leaf {kind} h = rw (le-ltb kind 0x15 h)
+
+pub leaf-kind : {kind : ℕ} → isLeaf kind ≡ true → (kind ≡ 0x1D → ⊥) → kind < 0x15
+unfolding isLeaf
+leaf-kind {kind} e n = go (decLt kind 0x15)
+  where
+    go : Dec (kind < 0x15) → kind < 0x15
+    go (yes h) = h
+    go (no h) = absurd (false≢true (sym (ne-eqb kind 0x1D n) ∙ high-leaf {kind = kind} (omega arith) ∙ e))
+
+pub no-leaf : {kind : ℕ} → isLeaf kind ≡ false → (0x15 ≤ kind) × (kind ≡ 0x1D → ⊥)
+unfolding isLeaf
+no-leaf {kind} e = (go (decLt kind 0x15), λ k. absurd (false≢true (sym e ∙ rw k)))
+  where
+    go : Dec (kind < 0x15) → 0x15 ≤ kind
+    go (yes h) = absurd (false≢true (sym (low-leaf h ∙ e)))
+    go (no h) = omega arith
+
 -- THE BRANCHES OF A CASE, as the code tells them
 
 pub on-kind : {kind is : ℕ} (b : Branch) → kind ≡ is → b ≡ fitsKind kind is b
@@ -164,6 +191,7 @@ fits-told k False = by-kind k 0x18 False (Plain 2 0) refl untrue
 fits-told k True = by-kind k 0x18 True (Plain 4 1) refl so
 fits-told k (Pair mid) = by-kind k 0x19 (Pair mid) (Parts 2 mid) refl pair
 fits-told k (Number n) = misfit refl
+fits-told k Wide = misfit refl
 fits-told k Malformed = misfit refl
 
 -- as the code has it
@@ -178,6 +206,7 @@ neither False = false
 neither True = false
 neither (Pair m) = false
 neither (Number i) = true
+neither Wide = true
 neither Malformed = true
 
 pub fits-none : (kind : ℕ) (q : Shape) → neither q ≡ true → Refused 43 ≡ fitOf kind q
@@ -188,6 +217,7 @@ fits-none kind False e = absurd (false≢true e)
 fits-none kind True e = absurd (false≢true e)
 fits-none kind (Pair m) e = absurd (false≢true e)
 fits-none kind (Number i) e = refl
+fits-none kind Wide e = refl
 fits-none kind Malformed e = refl
 
 pub kept-yes : (p q : Bool) (b c : Branch) → p ≡ true → b ≡ choice p q b c
@@ -332,6 +362,7 @@ whole Empty = true
 whole False = true
 whole True = true
 whole (Number i) = true
+whole Wide = true
 whole Malformed = true
 
 pub no-apart : (kind : ℕ) (q : Shape) → whole q ≡ true → Other ≡ apartOf kind q
@@ -342,6 +373,7 @@ no-apart kind Empty e = refl
 no-apart kind False e = refl
 no-apart kind True e = refl
 no-apart kind (Number i) e = refl
+no-apart kind Wide e = refl
 no-apart kind Malformed e = refl
 
 -- the kind that is made

@@ -12,7 +12,7 @@ use lib.ListN.{length, getD, take, drop, drop-of-length-le, List·getD-eq-defaul
 use lib.Seq.{drop-cons}
 use Rattle.value.specs.Value.{size}
 use Rattle.value.specs.Reading.{Kind, Found, whole, malformed, tooLong, value, nothing, aValue, kindOf, readValue}
-use Rattle.value.specs.Laws.{Names, names, is0, is1, is2, is3, is4, is5, isOther, read-sound}
+use Rattle.value.specs.Laws.{Names, names, is0, is1, is2, is3, is4, is5, is6, isOther, read-sound}
 use Rattle.value.specs.Reader.{outcome, from, from-drop}
 use Rattle.value.specs.Tests.{Enough}
 use Rattle.value.specs.TestsLaws.{passes-enough}
@@ -141,6 +141,7 @@ middle-none (b ∷ bs) h = go (names b) h
     go is3 h = absurd (h (inl refl))
     go is4 h = no-part bs
     go is5 h = absurd (h (inr refl))
+    go is6 h = refl
     go isOther h = refl
 
 -- first_part

@@ -4,7 +4,7 @@ use mathlib.Core.List.{List, [], _∷_, _++_, append-assoc}
 use Prim.Native.Nat.{ℕ, suc, _+_, _/_, _%_, _≤_}
 use native.Mathlib.Omega.{arith}
 use lib.ListN.{length, length-append}
-use Rattle.value.specs.Value.{Value, Values, vfalse, vtrue, list, number, pair, nil, cons, encode, encodes, size, sizes, flat}
+use Rattle.value.specs.Value.{Value, Values, vfalse, vtrue, list, number, wide, pair, nil, cons, encode, encodes, size, sizes, flat}
 
 mutual
   unfolding encode encodes size sizes
@@ -14,6 +14,7 @@ mutual
   size-encode vtrue = refl
   size-encode (list l) = size-encodes l
   size-encode (number n) = refl
+  size-encode (wide n) = refl
   size-encode (pair a b) = ap suc (length-append (encode a) (encode b) ∙ ap₂ _+_ (size-encode a) (size-encode b))
 
   pub size-encodes : (l : Values) → length (encodes l) ≡ sizes l
@@ -27,6 +28,7 @@ size-pos vtrue = omega arith
 size-pos (list nil) = omega arith
 size-pos (list (cons f r)) = omega arith
 size-pos (number n) = omega arith
+size-pos (wide n) = omega arith
 size-pos (pair a b) = omega arith
 
 -- a value's bytes with x behind them: the kind byte, then the parts
@@ -36,6 +38,7 @@ pub data Opened : Value → List ℕ → List ℕ → Type 0 where
   oNil : {x : List ℕ} → Opened (list nil) x (2 ∷ x)
   oCons : {f : Value} {r : Values} {x z : List ℕ} → encode f ++ (encodes r ++ x) ≡ z → Opened (list (cons f r)) x (3 ∷ z)
   oNumber : {n : ℕ} {x z : List ℕ} → n / 256 ∷ n % 256 ∷ x ≡ z → Opened (number n) x (4 ∷ z)
+  oWide : {n : ℕ} {x z : List ℕ} → n / 256 / 256 / 256 ∷ n / 256 / 256 % 256 ∷ n / 256 % 256 ∷ n % 256 ∷ x ≡ z → Opened (wide n) x (6 ∷ z)
   oPair : {a b : Value} {x z : List ℕ} → encode a ++ (encode b ++ x) ≡ z → Opened (pair a b) x (5 ∷ z)
 
 pub opened : (v : Value) (x : List ℕ) {l : List ℕ} → encode v ++ x ≡ l → Opened v x l
@@ -48,6 +51,7 @@ opened v x e = rw e at (go v x)
     go (list nil) x = oNil
     go (list (cons f r)) x = oCons (sym (append-assoc (encode f) (encodes r) x))
     go (number n) x = oNumber refl
+    go (wide n) x = oWide refl
     go (pair a b) x = oPair (sym (append-assoc (encode a) (encode b) x))
 
 mutual
@@ -61,6 +65,12 @@ mutual
       let h : n / 256 ≡ m / 256 = cc in
       let l : n % 256 ≡ m % 256 = cc in
       (ap number (omega arith), cc)
+  same-opened (wide n) (oWide e) (oWide {n = m} e′) =
+      let h : n / 256 / 256 / 256 ≡ m / 256 / 256 / 256 = cc in
+      let i : n / 256 / 256 % 256 ≡ m / 256 / 256 % 256 = cc in
+      let j : n / 256 % 256 ≡ m / 256 % 256 = cc in
+      let l : n % 256 ≡ m % 256 = cc in
+      (ap wide (omega arith), cc)
   same-opened (pair a b) (oPair e) (oPair {a = c} {b = d} e′) =
       let p = same-opened a (opened a _ e) (opened c _ e′) in
       let q = same-opened b (opened b _ (p .1)) (opened d _ refl) in

@@ -4,12 +4,12 @@ use mathlib.Core.List.{List, [], _∷_}
 use Prim.Native.Nat.{ℕ, _+_, _-_, _*_}
 use lib.Dec.{leb, eqb}
 use lib.ListN.{length, getD, take, drop}
-use Rattle.value.specs.Reading.{Kind, kFalse, kTrue, kEmpty, kFront, kNumber, kPair, unknown, kindOf, readValue}
+use Rattle.value.specs.Reading.{Kind, kFalse, kTrue, kEmpty, kFront, kNumber, kPair, kWide, unknown, kindOf, readValue}
 use Rattle.value.specs.Reader.{outcome}
 use Rattle.value.specs.declared.Read.{Read}
 use Rattle.value.specs.declared.Read.the-variants.{Whole, Malformed as NotRead, TooLong}
 use Rattle.value.specs.declared.Shape.{Shape}
-use Rattle.value.specs.declared.Shape.the-variants.{False, True, Empty, Front, Number, Pair, Malformed}
+use Rattle.value.specs.declared.Shape.the-variants.{False, True, Empty, Front, Number, Pair, Wide, Malformed}
 
 -- where the second part starts, behind the kind byte and the first part
 unfoldable pub behind : (ℕ → Shape) → Read → Shape
@@ -29,6 +29,7 @@ shapeAs bs kEmpty = Empty
 shapeAs bs kFront = behind Front (outcome (readValue bs))
 shapeAs bs kNumber = numberIn bs
 shapeAs bs kPair = behind Pair (outcome (readValue bs))
+shapeAs bs kWide = Wide
 shapeAs bs unknown = Malformed
 
 -- a value taken apart; a second part is not read
@@ -44,6 +45,7 @@ middleOf Empty = 0
 middleOf (Front at) = at
 middleOf (Number n) = 0
 middleOf (Pair at) = at
+middleOf Wide = 0
 middleOf Malformed = 0
 
 unfoldable pub partWhere : Bool → List ℕ → List ℕ
@@ -68,6 +70,7 @@ kindBehind bs Empty = 255
 kindBehind bs (Front at) = kindAt bs at
 kindBehind bs (Number n) = 255
 kindBehind bs (Pair at) = 255
+kindBehind bs Wide = 255
 kindBehind bs Malformed = 255
 
 -- the kind byte of a list's rest

@@ -9,8 +9,8 @@ use borrow.Author.Tests.{le-leb, eqb-true, eq-eqb}
 use lib.Dec.{eqb}
 use lib.ListN.{length, length-append}
 use lib.Seq.{take-at, drop-at}
-use Rattle.value.specs.Value.{Value, Values, vfalse, vtrue, list, number, pair, nil, cons, encode, encodes, size}
-use Rattle.value.specs.Encoding.{size-encode, encode-injective, Opened, opened, oFalse, oTrue, oNil, oCons, oNumber, oPair}
+use Rattle.value.specs.Value.{Value, Values, vfalse, vtrue, list, number, wide, pair, nil, cons, encode, encodes, size}
+use Rattle.value.specs.Encoding.{size-encode, encode-injective, Opened, opened, oFalse, oTrue, oNil, oCons, oNumber, oPair, oWide}
 use Rattle.value.specs.Reading.{kindOf, readValue}
 use Rattle.value.specs.Laws.{Readable, readable-front, readable-pair, read-back}
 use Rattle.value.specs.Reader.{outcome}
@@ -26,7 +26,7 @@ use Rattle.value.specs.Parts.{
   sameBytes,
 }
 use Rattle.value.specs.declared.Shape.{Shape}
-use Rattle.value.specs.declared.Shape.the-variants.{False, True, Empty, Front, Number, Pair, Malformed}
+use Rattle.value.specs.declared.Shape.the-variants.{False, True, Empty, Front, Number, Pair, Wide, Malformed}
 
 -- a value's shape
 unfoldable pub shape : Value → Shape
@@ -35,6 +35,7 @@ shape vtrue = True
 shape (list nil) = Empty
 shape (list (cons f r)) = Front (1 + size f)
 shape (number n) = Number n
+shape (wide n) = Wide
 shape (pair a b) = Pair (1 + size a)
 
 -- which of the shapes it is: two with different numbers are different
@@ -45,7 +46,8 @@ which Empty = 2
 which (Front mid) = 3
 which (Number n) = 4
 which (Pair mid) = 5
-which Malformed = 6
+which Wide = 6
+which Malformed = 7
 
 pub unlike : {s t : Shape} → (which s ≡ which t → ⊥) → s ≡ t → ⊥
 unlike n e = n (ap which e)
@@ -66,6 +68,7 @@ shape-encode {v} h more = go h (opened v more refl)
     go h oNil = refl
     go h (oCons e) = behind-value Front (readable-front h .0) _ e
     go h (oNumber {n} e) = rw (← e) (ap Number (omega arith))
+    go h (oWide e) = refl
     go h (oPair e) = behind-value Pair (readable-pair h .0) _ e
 
 pub shape-whole : {v : Value} → Readable v → shapeOf (encode v) ≡ shape v

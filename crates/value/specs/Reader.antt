@@ -1,15 +1,17 @@
 -- The reader's contracts: what a reading function answers, and what then holds of the bytes.
 use mathlib.Core.Path.{_≡_, refl, sym, ap, ap₂, _∙_}
-use mathlib.Core.Bool.{Bool, true, false}
-use mathlib.Core.List.{List, [], _∷_}
-use lib.Dec.{eqb}
+use mathlib.Core.Bool.{Bool, true, false, _&&_}
+use mathlib.Core.List.{List, [], _∷_, _++_}
+use lib.Dec.{eqb, ltb}
 use Prim.Native.Nat.{ℕ, zero, suc, _+_, _-_, _*_, _≤_, _<_}
 use native.Mathlib.Omega.{arith}
 use native.Mathlib.Nat.{le-refl}
-use borrow.Author.Tests.{lt-ltb, ne-eqb}
-use lib.ListN.{length, getD, take, drop, length-append, length-drop, List·getD-eq-default}
-use lib.Seq.{drop-cons, drop-drop, take-all, getD-drop}
-use Rattle.value.specs.Value.{vfalse, vtrue, list, number, nil, encode, size}
+use native.Mathlib.Numerals.{one-add}
+use borrow.Author.Tests.{lt-ltb, ne-eqb, lt-leb, le-leb}
+use lib.ListN.{length, getD, take, drop, length-append, length-drop, take-append-drop, List·getD-eq-default}
+use lib.Seq.{drop-cons, drop-drop, take-all, getD-drop, length-take-le}
+use Rattle.value.specs.All.{All, none, each}
+use Rattle.value.specs.Value.{vfalse, vtrue, list, number, nil, LEAST-WIDE, encode, size}
 use Rattle.value.specs.Encoding.{size-encode}
 use Rattle.value.specs.Reading.{
   Owed,
@@ -20,7 +22,7 @@ use Rattle.value.specs.Reading.{
   nothing,
   aValue,
   aRest,
-  aByte,
+  aBody,
   Found,
   whole,
   malformed,
@@ -34,18 +36,24 @@ use Rattle.value.specs.Reading.{
   kFront,
   kNumber,
   kPair,
+  kWide,
   unknown,
   makeFront,
+  joined,
   makeNumber,
+  makeWide,
+  makeBody,
   makePair,
   makeRest,
   beginValue,
   beginRest,
+  due,
+  mayBe,
   beginByte,
   read,
   readValue,
 }
-use Rattle.value.specs.Laws.{Names, names, is0, is1, is2, is3, is4, is5, isOther, composed, made-of-two, nothing-owed, read-sound}
+use Rattle.value.specs.Laws.{Names, names, is0, is1, is2, is3, is4, is5, is6, isOther, composed, body-read, nothing-owed, read-sound}
 use Rattle.value.specs.declared.Read.{Read}
 use Rattle.value.specs.declared.Read.the-variants.{Whole, Malformed, TooLong}
 
@@ -82,13 +90,6 @@ pub record PartBegins (bs : List ℕ) (room : ℕ) : Type 0 where
   pub most : room ≤ 256
   pub kind : 2 ≤ getD bs 0 0
   pub no-pair : getD bs 0 0 ≡ 5 → ⊥
-
--- a number begins here, and its two bytes, where they are there, are bytes
-pub record NumberBegins (bs : List ℕ) (room : ℕ) : Type 0 where
-  pub kind : getD bs 0 0 ≡ 4
-  pub high : getD bs 1 0 < 256
-  pub low : getD bs 2 0 < 256
-  pub some : 0 < room
 
 -- a refusal
 pub data Refused : Read → Type 0 where
@@ -128,9 +129,9 @@ begins s room hs hr e os =
     let n : room ≡ suc (room - 1) = omega arith in
     ap₂ (λ (l : List ℕ) (m : ℕ). read l m os) (d ∙ ap (λ (k : ℕ). k ∷ drop 1 s) e) n
 
-pub unknown-kind : (b : ℕ) → 6 ≤ b → kindOf b ≡ unknown
+pub unknown-kind : (b : ℕ) → 7 ≤ b → kindOf b ≡ unknown
 unfolding kindOf
-unknown-kind b h = List·getD-eq-default (kFalse ∷ kTrue ∷ kEmpty ∷ kFront ∷ kNumber ∷ kPair ∷ []) unknown h
+unknown-kind b h = List·getD-eq-default (kFalse ∷ kTrue ∷ kEmpty ∷ kFront ∷ kNumber ∷ kPair ∷ kWide ∷ []) unknown h
 
 no-list : {b : ℕ} {k : Kind} → Names b k → (b ≡ 2 → ⊥) → (b ≡ 3 → ⊥) → (os : List Owed) (next : (ps : List Owed) → Found ps) → beginRest os next k ≡ malformed
 unfolding beginRest
@@ -140,6 +141,7 @@ no-list is2 h₂ h₃ os next = absurd (h₂ refl)
 no-list is3 h₂ h₃ os next = absurd (h₃ refl)
 no-list is4 h₂ h₃ os next = refl
 no-list is5 h₂ h₃ os next = refl
+no-list is6 h₂ h₃ os next = refl
 no-list isOther h₂ h₃ os next = refl
 
 -- a rest is a list
@@ -158,6 +160,7 @@ list-value is3 h k os next = sym (composed asValue makeRest makeFront from-two (
     from-two (aValue v (aRest l t)) = refl
 list-value is4 h k os next = absurd (omega arith)
 list-value is5 h k os next = absurd (omega arith)
+list-value is6 h k os next = absurd (omega arith)
 list-value isOther h k os next = refl
 
 module _ {s : List ℕ} {room : ℕ} (hs : length s ≡ 0 → ⊥) (hr : room ≡ 0 → ⊥) where
@@ -182,7 +185,7 @@ module _ {s : List ℕ} {room : ℕ} (hs : length s ≡ 0 → ⊥) (hr : room �
   unfolding read
   reads-no-list h₂ h₃ = rMalformed (λ os. begins s room hs hr refl (rest ∷ os) ∙ no-list (names (getD s 0 0)) h₂ h₃ os _)
 
-  pub reads-unknown : 6 ≤ getD s 0 0 → Reads value s room Malformed
+  pub reads-unknown : 7 ≤ getD s 0 0 → Reads value s room Malformed
   unfolding read beginValue
   reads-unknown h = rMalformed (λ os. begins s room hs hr refl (value ∷ os) ∙ ap (beginValue os (read (drop 1 s) (room - 1))) (unknown-kind (getD s 0 0) h))
 
@@ -216,65 +219,114 @@ pub front-begins : {s : List ℕ} {room : ℕ} → (length s ≡ 0 → ⊥) → 
 unfolding read beginRest kindOf
 front-begins {s} {room} hs hr e = record { make = λ os. makeRest; begun = λ os. begins s room hs hr e (rest ∷ os); byte = omega arith; some = omega arith }
 
--- a number: its two bytes, each judged in turn
-byte-taken : (s : List ℕ) (room : ℕ) (os : List Owed) → (length s ≡ 0 → ⊥) → (room ≡ 0 → ⊥) → getD s 0 0 < 256 →
-    read s room (byte ∷ os) ≡ onWhole (aByte (getD s 0 0)) (read (drop 1 s) (room - 1) os)
-unfolding read beginByte
-byte-taken s room os hs hr h = begins s room hs hr refl (byte ∷ os) ∙ rw (lt-ltb (getD s 0 0) 256 h)
+-- a number begins here: its body has `follow` bytes behind the first, and it must be at least `least`
+pub record BodyBegins (least follow : ℕ) (s : List ℕ) (room : ℕ) : Type 0 where
+  pub make : (os : List Owed) → Things (byte least follow 0 ∷ os) → Things (value ∷ os)
+  pub begun : (os : List Owed) → read s room (value ∷ os) ≡ onWhole (make os) (read (drop 1 s) (room - 1) (byte least follow 0 ∷ os))
+  pub bytes : (i : ℕ) → getD s i 0 < 256
+  pub there : 0 < length s
+  pub some : 0 < room
 
-module _ {s : List ℕ} {room : ℕ} (p : NumberBegins s room) where
-  kind-taken : (os : List Owed) → read s room (value ∷ os) ≡ onWhole makeNumber (read (drop 1 s) (room - 1) (byte ∷ byte ∷ os))
-  unfolding read beginValue kindOf
-  kind-taken os = begins s room (λ e. there s e (p .kind)) (λ e. omega (arith, p .some)) (p .kind) (value ∷ os)
-    where
-      there : (s : List ℕ) → length s ≡ 0 → getD s 0 0 ≡ 4 → ⊥
-      there [] e k = omega arith
-      there (b ∷ bs) e k = omega arith
+pub number-begins : {s : List ℕ} {room : ℕ} → 0 < length s → 0 < room → getD s 0 0 ≡ 4 → ((i : ℕ) → getD s i 0 < 256) → BodyBegins 0 1 s room
+unfolding read beginValue kindOf
+number-begins {s} {room} hs hr e bytes =
+    record { make = λ os. makeNumber; begun = λ os. begins s room (λ z. omega arith) (λ z. omega arith) e (value ∷ os); bytes = bytes; there = hs; some = hr }
 
-  high-taken : (os : List Owed) → 2 ≤ length s → 2 ≤ room →
-      read s room (value ∷ os) ≡ onWhole makeNumber (onWhole (aByte (getD s 1 0)) (read (drop 1 (drop 1 s)) (room - 1 - 1) (byte ∷ os)))
-  high-taken os hs hr =
-      let h : getD (drop 1 s) 0 0 < 256 = rw (getD-drop 1 s 0 0) (p .high) in
-      let l : length (drop 1 s) ≡ length s - 1 = length-drop 1 s in
-      kind-taken os ∙ ap (onWhole makeNumber) (byte-taken (drop 1 s) (room - 1) (byte ∷ os) (λ e. omega arith) (λ e. omega arith) h ∙ rw (getD-drop 1 s 0 0))
+pub wide-begins : {s : List ℕ} {room : ℕ} → 0 < length s → 0 < room → getD s 0 0 ≡ 6 → ((i : ℕ) → getD s i 0 < 256) → BodyBegins LEAST-WIDE 3 s room
+unfolding read beginValue kindOf
+wide-begins {s} {room} hs hr e bytes =
+    record { make = λ os. makeWide; begun = λ os. begins s room (λ z. omega arith) (λ z. omega arith) e (value ∷ os); bytes = bytes; there = hs; some = hr }
 
-  pub high-ended : length s ≤ 1 → Reads value s room Malformed
+-- what is refused behind a byte of a body is refused
+byte-refused : (s : List ℕ) (room least n h b : ℕ) (os : List Owed) (d : Bool) → read s room (byte least n (256 * h + b) ∷ os) ≡ malformed
+    → beginByte os (read s room) least (suc n) h b d ≡ malformed
+unfolding beginByte onWhole
+byte-refused s room least n h b os true e = ap (onWhole (makeBody b)) e
+byte-refused s room least n h b os false e = refl
+
+-- the bytes of a body are judged in turn: of the end of the input and that of the room the nearer one is met, the input's where both are one
+short : (s : List ℕ) (room least n h : ℕ) (os : List Owed) → length s ≤ n → length s ≤ room → read s room (byte least n h ∷ os) ≡ malformed
+unfolding read
+short [] room least n h os l r = refl
+short (b ∷ s) zero least n h os l r = absurd (omega arith)
+short (b ∷ s) (suc room) least zero h os l r = absurd (omega arith)
+short (b ∷ s) (suc room) least (suc n) h os l r =
+    byte-refused s room least n h b os (mayBe least (suc n) h b) (short s room least n (256 * h + b) os (omega arith) (omega arith))
+
+crowded : (s : List ℕ) (room least n h : ℕ) (os : List Owed) → ((i : ℕ) → getD s i 0 < 256) → room ≤ n → room < length s
+    → read s room (byte least n h ∷ os) ≡ tooLong
+unfolding read beginByte due mayBe onWhole
+crowded [] room least n h os bytes l r = absurd (omega arith)
+crowded (b ∷ s) zero least n h os bytes l r = refl
+crowded (b ∷ s) (suc room) least zero h os bytes l r = absurd (omega arith)
+crowded (b ∷ s) (suc room) least (suc n) h os bytes l r =
+    let z = le-leb (due least (suc n)) (256 * h + b) (omega arith) in
+    rw (lt-ltb b 256 (bytes 0), z, crowded s room least n (256 * h + b) os (λ i. bytes (suc i)) (omega arith) (omega arith))
+
+too-small : (s : List ℕ) (room least n h : ℕ) (os : List Owed) → n < length s → n < room → joined h (take (suc n) s) < least
+    → read s room (byte least n h ∷ os) ≡ malformed
+unfolding read beginByte due mayBe onWhole joined
+too-small [] room least n h os l r lt = absurd (omega arith)
+too-small (b ∷ s) zero least n h os l r lt = absurd (omega arith)
+too-small (b ∷ s) (suc room) least zero h os l r lt = rw (lt-leb least (256 * h + b) lt) (go (ltb b 256))
+  where
+    go : (d : Bool) → beginByte os (read s room) least zero h b (d && false) ≡ malformed
+    go true = refl
+    go false = refl
+too-small (b ∷ s) (suc room) least (suc n) h os l r lt =
+    byte-refused s room least n h b os (mayBe least (suc n) h b) (too-small s room least n (256 * h + b) os (omega arith) (omega arith) lt)
+
+all-bytes : (s : List ℕ) (n : ℕ) → ((i : ℕ) → getD s i 0 < 256) → All (λ b. b < 256) (take n s)
+all-bytes [] zero h = none
+all-bytes [] (suc n) h = none
+all-bytes (b ∷ s) zero h = none
+all-bytes (b ∷ s) (suc n) h = each (h 0) (all-bytes s n (λ i. h (suc i)))
+
+-- the four bytes of a wide number
+pub four-joined : (s : List ℕ) → 5 ≤ length s
+    → joined 0 (take 4 (drop 1 s)) ≡ 256 * (256 * (256 * getD s 1 0 + getD s 2 0) + getD s 3 0) + getD s 4 0
+unfolding joined
+four-joined (x ∷ a ∷ b ∷ c ∷ d ∷ s) h = omega arith
+four-joined [] h = absurd (omega arith)
+four-joined (x ∷ []) h = absurd (omega arith)
+four-joined (x ∷ a ∷ []) h = absurd (omega arith)
+four-joined (x ∷ a ∷ b ∷ []) h = absurd (omega arith)
+four-joined (x ∷ a ∷ b ∷ c ∷ []) h = absurd (omega arith)
+
+module _ {least follow : ℕ} {s : List ℕ} {room : ℕ} (p : BodyBegins least follow s room) where
+  long : length (drop 1 s) ≡ length s - 1
+  long = length-drop 1 s
+
+  bytes-behind : (i : ℕ) → getD (drop 1 s) i 0 < 256
+  bytes-behind i = rw (getD-drop 1 s i 0) (p .bytes (1 + i))
+
+  pub body-ended : length s ≤ suc follow → length s ≤ room → Reads value s room Malformed
   unfolding onWhole
-  high-ended h = rMalformed (λ os. kind-taken os ∙ ap (onWhole makeNumber) (ended (drop 1 s) (room - 1) (byte ∷ os) (rw length-drop (omega arith))))
+  body-ended l r = rMalformed (λ os. p .begun os
+      ∙ ap (onWhole (p .make os)) (short (drop 1 s) (room - 1) least follow 0 os (omega (arith, long)) (omega (arith, long))))
 
-  pub high-full : (length s ≤ 1 → ⊥) → room ≤ 1 → Reads value s room TooLong
+  pub body-full : room ≤ suc follow → room < length s → Reads value s room TooLong
   unfolding onWhole
-  high-full hs h = rTooLong
-      (λ os. kind-taken os ∙ ap (onWhole makeNumber) (full (drop 1 s) (room - 1) (byte ∷ os) (rw length-drop (λ e. hs (omega arith))) (omega arith)))
+  body-full l r = rTooLong (λ os. p .begun os
+      ∙ ap (onWhole (p .make os)) (crowded (drop 1 s) (room - 1) least follow 0 os bytes-behind (omega (arith, p .some)) (omega (arith, long, p .some))))
 
-  pub low-ended : length s ≡ 2 → 2 ≤ room → Reads value s room Malformed
-  unfolding onWhole
-  low-ended hs hr =
-      let l : length (drop 1 (drop 1 s)) ≡ 0 = rw (length-drop, length-drop) (omega arith) in
-      rMalformed (λ os. high-taken os (omega arith) hr ∙ ap (λ (x : Found (byte ∷ os)). onWhole makeNumber (onWhole (aByte (getD s 1 0)) x))
-      (ended (drop 1 (drop 1 s)) (room - 1 - 1) os l))
+  module _ (l : suc follow < length s) (r : suc follow < room) where
+    pub body-small : joined 0 (take (suc follow) (drop 1 s)) < least → Reads value s room Malformed
+    unfolding onWhole
+    body-small lt = rMalformed (λ os. p .begun os
+        ∙ ap (onWhole (p .make os)) (too-small (drop 1 s) (room - 1) least follow 0 os (omega (arith, long)) (omega arith) lt))
 
-  pub low-full : 3 ≤ length s → room ≡ 2 → Reads value s room TooLong
-  unfolding onWhole
-  low-full hs hr =
-      let l : (length (drop 1 (drop 1 s)) ≡ 0 → ⊥) = rw (length-drop, length-drop) (λ e. omega arith) in
-      rTooLong (λ os. high-taken os (omega arith) (omega arith) ∙ ap (λ (x : Found (byte ∷ os)). onWhole makeNumber (onWhole (aByte (getD s 1 0)) x))
-      (full (drop 1 (drop 1 s)) (room - 1 - 1) os l (omega arith)))
-
-  pub reads-number : 3 ≤ length s → 3 ≤ room → Reads value s room (Whole 3)
-  unfolding makeNumber
-  reads-number hs hr =
-      let l : (length (drop 1 (drop 1 s)) ≡ 0 → ⊥) = rw (length-drop, length-drop) (λ e. omega arith) in
-      let d : drop 1 (drop 1 s) ≡ drop 2 s = drop-drop 1 1 s in
-      let g : getD (drop 1 (drop 1 s)) 0 0 ≡ getD s 2 0 = rw (d, getD-drop 2 s 0 0) in
-      let m : room - 1 - 1 - 1 ≡ room - 3 = omega arith in
-      rWhole (λ os. aValue (number (256 * getD s 1 0 + getD s 2 0))) hs hr
-      (λ os. high-taken os (omega arith) (omega arith)
-      ∙ ap (λ (x : Found (byte ∷ os)). onWhole makeNumber (onWhole (aByte (getD s 1 0)) x))
-      (byte-taken (drop 1 (drop 1 s)) (room - 1 - 1) os l (λ e. omega arith) (rw g (p .low)))
-      ∙ made-of-two makeNumber (aByte (getD s 1 0)) (aByte (getD (drop 1 (drop 1 s)) 0 0)) (aValue (number (256 * getD s 1 0 + getD (drop 1 (drop 1 s)) 0 0)))
-      (λ t. refl) (read (drop 1 (drop 1 (drop 1 s))) (room - 1 - 1 - 1) os)
-      ∙ rw (g, d, drop-drop 1 2 s, m))
+    pub body-whole : least ≤ joined 0 (take (suc follow) (drop 1 s)) → Reads value s room (Whole (suc (suc follow)))
+    body-whole le =
+        let t = take (suc follow) (drop 1 s) in
+        let n : length t ≡ suc follow = length-take-le (suc follow) (drop 1 s) (omega (arith, long)) in
+        let z : t ++ drop (suc follow) (drop 1 s) ≡ drop 1 s = take-append-drop (suc follow) (drop 1 s) in
+        let d : drop (suc follow) (drop 1 s) ≡ drop (suc (suc follow)) s = drop-drop (suc follow) 1 s ∙ rw one-add in
+        rWhole {n = suc (suc follow)} (λ os x. p .make os (aBody t x)) (omega arith) (omega arith)
+        (λ os. p .begun os ∙ ap (λ (x : List ℕ). onWhole (p .make os) (read x (room - 1) (byte least follow 0 ∷ os))) (sym z)
+        ∙ ap (onWhole (p .make os)) (body-read least follow 0 (all-bytes (drop 1 s) (suc follow) bytes-behind) n le (drop (suc follow) (drop 1 s))
+        (room - suc (suc follow)) (omega (arith, n)) os)
+        ∙ composed (p .make os) (aBody t) (λ x. p .make os (aBody t x)) (λ x. refl) _ ∙ rw d)
 
 -- what is read of one value says what reading finds
 pub answers : {bs : List ℕ} {r : Read} → Reads value bs 256 r → r ≡ outcome (readValue bs)

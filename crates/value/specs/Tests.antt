@@ -4,7 +4,7 @@ use mathlib.Core.Bool.{Bool, true, false, Bool-discrete}
 use mathlib.Core.List.{List, [], _∷_}
 use Prim.Native.Nat.{ℕ, _+_}
 use lib.ListN.{getD, take}
-use Rattle.value.specs.Value.{Value, vfalse, vtrue, list, number, pair, nil, cons, encode, size}
+use Rattle.value.specs.Value.{Value, vfalse, vtrue, list, number, wide, pair, nil, cons, encode, size}
 use Rattle.value.specs.Laws.{Readable}
 
 -- what a test can tell apart: 0 an empty list, 1 a list of one member, 2 of two or more, 3 False, 4 True, 5 any other value
@@ -15,6 +15,7 @@ class (list nil) = 0
 class (list (cons f nil)) = 1
 class (list (cons f (cons g r))) = 2
 class (number n) = 5
+class (wide n) = 5
 class (pair a b) = 5
 
 -- a row for each test, 0 anything, 1 empty list, 2 list with members, 3 False, 4 True, 5 exactly one member, 6 two or more:
@@ -41,6 +42,7 @@ pastFirst vtrue = 1
 pastFirst (list nil) = 1
 pastFirst (list (cons f r)) = 2 + size f
 pastFirst (number n) = 1
+pastFirst (wide n) = 1
 pastFirst (pair a b) = 1
 
 -- how many test t needs: 0 none, 1 to 4 the kind byte

@@ -8,11 +8,11 @@ use native.Mathlib.Numerals.{one-add}
 use lib.Dec.{eqb}
 use lib.ListN.{length, getD, take, drop, length-append, take-append-drop, List·getD-map, List·getD-eq-default}
 use lib.Seq.{getD-at, take-take, take-append-le, take-append-add}
-use Rattle.value.specs.Value.{Value, Values, vfalse, vtrue, list, number, pair, nil, cons, encode, encodes, size, sizes}
+use Rattle.value.specs.Value.{Value, Values, vfalse, vtrue, list, number, wide, pair, nil, cons, encode, encodes, size, sizes}
 use Rattle.value.specs.Encoding.{size-encode, size-pos, prefix}
 use Rattle.value.specs.Tests.{class, table, holds, pastFirst, need, Agrees}
 use Rattle.value.specs.Reading.{Kind, Found, whole, malformed, tooLong, value, nothing, aValue, kindOf, readValue}
-use Rattle.value.specs.Laws.{Readable, readable-front, read-sound, Names, names, is0, is1, is2, is3, is4, is5, isOther}
+use Rattle.value.specs.Laws.{Readable, readable-front, read-sound, Names, names, is0, is1, is2, is3, is4, is5, is6, isOther}
 use Rattle.value.specs.Reader.{outcome}
 use Rattle.value.specs.Parts.{behind, numberIn, shapeAs, shapeOf, kindAt, kindBehind, restKind, byKinds, passesBytes}
 use Rattle.value.specs.PartsLaws.{front-shape}
@@ -31,6 +31,7 @@ kinds vtrue = (1, 255)
 kinds (list nil) = (2, 255)
 kinds (list (cons f r)) = (3, restByte r)
 kinds (number n) = (4, 255)
+kinds (wide n) = (6, 255)
 kinds (pair a b) = (5, 255)
 
 -- the column of the table for a value, by its kind bytes
@@ -42,6 +43,7 @@ column (list nil) = refl
 column (list (cons f nil)) = refl
 column (list (cons f (cons g r))) = refl
 column (number n) = refl
+column (wide n) = refl
 column (pair a b) = refl
 
 holds-by : (t : ℕ) (v : Value) → holds t v ≡ getD (byKinds (kinds v .0) (kinds v .1)) t false
@@ -61,6 +63,7 @@ kind-agrees v bs e = ap (λ (l : List ℕ). kindAt l 0) (begins 1 bs e) ∙ own 
     own (list nil) = refl
     own (list (cons f r)) = refl
     own (number n) = refl
+    own (wide n) = refl
     own (pair a b) = refl
 
 -- bytes that begin with no list with members have no rest
@@ -86,6 +89,7 @@ rest-none (b ∷ bs) h = go (names b) h
     go is3 h = absurd (h refl)
     go is4 h = of-number (4 ∷ bs) bs
     go is5 h = of-pair (5 ∷ bs) (outcome (readValue bs))
+    go is6 h = refl
     go isOther h = refl
 
 -- the byte that follows the first member is the kind byte of the rest
@@ -115,6 +119,7 @@ rest-agrees (list (cons f r)) h bs e =
     let b : bs ≡ 3 ∷ (encode f ++ (restByte r ∷ drop (2 + size f) bs)) = begins (2 + size f) bs (e ∙ first-bytes f r) ∙ rw append-assoc in
     ap restKind b ∙ rest-front (readable-front h .0) (restByte r) (drop (2 + size f) bs)
 rest-agrees (number n) h bs e = sym (rest-none bs (λ k. omega (arith, kind-agrees (number n) bs e)))
+rest-agrees (wide n) h bs e = sym (rest-none bs (λ k. omega (arith, kind-agrees (wide n) bs e)))
 rest-agrees (pair a b) h bs e = sym (rest-none bs (λ k. omega (arith, kind-agrees (pair a b) bs e)))
 
 -- bytes that agree with a value's as far as a test needs give the value's answer
@@ -143,6 +148,7 @@ need-inside t v = go t
     past (list nil) = omega arith
     past (list (cons f r)) = omega (arith, size-pos (list r))
     past (number n) = omega arith
+    past (wide n) = omega arith
     past (pair a b) = omega arith
 
     go : (t : ℕ) → need t v ≤ size v

@@ -1,8 +1,10 @@
 //! Values and their bytes (document 01 and docs/SHEETS.md, "Values").
 ghost use mathlib.Core.Path.{_≡_};
 ghost use Prim.Native.Nat.{_+_, _*_, _/_, _%_, _≤_};
-ghost use Rattle.value.specs.Reader.{Reads, PartBegins, NumberBegins, outcome, answer};
+ghost use lib.ListN.{getD};
+ghost use Rattle.value.specs.Reader.{Reads, PartBegins, BodyBegins, outcome, answer};
 ghost use Rattle.value.specs.Reading.{readValue, value, rest};
+ghost use Rattle.value.specs.Value.{LEAST-WIDE};
 ghost use Rattle.value.specs.Result.{refusal};
 ghost use Rattle.value.specs.Spans.{nextOf, spans, spansOf, viewCode};
 ghost use Rattle.value.specs.Tests.{Enough};
@@ -76,17 +78,29 @@ fn value(s: &[u8], room: usize) -> usize
     at
 }
 
-// A list or a number, of at most `room` bytes.
+// A list or a number of either kind, of at most `room` bytes.
 fn part(s: &[u8], room: usize) -> usize
     requires { ⌜ PartBegins (now s) room ⌝ }
+    ensures { λ r. ⌜ Reads value (now (s .entry)) room (answer r) ⌝ }
+{
+    if s[0] < 4 {
+        return list(s, room);
+    }
+    numeral(s, room)
+}
+
+// A number of either kind, of at most `room` bytes. It has a function of its own so that `value` is small enough to be inlined into `list`
+// (docs/PERFORMANCE.md).
+fn numeral(s: &[u8], room: usize) -> usize
+    requires { ⌜ PartBegins (now s) room × (4 ≤ getD (now s) 0 0) ⌝ }
     ensures { λ r. ⌜ Reads value (now (s .entry)) room (answer r) ⌝ }
 {
     let kind = s[0];
     if kind == 4 {
         return body(s, room);
     }
-    if kind < 4 {
-        return list(s, room);
+    if kind == 6 {
+        return wide(s, room);
     }
     MALFORMED
 }
@@ -123,7 +137,7 @@ fn list(s: &[u8], room: usize) -> usize
 
 // A number of kind 04: the kind byte and two bytes, each judged in turn.
 fn body(s: &[u8], room: usize) -> usize
-    requires { ⌜ NumberBegins (now s) room ⌝ }
+    requires { ⌜ BodyBegins 0 1 (now s) room ⌝ }
     ensures { λ r. ⌜ Reads value (now (s .entry)) room (answer r) ⌝ }
 {
     if s.len() <= 1 {
@@ -139,6 +153,27 @@ fn body(s: &[u8], room: usize) -> usize
         return TOO_LONG;
     }
     3
+}
+
+// A number of kind 06: the kind byte and four bytes. Each is judged in turn, so that of the input's end and the room's the nearer
+// one is met, the input's where they are one. One that is at most 65,535 is malformed at its last byte.
+fn wide(s: &[u8], room: usize) -> usize
+    requires { ⌜ BodyBegins LEAST-WIDE 3 (now s) room ⌝ }
+    ensures { λ r. ⌜ Reads value (now (s .entry)) room (answer r) ⌝ }
+{
+    if s.len() < 5 {
+        if s.len() <= room {
+            return MALFORMED;
+        }
+        return TOO_LONG;
+    }
+    if room < 5 {
+        return TOO_LONG;
+    }
+    if number(s[1], s[2]) == 0 {
+        return MALFORMED;
+    }
+    5
 }
 
 // What stands where the next of several values should begin: its length, or why there is none.
@@ -240,6 +275,7 @@ pub enum Shape {
     Front(usize),
     Number(u16),
     Pair(usize),
+    Wide,
     Malformed,
 }
 
@@ -275,6 +311,7 @@ pub fn shape_of(v: &[u8]) -> Shape
             }
             Shape::Pair(at)
         }
+        6 => Shape::Wide,
         _ => Shape::Malformed,
     }
 }

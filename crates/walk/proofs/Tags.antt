@@ -13,8 +13,8 @@ use Rattle.step.specs.declared.Branch.{Branch}
 use Rattle.step.specs.declared.Branch.the-variants.{Plain, Parts, Switch, Refused}
 use Rattle.step.specs.StepLaws.{unfitting}
 
-pub not-number : (q : Shape) → OneOf (0 ∷ 1 ∷ 2 ∷ 3 ∷ 5 ∷ 6 ∷ []) (tagOf shape.the-type q) → (m : ℕ) → q ≡ Number m → ⊥
-not-number q h m e = miss (0 ∷ 1 ∷ 2 ∷ 3 ∷ 5 ∷ 6 ∷ []) 4 tt (subst (λ (x : Shape). OneOf (0 ∷ 1 ∷ 2 ∷ 3 ∷ 5 ∷ 6 ∷ []) (tagOf shape.the-type x)) e h)
+pub not-number : (q : Shape) → OneOf (0 ∷ 1 ∷ 2 ∷ 3 ∷ 5 ∷ 6 ∷ 7 ∷ []) (tagOf shape.the-type q) → (m : ℕ) → q ≡ Number m → ⊥
+not-number q h m e = miss (0 ∷ 1 ∷ 2 ∷ 3 ∷ 5 ∷ 6 ∷ 7 ∷ []) 4 tt (subst (λ (x : Shape). OneOf (0 ∷ 1 ∷ 2 ∷ 3 ∷ 5 ∷ 6 ∷ 7 ∷ []) (tagOf shape.the-type x)) e h)
 
 pub is-unfitting : (b : Branch) → OneOf (2 ∷ 3 ∷ []) (tagOf branch.the-type b) → unfitting b ≡ true
 unfolding unfitting

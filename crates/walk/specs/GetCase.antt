@@ -23,7 +23,7 @@ use Rattle.answer.specs.Answer.{
   later-said,
   refused-said,
 }
-use Rattle.value.specs.Value.{Value, vfalse, vtrue, list, number, pair, nil, cons}
+use Rattle.value.specs.Value.{Value, vfalse, vtrue, list, number, wide, pair, nil, cons}
 use Rattle.value.specs.Views.{asList, asPair, asTruth}
 use Rattle.value.specs.Tests.{passes, holds, table, class}
 use Rattle.value.specs.Parts.{shapeOf}
@@ -86,6 +86,7 @@ partsOf vtrue = []
 partsOf (list nil) = []
 partsOf (list (cons f r)) = two f (list r)
 partsOf (number n) = []
+partsOf (wide n) = []
 partsOf (pair a b) = two a b
 
 unfoldable pub getBranch : Getter → List ℕ → (n kind : ℕ) → Env → Value → Branch → Out Value
@@ -103,6 +104,7 @@ any-holds (list nil) = refl
 any-holds (list (cons f nil)) = refl
 any-holds (list (cons f (cons g r))) = refl
 any-holds (number n) = refl
+any-holds (wide n) = refl
 any-holds (pair a b) = refl
 
 untested : (o : Out Value) → tested 0 o ≡ o
@@ -125,6 +127,7 @@ module _ (g : Getter) (s : List ℕ) (n : ℕ) (μ : Env) where
   list-rule (list nil) = refl
   list-rule (list (cons f r)) = refl
   list-rule (number i) = refl
+  list-rule (wide i) = refl
   list-rule (pair a b) = refl
 
   truth-rule : (o : Value)
@@ -137,6 +140,7 @@ module _ (g : Getter) (s : List ℕ) (n : ℕ) (μ : Env) where
   truth-rule (list nil) = refl
   truth-rule (list (cons f r)) = refl
   truth-rule (number i) = refl
+  truth-rule (wide i) = refl
   truth-rule (pair a b) = refl
 
   split-rule : (o : Value) → (given 43 (asPair o) λ p. g (getD s (n + 2) 0) (μ ++ two (p .0) (p .1))) ≡ getBranch g s n 0x19 μ o (fitOf 0x19 (shape o))
@@ -146,6 +150,7 @@ module _ (g : Getter) (s : List ℕ) (n : ℕ) (μ : Env) where
   split-rule (list nil) = refl
   split-rule (list (cons f r)) = refl
   split-rule (number i) = refl
+  split-rule (wide i) = refl
   split-rule (pair a b) = sym (untested _)
 
 -- once the subject is got

@@ -73,7 +73,7 @@ module _ {s table : List ℕ} (t : Tabled s table) where
   node-few h = omega (arith, sheet-ranges s (t .read) .few-nodes)
 
   -- its kind byte, and the node that it is
-  pub kind-range : {i k : ℕ} → i < length (t .sh .nodes) → k ≡ getD s (getD table i 0 + 0) 0 → (0x10 ≤ k) × (k ≤ 0x1C)
+  pub kind-range : {i k : ℕ} → i < length (t .sh .nodes) → k ≡ getD s (getD table i 0 + 0) 0 → (0x10 ≤ k) × (k ≤ 0x1D)
   kind-range h e = let m = made-kind (record-made h) in (omega (arith, e, m .0), omega (arith, e, m .1))
 
   pub record-there : {i k : ℕ} → i < length (t .sh .nodes) → k ≡ getD s (getD table i 0 + 0) 0 → getD (t .sh .nodes) i False ≡ recordAt k s (getD table i 0)
@@ -94,7 +94,7 @@ module _ {s table b : List ℕ} {sc : Scope} {top levels left x k : ℕ} (e : En
   its-node : getD (e .asked .sheet .sh .nodes) x False ≡ recordAt k s (getD table x 0)
   its-node = record-there (e .asked .sheet) (e .asked .known) (e .kind)
 
-  pub its-kind : (0x10 ≤ k) × (k ≤ 0x1C)
+  pub its-kind : (0x10 ≤ k) × (k ≤ 0x1D)
   its-kind = kind-range (e .asked .sheet) (e .asked .known) (e .kind)
 
   -- what the function of its kind is asked

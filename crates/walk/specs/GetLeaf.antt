@@ -7,27 +7,32 @@ use native.Mathlib.Nat.{le-refl}
 use native.Mathlib.Decide.{decLt}
 use native.Mathlib.Omega.{arith}
 use lib.ListN.{length, getD, set, length-set}
-use lib.Seq.{getD-set-same, getD-set-other}
+use lib.Seq.{getD-set-same, getD-set-other, paste}
 use Rattle.answer.specs.Answer.{said, doneAs, done-said, refused-said}
-use Rattle.value.specs.Value.{Value, vfalse, vtrue, list, nil, number, encode, encodes, size, sizes}
+use Rattle.value.specs.Value.{Value, vfalse, vtrue, list, nil, number, wide, encode, encodes, size, sizes}
 use Rattle.value.specs.Laws.{Readable}
 use Rattle.rules.specs.Outcome.{done}
 use Rattle.rules.specs.Text
 use Rattle.rules.specs.Rules.{Env, getNode}
-use Rattle.rules.specs.Readable.{nil-readable, truth-readable, number-readable}
+use Rattle.rules.specs.Readable.{nil-readable, truth-readable, number-readable, wide-readable}
 use Rattle.rules.specs.Numbers.{SCRATCH}
 use Rattle.step.specs.declared.Scope.{Scope}
-use Rattle.step.specs.Step.{When}
+use Rattle.step.specs.Step.{When, isLeaf}
+use Rattle.step.specs.StepLaws.{leaf-kind}
 use Rattle.walk.specs.Parts.{part, kept-refl, kept-then, kept-set, part-one, part-cons, marked, marked-kept, marked-part}
 use Rattle.walk.specs.Arena.{onStack, below-ends, below-later}
 use Rattle.walk.specs.Seen.{elem-at, elem-none, held-some, held-short}
+use Rattle.walk.specs.CellLaws.{filled}
 use Rattle.walk.specs.Answers.{answer-by, finish, give, give-none}
 use Rattle.walk.specs.Gets.{Task, own, run, Ready, Here, Asked, Tells}
 
--- the kinds without children
+-- the kinds without children: 10 to 14, and 1D
 pub record Childless (kind : ℕ) : Type 0 where
   pub low : 0x10 ≤ kind
-  pub high : kind ≤ 0x14
+  pub high : (kind ≡ 0x1D → ⊥) → kind ≤ 0x14
+
+pub childless : {kind : ℕ} → 0x10 ≤ kind → isLeaf kind ≡ true → Childless kind
+childless h e = record { low = h; high = λ n. let z = leaf-kind e n in omega arith }
 
 -- VARIABLES
 
@@ -98,10 +103,10 @@ constants kind s n (suc zero) e h = rw e (record { value = vtrue; bytes = refl; 
 constants kind s n (suc (suc zero)) e h = rw e (record { value = list nil; bytes = refl; long = refl; readable = nil-readable; is = λ l sh μ. refl })
 constants kind s n (suc (suc (suc i))) e h = absurd (omega arith)
 
-pub constant-told : {h : Here} {n r kind : ℕ} {a : List ℕ} → Childless kind → (kind ≡ 0x10 → ⊥) → (kind ≡ 0x14 → ⊥) → Asked h kind n
+pub constant-told : {h : Here} {n r kind : ℕ} {a : List ℕ} → Childless kind → (kind ≡ 0x10 → ⊥) → (kind ≡ 0x14 → ⊥) → (kind ≡ 0x1D → ⊥) → Asked h kind n
     → a ≡ set (h .arena) (h .top) (kind - 0x11) → r ≡ doneAs (h .top) 1 0 → Tells h a r kind n
-constant-told {h} {n} {kind = kind} c v m w e f =
-    let k = constants kind (h .sheet) n (kind - 0x11) (omega (arith, c .low)) (omega (arith, c .high)) in
+constant-told {h} {n} {kind = kind} c v m x w e f =
+    let k = constants kind (h .sheet) n (kind - 0x11) (omega (arith, c .low)) (omega (arith, c .high x)) in
     let d = ap said f ∙ done-said (h .top) 1 0 (omega (arith, w .room)) (omega arith) (omega arith) in
     let mark = marked (kind - 0x11) (h .top) (h .arena) (omega (arith, w .long, w .room)) in
     rw e (record {
@@ -162,5 +167,40 @@ number-told {h} {n} num w e f =
           bytes = rw e (number-bytes c top m (omega (arith, w .long, w .room)) (getD-set-same b top 4 0 (omega (arith, w .long, w .room))));
           readable = number-readable le;
         };
+      });
+    })
+
+-- WIDE NUMBERS
+
+-- the constant of four bytes whose record starts at byte n of the sheet s, and its bytes
+abbrev pub wideAt : List ℕ → ℕ → ℕ
+wideAt s n = 256 * (256 * (256 * getD s (n + 1) 0 + getD s (n + 2) 0) + getD s (n + 3) 0) + getD s (n + 4) 0
+
+abbrev pub wideBytes : List ℕ → ℕ → List ℕ
+wideBytes s n = encode (wide (wideAt s n))
+
+-- they are the record's, behind the kind
+pub wide-bytes : (s : List ℕ) (n : ℕ) {a b c d : ℕ} → a ≡ getD s (n + 1) 0 → b ≡ getD s (n + 2) 0 → c ≡ getD s (n + 3) 0 → d ≡ getD s (n + 4) 0
+    → b < 256 → c < 256 → d < 256 → 6 ∷ a ∷ b ∷ c ∷ d ∷ [] ≡ wideBytes s n
+unfolding encode
+wide-bytes s n {a} {b} {c} {d} ea eb ec ed hb hc hd =
+    let m = wideAt s n in
+    let i : m / 256 / 256 / 256 ≡ a = omega arith in
+    let j : m / 256 / 256 % 256 ≡ b = omega arith in
+    let k : m / 256 % 256 ≡ c = omega arith in
+    let l : m % 256 ≡ d = omega arith in
+    rw (i, j, k, l) refl
+
+pub wide-told : {h : Here} {n r kind : ℕ} {a : List ℕ} → kind ≡ 0x1D → Asked h kind n
+    → a ≡ paste (h .arena) (h .top) (wideBytes (h .sheet) n) 5 → r ≡ doneAs (h .top) 5 0 → Tells h a r kind n
+unfolding run Text.getNode size encode
+wide-told {h} {n} num w e f =
+    let d = ap said f ∙ done-said (h .top) 5 0 (omega (arith, w .room)) (omega arith) (omega arith) in
+    let p = filled (h .arena) (wideBytes (h .sheet) n) (h .top) (omega (arith, w .long, w .room)) in
+    rw num (record {
+      kept = rw e (p .below);
+      told = λ sh es μ _. finish d (record {
+        low = le-refl (h .top);
+        held = record { place = onStack (w .base) (le-refl _); long = refl; bytes = rw e (p .bytes); readable = wide-readable (rw num at (w .known .1) .0) };
       });
     })

@@ -20,7 +20,8 @@ use Rattle.answer.specs.Answer.{
   later-said,
   refused-said,
 }
-use Rattle.value.specs.Value.{Value, vfalse, vtrue, list, number, pair as aPairOf, nil, cons, encode, encodes, size, sizes, truth, eFalse, eTrue, eList, eNil}
+use Rattle.value.specs.Value.{Value, vfalse, vtrue, list, number, wide, pair as aPairOf, nil, cons, encode, encodes, size, sizes, truth}
+use Rattle.value.specs.Value.{eFalse, eTrue, eList, eNil}
 use Rattle.value.specs.Views.{asList, asPair, asTruth}
 use Rattle.value.specs.Tests.{passes, holds}
 use Rattle.value.specs.Parts.{shapeOf, passesBytes}
@@ -140,6 +141,7 @@ module _ (l : ℕ) (sh : Sheet) (s : List ℕ) (n : ℕ) (μ : Env) (σ : List �
   list-rule (list nil) = chosen 0x17 (list nil) (getD s (n + 3) 0) (getD s (n + 5) 0) (Plain 2 2) Switch
   list-rule (list (cons f r)) = chosen 0x17 (list (cons f r)) (getD s (n + 5) 0) (getD s (n + 3) 0) (Parts 4 (1 + size f)) (Plain 2 2)
   list-rule (number i) = refl
+  list-rule (wide i) = refl
   list-rule (aPairOf a b) = refl
 
   truth-rule : (o : Value)
@@ -154,6 +156,7 @@ module _ (l : ℕ) (sh : Sheet) (s : List ℕ) (n : ℕ) (μ : Env) (σ : List �
   truth-rule (list nil) = refl
   truth-rule (list (cons f r)) = refl
   truth-rule (number i) = refl
+  truth-rule (wide i) = refl
   truth-rule (aPairOf a b) = refl
 
   split-rule : (o : Value) (p q : Bool) → (given 43 (asPair o) λ c. under (put l sh) μ σ W (getD s (n + 2) 0) v (getD s (n + 1) 0) mkPair (c .0) (c .1))
@@ -164,6 +167,7 @@ module _ (l : ℕ) (sh : Sheet) (s : List ℕ) (n : ℕ) (μ : Env) (σ : List �
   split-rule (list nil) p q = refl
   split-rule (list (cons f r)) p q = refl
   split-rule (number i) p q = refl
+  split-rule (wide i) p q = refl
   split-rule (aPairOf a b) p q = refl
 
   -- once the subject is got

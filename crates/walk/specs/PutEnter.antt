@@ -41,7 +41,7 @@ module _ {s table b slots : List ℕ} {P : Value → Type 0} {sc : Scope} {cells
   its-node : getD (e .asked .sheet .sh .nodes) x False ≡ recordAt k s (getD table x 0)
   its-node = record-there (e .asked .sheet) (e .asked .known) (e .kind)
 
-  pub its-kind : (0x10 ≤ k) × (k ≤ 0x1C)
+  pub its-kind : (0x10 ≤ k) × (k ≤ 0x1D)
   its-kind = kind-range (e .asked .sheet) (e .asked .known) (e .kind)
 
   -- what the function of its kind is asked

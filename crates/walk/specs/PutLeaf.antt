@@ -8,7 +8,7 @@ use native.Mathlib.Omega.{arith}
 use lib.ListN.{length, getD, set, length-set, getElem?}
 use lib.Seq.{paste}
 use Rattle.answer.specs.Answer.{Done, said, doneAs, done-said, refused-said}
-use Rattle.value.specs.Value.{Value, vfalse, vtrue, list, number, nil, encode, encodes, size}
+use Rattle.value.specs.Value.{Value, vfalse, vtrue, list, number, wide, nil, encode, encodes, size}
 use Rattle.value.specs.Encoding.{size-encode, size-pos}
 use Rattle.value.specs.Parts.{sameBytes}
 use Rattle.value.specs.PartsLaws.{same-values, other-values}
@@ -24,7 +24,7 @@ use Rattle.walk.specs.Answers.{Answers, answer-by, finish, give, give-no
 use Rattle.walk.specs.Cells.{Slot, blank, full, Written, Shown}
 use Rattle.walk.specs.Frames.{frame-refl}
 use Rattle.walk.specs.CellLaws.{filled, filled-frame, written-set}
-use Rattle.walk.specs.GetLeaf.{Childless}
+use Rattle.walk.specs.GetLeaf.{Childless, wideBytes}
 use Rattle.walk.specs.Puts.{own, run, Given, Wrote, PutHere, PutAsked, PutTells}
 
 -- the bytes of the constant number whose record starts at byte n of the sheet s
@@ -67,13 +67,17 @@ constants kind s n (suc (suc zero)) e h = rw e (record { value = list nil; are =
 constants kind s n (suc (suc (suc i))) e h = absurd (omega arith)
 
 module _ {h : PutHere} {view : List ℕ} {kind n r : ℕ} (w : PutAsked h (Shown view) kind n) where
-  pub constant-told : Childless kind → (kind ≡ 0x10 → ⊥) → (kind ≡ 0x14 → ⊥) → r ≡ judged 50 (sameBytes view ((kind - 0x11) ∷ []))
+  pub constant-told : Childless kind → (kind ≡ 0x10 → ⊥) → (kind ≡ 0x14 → ⊥) → (kind ≡ 0x1D → ⊥) → r ≡ judged 50 (sameBytes view ((kind - 0x11) ∷ []))
       → PutTells h (Shown view) (h .arena) (h .slots) r kind n
-  constant-told c v m is = constant-gives w (constants kind (h .sheet) n (kind - 0x11) (omega (arith, c .low)) (omega (arith, c .high))) is
+  constant-told c v m x is = constant-gives w (constants kind (h .sheet) n (kind - 0x11) (omega (arith, c .low)) (omega (arith, c .high x))) is
 
   pub number-told : kind ≡ 0x14 → r ≡ judged 50 (sameBytes view (numberBytes (h .sheet) n)) → PutTells h (Shown view) (h .arena) (h .slots) r kind n
   unfolding run Text.putNode encode
   number-told e is = constant-gives w (rw e (record { value = number _; are = refl; rule = λ _ _ _ _ _ _ _. refl })) is
+
+  pub wide-told : kind ≡ 0x1D → r ≡ judged 50 (sameBytes view (wideBytes (h .sheet) n)) → PutTells h (Shown view) (h .arena) (h .slots) r kind n
+  unfolding run Text.putNode
+  wide-told e is = constant-gives w (rw e (record { value = wide _; are = refl; rule = λ _ _ _ _ _ _ _. refl })) is
 
 -- VARIABLES
 

@@ -12,7 +12,7 @@ use Rattle.value.specs.Laws.{Readable, readable-front, readable-pair}
 use Rattle.value.specs.Parts.{shapeOf, firstPart, secondPart}
 use Rattle.value.specs.PartsLaws.{shape, shape-whole, first-of-list, rest-of-list, first-of-pair, second-of-pair}
 use Rattle.value.specs.declared.Shape.{Shape}
-use Rattle.value.specs.declared.Shape.the-variants.{False, True, Empty, Front, Number, Pair, Malformed}
+use Rattle.value.specs.declared.Shape.the-variants.{False, True, Empty, Front, Number, Pair, Wide, Malformed}
 use Rattle.sheet.specs.Sheet.{Sheet}
 use Rattle.rules.specs.Outcome.{given}
 use Rattle.rules.specs.Text
@@ -97,6 +97,7 @@ front-apart False e = absurd (false≢true (sym (ap there e)))
 front-apart True e = absurd (false≢true (sym (ap there e)))
 front-apart Empty e = absurd (false≢true (sym (ap there e)))
 front-apart (Number n) e = absurd (false≢true (sym (ap there e)))
+front-apart Wide e = absurd (false≢true (sym (ap there e)))
 front-apart Malformed e = absurd (false≢true (sym (ap there e)))
 
 pair-apart : (q : Shape) {mid : ℕ} → At mid ≡ apartOf 0x16 q → Pair mid ≡ q
@@ -107,6 +108,7 @@ pair-apart False e = absurd (false≢true (sym (ap there e)))
 pair-apart True e = absurd (false≢true (sym (ap there e)))
 pair-apart Empty e = absurd (false≢true (sym (ap there e)))
 pair-apart (Number n) e = absurd (false≢true (sym (ap there e)))
+pair-apart Wide e = absurd (false≢true (sym (ap there e)))
 pair-apart Malformed e = absurd (false≢true (sym (ap there e)))
 
 -- the two parts of a view of v, and the rule for them

@@ -7,7 +7,7 @@ use Prim.Native.Nat.{ℕ, zero, suc, _+_, _-_, _≤_, _<_}
 use native.Mathlib.Omega.{arith}
 use lib.ListN.{length, drop, getD, getElem?}
 use lib.Seq.{getD-take, getD-drop}
-use Rattle.value.specs.Value.{Value, Values, vfalse, vtrue, list, number, pair, nil, cons, encode, encodes, size, sizes}
+use Rattle.value.specs.Value.{Value, Values, vfalse, vtrue, list, number, wide, pair, nil, cons, encode, encodes, size, sizes}
 use Rattle.value.specs.Encoding.{size-encode, size-pos}
 use Rattle.value.specs.Views.{asList}
 use Rattle.value.specs.Tests.{holds}
@@ -67,6 +67,7 @@ no-list vtrue e = refl
 no-list (list nil) e = absurd (false≢true e)
 no-list (list (cons f r)) e = absurd (false≢true e)
 no-list (number k) e = refl
+no-list (wide k) e = refl
 no-list (pair x y) e = refl
 
 pub a-list : (v : Value) → unfitRest 3 (getD (encode v) 0 0) ≡ false → View asList v
@@ -75,6 +76,7 @@ a-list vfalse e = absurd (false≢true (sym e))
 a-list vtrue e = absurd (false≢true (sym e))
 a-list (list l) e = record { seen = (l, refl); is = refl }
 a-list (number k) e = absurd (false≢true (sym e))
+a-list (wide k) e = absurd (false≢true (sym e))
 a-list (pair x y) e = absurd (false≢true (sym e))
 
 module _ {a : List ℕ} {top start len : ℕ} {v : Value} (h : Held a top start len v) where

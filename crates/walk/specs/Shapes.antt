@@ -4,7 +4,7 @@ use mathlib.Core.Option.{none, some}
 use Prim.Native.Nat.{ℕ, _+_, _≤_}
 use native.Mathlib.Decide.{decLe}
 use native.Mathlib.Omega.{arith}
-use Rattle.value.specs.Value.{Value, Values, vfalse, vtrue, list, number, pair, nil, cons, size, Encodable, eNumber}
+use Rattle.value.specs.Value.{Value, Values, vfalse, vtrue, list, number, wide, pair, nil, cons, size, Encodable, eNumber}
 use Rattle.value.specs.Views.{asFront, asPair, asNumber, ifSmall}
 use Rattle.value.specs.Laws.{Readable}
 use Rattle.value.specs.PartsLaws.{shape, which, unlike}
@@ -37,6 +37,7 @@ front-of vtrue e = absurd (unlike (λ z. omega arith) e)
 front-of (list nil) e = absurd (unlike (λ z. omega arith) e)
 front-of (list (cons f r)) e = record { first = f; rest = r; whole = refl; seen = refl; at = cc }
 front-of (number n) e = absurd (unlike (λ z. omega arith) e)
+front-of (wide n) e = absurd (unlike (λ z. omega arith) e)
 front-of (pair a b) e = absurd (unlike (λ z. omega arith) e)
 
 pub no-front : (v : Value) → ((mid : ℕ) → is.Front mid ≡ shape v → ⊥) → asFront v ≡ none
@@ -46,6 +47,7 @@ no-front vtrue n = refl
 no-front (list nil) n = refl
 no-front (list (cons f r)) n = absurd (n _ refl)
 no-front (number k) n = refl
+no-front (wide k) n = refl
 no-front (pair a b) n = refl
 
 pub pair-of : (v : Value) {mid : ℕ} → is.Pair mid ≡ shape v → PairOf v mid
@@ -55,6 +57,7 @@ pair-of vtrue e = absurd (unlike (λ z. omega arith) e)
 pair-of (list nil) e = absurd (unlike (λ z. omega arith) e)
 pair-of (list (cons f r)) e = absurd (unlike (λ z. omega arith) e)
 pair-of (number n) e = absurd (unlike (λ z. omega arith) e)
+pair-of (wide n) e = absurd (unlike (λ z. omega arith) e)
 pair-of (pair a b) e = record { first = a; second = b; whole = refl; seen = refl; at = cc }
 
 pub no-pair : (v : Value) → ((mid : ℕ) → is.Pair mid ≡ shape v → ⊥) → asPair v ≡ none
@@ -63,6 +66,7 @@ no-pair vfalse n = refl
 no-pair vtrue n = refl
 no-pair (list l) n = refl
 no-pair (number k) n = refl
+no-pair (wide k) n = refl
 no-pair (pair a b) n = absurd (n _ refl)
 
 small : {n : ℕ} → Encodable (number n) → n ≤ 65535
@@ -84,6 +88,7 @@ number-of vtrue e h = absurd (unlike (λ z. omega arith) e)
 number-of (list nil) e h = absurd (unlike (λ z. omega arith) e)
 number-of (list (cons f r)) e h = absurd (unlike (λ z. omega arith) e)
 number-of (number n) {m} e h = a-number n m (cc) (small (h .encodable))
+number-of (wide n) e h = absurd (unlike (λ z. omega arith) e)
 number-of (pair a b) e h = absurd (unlike (λ z. omega arith) e)
 
 pub no-number : (v : Value) → ((m : ℕ) → is.Number m ≡ shape v → ⊥) → asNumber v ≡ none
@@ -92,6 +97,7 @@ no-number vfalse n = refl
 no-number vtrue n = refl
 no-number (list l) n = refl
 no-number (number k) n = absurd (n _ refl)
+no-number (wide k) n = refl
 no-number (pair a b) n = refl
 
 pub empty-of : (v : Value) → is.Empty ≡ shape v → v ≡ list nil
@@ -101,4 +107,5 @@ empty-of vtrue e = absurd (unlike (λ z. omega arith) e)
 empty-of (list nil) e = refl
 empty-of (list (cons f r)) e = absurd (unlike (λ z. omega arith) e)
 empty-of (number n) e = absurd (unlike (λ z. omega arith) e)
+empty-of (wide n) e = absurd (unlike (λ z. omega arith) e)
 empty-of (pair a b) e = absurd (unlike (λ z. omega arith) e)

@@ -7,7 +7,7 @@ use Prim.Native.Nat.{ℕ, _+_}
 use native.Mathlib.Omega.{arith}
 use lib.Dec.{eqb}
 use lib.ListN.{getD}
-use Rattle.value.specs.Value.{Value, Values, vfalse, vtrue, list, number, pair, nil, cons, encode, encodes, size, sizes, Encodable, ePair}
+use Rattle.value.specs.Value.{Value, Values, vfalse, vtrue, list, number, wide, pair, nil, cons, encode, encodes, size, sizes, Encodable, ePair}
 use Rattle.value.specs.Views.{asList}
 use Rattle.value.specs.Laws.{encodable-front}
 use Rattle.rules.specs.Outcome.{Out, given}
@@ -35,6 +35,7 @@ whole-list x vfalse e f g = absurd (let z : _≡_ {A = ℕ} 0 1 = cc in omega ar
 whole-list x vtrue e f g = absurd (let z : _≡_ {A = ℕ} 0 1 = cc in omega arith)
 whole-list x (list l) e f g = record { value = list (cons x l); is = refl; bytes = refl; long = omega arith; encodable = encodable-front f g }
 whole-list x (number n) e f g = absurd (let z : _≡_ {A = ℕ} 0 1 = cc in omega arith)
+whole-list x (wide n) e f g = absurd (let z : _≡_ {A = ℕ} 0 1 = cc in omega arith)
 whole-list x (pair a b) e f g = absurd (let z : _≡_ {A = ℕ} 0 1 = cc in omega arith)
 
 whole-pair : (x y : Value) → Encodable x → Encodable y → Whole 5 x y
@@ -53,6 +54,7 @@ none-list x vtrue e = refl
 none-list x (list nil) e = absurd (let z : _≡_ {A = ℕ} 0 1 = cc in omega arith)
 none-list x (list (cons f r)) e = absurd (let z : _≡_ {A = ℕ} 0 1 = cc in omega arith)
 none-list x (number n) e = refl
+none-list x (wide n) e = refl
 none-list x (pair a b) e = refl
 
 -- it is not

@@ -3,15 +3,17 @@
 ghost use mathlib.Core.Path.{_≡_};
 ghost use Prim.Native.Nat.{suc, _+_, _*_, _≤_, _<_};
 ghost use lib.ListN.{length, getD};
+ghost use lib.Seq.{paste};
 ghost use Rattle.answer.specs.Answer.{doneAs};
 ghost use Rattle.rules.specs.Numbers.{SCRATCH};
 ghost use Rattle.walk.specs.Gets.{Ready, Gives, enter, own};
 ghost use Rattle.walk.specs.GetReady.{Sized};
 ghost use Rattle.walk.specs.GetTwo.{Two};
 ghost use Rattle.walk.specs.GetCase.{Case, testOf};
-ghost use Rattle.walk.specs.GetLeaf.{Childless, numbered};
+ghost use Rattle.walk.specs.GetLeaf.{Childless, numbered, wideBytes};
 ghost use Rattle.walk.specs.GetMembers.{MembersAsked, MembersTold};
 use crate::at::At;
+use crate::bytes::wide_bytes;
 use crate::got::added;
 use crate::got::bring;
 use crate::got::fronted;
@@ -43,7 +45,17 @@ fn get_number(sheet: &[u8], arena: &mut [u8], n: u16, top: usize) -> usize
     done(top, 3, 0)
 }
 
-// A node without children: a variable (10), a number (14), or False, True or the empty list (11 to 13), which are one byte each.
+// The number of a constant of four bytes (1D).
+fn get_wide(sheet: &[u8], arena: &mut [u8], n: u16, top: usize) -> usize
+    requires { ⌜ (top + 5 ≤ length (now arena)) × (top < SCRATCH) ⌝ }
+    ensures { λ r. ⌜ (now (arena .exit) ≡ paste (now (arena .entry)) top (wideBytes (now (sheet .entry)) n) 5) × (r ≡ doneAs top 5 0) ⌝ }
+{
+    let number = wide_bytes(sheet, n);
+    step::store(arena, top, &number);
+    done(top, 5, 0)
+}
+
+// A node without children: a variable (10), a number (14 or 1D), or False, True or the empty list (11 to 13), which are one byte each.
 fn get_leaf(
     sheet: &[u8],
     table: &[u16; 200],
@@ -64,11 +76,14 @@ fn get_leaf(
     if kind == 0x14 {
         return get_number(sheet, arena, n, top);
     }
+    if kind == 0x1D {
+        return get_wide(sheet, arena, n, top);
+    }
     arena[top] = kind - 0x11;
     done(top, 1, 0)
 }
 
-/// The value of a node: its depth is judged, then the allowance. The sheet's reader lets no kind over 1C through.
+/// The value of a node: its depth is judged, then the allowance. The sheet's reader lets no kind over 1D through.
 pub fn get_node(
     sheet: &[u8],
     table: &[u16; 200],
@@ -88,7 +103,7 @@ pub fn get_node(
     let n = table[node];
     let below = at.below();
     let kind = sheet::byte_of(sheet, n, 0);
-    if kind < 0x15 {
+    if step::is_leaf(kind) {
         return later(get_leaf(sheet, table, arena, scope, n, kind, below), 1);
     }
     if kind < 0x1A {

@@ -10,7 +10,7 @@ ghost use Rattle.step.specs.Step.{judged};
 ghost use Rattle.walk.specs.Cells.{Shown};
 ghost use Rattle.walk.specs.GetTwo.{Two};
 ghost use Rattle.walk.specs.GetCase.{Case};
-ghost use Rattle.walk.specs.GetLeaf.{Childless};
+ghost use Rattle.walk.specs.GetLeaf.{Childless, wideBytes};
 ghost use Rattle.walk.specs.Puts.{Ready, Inner, Gives, Few, Any, PartsAt, SomeParts, SomeView, enter, own, pair, inside, rebuilt, switchAt};
 ghost use Rattle.walk.specs.PutLeaf.{Writable, Write, numberBytes};
 ghost use Rattle.walk.specs.PutSwitch.{DefaultsAsked, Defaults};
@@ -19,6 +19,7 @@ ghost use Rattle.walk.specs.PutMembers.{SomeList, MembersTold};
 use crate::at::At;
 use crate::bytes::fill;
 use crate::bytes::rebuild;
+use crate::bytes::wide_bytes;
 use crate::getter::get_node;
 use crate::got::bring;
 use crate::got::shape_at;
@@ -79,6 +80,14 @@ fn put_number(sheet: &[u8], n: u16, view: &[u8]) -> usize
     step::put_number(number, view)
 }
 
+// A constant number of four bytes (1D) must equal the view.
+fn put_wide(sheet: &[u8], n: u16, view: &[u8]) -> usize
+    ensures { λ r. ⌜ r ≡ judged 50 (sameBytes (now (view .entry)) (wideBytes (now (sheet .entry)) n)) ⌝ }
+{
+    let number = wide_bytes(sheet, n);
+    step::put_bytes(&number, view)
+}
+
 // A node without children: a constant must equal the view; a variable (10) takes it.
 fn put_leaf(
     sheet: &[u8],
@@ -99,6 +108,9 @@ fn put_leaf(
     if kind == 0x14 {
         return put_number(sheet, n, view);
     }
+    if kind == 0x1D {
+        return put_wide(sheet, n, view);
+    }
     if kind != 0x10 {
         return step::put_constant(kind - 0x11, view);
     }
@@ -111,7 +123,7 @@ fn put_leaf(
     write(arena, slots, c, view)
 }
 
-/// A view put back into a node: its depth is judged, then the allowance. The sheet's reader lets no kind over 1C through.
+/// A view put back into a node: its depth is judged, then the allowance. The sheet's reader lets no kind over 1D through.
 pub fn put_node(
     sheet: &[u8],
     table: &[u16; 200],
@@ -134,7 +146,7 @@ pub fn put_node(
     let n = table[node];
     let to = at.below();
     let kind = sheet::byte_of(sheet, n, 0);
-    if kind < 0x15 {
+    if step::is_leaf(kind) {
         let put = put_leaf(sheet, table, arena, slots, scope, cells, n, kind, view, to);
         return later(put, 1);
     }

@@ -1,5 +1,6 @@
 //! Sheets: records read and judged.
 
+use crate::value::{wide, LARGEST_NUMBER};
 use crate::Refusal;
 
 const MOST_SECTIONS: usize = 8;
@@ -12,6 +13,7 @@ pub enum Node {
     True,
     Empty,
     Number(u16),
+    Wide(u32),
     Front { first: u8, rest: u8 },
     Pair { left: u8, right: u8 },
     ListCase { subject: u8, empty: u8, empty_test: u8, front: u8, front_test: u8, default_first: u8, default_rest: u8 },
@@ -84,7 +86,7 @@ impl Sheet {
                 0x17 => 7,
                 0x18 => 5,
                 0x1A | 0x1B => 3,
-                0x1C => 4,
+                0x1C | 0x1D => 4,
                 _ => return Err(10),
             };
             let full = match kind {
@@ -136,13 +138,14 @@ impl Sheet {
             0x19 => Node::Split { subject: body[0], inner: body[1] },
             0x1A => Node::Call { section: body[0], left: body[1], right: body[2] },
             0x1B => Node::Add { node: body[0], amount: u16::from_be_bytes([body[1], body[2]]) },
-            _ => Node::Each(Each { subject: body[0], section: body[1], variable: body[2], default: body[3] }),
+            0x1C => Node::Each(Each { subject: body[0], section: body[1], variable: body[2], default: body[3] }),
+            _ => Node::Wide(wide(body)),
         };
         self.nodes[self.node_count] = node;
         self.node_count += 1;
     }
 
-    /// Whether k and every node, section and test number is in range. (Variables are judged in the walk.)
+    /// Whether k and every node, section and test number is in range, and every constant of four bytes. (Variables are judged in the walk.)
     fn in_range(&self) -> bool {
         let node = |number: u8| usize::from(number) < self.node_count;
         (1..=16).contains(&self.k)
@@ -157,6 +160,7 @@ impl Sheet {
         let test = |number: u8| number <= 6;
         match self.nodes[own] {
             Node::Variable(_) | Node::False | Node::True | Node::Empty | Node::Number(_) => true,
+            Node::Wide(number) => number > LARGEST_NUMBER,
             Node::Front { first, rest } => node(first) && node(rest),
             Node::Pair { left, right } => node(left) && node(right),
             Node::ListCase { subject, empty, empty_test, front, front_test, default_first, default_rest } => {

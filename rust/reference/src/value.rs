@@ -6,6 +6,11 @@ pub const EMPTY: u8 = 0x02;
 pub const FRONT: u8 = 0x03;
 pub const NUMBER: u8 = 0x04;
 pub const PAIR: u8 = 0x05;
+/// A number of four bytes.
+pub const WIDE: u8 = 0x06;
+
+/// The largest number of two bytes. A number of four is larger.
+pub const LARGEST_NUMBER: u32 = 65_535;
 
 /// The most bytes of a value.
 pub const LONGEST: usize = 256;
@@ -21,6 +26,7 @@ pub fn read(bytes: &[u8]) -> Result<usize, Flaw> {
     // A stack of the values still to come; true where only a list will do. Each byte adds one at most.
     let mut owed = [false; LONGEST + 2];
     let mut owing = 1;
+    let mut kind = FALSE;
     let mut body = 0;
     let mut at = 0;
     while owing > 0 || body > 0 {
@@ -34,11 +40,15 @@ pub fn read(bytes: &[u8]) -> Result<usize, Flaw> {
         at += 1;
         if body > 0 {
             body -= 1;
+            if body == 0 && kind == WIDE && wide(&bytes[at - 4..]) <= LARGEST_NUMBER {
+                return Err(Flaw::Malformed);
+            }
             continue;
         }
+        kind = byte;
         owing -= 1;
         let list_only = owed[owing];
-        match byte {
+        match kind {
             EMPTY => {}
             FRONT => {
                 owed[owing] = true;
@@ -48,6 +58,7 @@ pub fn read(bytes: &[u8]) -> Result<usize, Flaw> {
             _ if list_only => return Err(Flaw::Malformed),
             FALSE | TRUE => {}
             NUMBER => body = 2,
+            WIDE => body = 4,
             PAIR => {
                 owed[owing] = false;
                 owed[owing + 1] = false;
@@ -73,6 +84,10 @@ pub fn skip(bytes: &[u8]) -> usize {
                 owing -= 1;
                 at += 3;
             }
+            WIDE => {
+                owing -= 1;
+                at += 5;
+            }
             _ => {
                 owing -= 1;
                 at += 1;
@@ -80,6 +95,11 @@ pub fn skip(bytes: &[u8]) -> usize {
         }
     }
     at
+}
+
+/// The number of four bytes that `bytes` begin with.
+pub fn wide(bytes: &[u8]) -> u32 {
+    u32::from_be_bytes([bytes[0], bytes[1], bytes[2], bytes[3]])
 }
 
 pub fn is_list(bytes: &[u8]) -> bool {

@@ -1,5 +1,7 @@
 //! Files of test vectors: inputs of a program in hexadecimal, and what it prints for them.
 
+use std::path::{Path, PathBuf};
+
 /// Bytes in upper-case hexadecimal.
 pub fn hex(bytes: &[u8]) -> String {
     bytes.iter().map(|byte| format!("{byte:02X}")).collect()
@@ -35,10 +37,31 @@ pub fn wrong_lines(file: &str, printed: impl Fn(&[u8]) -> String) -> (usize, Vec
     (count, wrong)
 }
 
-/// Runs the vectors of the file that an environment variable names, if it is set, and panics where one is printed otherwise.
-pub fn check_file(variable: &str, printed: impl Fn(&[u8]) -> String) {
-    let Some(path) = std::env::var_os(variable) else { return };
+/// A file of jobs that may stand beside the repository: those of document 01 and of requests 1 to 4.
+const JOBS: &str = concat!(env!("CARGO_MANIFEST_DIR"), "/../../../shared/vectors/wide.txt");
+
+/// Runs the jobs of the file that `LENS_VECTORS` names, or else of `shared/vectors/wide.txt` beside the repository, where it is there.
+pub fn check_jobs(printed: impl Fn(&[u8]) -> String) {
+    let beside = || Some(PathBuf::from(JOBS)).filter(|path| path.exists());
+    if let Some(path) = named("LENS_VECTORS").or_else(beside) {
+        check_file(&path, printed);
+    }
+}
+
+/// Runs the inputs of `tools` of the file that `LENS_TOOL_VECTORS` names, if it is set.
+pub fn check_tools(printed: impl Fn(&[u8]) -> String) {
+    if let Some(path) = named("LENS_TOOL_VECTORS") {
+        check_file(&path, printed);
+    }
+}
+
+fn named(variable: &str) -> Option<PathBuf> {
+    std::env::var_os(variable).map(PathBuf::from)
+}
+
+/// Panics where a line of a file is printed otherwise.
+fn check_file(path: &Path, printed: impl Fn(&[u8]) -> String) {
     let (count, wrong) = wrong_lines(&std::fs::read_to_string(path).unwrap(), printed);
     assert!(wrong.is_empty(), "{} of {count} lines wrong:\n{}", wrong.len(), wrong.join("\n"));
-    println!("{count} lines");
+    println!("{count} lines of {}", path.display());
 }

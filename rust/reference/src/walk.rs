@@ -12,7 +12,7 @@
 //! does so at `end`.
 
 use crate::sheet::{Each, Node, Sheet};
-use crate::value::{self, EMPTY, FALSE, FRONT, LONGEST, NUMBER, PAIR, TRUE};
+use crate::value::{self, EMPTY, FALSE, FRONT, LONGEST, NUMBER, PAIR, TRUE, WIDE};
 use crate::{Refusal, SCRATCH};
 
 const DEEPEST: u32 = 48;
@@ -150,8 +150,7 @@ impl<'a> Walk<'a> {
     }
 
     fn push_number(&mut self, number: u16) -> Span {
-        let [high, low] = number.to_be_bytes();
-        self.push(&[NUMBER, high, low])
+        self.push(&number_bytes(number))
     }
 
     /// Builds a list with members or a pair on top of the stack.
@@ -192,6 +191,7 @@ impl<'a> Walk<'a> {
         (Span { start: value.start + 1, len: left }, Span { start: value.start + 1 + left, len: value.len - 1 - left })
     }
 
+    /// The number that can be added to: one of two bytes.
     fn number(&self, value: Span) -> Option<u16> {
         match self.bytes(value) {
             &[NUMBER, high, low] => Some(u16::from_be_bytes([high, low])),
@@ -231,6 +231,7 @@ impl<'a> Walk<'a> {
             Node::True => Ok(TRUE_SPAN),
             Node::Empty => Ok(EMPTY_SPAN),
             Node::Number(number) => Ok(self.push_number(number)),
+            Node::Wide(number) => Ok(self.push(&wide_bytes(number))),
             Node::Front { first, rest } => {
                 let first = self.get(first, scope, depth + 1)?;
                 let rest = self.get(rest, scope, depth + 1)?;
@@ -360,10 +361,8 @@ impl<'a> Walk<'a> {
             Node::False => return self.same(view, &[FALSE]),
             Node::True => return self.same(view, &[TRUE]),
             Node::Empty => return self.same(view, &[EMPTY]),
-            Node::Number(number) => {
-                let [high, low] = number.to_be_bytes();
-                return self.same(view, &[NUMBER, high, low]);
-            }
+            Node::Number(number) => return self.same(view, &number_bytes(number)),
+            Node::Wide(number) => return self.same(view, &wide_bytes(number)),
             Node::Front { first, rest } => return self.put_parts(FRONT, first, rest, view, scope, depth),
             Node::Pair { left, right } => return self.put_parts(PAIR, left, right, view, scope, depth),
             Node::ListCase { subject, empty, empty_test, front, front_test, default_first, default_rest } => {
@@ -549,6 +548,16 @@ impl<'a> Walk<'a> {
         self.arena.copy_within(from..from + len, to);
         Ok(span(to, len))
     }
+}
+
+fn number_bytes(number: u16) -> [u8; 3] {
+    let [high, low] = number.to_be_bytes();
+    [NUMBER, high, low]
+}
+
+fn wide_bytes(number: u32) -> [u8; 5] {
+    let [a, b, c, d] = number.to_be_bytes();
+    [WIDE, a, b, c, d]
 }
 
 fn slot(cell: usize) -> usize {

@@ -1,7 +1,10 @@
-//! The examples of document 01, the node 1C of document 02, and a file of jobs named by `LENS_VECTORS`.
+//! The examples of document 01, the node 1C of document 02, and a file of jobs (`LENS_VECTORS`).
 
+mod jobs;
+
+use jobs::{get, list, ok, put, run};
 use reference::job::{printed, Job};
-use reference::vectors::{check_file, unhex};
+use reference::vectors::{check_jobs, unhex};
 
 const P: &str = "01 01 00 10 00";
 const Q: &str = "01 01 00 15 01 02 10 00 13";
@@ -10,25 +13,6 @@ const H: &str = "01 01 00 1B 01 00 64 10 00";
 const B: &str = "01 01 00 18 01 02 04 03 04 10 00 12 12";
 const B3: &str = "01 01 00 18 01 02 03 03 04 10 00 12 12";
 const J: &str = "01 02 00 20 01 1A 00 00 01 17 02 03 00 04 02 07 08 10 00 10 01 15 05 06 10 02 1A 00 03 01 11 13";
-
-fn list(numbers: &[u16]) -> String {
-    let members: String = numbers.iter().map(|n| format!("03 04 {n:04X} ")).collect();
-    members + "02"
-}
-
-fn run(sheet: &str, plan: &str, view: Option<&str>, allowance: u32) -> String {
-    let job =
-        Job { sheet: unhex(sheet).unwrap(), plan: unhex(plan).unwrap(), view: view.map(|view| unhex(view).unwrap()), allowance };
-    printed(&job.to_input().unwrap(), Job::run)
-}
-
-fn get(sheet: &str, plan: &str) -> String {
-    run(sheet, plan, None, 1000)
-}
-
-fn put(sheet: &str, plan: &str, view: &str) -> String {
-    run(sheet, plan, Some(view), 1000)
-}
 
 #[test]
 fn examples_of_the_paper() {
@@ -53,11 +37,11 @@ fn examples_of_the_paper() {
 #[test]
 fn joining_two_lists() {
     let plan = list(&[1, 2]) + &list(&[3, 4, 5]);
-    let bytes = |lists: &[&[u16]]| lists.iter().map(|l| list(l)).collect::<String>().replace(' ', "");
+    let bytes = |lists: &[&[u32]]| lists.iter().map(|l| list(l)).collect::<String>().replace(' ', "");
     assert_eq!(get(J, &plan), format!("ok 14 {}", bytes(&[&[1, 2, 3, 4, 5]])));
     assert_eq!(put(J, &plan, &list(&[6, 7, 8, 9, 10])), format!("ok 17 {}", bytes(&[&[6, 7], &[8, 9, 10]])));
     assert_eq!(put(J, &plan, &list(&[6])), format!("ok 11 {}", bytes(&[&[6], &[]])));
-    let numbers: Vec<u16> = (0..16).collect();
+    let numbers: Vec<u32> = (0..16).collect();
     assert!(get(J, &(list(&numbers[..15]) + "02")).starts_with("ok"));
     assert_eq!(get(J, &(list(&numbers) + "02")), "no 40");
 }
@@ -71,12 +55,8 @@ const COUNT: &str = "01 02 00 20 03 1C 01 00 01 02 10 00 14 00 09 10 01";
 /// Lists within lists, as deep as they go; the default is the empty list.
 const NEST: &str = "01 01 00 20 00 1C 01 00 00 02 10 00 13";
 
-fn row(numbers: std::ops::Range<u16>) -> String {
-    list(&numbers.collect::<Vec<u16>>())
-}
-
-fn ok(steps: u32, bytes: &str) -> String {
-    format!("ok {steps} {}", bytes.replace(' ', ""))
+fn row(numbers: std::ops::Range<u32>) -> String {
+    list(&numbers.collect::<Vec<u32>>())
 }
 
 #[test]
@@ -175,5 +155,5 @@ fn the_program_example() {
 
 #[test]
 fn jobs_of_a_file() {
-    check_file("LENS_VECTORS", |input| printed(input, Job::run));
+    check_jobs(|input| printed(input, Job::run));
 }

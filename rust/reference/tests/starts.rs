@@ -1,7 +1,7 @@
-//! A plan's values found by their starts, request 2 of document 02, and a file of inputs of `tools` named by `LENS_TOOL_VECTORS`.
+//! A plan's values found by their starts, request 2 of document 02, and a file of inputs of `tools` (`LENS_TOOL_VECTORS`).
 
 use reference::tool::{printed, Tool};
-use reference::vectors::{check_file, unhex};
+use reference::vectors::{check_tools, unhex};
 use reference::{find, from_front, load, part, STARTS_MAX};
 
 /// A pair of variables 0 and 1 out of three.
@@ -23,15 +23,17 @@ fn loading() {
     let load = |sheet: &str, plan: &str| tool("4C", &(counted(sheet) + plan));
     assert_eq!(load(PAIR, PLAN), "ok 0 5 6");
     assert_eq!(load(PAIR, "00 01 02"), "ok 0 1 2");
+    assert_eq!(load(PAIR, "06 00 01 00 00 04 FF FF 06 FF FF FF FF"), "ok 0 5 8");
+    assert_eq!(load(PAIR, "06 00 00 FF FF 04 FF FF 06 FF FF FF FF"), "no 20");
     assert_eq!(load(PAIR, ""), "no 22");
     assert_eq!(load(PAIR, "00 01"), "no 22");
     assert_eq!(load(PAIR, "00 01 02 02"), "no 22");
-    assert_eq!(load(PAIR, "00 01 06"), "no 20");
+    assert_eq!(load(PAIR, "00 01 07"), "no 20");
     assert_eq!(load(PAIR, &format!("{} 00 01 02", "05 00".repeat(128))), "no 21");
     // The sheet is judged first, and whole.
     assert_eq!(load("", ""), "no 14");
-    assert_eq!(load("01 03 00 10", "06"), "no 11");
-    assert_eq!(load("01 11 00 10 00", "06"), "no 13");
+    assert_eq!(load("01 03 00 10", "07"), "no 11");
+    assert_eq!(load("01 11 00 10 00", "07"), "no 13");
     // Variables out of scope are no matter of loading.
     assert_eq!(load("01 01 00 10 09", "01"), "ok 0");
     let full = format!("{} 00", "05 00".repeat(127));
@@ -126,5 +128,5 @@ fn no_such_input() {
 
 #[test]
 fn inputs_of_a_file() {
-    check_file("LENS_TOOL_VECTORS", |input| printed(input, Tool::run));
+    check_tools(|input| printed(input, Tool::run));
 }

@@ -20,7 +20,7 @@ pub const MORE: usize = 64;
 /// Case `number`. `scratch` is lent to the reference, which tells what the plan's list is.
 pub fn case(number: u64, scratch: &mut [u8]) -> Case {
     let random = &mut Random::new(number);
-    let mut job = if random.percent(10) { edge_job(random, scratch) } else { job(random, scratch) };
+    let mut job = if random.percent(13) { edge_job(random, scratch) } else { job(random, scratch) };
     if random.percent(6) {
         damage(&mut job.plan, random);
     }
@@ -130,8 +130,11 @@ fn plan(random: &mut Random, types: &[Type]) -> Vec<u8> {
 fn full_plan(random: &mut Random) -> Vec<u8> {
     let mut plan = Vec::new();
     for _ in 0..16 {
-        let numbers = random.of(0..64);
-        let members: Vec<Value> = (0..numbers).map(|_| Value::Number(random.below(9) as u16)).collect();
+        let members: Vec<Value> = if random.percent(30) {
+            (0..random.of(0..43)).map(|_| Value::price(random)).collect()
+        } else {
+            (0..random.of(0..64)).map(|_| Value::Number(random.below(9) as u32)).collect()
+        };
         let list = Value::List(members).bytes();
         plan.extend([0x05, 0x01].repeat((255 - list.len()) / 2));
         plan.extend(list);
@@ -142,7 +145,7 @@ fn full_plan(random: &mut Random) -> Vec<u8> {
 fn junk(random: &mut Random) -> Vec<u8> {
     let length = if random.percent(20) { random.below(400) } else { random.below(12) };
     let small = random.percent(70);
-    (0..length).map(|_| if small { random.byte() % 6 } else { random.byte() }).collect()
+    (0..length).map(|_| if small { random.byte() % 8 } else { random.byte() }).collect()
 }
 
 /// The reference's output and steps; no byte and 0 with a refusal.

@@ -1,7 +1,8 @@
-//! Jobs at the limits of document 01, which random ones seldom meet: the 48th level, the 256th byte, the last section and node.
+//! Jobs at the limits of document 01, which random ones seldom meet: the 48th level, the 256th byte, the last section and node; and numbers
+//! about 65,536, the least of four bytes.
 
 use crate::random::Random;
-use crate::values::{damage, number, Value};
+use crate::values::{damage, Value};
 use reference::job::Job;
 
 /// Document 01's sheet J, which joins two lists.
@@ -11,13 +12,15 @@ pub const JOIN: [u8; 32] = [
 ];
 
 pub fn edge(random: &mut Random) -> Job {
-    match random.below(12) {
+    match random.below(16) {
         0 | 1 => chain(random),
         2 => join(random),
         3 => long(random),
         4..=6 => switch(random),
         7..=9 => each(random),
         10 => nest(random),
+        11 | 12 => prices(random),
+        13 | 14 => ending(random),
         _ => full(random),
     }
 }
@@ -95,7 +98,7 @@ fn switch(random: &mut Random) -> Job {
     sheet.extend([0x15, 10, 12, 0x13]);
     sheet.extend([0x10, 2, 0x14, 0, 5, 0x10, 1, 0x13, 0x1A, 0, 3, 1, 0x10, 3]);
     let mut plan = numbers(random, 0, 3);
-    plan.extend(if random.percent(70) { Value::Number(number(random)).bytes() } else { numbers(random, 0, 3) });
+    plan.extend(if random.percent(70) { Value::number(random).bytes() } else { numbers(random, 0, 3) });
     let view = match random.below(8) {
         0 => vec![0x02],
         1 => vec![random.byte() % 2],
@@ -125,7 +128,7 @@ fn each(random: &mut Random) -> Job {
     sheet.extend(root);
     sheet.extend([0x14, 0, 9, 0x13, 0x16, 6, 6, 0x12, 0x10, 0, 0x10, 1, 0x10, 3]);
     let mut plan = row(random, root[0]);
-    plan.extend(if random.percent(70) { Value::Number(number(random)).bytes() } else { row(random, 0x10) });
+    plan.extend(if random.percent(70) { Value::number(random).bytes() } else { row(random, 0x10) });
     let other = random.pick(&[root[0], root[0], 0x10, 0x15, 0x19]);
     let view = if random.percent(30) { Some(row(random, other)) } else { None };
     Job { sheet, plan, view, allowance: 1000 }
@@ -136,6 +139,7 @@ fn row(random: &mut Random, kind: u8) -> Vec<u8> {
     let most = random.pick(&[3, 3, 3, 12, 64, 65, 66]);
     let length = if random.percent(50) { random.below(most) } else { most - 1 };
     let same = random.percent(40).then_some(vec![random.byte() % 3]);
+    let make = if random.percent(20) { Value::price } else { Value::number };
     let member = |random: &mut Random| match kind {
         _ if random.percent(1) => Value::any(random).bytes(),
         0x15 | 0x1C => {
@@ -143,7 +147,7 @@ fn row(random: &mut Random, kind: u8) -> Vec<u8> {
             [vec![0x03; depth], vec![0x02; depth + 1]].concat()
         }
         0x19 => vec![0x05, random.byte() % 3, 0x04, 0, random.byte()],
-        _ => same.clone().unwrap_or_else(|| Value::Number(number(random)).bytes()),
+        _ => same.clone().unwrap_or_else(|| make(random).bytes()),
     };
     let mut row: Vec<u8> = (0..length).flat_map(|_| [vec![0x03], member(random)].concat()).collect();
     row.push(0x02);
@@ -170,7 +174,8 @@ fn nest(random: &mut Random) -> Job {
 
 fn numbers(random: &mut Random, least: usize, most: usize) -> Vec<u8> {
     let length = random.of(least..most);
-    Value::List((0..length).map(|_| Value::Number(number(random))).collect()).bytes()
+    let make = if random.percent(15) { Value::price } else { Value::number };
+    Value::List((0..length).map(|_| make(random)).collect()).bytes()
 }
 
 /// Values of 251 to 261 bytes, now and then cut, put in front of one another.
@@ -202,19 +207,112 @@ fn long(random: &mut Random) -> Job {
     Job { sheet: sheet.to_vec(), plan, view, allowance: 1000 }
 }
 
-/// A value of this length, or of one more (the length of a value is odd).
+/// A value of this length, or of one less (the length of a value is odd).
 fn sized(random: &mut Random, length: usize) -> Vec<u8> {
     let mut bytes = Vec::new();
     let in_front: [u8; 2] = random.pick(&[[0x03, 0x01], [0x05, 0x00], [0x03, 0x02]]);
-    let number = random.percent(50);
-    while bytes.len() + 3 <= length {
+    let end = match in_front[0] {
+        _ if random.percent(60) => vec![0x02],
+        0x05 => wide(random),
+        _ => [vec![0x03], wide(random), vec![0x02]].concat(),
+    };
+    let between = random.pick(&[0, 0, 0x04, 0x06]);
+    while bytes.len() + 2 + end.len() <= length {
         bytes.extend(in_front);
-        if number && bytes.len() + 5 <= length {
-            bytes.extend([in_front[0], 0x04, 0x00, random.byte()]);
+        let number = match between {
+            0x04 => vec![in_front[0], 0x04, 0x00, random.byte()],
+            0x06 => vec![in_front[0], 0x06, 0x00, 0x01, 0x00, random.byte()],
+            _ => Vec::new(),
+        };
+        if bytes.len() + number.len() + end.len() <= length {
+            bytes.extend(number);
         }
     }
-    bytes.push(0x02);
+    bytes.extend(end);
     bytes
+}
+
+/// An 06, some with a number that is too small for it.
+fn wide(random: &mut Random) -> Vec<u8> {
+    let [a, b, c, d] = about_65_536(random).to_be_bytes();
+    vec![0x06, a, b, c, d]
+}
+
+fn about_65_536(random: &mut Random) -> u32 {
+    random.pick(&[0, 256, 65_535, 65_535, 65_536, 65_536, 65_537, 65_792, 1 << 24, u32::MAX])
+}
+
+/// A value of about 256 bytes that ends with a number of four, which may be too small; the input may end within it.
+fn ending(random: &mut Random) -> Job {
+    let mut value = [0x05, 0x00].repeat(random.of(122..129));
+    if random.percent(30) {
+        // The same length, with lists of numbers in it.
+        value.splice(0..12, [0x05, 0x03, 0x06, 0x00, 0x01, 0x00, 0x00, 0x03, 0x00, 0x02, 0x05, 0x01]);
+    }
+    value.extend(wide(random));
+    if random.percent(50) {
+        value.truncate(random.of(253..260));
+    }
+    let identity = [0x01, 0x01, 0x00, 0x10, 0x00];
+    let (plan, view) = if random.percent(50) { (value, None) } else { (vec![0x01], Some(value)) };
+    Job { sheet: identity.to_vec(), plan, view, allowance: 1000 }
+}
+
+/// Numbers about 65,536 of both kinds, where each kind of node meets them.
+fn prices(random: &mut Random) -> Job {
+    // Behind the root: variables 0 and 1, a price, [ ], the section's root, and what this is made of.
+    let test = random.byte() % 7;
+    let cases = [&[0x17, 1, 3, test, 2, 2, 3, 4][..], &[0x18, 1, 3, test, 2, test]];
+    let root: &[u8] = random.pick(&[
+        &[0x10, 0][..],
+        &[0x1D, 0, 1, 0, 0],
+        &[0x14, 0xFF, 0xFF],
+        &[0x1B, 1, 0, 0],
+        &[0x1B, 1, 0, 1],
+        &[0x1B, 3, 0, 1],
+        &[0x15, 3, 4],
+        &[0x15, 3, 1],
+        &[0x15, 1, 3],
+        &[0x16, 1, 3],
+        &[0x16, 1, 1],
+        &[0x17, 1, 3, 0, 2, 0, 3, 4],
+        cases[0],
+        &[0x18, 1, 2, 0, 3, 0],
+        cases[1],
+        &[0x19, 1, 2],
+        &[0x19, 1, 3],
+        &[0x1A, 0, 0, 1],
+        &[0x1C, 1, 0, 1, 3],
+        &[0x1C, 1, 0, 1, 3],
+    ]);
+    let price = about_65_536(random).max(if random.percent(90) { 65_536 } else { 0 });
+    let [a, b, c, d] = price.to_be_bytes();
+    let constant = [0x1D, a, b, c, d];
+    let section: &[u8] = random.pick(&[&[0x10, 0][..], &[0x16, 6, 6], &[0x16, 6, 7], &[0x16, 7, 6], &[0x1B, 6, 0, 1]]);
+    let mut sheet = vec![0x01, 0x02, 0x00, 0x20, 0x05];
+    for record in [root, &[0x10, 0], &[0x10, 1], &constant, &[0x13], section, &[0x10, 0], &constant] {
+        sheet.extend(record);
+    }
+    let plan = [near(random, price), near(random, price)].concat();
+    let view = random.percent(50).then(|| near(random, price));
+    Job { sheet, plan, view, allowance: 1000 }
+}
+
+/// A value made of numbers about 65,536, of a price and of what is no number.
+fn near(random: &mut Random, price: u32) -> Vec<u8> {
+    let one = |random: &mut Random| match random.below(8) {
+        0 => Value::Truth(random.percent(50)),
+        1..=3 => Value::Number(price),
+        _ => Value::Number(about_65_536(random)),
+    };
+    match random.below(6) {
+        0 | 1 => one(random),
+        2 => Value::Truth(random.percent(50)),
+        3 => Value::Pair(Box::new(one(random)), Box::new(one(random))),
+        4 => Value::List(vec![Value::Pair(Box::new(one(random)), Box::new(Value::Number(price)))]),
+        _ => Value::List((0..random.below(4)).map(|_| one(random)).collect()),
+    }
+    .bytes()
 }
 
 /// About as many sections and nodes as a sheet may have, and a last record that may be cut.
@@ -237,7 +335,17 @@ fn full(random: &mut Random) -> Job {
         sheet.extend(record);
     }
     if random.percent(60) {
-        let cut: &[u8] = random.pick(&[&[0x10][..], &[0x20], &[0x17, 1, 2], &[0x1B, 0, 0], &[0x1C, 1, 0, 0], &[0x21], &[0x0F]]);
+        let cut: &[u8] = random.pick(&[
+            &[0x10][..],
+            &[0x20],
+            &[0x17, 1, 2],
+            &[0x1B, 0, 0],
+            &[0x1C, 1, 0, 0],
+            &[0x1D, 0, 1, 0],
+            &[0x1E],
+            &[0x21],
+            &[0x0F],
+        ]);
         sheet.extend(cut);
     }
     let mut plan = vec![0x01; usize::from(sheet[1])];

@@ -1,6 +1,7 @@
 //! How often each answer came.
 
 use crate::sheets;
+use crate::values::has_price;
 use lens::raw::Answer;
 use lens::Refusal;
 use reference::job::Job;
@@ -12,13 +13,15 @@ pub struct Seen {
     jobs: [[u64; 2]; 256],
     /// The same of jobs whose sheet has a 1C.
     each: [[u64; 2]; 256],
+    /// The same of jobs with a number of four bytes: a 1D of the sheet, or an 06 of the plan or the list.
+    wide: [[u64; 2]; 256],
     loads: [u64; 256],
     lookups: [u64; 256],
 }
 
 impl Default for Seen {
     fn default() -> Seen {
-        Seen { jobs: [[0; 2]; 256], each: [[0; 2]; 256], loads: [0; 256], lookups: [0; 256] }
+        Seen { jobs: [[0; 2]; 256], each: [[0; 2]; 256], wide: [[0; 2]; 256], loads: [0; 256], lookups: [0; 256] }
     }
 }
 
@@ -27,6 +30,9 @@ impl Seen {
         let (number, way) = (usize::from(answer.number()), usize::from(job.view.is_some()));
         self.jobs[number][way] += 1;
         self.each[number][way] += u64::from(sheets::has(&job.sheet, 0x1C));
+        let values = [Some(&job.plan), job.view.as_ref()];
+        let wide = sheets::has(&job.sheet, 0x1D) || values.into_iter().flatten().any(|bytes| has_price(bytes));
+        self.wide[number][way] += u64::from(wide);
     }
 
     pub fn load(&mut self, number: u8) {
@@ -37,29 +43,34 @@ impl Seen {
         self.lookups[usize::from(number)] += 1;
     }
 
-    /// Every refusal came of each function that has it, and successes were no rarity.
+    /// Every refusal came of each function that has it, also with numbers of four bytes, and successes were no rarity.
     pub fn assert_wide(&self) {
         for refusal in Refusal::ALL {
             let number = usize::from(refusal.number());
-            let [gets, puts] = self.jobs[number];
+            let ([gets, puts], [wide_gets, wide_puts]) = (self.jobs[number], self.wide[number]);
             let came = match number {
-                10..=22 => gets > 0 && puts > 0 && self.loads[number] > 0,
+                14 => gets > 0 && puts > 0 && self.loads[number] > 0,
+                10..=22 => wide_gets > 0 && wide_puts > 0 && self.loads[number] > 0,
                 23 | 24 => self.lookups[number] > 0,
-                30..=32 | 50..=54 => puts > 0,
-                _ => gets > 0 && puts > 0,
+                30..=32 | 50..=54 => wide_puts > 0,
+                _ => wide_gets > 0 && wide_puts > 0,
             };
             assert!(came, "{refusal:?} never came: {self}");
         }
         let columns = |counts: &[[u64; 2]; 256]| [0, 1].map(|way| counts.map(|numbers| numbers[way]));
         let all: u64 = self.jobs.iter().flatten().sum();
         let each: u64 = self.each.iter().flatten().sum();
+        let wide: u64 = self.wide.iter().flatten().sum();
         let [gets, puts] = columns(&self.jobs);
         let [each_gets, each_puts] = columns(&self.each);
+        let [wide_gets, wide_puts] = columns(&self.wide);
         for (counts, total, of) in [
             (gets, all, "gets"),
             (puts, all, "puts"),
             (each_gets, each, "gets with a 1C"),
             (each_puts, each, "puts with a 1C"),
+            (wide_gets, wide, "gets with a number of four bytes"),
+            (wide_puts, wide, "puts with a number of four bytes"),
             (self.loads, all, "loads"),
             (self.lookups, all, "lookups"),
         ] {
@@ -70,14 +81,15 @@ impl Seen {
 
 impl fmt::Display for Seen {
     fn fmt(&self, f: &mut fmt::Formatter) -> fmt::Result {
-        let heads = ["answer", "gets", "puts", "1C, gets", "puts", "loads", "lookups"];
+        let heads = ["answer", "gets", "puts", "1C, gets", "puts", "06, gets", "puts", "loads", "lookups"];
         writeln!(f, "{}", heads.map(|head| format!("{head:>8}")).join(" "))?;
         for number in 0..256 {
-            let ([gets, puts], [each_gets, each_puts]) = (self.jobs[number], self.each[number]);
-            let counts = [gets, puts, each_gets, each_puts, self.loads[number], self.lookups[number]];
+            let ways = [self.jobs, self.each, self.wide].map(|counts| counts[number]);
+            let counts = [ways.as_flattened(), &[self.loads[number], self.lookups[number]]].concat();
             if counts.iter().any(|&count| count > 0) {
                 let answer = if number == 0 { "ok".to_string() } else { format!("no {number}") };
-                writeln!(f, "{answer:>8} {}", counts.map(|count| format!("{count:>8}")).join(" "))?;
+                let counts: Vec<String> = counts.iter().map(|count| format!("{count:>8}")).collect();
+                writeln!(f, "{answer:>8} {}", counts.join(" "))?;
             }
         }
         Ok(())

@@ -1,7 +1,7 @@
 //! Random sheets: built by type so that walks go far, or out of random records.
 
 use crate::random::Random;
-use crate::values::{number, Type};
+use crate::values::{number, price, Type};
 
 /// A sheet's bytes, and what its plan and its list are meant to be.
 pub struct Built {
@@ -191,9 +191,14 @@ impl Builder<'_> {
                 let kind = self.random.pick(&[0x11, 0x12]);
                 self.leaf(&[kind])
             }
+            Type::Number if self.random.percent(3) => self.constant(&Type::Price),
             Type::Number => {
                 let [high, low] = number(self.random).to_be_bytes();
                 self.leaf(&[0x14, high, low])
+            }
+            Type::Price => {
+                let record = price_record(self.random);
+                self.leaf(&record)
             }
             Type::List(member) => {
                 if self.nodes.len() > ENOUGH || self.random.percent(70) {
@@ -215,7 +220,7 @@ impl Builder<'_> {
         }
     }
 
-    /// The node kind that belongs to a type: front, pair, add, or a constant.
+    /// The node kind that belongs to a type: front, pair, add, or a constant. (Nothing can be added to a price.)
     fn own_kind(&mut self, ty: &Type, scope: &mut Vec<Variable>, fuel: usize, recursion: &mut Recursion) -> u8 {
         let own = self.reserve();
         let record = match ty {
@@ -225,6 +230,11 @@ impl Builder<'_> {
                 let [high, low] = number(self.random).to_be_bytes();
                 vec![0x1B, inner, high, low]
             }
+            Type::Price if self.random.percent(5) => {
+                let inner = self.node(ty, scope, fuel - 1, recursion);
+                vec![0x1B, inner, 0, 1]
+            }
+            Type::Price => price_record(self.random).to_vec(),
             Type::List(_) if self.random.percent(15) => vec![0x13],
             Type::List(member) => {
                 let first = self.node(member, scope, fuel - 1, recursion);
@@ -274,7 +284,7 @@ impl Builder<'_> {
         let front_test = self.test(front, ty);
         let wrong = self.random.percent(2);
         let default_first = self.constant(member);
-        let default_rest = self.constant(if wrong { &Type::Number } else { &list });
+        let default_rest = self.constant(if wrong { &Type::Price } else { &list });
         self.nodes[usize::from(own)] = vec![0x17, subject, empty, empty_test, front, front_test, default_first, default_rest];
     }
 
@@ -379,6 +389,13 @@ impl Builder<'_> {
     }
 }
 
+/// A constant of four bytes, seldom one that is too small for them.
+fn price_record(random: &mut Random) -> [u8; 5] {
+    let number = if random.percent(1) { number(random).into() } else { price(random) };
+    let [a, b, c, d] = number.to_be_bytes();
+    [0x1D, a, b, c, d]
+}
+
 /// Whether a sheet has a record of this kind.
 pub fn has(sheet: &[u8], kind: u8) -> bool {
     let mut left = sheet;
@@ -390,7 +407,7 @@ pub fn has(sheet: &[u8], kind: u8) -> bool {
             0x10 | 0x20 => 1,
             0x01 | 0x14..=0x16 | 0x19 => 2,
             0x1A | 0x1B => 3,
-            0x1C => 4,
+            0x1C | 0x1D => 4,
             0x18 => 5,
             0x17 => 7,
             _ => 0,
@@ -421,7 +438,7 @@ pub fn by_record(random: &mut Random) -> Vec<u8> {
 
 fn record(random: &mut Random, bytes: &mut Vec<u8>, own: usize, nodes: usize, sections: usize) {
     let inner = own + 1 < nodes;
-    let kind = match random.below(18) {
+    let kind = match random.below(19) {
         0..=3 => 0x10,
         4 => random.of(0x11..0x14),
         5 => random.of(0x11..0x15),
@@ -432,8 +449,13 @@ fn record(random: &mut Random, bytes: &mut Vec<u8>, own: usize, nodes: usize, se
         12..=14 if inner => random.of(0x15..0x17),
         15 if sections > 0 => 0x1A,
         16 | 17 if inner && sections > 0 => 0x1C,
+        18 => 0x1D,
         _ => 0x10,
     } as u8;
+    if kind == 0x1D {
+        bytes.extend(price_record(random));
+        return;
+    }
     bytes.push(kind);
     // A later node, mostly a near one.
     let node = |random: &mut Random| {

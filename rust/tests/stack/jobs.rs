@@ -128,8 +128,8 @@ fn nested(front: &[u8], n: u8, behind: &[u8]) -> Vec<u8> {
 /// A record, given its node.
 type Record = fn(n: u8) -> Vec<u8>;
 
-/// What may stand at the end of a chain in place of a variable: it enters nodes at depth 49.
-const ENDS: [(&str, Record); 8] = [
+/// What may stand at the end of a chain in place of a variable: it enters nodes at depth 49, or is a constant.
+const ENDS: [(&str, Record); 9] = [
     ("a front", |n| vec![0x15, n + FALSE, n + EMPTY]),
     ("a pair", |n| vec![0x16, n + FALSE, n + FALSE]),
     ("a list case", |n| case(n + EMPTY, n + EMPTY, 0, n + EMPTY, 0, n)),
@@ -138,6 +138,7 @@ const ENDS: [(&str, Record); 8] = [
     ("a call", |_| vec![0x1A, 0, 0, 0]),
     ("a sum", |n| vec![0x1B, n + SEVEN, 0, 0]),
     ("an each", |n| vec![0x1C, n + EMPTY, 0, 0, n + EMPTY]),
+    ("a number over 65,535", |_| vec![0x1D, 0, 1, 0, 0]),
 ];
 
 /// A value of 255 bytes whose kind is that of `like`: as many lists within lists as fit.

@@ -1,8 +1,10 @@
 -- `sheet::decode` meets its contract: in each arm the kind byte picks a row of the table of forms.
-use mathlib.Core.Path.{refl, sym}
+use mathlib.Core.Path.{refl, sym, ap, _∙_}
+use native.Mathlib.Omega.{arith}
 use borrow.Author.Needs.{needs}
 use Rattle.sheet.specs.Kinds.{formOf, make}
 use Rattle.sheet.specs.Forms.{no-form, beyond, decoded, node-unknown}
+use Rattle.sheet.specs.declared.Node.the-variants.{Wide}
 use Rattle.sheet.proofs.decode.Statement.{statement}
 use Rattle.sheet.proofs.decode.Tie as tie
 
@@ -186,12 +188,19 @@ returns-13 c = rw (c .before .before .before .at20 .ensures, c .before .before .
     (c .before .before .before .before .match .keys13) refl (c .before .before .before .before .before .before .before .pre .1)))
 
 returns-14 : tie.Need-returns-14
-returns-14 c = sym (node-unknown (c .before .before .before .args .r .now) (rw (c .before .byte-at .ensures) at (no-form _ (beyond 13 (c .match .rest)))))
+unfolding formOf make
+returns-14 c = ap Wide (c .four-at .ensures ∙ omega arith) ∙
+    (sym (decoded (c .before .before .before .before .args .r .now) (c .before .before .byte-at .ensures) (c .before .match .keys14) refl
+    (c .before .before .before .before .pre .1)))
+
+returns-15 : tie.Need-returns-15
+returns-15 c = sym (node-unknown (c .before .before .before .args .r .now) (rw (c .before .byte-at .ensures) at (no-form _ (beyond 14 (c .match .rest)))))
 
 pub decode-spec : {M : Type 1} → statement M
 decode-spec = tie.close
     (tie.spec byte-at-requires at-requires pair-at-requires at-requires-2 at-requires-3 at-requires-4 at-requires-5 at-requires-6 at-requires-7
     byte-at-requires-2 at-requires-8 byte-at-requires-3 at-requires-9 at-requires-10 at-requires-11 at-requires-12 byte-at-requires-4 at-requires-13
     byte-at-requires-5 at-requires-14 at-requires-15 at-requires-16 at-requires-17 at-requires-18 at-requires-19 pair-at-requires-2 at-requires-20
-    at-requires-21 at-requires-22 at-requires-23 returns returns-2 returns-3 returns-4 returns-5 returns-6 returns-7 returns-8 returns-9 returns-10
-    returns-11 returns-12 returns-13 returns-14)
+    at-requires-21 at-requires-22 at-requires-23
+    (λ c κs. search needs) returns returns-2 returns-3 returns-4 returns-5 returns-6 returns-7 returns-8 returns-9 returns-10
+    returns-11 returns-12 returns-13 returns-14 returns-15)

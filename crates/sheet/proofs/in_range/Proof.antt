@@ -150,6 +150,10 @@ returns-13 : tie.Need-returns-13
 unfolding nodeInRange
 returns-13 c = simp (c .before .before .before .n9 .given .1, c .before .is-below4 .ensures, c .is-below5 .ensures, and-true, and-assoc)
 
+returns-14 : tie.Need-returns-14
+unfolding nodeInRange
+returns-14 c = simp (c .before .n10 .given .1, and-true, and-assoc)
+
 pub in-range-spec : {M : Type 1} → statement M
 in-range-spec =
     tie.close
@@ -180,6 +184,7 @@ in-range-spec =
     enum-known-n-9
     is-below-requires-4
     is-below-requires-5
+    (λ c. search needs)
     returns
     returns-2
     returns-3
@@ -192,4 +197,5 @@ in-range-spec =
     returns-10
     returns-11
     returns-12
-    returns-13)
+    returns-13
+    returns-14)

@@ -7,7 +7,7 @@ use native.Mathlib.Omega.{arith}
 use lib.ListN.{length}
 use denote.Ref.{now}
 use Rattle.value.specs.Reading.{rest}
-use Rattle.value.specs.Reader.{isMalformed, isTooLong, reads-list, reads-unknown}
+use Rattle.value.specs.Reader.{isMalformed, isTooLong, reads-list}
 use Rattle.value.specs.Turns.{
   Begun,
   Values,
@@ -43,7 +43,7 @@ use Rattle.value.proofs.+list+part+value.Lts-part as part-lts
 use Rattle.value.proofs.value.Reads as value
 use Rattle.value.proofs.value.Kinds as value-kinds
 use Rattle.value.proofs.+list+part+value.Lts-value as value-lts
-use Rattle.value.proofs.body.Reads as body-reads
+use Rattle.value.proofs.numeral.Reads as numeral-reads
 use Rattle.value.proofs.+list+part+value.{statement}
 use Rattle.value.proofs.+list+part+value.Tie.{close}
 
@@ -278,62 +278,47 @@ list-returns-6 :
     list-μ-loop
 list-returns-6 t c = list-ended (c .before .loop .inv) (omega arith)
 
-part-shared-slice-read-kind : (t : ℕ) → part-lts.Need-shared-slice-read-kind (
-  body-reads.Asked,
-  body-reads.Learnt,
+part-shared-slice-read-if1 : (t : ℕ) → part-lts.Need-shared-slice-read-if1 (
   list-below t,
   list.Post,
+  numeral-reads.Asked,
+  numeral-reads.Learnt,
 ) (part-at t) part.Post
-part-shared-slice-read-kind t c = omega (arith, c .before .before .pre .1 .byte)
-
-part-body-requires : (t : ℕ) → part-lts.Need-body-requires (
-  body-reads.Asked,
-  body-reads.Learnt,
-  list-below t,
-  list.Post,
-) (part-at t) part.Post
-part-body-requires t c κs =
-    record {
-      kind = c .if1 .taken;
-      high = omega (arith, c .before .before .shared-slice-known .given 1);
-      low = omega (arith, c .before .before .shared-slice-known .given 2);
-      some = c .before .before .before .pre .1 .some;
-    }
-
-part-returns : (t : ℕ) → part-lts.Need-returns (
-  body-reads.Asked,
-  body-reads.Learnt,
-  list-below t,
-  list.Post,
-) (part-at t) part.Post
-part-returns t c = c .body .ensures
+part-shared-slice-read-if1 t c = omega (arith, c .before .before .pre .1 .byte)
 
 part-list-requires : (t : ℕ) → part-lts.Need-list-requires (
-  body-reads.Asked,
-  body-reads.Learnt,
   list-below t,
   list.Post,
+  numeral-reads.Asked,
+  numeral-reads.Learnt,
 ) (part-at t) part.Post
-part-list-requires t c κs = (search needs, c .before .before .before .before .pre .1 .most)
+part-list-requires t c κs = (search needs, c .before .before .before .pre .1 .most)
+
+part-returns : (t : ℕ) → part-lts.Need-returns (
+  list-below t,
+  list.Post,
+  numeral-reads.Asked,
+  numeral-reads.Learnt,
+) (part-at t) part.Post
+part-returns t c =
+    let p = c .before .before .before .before .pre .1 in
+    reads-list (λ e. omega (arith, p .byte)) (λ e. omega (arith, p .some)) (p .kind) (c .before .if1 .taken) (c .list .ensures)
+
+part-numeral-requires : (t : ℕ) → part-lts.Need-numeral-requires (
+  list-below t,
+  list.Post,
+  numeral-reads.Asked,
+  numeral-reads.Learnt,
+) (part-at t) part.Post
+part-numeral-requires t c κs = (c .before .before .before .pre .1, omega (arith, c .if1 .left))
 
 part-returns-2 : (t : ℕ) → part-lts.Need-returns-2 (
-  body-reads.Asked,
-  body-reads.Learnt,
   list-below t,
   list.Post,
+  numeral-reads.Asked,
+  numeral-reads.Learnt,
 ) (part-at t) part.Post
-part-returns-2 t c = reads-list (λ e. omega (arith, c .before .before .before .before .before .pre .1 .byte))
-    (λ e. omega (arith, c .before .before .before .before .before .pre .1 .some)) (c .before .before .before .before .before .pre .1 .kind)
-    (c .before .if2 .taken) (c .list .ensures)
-
-part-returns-3 : (t : ℕ) → part-lts.Need-returns-3 (
-  body-reads.Asked,
-  body-reads.Learnt,
-  list-below t,
-  list.Post,
-) (part-at t) part.Post
-part-returns-3 t c = reads-unknown (λ e. omega (arith, c .before .before .before .before .pre .1 .byte))
-    (λ e. omega (arith, c .before .before .before .before .pre .1 .some)) (omega (arith, c .before .before .before .before .pre .1 .no-pair))
+part-returns-2 t c = c .numeral .ensures
 
 abbrev value-Inv-loop : value-lts.InvT-loop
 value-Inv-loop s room at₀ owed₀ at owed = Values s room at owed
@@ -630,15 +615,14 @@ pub +list+part+value-spec : {M : Type 1} → statement M
     (list-loop-again t)
     (list-returns-6 t))
     (λ t. part-lts.spec
-    (body-reads.Asked, body-reads.Learnt, list-below t, list.Post)
+    (list-below t, list.Post, numeral-reads.Asked, numeral-reads.Learnt)
     (part-at t)
     part.Post
-    (part-shared-slice-read-kind t)
-    (part-body-requires t)
-    (part-returns t)
+    (part-shared-slice-read-if1 t)
     (part-list-requires t)
-    (part-returns-2 t)
-    (part-returns-3 t))
+    (part-returns t)
+    (part-numeral-requires t)
+    (part-returns-2 t))
     λ t. value-lts.spec
     (part-below t, part.Post)
     (value-at t)

@@ -1,4 +1,5 @@
 -- `value::shape_of` meets its contract: the kind byte picks the case of `shapeOf`, and `middle` gives where a second part starts.
+use Prim.Native.Nat.{_≤_, zero-le}
 use native.Mathlib.Omega.{arith}
 use denote.Ref.{now}
 use mathlib.Core.Path.{refl, sym, ap, _∙_}
@@ -6,7 +7,7 @@ use lib.ListN.{getD, drop}
 use Rattle.value.specs.Reading.{kindOf}
 use Rattle.value.specs.Reader.{unknown-kind}
 use Rattle.value.specs.Parts.{shapeAs}
-use Rattle.value.specs.Answers.{shape-none, shape-at, front-found, front-lost, pair-found, pair-lost, number-short, number-there}
+use Rattle.value.specs.Answers.{shape-none, shape-at, front-found, front-lost, pair-found, pair-lost, number-short, number-there, beyond}
 use Rattle.value.specs.declared.Shape.the-variants.{Number}
 use borrow.Author.Needs.{needs}
 use Rattle.value.proofs.shape_of.Statement.{statement}
@@ -75,18 +76,21 @@ returns-10 c = pair-found (now (c .before .before .before .before .before .befor
 
 returns-11 : tie.Need-returns-11
 unfolding kindOf shapeAs
-returns-11 c = sym (shape-at (now (c .before .before .before .before .args .v)) (c .before .before .if1 .left) refl
-    ∙ ap (shapeAs (drop 1 (now (c .before .before .before .before .args .v))))
-    (unknown-kind (getD (now (c .before .before .before .before .args .v)) 0 0)
-    (omega (
-      arith,
-      c .match .rest .1,
-      c .match .rest .0 .1,
-      c .match .rest .0 .0 .1,
-      c .match .rest .0 .0 .0 .1,
-      c .match .rest .0 .0 .0 .0 .1,
-      c .match .rest .0 .0 .0 .0 .0 .1,
-    ))))
+returns-11 c = sym (shape-at (now (c .before .before .before .before .args .v)) (c .before .before .if1 .left) (c .match .keys7))
+
+returns-12 : tie.Need-returns-12
+unfolding kindOf shapeAs
+returns-12 c =
+    let v = now (c .before .before .before .before .args .v) in
+    let r = c .match .rest in
+    let r₆ = r .0 in
+    let r₅ = r₆ .0 in
+    let r₄ = r₅ .0 in
+    let r₃ = r₄ .0 in
+    let r₂ = r₃ .0 in
+    let more : 4 ≤ getD v 0 0 = beyond (beyond (beyond (beyond zero-le (r₂ .0 .1)) (r₂ .1)) (r₃ .1)) (r₄ .1) in
+    let many : 7 ≤ getD v 0 0 = beyond (beyond (beyond more (r₅ .1)) (r₆ .1)) (r .1) in
+    sym (shape-at v (c .before .before .if1 .left) refl ∙ ap (shapeAs (drop 1 v)) (unknown-kind (getD v 0 0) many))
 
 pub shape-of-spec : {M : Type 1} → statement M
 shape-of-spec =
@@ -108,4 +112,5 @@ shape-of-spec =
     returns-8
     returns-9
     returns-10
-    returns-11)
+    returns-11
+    returns-12)
