@@ -37,6 +37,26 @@ const RAISE: &[u8] = &[
     0x13, // 9
 ];
 
+/// The first part of every pair; a pair that a put adds has what was sent for it as both its parts.
+const OPEN: &[u8] = &[
+    0x01, 0x01, 0x00, 0x20, 0x01, // section 0 from node 1
+    0x1A, 0x00, 0x00, 0x00, // 0: call section 0
+    0x17, 0x02, 0x03, 0x01, 0x04, 0x02, 0x09, 0x0E, // 1: list case
+    0x10, 0x00, // 2: the list
+    0x13, // 3
+    0x15, 0x05, 0x08, // 4: front
+    0x19, 0x06, 0x07, // 5: split
+    0x10, 0x02, // 6: the first member
+    0x10, 0x04, // 7: its first part
+    0x1A, 0x00, 0x03, 0x03, // 8: the rest likewise
+    0x16, 0x0A, 0x0A, // 9: the default first member, a pair of node 10 twice
+    0x17, 0x0B, 0x0C, 0x00, 0x0D, 0x00, 0x0E, 0x0E, // 10: list case
+    0x10, 0x00, // 11: the list sent
+    0x14, 0x00, 0x00, // 12
+    0x10, 0x01, // 13: its first member
+    0x13, // 14: the default rest
+];
+
 /// Adds 100 to every member, by a 1C.
 const RAISE_EACH: &[u8] = &[
     0x01, 0x01, 0x00, 0x20, 0x03, // section 0 from node 3
@@ -79,6 +99,7 @@ pub fn rows() -> Vec<Row> {
         both("typical: join 15 and 48 numbers", JOIN, [numbers(0..15), numbers(15..63)].concat(), Some(numbers(100..163))),
         both("typical: add to 10 numbers", RAISE, [numbers(0..10), vec![0x02]].concat(), Some(numbers(100..110))),
         vec![row("typical: 10 switches to a longer list, put", RAISE, vec![0x02, 0x02], Some(numbers(100..110)))],
+        vec![row("typical: 10 defaults of the list sent, put", OPEN, vec![0x02], Some(numbers(100..110)))],
         vec![row(
             "typical: a switch to a shorter list, put",
             JOIN,

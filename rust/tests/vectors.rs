@@ -1,6 +1,6 @@
 //! Files of test vectors, done by the archive: a line is an input of a program in hexadecimal (`-` for no byte), and what the program
-//! prints. `LENS_VECTORS` names a file for document 01's program (`check_jobs` has the one that is taken where it is not set),
-//! `LENS_TOOL_VECTORS` one for `tools`.
+//! prints. `LENS_VECTORS` names a file for document 01's program, `LENS_TOOL_VECTORS` one for `tools` (`check_jobs` and `check_tools` have
+//! those that are taken where they are not set).
 
 use lens::{raw, Plan, Refusal, Sheet, Starts};
 use reference::job::{self, Job};

@@ -34,7 +34,6 @@ use Rattle.rules.specs.Rules.{
   write,
   both,
   under,
-  stoodFor,
   putEach,
   mkList,
   mkPair,
@@ -151,7 +150,7 @@ module _ (g : Getter) (p : Putter) (ih : Lawful g p) (root d c : ℕ) (a : Value
       (putEach g p root d c a n old l W)
   unfolding Text.putEach Text.getEach size sizes
   each-law n k old nil W z zl = fine (later-refl W, omega arith, λ b r. fine (refl, omega arith))
-  each-law n k old (cons v r) W z zl = after-bind (after-any (stoodFor g d old) tt) λ m i _ _. after-bind (ih root _ _ v _ (omega arith)) λ X j _ hx.
+  each-law n k old (cons v r) W z zl = after-bind (after-any _ tt) λ m i _ _. after-bind (ih root _ _ v _ (omega arith)) λ X j _ hx.
       after-given _ λ o eo. after-given _ λ z′ _. after-bind (each-law _ (k + suc (size v)) _ r _ z′ (omega arith)) λ q t _ h. fine (
         later-trans (all2-flip (all2-take W _ (all2-flip (hx .0)))) (h .0),
         omega (arith, h .1),

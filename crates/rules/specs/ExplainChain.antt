@@ -182,7 +182,7 @@ module _ {k : ℕ} (g : Getter) (gets : Gets k g) (p : Putter) (ih : Puts k p) (
   put-node-short n (Front a b) = asked 51 none _ λ c. both-short _ _ _ _
   put-node-short n (Pair a b) = asked 51 none _ λ c. both-short _ _ _ _
   put-node-short n (ListCase s e te m tn df dr) = short-next (gets s μ) λ o. asked 43 none _ λ l. short-list (l .0)
-      (short-choose _ _ (both-short _ _ _ _) (short-next (gets df []) λ f. short-next (gets dr []) λ r. asked 43 none _ λ _. under-short _ _ _ _ _))
+      (short-choose _ _ (both-short _ _ _ _) (short-next (gets df _) λ f. short-next (gets dr _) λ r. asked 43 none _ λ _. under-short _ _ _ _ _))
       (λ f r. short-choose _ _ (under-short _ _ _ _ _) (both-short _ _ _ _))
   put-node-short n (TruthCase s f tf t t₁) = short-next (gets s μ) λ o. asked 43 none _ λ b. short-choose _ _ (both-short _ _ _ _) (both-short _ _ _ _)
   put-node-short n (Split s i) = short-next (gets s μ) λ o. asked 43 none _ λ c. under-short _ _ _ _ _

@@ -225,7 +225,7 @@ module _ (g : Explain.Getter) (k : Count.Getter) (gets : Gets g k) (p : Explain.
   put-node-erases n (Front a b) = asked 51 _ _ λ c. both-erases _ _ _ _
   put-node-erases n (Pair a b) = asked 51 _ _ λ c. both-erases _ _ _ _
   put-node-erases n (ListCase s e te m tn df dr) = erases-bind _ (gets s μ) λ o. asked 43 _ _ λ l. erases-list (l .0)
-      (erases-choose _ _ (both-erases _ _ _ _) (erases-bind _ (gets df []) λ f. erases-bind _ (gets dr []) λ r. asked 43 _ _ λ _. under-erases _ _ _ _ _))
+      (erases-choose _ _ (both-erases _ _ _ _) (erases-bind _ (gets df _) λ f. erases-bind _ (gets dr _) λ r. asked 43 _ _ λ _. under-erases _ _ _ _ _))
       (λ f r. erases-choose _ _ (under-erases _ _ _ _ _) (both-erases _ _ _ _))
   put-node-erases n (TruthCase s f tf t t₁) = erases-bind _ (gets s μ) λ o. asked 43 _ _ λ b. erases-choose _ _ (both-erases _ _ _ _) (both-erases _ _ _ _)
   put-node-erases n (Split s i) = erases-bind _ (gets s μ) λ o. asked 43 _ _ λ c. under-erases _ _ _ _ _

@@ -65,8 +65,8 @@ pub data Match : Pattern → Value → Env → Type 0 where
 
 -- RESIDUAL EXPRESSIONS E. Those within E are nodes of a sheet, by number
 
--- p → e with a test by a reconciliation. Where HOBiT has a function of the old subject and the view, document 01 has a node
--- for each variable of p
+-- p → e with a test by a reconciliation. Where HOBiT has a function of the old subject and the view, a sheet has a node for each variable of
+-- p, got in a scope of one variable, the view (document 02, request 5)
 pub record Branch : Type 0 where
   pub pattern : Pattern
   pub body : ℕ
@@ -164,10 +164,10 @@ pub data Put (sh : Sheet) : Env → Value → Expr → Writes → Type 0 where
       → Put sh (μ ++ μᵢ) v (residual sh (pick i b₁ b₂ .body)) (ω ++ ωᵢ) → Over ω μ → Over ωᵢ μᵢ
       → Match (pick i b₁ b₂ .pattern) u (ωᵢ ◁ μᵢ) → Put sh μ u (residual sh s) ω₀ → Merge ω ω₀ ω′ → Put sh μ v (case s b₁ b₂) ω′
   -- with a switch: its exit condition does not hold of the view, and the other branch's does. The other's pattern is matched by
-  -- what the reconciliation gives, and the rest is the same
+  -- what the reconciliation gives of the view, and the rest is the same
   p-case-switch : {μ μᵢ μⱼ : Env} {s : ℕ} {b₁ b₂ : Branch} {v₀ v u₀ u : Value} {ω ωⱼ ω₀ ω′ : Writes} (i : Bool)
       → Get sh μ (residual sh s) v₀ → Match (pick i b₁ b₂ .pattern) v₀ μᵢ → ¬ Passes (pick i b₁ b₂ .exit) v
-      → Passes (pick (not i) b₁ b₂ .exit) v → All2 (λ n w. Get sh [] (residual sh n) w) (pick (not i) b₁ b₂ .by) μⱼ
+      → Passes (pick (not i) b₁ b₂ .exit) v → All2 (λ n w. Get sh (v ∷ []) (residual sh n) w) (pick (not i) b₁ b₂ .by) μⱼ
       → Match (pick (not i) b₁ b₂ .pattern) u₀ μⱼ
       → Put sh (μ ++ μⱼ) v (residual sh (pick (not i) b₁ b₂ .body)) (ω ++ ωⱼ) → Over ω μ → Over ωⱼ μⱼ
       → Match (pick (not i) b₁ b₂ .pattern) u (ωⱼ ◁ μⱼ) → Put sh μ u (residual sh s) ω₀ → Merge ω ω₀ ω′ → Put sh μ v (case s b₁ b₂) ω′

@@ -1,5 +1,5 @@
 -- What a derivation of the published relations costs: its height, its nodes, and the longest value that it builds.
-use mathlib.Core.List.{List, []}
+use mathlib.Core.List.{List, [], _∷_}
 use Prim.Native.Nat.{ℕ, _+_, max}
 use Rattle.value.specs.Value.{Value, Values, list, pair, cons, size}
 use Rattle.sheet.specs.Sheet.{Sheet}
@@ -55,7 +55,7 @@ module _ {sh : Sheet} where
   -- PUT. The gets that a put takes, of the old subject and of the defaults, count with it
 
   -- what the defaults cost, and c beside them
-  unfoldable pub defaultsCost : {ns : List ℕ} {μ : Env} → All2 (λ n w. Get sh [] (residual sh n) w) ns μ → Cost → Cost
+  unfoldable pub defaultsCost : {v : Value} {ns : List ℕ} {μ : Env} → All2 (λ n w. Get sh (v ∷ []) (residual sh n) w) ns μ → Cost → Cost
   defaultsCost ends c = c
   defaultsCost (more d ds) c = getCost d ⊕ defaultsCost ds c
 

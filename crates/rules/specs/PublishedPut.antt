@@ -210,7 +210,7 @@ module _ {sh : Sheet} {μ : Env} {v : Value} {σ : List ℕ} {W : Cells} where
       record { ω = t .ω′; rel = p-case i d m h (b .branch) (b .over) (b .overᵢ) (b .rebuilt) (b .subject) (b .merged); joined = t .joined }
 
   switches : {X : Cells} {s : ℕ} {b₁ b₂ : Branch} {v₀ u₀ : Value} {μᵢ μⱼ : Env} (i : Bool) → Get sh μ (residual sh s) v₀ → Match (pick i b₁ b₂ .pattern) v₀ μᵢ
-      → ¬ Passes (pick i b₁ b₂ .exit) v → Passes (pick (not i) b₁ b₂ .exit) v → All2 (λ n w. Get sh [] (residual sh n) w) (pick (not i) b₁ b₂ .by) μⱼ
+      → ¬ Passes (pick i b₁ b₂ .exit) v → Passes (pick (not i) b₁ b₂ .exit) v → All2 (λ n w. Get sh (v ∷ []) (residual sh n) w) (pick (not i) b₁ b₂ .by) μⱼ
       → Match (pick (not i) b₁ b₂ .pattern) u₀ μⱼ
       → Taken sh μ v (pick (not i) b₁ b₂ .pattern) (pick (not i) b₁ b₂ .body) μⱼ s σ W X → Written sh μ v (case s b₁ b₂) σ W X
   switches i d m h k ds m₀ t =
@@ -351,7 +351,7 @@ module _ (sh : Sheet) (g : Getter) (gets : GetsSoundly sh g) (p : Putter) (ih : 
   put-node-sound (ListCase s e te n tn df dr) = after-bind (gets s μ) λ o i _ ds. after-given _ λ l _. after-list (l .0)
       (λ el. let d : Get sh μ (residual sh s) (list nil) = rw (l .1, el) at ds in after-choice _ _
       (λ h. after-map (both-sound e s v (list nil)) λ X t k. stays false d m-empty h (taken-plain m-empty k))
-      (λ h k. after-bind (gets df []) λ f i₁ _ dF. after-bind (gets dr []) λ r i₂ _ dR. after-given _ λ q _.
+      (λ h k. after-bind (gets df (v ∷ [])) λ f i₁ _ dF. after-bind (gets dr (v ∷ [])) λ r i₂ _ dR. after-given _ λ q _.
       after-map (under-sound n s pFront mkList f r mkList-match) λ X t w.
       switches {u₀ = list (cons f (q .0))} false d m-empty h k (more dF (more dR ends)) (rest-list f r (q .0) (q .1)) w))
       (λ f r el. let d : Get sh μ (residual sh s) (list (cons f r)) = rw (l .1, el) at ds in after-choice _ _
@@ -420,7 +420,7 @@ Stays sh μ v s b₁ b₂ ω Q = (i : Bool) (v₀ : Value) (μᵢ : Env) (g : Ge
 
 abbrev Switches : Sheet → Env → Value → ℕ → Branch → Branch → Writes → (Cost → Type 0) → Type 0
 Switches sh μ v s b₁ b₂ ω Q = (i : Bool) (v₀ u₀ : Value) (μᵢ μⱼ : Env) (g : Get sh μ (residual sh s) v₀) → Match (pick i b₁ b₂ .pattern) v₀ μᵢ
-    → ¬ Passes (pick i b₁ b₂ .exit) v → Passes (pick (not i) b₁ b₂ .exit) v → (gs : All2 (λ n w. Get sh [] (residual sh n) w) (pick (not i) b₁ b₂ .by) μⱼ)
+    → ¬ Passes (pick i b₁ b₂ .exit) v → Passes (pick (not i) b₁ b₂ .exit) v → (gs : All2 (λ n w. Get sh (v ∷ []) (residual sh n) w) (pick (not i) b₁ b₂ .by) μⱼ)
     → Match (pick (not i) b₁ b₂ .pattern) u₀ μⱼ → (k : Back sh μ v (pick (not i) b₁ b₂ .pattern) (pick (not i) b₁ b₂ .body) μⱼ s ω)
     → Q (getCost g ⊕ defaultsCost gs (backCost k))
 
@@ -550,7 +550,7 @@ module _ {l a : ℕ} (sh : Sheet) (g : Getter) (gets : GetsAll l a sh g) (p : Pu
 
       switch : Switches sh μ v s (plain pEmpty e te) (opened n tn df dr) ω (Puts (ListCase s e te n tn df dr) v ω)
       switch false v₀ u₀ μᵢ μⱼ ds m-empty q q′ (more dF (more dR ends)) m-front b = comes-bind _ (gets s μ _ ds) (up-given _ _ refl (up-second _ _ _ q q′
-          (comes-bind _ (gets df [] _ dF) (comes-bind _ (gets dr [] _ dR) (up-given _ _ refl (back-open mkList match-mkList b h))))))
+          (comes-bind _ (gets df (v ∷ []) _ dF) (comes-bind _ (gets dr (v ∷ []) _ dR) (up-given _ _ refl (back-open mkList match-mkList b h))))))
       switch true v₀ u₀ μᵢ μⱼ ds m-front q q′ ends m-empty b = comes-bind _ (gets s μ _ ds) (up-given _ _ refl (up-second _ _ _ q q′ (back-plain m-empty b h)))
   put-node-complete (TruthCase s f tf t t₁) v {ω} rel h = by-case (Puts (TruthCase s f tf t t₁) v ω) rel stay switch
     where
@@ -599,8 +599,8 @@ over-one ωᵢ ωⱼ (more _ h) (more _ k) e = let (p, q) = over-one ωᵢ ωⱼ
 const-one : {sh : Sheet} {μ : Env} {v c : Value} {ω : Writes} → Put sh μ v (const c) ω → ω ≡ blank μ
 const-one p-const = refl
 
-defaults-one : {sh : Sheet} {ns : List ℕ} {μ μ′ : Env} → All2 (λ n w. Get sh [] (residual sh n) w) ns μ → All2 (λ n w. Get sh [] (residual sh n) w) ns μ′
-    → μ ≡ μ′
+defaults-one : {sh : Sheet} {v : Value} {ns : List ℕ} {μ μ′ : Env} → All2 (λ n w. Get sh (v ∷ []) (residual sh n) w) ns μ
+    → All2 (λ n w. Get sh (v ∷ []) (residual sh n) w) ns μ′ → μ ≡ μ′
 defaults-one ends ends = refl
 defaults-one {sh} (more {a = n} d ds) (more d′ ds′) = let e = get-one sh (fair (node sh n)) d d′ in let es = defaults-one ds ds′ in cc
 

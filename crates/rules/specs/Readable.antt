@@ -3,7 +3,7 @@
 use mathlib.Core.Path.{_≡_, refl}
 use mathlib.Core.Bool.{Bool, true, false, not}
 use mathlib.Core.Option.{Option, none, some, Option·none-ne-some, Option·some-injective, map-eq-some-iff}
-use mathlib.Core.List.{List, [], _++_}
+use mathlib.Core.List.{List, [], _∷_, _++_}
 use Prim.Native.Nat.{ℕ, zero, suc, _+_, _-_, _≤_, _<_}
 use native.Mathlib.Omega.{arith}
 use lib.ListN.{getD, take, set, getElem?, length}
@@ -266,8 +266,8 @@ module _ (g : Getter) (gets : GetsReadable g) (p : Putter) (ih : PutsReadable p)
   put-node-readable (Pair a b) = after-given _ λ c _. let gc : Readable (pair (c .0) (c .1)) = rw (c .2) at gv in both-readable a b _ _ (readable-pair gc .0)
       (readable-pair gc .1)
   put-node-readable (ListCase s e te n tn df dr) = after-bind (gets s μ ok) λ o i _ go. after-given _ λ l _. after-list (l .0)
-      (λ _. after-choose _ _ (λ _. both-readable e s v (list nil) gv nil-readable) λ _. after-bind (gets df [] none) λ f j _ gf.
-      after-bind (gets dr [] none) λ r q _ gr.
+      (λ _. after-choose _ _ (λ _. both-readable e s v (list nil) gv nil-readable) λ _. after-bind (gets df (v ∷ []) (each gv none)) λ f j _ gf.
+      after-bind (gets dr (v ∷ []) (each gv none)) λ r q _ gr.
       after-given _ λ _ _. under-readable n s mkList f r mkList-readable gf gr)
       (λ f r el. let gl : Readable (list (cons f r)) = rw (l .1, el) at go in
       after-choose _ _ (λ _. under-readable n s mkList f (list r) mkList-readable (readable-front gl .0) (readable-front gl .1))

@@ -264,7 +264,7 @@ module _ (g : Getter) (gets : (n : ℕ) (μ : Env) → Lists (g n μ)) (p : Putt
   lists-put-node (Front a b) = lists-given 51 _ _ refl λ c. lists-both a b _ _
   lists-put-node (Pair a b) = lists-given 51 _ _ refl λ c. lists-both a b _ _
   lists-put-node (ListCase s e te n tn df dr) = lists-bind _ (gets s μ) λ o. lists-given 43 _ _ refl λ l. lists-list (l .0)
-      (lists-choose _ _ (lists-both e s v _) (lists-bind _ (gets df []) λ f. lists-bind _ (gets dr []) λ r. lists-given 43 _ _ refl λ _. lists-under n s _ f r))
+      (lists-choose _ _ (lists-both e s v _) (lists-bind _ (gets df _) λ f. lists-bind _ (gets dr _) λ r. lists-given 43 _ _ refl λ _. lists-under n s _ f r))
       λ f r. lists-choose _ _ (lists-under n s _ f _) (lists-both e s v _)
   lists-put-node (TruthCase s f tf t t₁) = lists-bind _ (gets s μ) λ o. lists-given 43 _ _ refl λ b. lists-choose _ _ (lists-both _ s v _) (lists-both _ s v _)
   lists-put-node (Split s i) = lists-bind _ (gets s μ) λ o. lists-given 43 _ _ refl λ c. lists-under i s _ _ _

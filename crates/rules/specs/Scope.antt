@@ -1,7 +1,7 @@
 -- At most 110 variables are ever in scope: a walk that refused to enter a node with more of them is the same walk.
 use mathlib.Core.Path.{_≡_, refl, ap, _∙_, fun-ext}
 use mathlib.Core.Option.{Option, none}
-use mathlib.Core.List.{List, [], _++_}
+use mathlib.Core.List.{List, [], _∷_, _++_}
 use Prim.Native.Nat.{ℕ, zero, suc, _+_, _*_, _≤_}
 use native.Mathlib.Omega.{arith}
 use native.Mathlib.Decide.{decLe}
@@ -144,7 +144,7 @@ module _ {k : ℕ} {g h : Getter} {p q : Putter} (gets : SameGets k g h) (same :
   put-ext (Pair a b) = given-ext _ _ λ c. both-ext a b _ _
   put-ext (ListCase s e te n tn df dr) = bind-ext (gets s μ (omega arith)) λ o. given-ext _ _ λ l. list-ext (l .0)
       (choose-ext _ _ (both-ext e s v (list nil))
-      (bind-ext (gets df [] (omega arith)) λ f. bind-ext (gets dr [] (omega arith)) λ r. given-ext _ _ λ _. under-ext n s mkList f r))
+      (bind-ext (gets df (v ∷ []) (omega arith)) λ f. bind-ext (gets dr (v ∷ []) (omega arith)) λ r. given-ext _ _ λ _. under-ext n s mkList f r))
       λ f r. choose-ext _ _ (under-ext n s mkList f (list r)) (both-ext e s v (list nil))
   put-ext (TruthCase s f tf t t₁) = bind-ext (gets s μ (omega arith)) λ o. given-ext _ _ λ b. choose-ext _ _ (both-ext _ s v _) (both-ext _ s v _)
   put-ext (Split s i) = bind-ext (gets s μ (omega arith)) λ o. given-ext _ _ λ c. under-ext i s mkPair _ _

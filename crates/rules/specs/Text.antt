@@ -173,7 +173,7 @@ module _ (R : Reading) where
       g s μ >>= λ o. given 43 (asList o) λ l.
       onList (l .0)
       (choose (passes te v) (passes tn v) (both p μ σ W e v s (list nil))
-      (g df [] >>= λ f. g dr [] >>= λ r. given 43 (asList r) λ _. under p μ σ W n v s mkList f r))
+      (g df (v ∷ []) >>= λ f. g dr (v ∷ []) >>= λ r. given 43 (asList r) λ _. under p μ σ W n v s mkList f r))
       (λ f r. choose (passes tn v) (passes te v) (under p μ σ W n v s mkList f (list r)) (both p μ σ W e v s (list nil)))
   putNode new g p sh (TruthCase s f tf t tt) μ σ v W =
       g s μ >>= λ o. given 43 (asTruth o) λ b.

@@ -95,7 +95,7 @@ unfoldable pub putBranch : ℕ → Sheet → List ℕ → (n kind : ℕ) → Env
 putBranch l sh s n k μ σ v W o (Plain i byte) = both (put l sh) μ σ W (getD s (n + i) 0) v (getD s (n + 1) 0) (byteValue byte)
 putBranch l sh s n k μ σ v W o (Parts i mid) = onTwo (partsOf o) λ f r. under (put l sh) μ σ W (getD s (n + i) 0) v (getD s (n + 1) 0) (maker (madeOf k)) f r
 putBranch l sh s n k μ σ v W o Switch =
-    withDefaults l sh (getD s (n + 6) 0) (getD s (n + 7) 0) λ f r. under (put l sh) μ σ W (getD s (n + 4) 0) v (getD s (n + 1) 0) mkList f r
+    withDefaults l sh (getD s (n + 6) 0) (getD s (n + 7) 0) v λ f r. under (put l sh) μ σ W (getD s (n + 4) 0) v (getD s (n + 1) 0) mkList f r
 putBranch l sh s n k μ σ v W o (Refused c) = refused c 0
 
 -- a choice by what the two tests say
@@ -130,7 +130,7 @@ module _ (l : ℕ) (sh : Sheet) (s : List ℕ) (n : ℕ) (μ : Env) (σ : List �
       → (given 43 (asList o) λ m.
       onList (m .0)
       (choose (passes (getD s (n + 3) 0) v) (passes (getD s (n + 5) 0) v) (both (put l sh) μ σ W (getD s (n + 2) 0) v (getD s (n + 1) 0) (list nil))
-      (withDefaults l sh (getD s (n + 6) 0) (getD s (n + 7) 0) λ f r. under (put l sh) μ σ W (getD s (n + 4) 0) v (getD s (n + 1) 0) mkList f r))
+      (withDefaults l sh (getD s (n + 6) 0) (getD s (n + 7) 0) v λ f r. under (put l sh) μ σ W (getD s (n + 4) 0) v (getD s (n + 1) 0) mkList f r))
       (λ f r. choose (passes (getD s (n + 5) 0) v) (passes (getD s (n + 3) 0) v)
       (under (put l sh) μ σ W (getD s (n + 4) 0) v (getD s (n + 1) 0) mkList f (list r))
       (both (put l sh) μ σ W (getD s (n + 2) 0) v (getD s (n + 1) 0) (list nil))))
@@ -385,7 +385,7 @@ module _ {h : PutHere} {view : List ℕ} {k n g i mid : ℕ} {a : List ℕ} {q :
 
 -- A SWITCH to the branch with members
 module _ {h : PutHere} {view : List ℕ} {k n g : ℕ} {a : List ℕ} {q : Shape} (w : PutSubject h view k n g a q Switch) where
-  pub switch-asks : Switching (put-behind h a g) (Shown view) n
+  pub switch-asks : Switching (put-behind h a g) view n
   unfolding size sizes
   switch-asks =
       let d = had (w .gives .told (w .asked .sheet .sh) (w .asked .sheet .read) (w .asked .env) (w .asked .given .scoped)) (said-done g (w .done)) in

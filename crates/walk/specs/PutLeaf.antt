@@ -149,7 +149,7 @@ cell {cells = cells} {count = count} {x = x} {σ = σ} {W = W} lt w =
       slot = w .written .each (getD σ x 0) i;
     })
 
-shown-short : {view : List ℕ} {v : Value} → Shown view v → length view ≤ 256
+pub shown-short : {view : List ℕ} {v : Value} → Shown view v → length view ≤ 256
 shown-short {view} {v} h = let z : length view ≡ size v = rw (h .bytes) (size-encode v) in omega (arith, h .readable .fits)
 
 module _ {h : PutHere} {view : List ℕ} {kind n : ℕ} (w : PutAsked h (Shown view) kind n) (var : kind ≡ 0x10) where

@@ -2,7 +2,7 @@
 use mathlib.Core.Path.{_≡_}
 use mathlib.Core.Option.{Option}
 use mathlib.Core.Bool.{false}
-use mathlib.Core.List.{List, []}
+use mathlib.Core.List.{List, [], _∷_}
 use Prim.Native.Nat.{ℕ, suc, _+_, _*_, _≤_, _<_}
 use native.Mathlib.Decide.{decLe}
 use lib.ListN.{length, take, getD, getElem?}
@@ -40,9 +40,9 @@ rebuild p μ σ n X s mk f r =
     given 42 (getElem? X n) λ x. given 42 (getElem? X (suc n)) λ y.
     given 43 (mk (orOld x f) (orOld y r)) λ u. given 44 (when (decLe (size u) 256)) λ _. p s μ σ u (take n X)
 
--- the two defaults of a list case, got in an empty scope, and what goes on with them
-unfoldable pub withDefaults : ℕ → Sheet → (df dr : ℕ) → (Value → Value → Out Cells) → Out Cells
-withDefaults l sh df dr k = get l sh df [] >>= λ f. get l sh dr [] >>= λ r. given 43 (asList r) λ _. k f r
+-- the two defaults of a list case, got in the scope of the view v alone, and what goes on with them
+unfoldable pub withDefaults : ℕ → Sheet → (df dr : ℕ) → Value → (Value → Value → Out Cells) → Out Cells
+withDefaults l sh df dr v k = get l sh df (v ∷ []) >>= λ f. get l sh dr (v ∷ []) >>= λ r. given 43 (asList r) λ _. k f r
 
 unfoldable pub run : ℕ → Sheet → ℕ → Task → Env → List ℕ → Value → Cells → Out Cells
 run l sh n (enter x) μ σ v W = put l sh x μ σ v W
@@ -50,7 +50,7 @@ run l sh n (own k s i) μ σ v W = putNode (get l sh) (put l sh) sh (recordAt k 
 run l sh n (pair a b u) μ σ v W = both (put l sh) μ σ W a v b u
 run l sh n (inside k b s f r) μ σ v W = under (put l sh) μ σ W b v s (maker k) f r
 run l sh n (rebuilt k s f r) μ σ v X = rebuild (put l sh) μ σ n X s (maker k) f r
-run l sh n (switch b s df dr) μ σ v W = withDefaults l sh df dr λ f r. under (put l sh) μ σ W b v s mkList f r
+run l sh n (switch b s df dr) μ σ v W = withDefaults l sh df dr v λ f r. under (put l sh) μ σ W b v s mkList f r
 
 -- the node numbers of a task are in range
 abbrev pub Known : Sheet → Task → Type 0

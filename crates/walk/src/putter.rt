@@ -13,10 +13,11 @@ ghost use Rattle.walk.specs.GetCase.{Case};
 ghost use Rattle.walk.specs.GetLeaf.{Childless, wideBytes};
 ghost use Rattle.walk.specs.Puts.{Ready, Inner, Gives, Few, Any, PartsAt, SomeParts, SomeView, enter, own, pair, inside, rebuilt, switchAt};
 ghost use Rattle.walk.specs.PutLeaf.{Writable, Write, numberBytes};
-ghost use Rattle.walk.specs.PutSwitch.{DefaultsAsked, Defaults};
+ghost use Rattle.walk.specs.PutSwitch.{BothAsked, Sees, DefaultsAsked, Defaults};
 ghost use Rattle.walk.specs.PutMember.{StoodAsked, Stood, MembersAsked, MemberTold};
 ghost use Rattle.walk.specs.PutMembers.{SomeList, MembersTold};
 use crate::at::At;
+use crate::bytes::copy;
 use crate::bytes::fill;
 use crate::bytes::rebuild;
 use crate::bytes::wide_bytes;
@@ -26,6 +27,7 @@ use crate::got::shape_at;
 use crate::scope::member;
 use crate::scope::none;
 use crate::scope::section;
+use crate::scope::single;
 use crate::scope::with_two;
 use answer::done;
 use answer::is_refused;
@@ -402,21 +404,28 @@ fn put_case(
     }
 }
 
-// The default first and the default rest of a list case, got in an empty scope, one after the other from the top on. The answer has the
+// The default first and the default rest of a list case, got in the scope `seen`, one after the other from the top on. The answer has the
 // length of the first for its start.
-fn defaults(sheet: &[u8], table: &[u16; 200], arena: &mut [u8], n: u16, at: At) -> usize
-    requires { ⌜ DefaultsAsked (now sheet) (now table) (now arena) n (at .top) (at .levels) (at .left) ⌝ }
-    ensures { λ r. ⌜ Defaults (now (sheet .entry)) n (now (arena .entry)) (now (arena .exit)) (at .top) (at .levels) (at .left) r ⌝ }
+fn two_defaults(
+    sheet: &[u8],
+    table: &[u16; 200],
+    arena: &mut [u8],
+    seen: Scope,
+    n: u16,
+    at: At,
+) -> usize
+    requires { ⌜ BothAsked (now sheet) (now table) (now arena) seen n (at .top) (at .levels) (at .left) ⌝ }
+    ensures { λ r. ⌜ Defaults (now (sheet .entry)) n (Sees (now (arena .entry)) seen (at .top)) (now (arena .entry)) (now (arena .exit)) (at .top) (at .levels) (at .left) r ⌝ }
 {
     let first = sheet::number_of(sheet, n, 6);
-    let got = get_node(sheet, table, arena, none(), first, at);
+    let got = get_node(sheet, table, arena, seen, first, at);
     let a = bring(arena, got, at.top);
     if is_refused(a) {
         return a;
     }
     let two = at.behind(a);
     let rest = sheet::number_of(sheet, n, 7);
-    let got = get_node(sheet, table, arena, none(), rest, two);
+    let got = get_node(sheet, table, arena, seen, rest, two);
     let b = bring(arena, got, two.top);
     if is_refused(b) {
         return b;
@@ -426,6 +435,33 @@ fn defaults(sheet: &[u8], table: &[u16; 200], arena: &mut [u8], n: u16, at: At) 
         return refused(43);
     }
     done(len_of(a), len_of(b), steps_of(a) + steps_of(b))
+}
+
+// The defaults of a list case, got in a scope of one variable, the view: it stands at the top while they are got behind it, and then they are
+// brought down to where it stood.
+fn defaults(
+    sheet: &[u8],
+    table: &[u16; 200],
+    arena: &mut [u8],
+    n: u16,
+    view: &[u8],
+    at: At,
+) -> usize
+    requires { ⌜ DefaultsAsked (now sheet) (now table) (now arena) (now view) n (at .top) (at .levels) (at .left) ⌝ }
+    ensures { λ r. ⌜ Defaults (now (sheet .entry)) n (Shown (now (view .entry))) (now (arena .entry)) (now (arena .exit)) (at .top) (at .levels) (at .left) r ⌝ }
+{
+    let top = at.top;
+    let len = view.len();
+    step::store(arena, top, view);
+    let seen = single(top, len);
+    let to = at.raised(len);
+    let got = two_defaults(sheet, table, arena, seen, n, to);
+    if is_refused(got) {
+        return got;
+    }
+    let both = start_of(got) + len_of(got);
+    copy(arena, to.top, top, both);
+    got
 }
 
 // A switch to the non-empty branch of a list case: the defaults stand for its variables.
@@ -445,7 +481,7 @@ fn put_switch(
     requires { ⌜ at .top + 512 + 513 * at .levels ≤ SCRATCH ⌝ }
     ensures { λ r. ⌜ Gives (now (arena .entry)) (now (arena .exit)) (now (slots .entry)) (now (slots .exit)) (now (sheet .entry)) (Shown (now (view .entry))) scope (now (cells .entry)) (at .cells) (at .cells) (at .top) (at .left) r (at .levels) (switchAt (now (sheet .entry)) n) ⌝ }
 {
-    let got = defaults(sheet, table, arena, n, at);
+    let got = defaults(sheet, table, arena, n, view, at);
     if is_refused(got) {
         return got;
     }

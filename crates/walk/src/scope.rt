@@ -1,9 +1,9 @@
-//! Scopes, each made whole: the empty one, a plan's, a section's, and a scope with two variables more.
+//! Scopes, each made whole: the empty one, one of one variable, a plan's, a section's, and a scope with two variables more.
 ghost use mathlib.Core.Path.{_≡_};
 ghost use Prim.Native.Nat.{_+_, _-_, _<_, _≤_};
 ghost use Rattle.rules.specs.Numbers.{SCRATCH};
 ghost use Rattle.step.specs.Step.{picked};
-ghost use Rattle.walk.specs.Scope.{noVariable, withMember, withTwo, Stored, Spanned};
+ghost use Rattle.walk.specs.Scope.{noVariable, pushed, withMember, withTwo, Stored, Spanned};
 use step::Scope;
 use value::Spans;
 
@@ -15,6 +15,22 @@ pub fn none() -> Scope
         count: 0,
         starts: [0u16; 110],
         lens: [0u8; 110],
+    }
+}
+
+/// One variable alone, whose value has `len` bytes from `start` on.
+pub fn single(start: usize, len: usize) -> Scope
+    requires { ⌜ (start < SCRATCH) × (1 ≤ len) × (len ≤ 256) ⌝ }
+    ensures { λ r. ⌜ r ≡ pushed noVariable start len ⌝ }
+{
+    let mut starts = [0u16; 110];
+    let mut lens = [0u8; 110];
+    starts[0] = start as u16;
+    lens[0] = (len - 1) as u8;
+    Scope {
+        count: 1,
+        starts,
+        lens,
     }
 }
 

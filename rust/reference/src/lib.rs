@@ -1,6 +1,6 @@
 //! Document 01, "House sheets, plans and venue lists", in plain safe Rust, with requests 1 (the node 1C), 2 (the
-//! starts of a plan's values) and 4 (numbers over 65,535: the kind of value 06 and the node 1D) of document 02, "Requests after the base
-//! version".
+//! starts of a plan's values), 4 (numbers over 65,535: the kind of value 06 and the node 1D) and 5 (defaults of a list case that take
+//! after the list sent) of document 02, "Requests after the base version".
 //!
 //! It was written from the papers and shares no line with the Rattle code, so that where the two agree on a job, two readings of the
 //! papers agree. Its tests and the benchmark's baseline are its only uses: programs use the crate `lens`.

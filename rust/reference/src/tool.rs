@@ -5,6 +5,9 @@ use crate::job::{counted, Job, LONGEST_INPUT};
 use crate::vectors::hex;
 use crate::{Refusal, PUT_OUT, SCRATCH, STARTS_MAX};
 
+/// The letters of the calls that are there: an input begins with one of them.
+pub const LETTERS: [u8; 3] = [0x4C, 0x56, 0x53];
+
 /// One call.
 #[derive(Clone, Debug, PartialEq, Eq)]
 pub enum Tool {

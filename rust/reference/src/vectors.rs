@@ -1,5 +1,6 @@
 //! Files of test vectors: inputs of a program in hexadecimal, and what it prints for them.
 
+use crate::tool::LETTERS;
 use std::path::{Path, PathBuf};
 
 /// Bytes in upper-case hexadecimal.
@@ -37,21 +38,24 @@ pub fn wrong_lines(file: &str, printed: impl Fn(&[u8]) -> String) -> (usize, Vec
     (count, wrong)
 }
 
-/// A file of jobs that may stand beside the repository: those of document 01 and of requests 1 to 4.
-const JOBS: &str = concat!(env!("CARGO_MANIFEST_DIR"), "/../../../shared/vectors/wide.txt");
+/// Files that may stand beside the repository: jobs, and inputs of `tools`.
+const JOBS: &str = concat!(env!("CARGO_MANIFEST_DIR"), "/../../../shared/vectors/full.txt");
+const TOOLS: &str = concat!(env!("CARGO_MANIFEST_DIR"), "/../../../shared/vectors/tools-full.txt");
 
-/// Runs the jobs of the file that `LENS_VECTORS` names, or else of `shared/vectors/wide.txt` beside the repository, where it is there.
+/// Runs the jobs of the file that `LENS_VECTORS` names, or else of `shared/vectors/full.txt` beside the repository, where it is there.
 pub fn check_jobs(printed: impl Fn(&[u8]) -> String) {
-    let beside = || Some(PathBuf::from(JOBS)).filter(|path| path.exists());
-    if let Some(path) = named("LENS_VECTORS").or_else(beside) {
-        check_file(&path, printed);
+    if let Some(path) = named("LENS_VECTORS").or_else(|| there(JOBS)) {
+        check_file(&path, |_| true, printed);
     }
 }
 
-/// Runs the inputs of `tools` of the file that `LENS_TOOL_VECTORS` names, if it is set.
+/// Runs the inputs of `tools` of the file that `LENS_TOOL_VECTORS` names, or else those of `shared/vectors/tools-full.txt` beside the
+/// repository, where it is there, whose letters are `LETTERS`.
 pub fn check_tools(printed: impl Fn(&[u8]) -> String) {
     if let Some(path) = named("LENS_TOOL_VECTORS") {
-        check_file(&path, printed);
+        check_file(&path, |_| true, printed);
+    } else if let Some(path) = there(TOOLS) {
+        check_file(&path, |line| LETTERS.iter().any(|&letter| line.starts_with(&hex(&[letter]))), printed);
     }
 }
 
@@ -59,9 +63,16 @@ fn named(variable: &str) -> Option<PathBuf> {
     std::env::var_os(variable).map(PathBuf::from)
 }
 
-/// Panics where a line of a file is printed otherwise.
-fn check_file(path: &Path, printed: impl Fn(&[u8]) -> String) {
-    let (count, wrong) = wrong_lines(&std::fs::read_to_string(path).unwrap(), printed);
+fn there(path: &str) -> Option<PathBuf> {
+    Some(PathBuf::from(path)).filter(|path| path.exists())
+}
+
+/// Panics where something else is printed for a wanted line of a file.
+fn check_file(path: &Path, wanted: impl Fn(&str) -> bool, printed: impl Fn(&[u8]) -> String) {
+    let file = std::fs::read_to_string(path).unwrap();
+    let lines: Vec<&str> = file.lines().filter(|line| wanted(line)).collect();
+    let (count, wrong) = wrong_lines(&lines.join("\n"), printed);
+    assert!(count > 0, "no line of {}", path.display());
     assert!(wrong.is_empty(), "{} of {count} lines wrong:\n{}", wrong.len(), wrong.join("\n"));
     println!("{count} lines of {}", path.display());
 }

@@ -374,7 +374,7 @@ impl<'a> Walk<'a> {
                 };
                 let rebuilt = if self.second_branch(was_front, empty_test, front_test, view)? {
                     let (first, rest) =
-                        if was_front { self.parts(old) } else { self.defaults(default_first, default_rest, scope, depth)? };
+                        if was_front { self.parts(old) } else { self.defaults(default_first, default_rest, view, scope, depth)? };
                     self.put_inner(FRONT, front, view, scope, first, rest, depth)?
                 } else {
                     self.put(empty, view, scope, depth + 1)?;
@@ -474,11 +474,12 @@ impl<'a> Walk<'a> {
         }
     }
 
-    /// What first and rest stand for after a switch to the branch that has them.
-    fn defaults(&mut self, first: u8, rest: u8, scope: Scope, depth: u32) -> Result<(Span, Span), Refusal> {
-        let nothing = Scope { base: scope.end, end: scope.end };
-        let first = self.get(first, nothing, depth + 1)?;
-        let rest = self.get(rest, nothing, depth + 1)?;
+    /// What first and rest stand for after a switch to the branch that has them. Both nodes are got with the view alone in scope.
+    fn defaults(&mut self, first: u8, rest: u8, view: Span, scope: Scope, depth: u32) -> Result<(Span, Span), Refusal> {
+        self.variables[scope.end] = Variable { value: view, cell: scope.end as u8 };
+        let sent = Scope { base: scope.end, end: scope.end + 1 };
+        let first = self.get(first, sent, depth + 1)?;
+        let rest = self.get(rest, sent, depth + 1)?;
         if value::is_list(self.bytes(rest)) {
             Ok((first, rest))
         } else {

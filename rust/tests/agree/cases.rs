@@ -20,7 +20,7 @@ pub const MORE: usize = 64;
 /// Case `number`. `scratch` is lent to the reference, which tells what the plan's list is.
 pub fn case(number: u64, scratch: &mut [u8]) -> Case {
     let random = &mut Random::new(number);
-    let mut job = if random.percent(13) { edge_job(random, scratch) } else { job(random, scratch) };
+    let mut job = if random.percent(18) { edge_job(random, scratch) } else { job(random, scratch) };
     if random.percent(6) {
         damage(&mut job.plan, random);
     }

@@ -1,7 +1,8 @@
 //! Jobs at the limits of document 01, which random ones seldom meet: the 48th level, the 256th byte, the last section and node; and numbers
-//! about 65,536, the least of four bytes.
+//! about 65,536, the least of four bytes; and list cases whose defaults take after the view.
 
 use crate::random::Random;
+use crate::sent::sent;
 use crate::values::{damage, Value};
 use reference::job::Job;
 
@@ -12,7 +13,7 @@ pub const JOIN: [u8; 32] = [
 ];
 
 pub fn edge(random: &mut Random) -> Job {
-    match random.below(16) {
+    match random.below(22) {
         0 | 1 => chain(random),
         2 => join(random),
         3 => long(random),
@@ -21,6 +22,7 @@ pub fn edge(random: &mut Random) -> Job {
         10 => nest(random),
         11 | 12 => prices(random),
         13 | 14 => ending(random),
+        15..=20 => sent(random),
         _ => full(random),
     }
 }
@@ -172,7 +174,7 @@ fn nest(random: &mut Random) -> Job {
     Job { sheet, plan, view, allowance: random.pick(&[90, 95, 140, 190, 1000]) }
 }
 
-fn numbers(random: &mut Random, least: usize, most: usize) -> Vec<u8> {
+pub fn numbers(random: &mut Random, least: usize, most: usize) -> Vec<u8> {
     let length = random.of(least..most);
     let make = if random.percent(15) { Value::price } else { Value::number };
     Value::List((0..length).map(|_| make(random)).collect()).bytes()
@@ -208,7 +210,7 @@ fn long(random: &mut Random) -> Job {
 }
 
 /// A value of this length, or of one less (the length of a value is odd).
-fn sized(random: &mut Random, length: usize) -> Vec<u8> {
+pub fn sized(random: &mut Random, length: usize) -> Vec<u8> {
     let mut bytes = Vec::new();
     let in_front: [u8; 2] = random.pick(&[[0x03, 0x01], [0x05, 0x00], [0x03, 0x02]]);
     let end = match in_front[0] {

@@ -7,8 +7,10 @@ mod edges;
 mod lookups;
 mod random;
 mod seen;
+mod sent;
 mod sheets;
 mod starts;
+mod switches;
 mod values;
 
 use cases::{case, Case, MORE};
@@ -20,6 +22,7 @@ use reference::job::Job;
 use reference::vectors::hex;
 use seen::Seen;
 use starts::{check_behind, check_load, check_values, Given, BEFORE};
+use switches::takes_after;
 
 const CASES: u64 = 200_000;
 
@@ -184,7 +187,7 @@ impl Bench {
             let bytes = self.archive.out[..answer.length()].to_vec();
             self.check_laws(&case.job, &bytes, answer)?;
         }
-        seen.job(&case.job, answer);
+        seen.job(&case.job, answer, takes_after(&case.job, &mut self.spare));
         Ok(())
     }
 

@@ -15,24 +15,35 @@ pub struct Seen {
     each: [[u64; 2]; 256],
     /// The same of jobs with a number of four bytes: a 1D of the sheet, or an 06 of the plan or the list.
     wide: [[u64; 2]; 256],
+    /// Puts that got defaults, of sheets with one that names a variable.
+    switches: [u64; 256],
     loads: [u64; 256],
     lookups: [u64; 256],
 }
 
 impl Default for Seen {
     fn default() -> Seen {
-        Seen { jobs: [[0; 2]; 256], each: [[0; 2]; 256], wide: [[0; 2]; 256], loads: [0; 256], lookups: [0; 256] }
+        Seen {
+            jobs: [[0; 2]; 256],
+            each: [[0; 2]; 256],
+            wide: [[0; 2]; 256],
+            switches: [0; 256],
+            loads: [0; 256],
+            lookups: [0; 256],
+        }
     }
 }
 
 impl Seen {
-    pub fn job(&mut self, job: &Job, answer: Answer) {
+    pub fn job(&mut self, job: &Job, answer: Answer, takes_after: bool) {
         let (number, way) = (usize::from(answer.number()), usize::from(job.view.is_some()));
         self.jobs[number][way] += 1;
         self.each[number][way] += u64::from(sheets::has(&job.sheet, 0x1C));
         let values = [Some(&job.plan), job.view.as_ref()];
         let wide = sheets::has(&job.sheet, 0x1D) || values.into_iter().flatten().any(|bytes| has_price(bytes));
         self.wide[number][way] += u64::from(wide);
+        let walked = number == 0 || number >= 40;
+        self.switches[number] += u64::from(walked && takes_after);
     }
 
     pub fn load(&mut self, number: u8) {
@@ -43,7 +54,8 @@ impl Seen {
         self.lookups[usize::from(number)] += 1;
     }
 
-    /// Every refusal came of each function that has it, also with numbers of four bytes, and successes were no rarity.
+    /// Every refusal came of each function that has it, also with numbers of four bytes; those that are not seldom where defaults are got
+    /// came there too; and successes were no rarity.
     pub fn assert_wide(&self) {
         for refusal in Refusal::ALL {
             let number = usize::from(refusal.number());
@@ -56,11 +68,14 @@ impl Seen {
                 _ => wide_gets > 0 && wide_puts > 0,
             };
             assert!(came, "{refusal:?} never came: {self}");
+            let seldom = !matches!(number, 40..=44 | 50 | 51 | 53 | 54);
+            assert!(seldom || self.switches[number] > 0, "{refusal:?} never came with defaults: {self}");
         }
         let columns = |counts: &[[u64; 2]; 256]| [0, 1].map(|way| counts.map(|numbers| numbers[way]));
         let all: u64 = self.jobs.iter().flatten().sum();
         let each: u64 = self.each.iter().flatten().sum();
         let wide: u64 = self.wide.iter().flatten().sum();
+        let switches: u64 = self.switches.iter().sum();
         let [gets, puts] = columns(&self.jobs);
         let [each_gets, each_puts] = columns(&self.each);
         let [wide_gets, wide_puts] = columns(&self.wide);
@@ -71,6 +86,7 @@ impl Seen {
             (each_puts, each, "puts with a 1C"),
             (wide_gets, wide, "gets with a number of four bytes"),
             (wide_puts, wide, "puts with a number of four bytes"),
+            (self.switches, switches, "puts with defaults that name a variable"),
             (self.loads, all, "loads"),
             (self.lookups, all, "lookups"),
         ] {
@@ -81,11 +97,11 @@ impl Seen {
 
 impl fmt::Display for Seen {
     fn fmt(&self, f: &mut fmt::Formatter) -> fmt::Result {
-        let heads = ["answer", "gets", "puts", "1C, gets", "puts", "06, gets", "puts", "loads", "lookups"];
+        let heads = ["answer", "gets", "puts", "1C, gets", "puts", "06, gets", "puts", "17, puts", "loads", "lookups"];
         writeln!(f, "{}", heads.map(|head| format!("{head:>8}")).join(" "))?;
         for number in 0..256 {
             let ways = [self.jobs, self.each, self.wide].map(|counts| counts[number]);
-            let counts = [ways.as_flattened(), &[self.loads[number], self.lookups[number]]].concat();
+            let counts = [ways.as_flattened(), &[self.switches[number], self.loads[number], self.lookups[number]]].concat();
             if counts.iter().any(|&count| count > 0) {
                 let answer = if number == 0 { "ok".to_string() } else { format!("no {number}") };
                 let counts: Vec<String> = counts.iter().map(|count| format!("{count:>8}")).collect();

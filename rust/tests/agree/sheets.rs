@@ -283,9 +283,33 @@ impl Builder<'_> {
         let front = self.node(ty, &mut inner, fuel, recursion);
         let front_test = self.test(front, ty);
         let wrong = self.random.percent(2);
-        let default_first = self.constant(member);
-        let default_rest = self.constant(if wrong { &Type::Price } else { &list });
+        let default_first = self.default(member, ty, fuel);
+        let default_rest = self.default(if wrong { &Type::Price } else { &list }, ty, fuel);
         self.nodes[usize::from(own)] = vec![0x17, subject, empty, empty_test, front, front_test, default_first, default_rest];
+    }
+
+    /// A default of a list case, whose one variable is the view, of type `view`; seldom it names another.
+    fn default(&mut self, ty: &Type, view: &Type, fuel: usize) -> u8 {
+        let mut scope = vec![Variable { ty: view.clone(), uses: 0 }];
+        match self.random.below(20) {
+            0 => self.leaf(&[0x10, 1]),
+            1 => self.leaf(&[0x10, 0]),
+            2..=6 if view == ty => self.leaf(&[0x10, 0]),
+            2..=6 if *view == Type::List(Box::new(ty.clone())) => self.first_sent(ty),
+            7..=10 => self.node(ty, &mut scope, fuel.min(3), &mut None),
+            _ => self.constant(ty),
+        }
+    }
+
+    /// In a default, the first member of the list sent, or a constant where that is empty.
+    fn first_sent(&mut self, ty: &Type) -> u8 {
+        let own = self.reserve();
+        let subject = self.leaf(&[0x10, 0]);
+        let empty = self.constant(ty);
+        let front = self.leaf(&[0x10, 1]);
+        let nothing = self.leaf(&[0x13]);
+        self.nodes[usize::from(own)] = vec![0x17, subject, empty, 0, front, 0, nothing, nothing];
+        own
     }
 
     fn truth_case(&mut self, ty: &Type, scope: &mut Vec<Variable>, fuel: usize, recursion: &mut Recursion) -> u8 {
@@ -398,12 +422,15 @@ fn price_record(random: &mut Random) -> [u8; 5] {
 
 /// Whether a sheet has a record of this kind.
 pub fn has(sheet: &[u8], kind: u8) -> bool {
+    records(sheet).iter().any(|record| record[0] == kind)
+}
+
+/// The records of a sheet. One that is cut ends with it.
+pub fn records(sheet: &[u8]) -> Vec<&[u8]> {
     let mut left = sheet;
-    while let Some((&own, rest)) = left.split_first() {
-        if own == kind {
-            return true;
-        }
-        let width = match own {
+    let mut records = Vec::new();
+    while let Some(kind) = left.first() {
+        let width = match kind {
             0x10 | 0x20 => 1,
             0x01 | 0x14..=0x16 | 0x19 => 2,
             0x1A | 0x1B => 3,
@@ -412,9 +439,11 @@ pub fn has(sheet: &[u8], kind: u8) -> bool {
             0x17 => 7,
             _ => 0,
         };
-        left = &rest[width.min(rest.len())..];
+        let (record, rest) = left.split_at(left.len().min(1 + width));
+        records.push(record);
+        left = rest;
     }
-    false
+    records
 }
 
 /// A sheet of records in their places with numbers in range, but otherwise random.

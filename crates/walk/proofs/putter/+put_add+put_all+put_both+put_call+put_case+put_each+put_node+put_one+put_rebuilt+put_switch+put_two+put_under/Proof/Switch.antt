@@ -8,7 +8,6 @@ use mathlib.Core.Bool.{false}
 use Rattle.answer.specs.Answer.{isRefusal, startOf, lenOf, stepsOf, later-as}
 use Rattle.walk.specs.declared.at.At.{At as Where}
 use Rattle.walk.specs.declared.putter.Parts.{Parts}
-use Rattle.walk.specs.Cells.{Shown}
 use Rattle.walk.specs.Places.{raisedOf}
 use Rattle.walk.specs.Gets.{levels-as}
 use Rattle.walk.specs.Puts.{put-there}
@@ -76,7 +75,7 @@ module _ (t : ℕ) where
   beyond c = c .before
 
   -- WHAT IS KNOWN THERE
-  switching : (c : At lts.Start) → Switching (put-there (c .pre .1 .0)) (Shown (c .args .view .now)) (c .args .n)
+  switching : (c : At lts.Start) → Switching (put-there (c .pre .1 .0)) (c .args .view .now) (c .args .n)
   switching c = record { asked = c .pre .1 .0; inner = c .pre .1 .1 .0; room = c .pre .1 .1 .1 }
 
   done : (c : At lts.Else1) → isRefusal (got c .defaults .result) ≡ false
