@@ -59,10 +59,6 @@ unfoldable pub where-so : {A : Type 0} → Bool → A → A → A
 where-so true a b = a
 where-so false a b = b
 
--- whether a node of this kind has no children: 10 to 14, and 1D
-unfoldable pub isLeaf : ℕ → Bool
-isLeaf kind = ltb kind 0x15 || eqb kind 0x1D
-
 -- THE BRANCHES OF A CASE
 
 -- a branch, where the case is of the kind that has it

@@ -31,7 +31,6 @@ use Rattle.step.specs.Step.{
   madeOf,
   judged,
   unfitRest,
-  isLeaf,
 }
 
 pub when-in : {A P : Type 0} {r x y : A} → P → r ≡ x → When P r x y
@@ -100,31 +99,6 @@ module _ {A : Type 0} {n m : ℕ} (x y : A) where
   pub where-not : (n ≡ m → ⊥) → where-so (eqb n m) x y ≡ y
   unfolding where-so
   where-not e = ap (λ (b : Bool). where-so b x y) (ne-eqb n m e)
-
--- a node without children, by its kind
-pub low-leaf : {kind : ℕ} → kind < 0x15 → true ≡ isLeaf kind
-unfolding isLeaf
-low-leaf {kind} h = rw (lt-ltb kind 0x15 h)
-
-pub high-leaf : {kind : ℕ} → 0x15 ≤ kind → eqb kind 0x1D ≡ isLeaf kind
-unfolding isLeaf
-high-leaf {kind} h = rw (le-ltb kind 0x15 h)
-
-pub leaf-kind : {kind : ℕ} → isLeaf kind ≡ true → (kind ≡ 0x1D → ⊥) → kind < 0x15
-unfolding isLeaf
-leaf-kind {kind} e n = go (decLt kind 0x15)
-  where
-    go : Dec (kind < 0x15) → kind < 0x15
-    go (yes h) = h
-    go (no h) = absurd (false≢true (sym (ne-eqb kind 0x1D n) ∙ high-leaf {kind = kind} (omega arith) ∙ e))
-
-pub no-leaf : {kind : ℕ} → isLeaf kind ≡ false → (0x15 ≤ kind) × (kind ≡ 0x1D → ⊥)
-unfolding isLeaf
-no-leaf {kind} e = (go (decLt kind 0x15), λ k. absurd (false≢true (sym e ∙ rw k)))
-  where
-    go : Dec (kind < 0x15) → 0x15 ≤ kind
-    go (yes h) = absurd (false≢true (sym (low-leaf h ∙ e)))
-    go (no h) = omega arith
 
 -- THE BRANCHES OF A CASE, as the code tells them
 

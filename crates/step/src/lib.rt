@@ -8,7 +8,7 @@ ghost use lib.ListN.{length, getD};
 ghost use lib.Seq.{paste};
 ghost use Rattle.value.specs.Parts.{shapeOf, passesBytes, sameBytes};
 ghost use Rattle.answer.specs.Answer.{doneAs};
-ghost use Rattle.step.specs.Step.{When, frontTwo, pickedTwo, addedTwo, nowhere, placeOf, entryRefusal, fitsKind, fitOf, otherOf, choice, takeOf, TakenBy, apartOf, madeOf, judged, unfitRest, isLeaf};
+ghost use Rattle.step.specs.Step.{When, frontTwo, pickedTwo, addedTwo, nowhere, placeOf, entryRefusal, fitsKind, fitOf, otherOf, choice, takeOf, TakenBy, apartOf, madeOf, judged, unfitRest};
 use answer::done;
 use answer::refused;
 use value::Shape;
@@ -325,16 +325,6 @@ pub fn put_bytes(constant: &[u8], view: &[u8]) -> usize
     ensures { λ r. ⌜ r ≡ judged 50 (sameBytes (now (view .entry)) (now (constant .entry))) ⌝ }
 {
     judge(50, view, constant)
-}
-
-/// Whether a node of this kind has no children: 10 to 14, and 1D.
-pub fn is_leaf(kind: u8) -> bool
-    ensures { λ r. ⌜ r ≡ isLeaf kind ⌝ }
-{
-    if kind < 0x15 {
-        return true;
-    }
-    kind == 0x1D
 }
 
 /// Whether the rest of a rebuilt list (kind 3) is no list, by the kind bytes of both.

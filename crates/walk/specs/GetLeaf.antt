@@ -17,8 +17,7 @@ use Rattle.rules.specs.Rules.{Env, getNode}
 use Rattle.rules.specs.Readable.{nil-readable, truth-readable, number-readable, wide-readable}
 use Rattle.rules.specs.Numbers.{SCRATCH}
 use Rattle.step.specs.declared.Scope.{Scope}
-use Rattle.step.specs.Step.{When, isLeaf}
-use Rattle.step.specs.StepLaws.{leaf-kind}
+use Rattle.step.specs.Step.{When}
 use Rattle.walk.specs.Parts.{part, kept-refl, kept-then, kept-set, part-one, part-cons, marked, marked-kept, marked-part}
 use Rattle.walk.specs.Arena.{onStack, below-ends, below-later}
 use Rattle.walk.specs.Seen.{elem-at, elem-none, held-some, held-short}
@@ -26,13 +25,10 @@ use Rattle.walk.specs.CellLaws.{filled}
 use Rattle.walk.specs.Answers.{answer-by, finish, give, give-none}
 use Rattle.walk.specs.Gets.{Task, own, run, Ready, Here, Asked, Tells}
 
--- the kinds without children: 10 to 14, and 1D
+-- the first kinds without children
 pub record Childless (kind : ℕ) : Type 0 where
   pub low : 0x10 ≤ kind
-  pub high : (kind ≡ 0x1D → ⊥) → kind ≤ 0x14
-
-pub childless : {kind : ℕ} → 0x10 ≤ kind → isLeaf kind ≡ true → Childless kind
-childless h e = record { low = h; high = λ n. let z = leaf-kind e n in omega arith }
+  pub high : kind ≤ 0x14
 
 -- VARIABLES
 
@@ -103,10 +99,10 @@ constants kind s n (suc zero) e h = rw e (record { value = vtrue; bytes = refl; 
 constants kind s n (suc (suc zero)) e h = rw e (record { value = list nil; bytes = refl; long = refl; readable = nil-readable; is = λ l sh μ. refl })
 constants kind s n (suc (suc (suc i))) e h = absurd (omega arith)
 
-pub constant-told : {h : Here} {n r kind : ℕ} {a : List ℕ} → Childless kind → (kind ≡ 0x10 → ⊥) → (kind ≡ 0x14 → ⊥) → (kind ≡ 0x1D → ⊥) → Asked h kind n
+pub constant-told : {h : Here} {n r kind : ℕ} {a : List ℕ} → Childless kind → (kind ≡ 0x10 → ⊥) → (kind ≡ 0x14 → ⊥) → Asked h kind n
     → a ≡ set (h .arena) (h .top) (kind - 0x11) → r ≡ doneAs (h .top) 1 0 → Tells h a r kind n
-constant-told {h} {n} {kind = kind} c v m x w e f =
-    let k = constants kind (h .sheet) n (kind - 0x11) (omega (arith, c .low)) (omega (arith, c .high x)) in
+constant-told {h} {n} {kind = kind} c v m w e f =
+    let k = constants kind (h .sheet) n (kind - 0x11) (omega (arith, c .low)) (omega (arith, c .high)) in
     let d = ap said f ∙ done-said (h .top) 1 0 (omega (arith, w .room)) (omega arith) (omega arith) in
     let mark = marked (kind - 0x11) (h .top) (h .arena) (omega (arith, w .long, w .room)) in
     rw e (record {

@@ -67,9 +67,9 @@ constants kind s n (suc (suc zero)) e h = rw e (record { value = list nil; are =
 constants kind s n (suc (suc (suc i))) e h = absurd (omega arith)
 
 module _ {h : PutHere} {view : List ℕ} {kind n r : ℕ} (w : PutAsked h (Shown view) kind n) where
-  pub constant-told : Childless kind → (kind ≡ 0x10 → ⊥) → (kind ≡ 0x14 → ⊥) → (kind ≡ 0x1D → ⊥) → r ≡ judged 50 (sameBytes view ((kind - 0x11) ∷ []))
+  pub constant-told : Childless kind → (kind ≡ 0x10 → ⊥) → (kind ≡ 0x14 → ⊥) → r ≡ judged 50 (sameBytes view ((kind - 0x11) ∷ []))
       → PutTells h (Shown view) (h .arena) (h .slots) r kind n
-  constant-told c v m x is = constant-gives w (constants kind (h .sheet) n (kind - 0x11) (omega (arith, c .low)) (omega (arith, c .high x))) is
+  constant-told c v m is = constant-gives w (constants kind (h .sheet) n (kind - 0x11) (omega (arith, c .low)) (omega (arith, c .high))) is
 
   pub number-told : kind ≡ 0x14 → r ≡ judged 50 (sameBytes view (numberBytes (h .sheet) n)) → PutTells h (Shown view) (h .arena) (h .slots) r kind n
   unfolding run Text.putNode encode

@@ -55,7 +55,7 @@ fn get_wide(sheet: &[u8], arena: &mut [u8], n: u16, top: usize) -> usize
     done(top, 5, 0)
 }
 
-// A node without children: a variable (10), a number (14 or 1D), or False, True or the empty list (11 to 13), which are one byte each.
+// A variable (10), False, True or the empty list (11 to 13), which are one byte each, or a number (14).
 fn get_leaf(
     sheet: &[u8],
     table: &[u16; 200],
@@ -75,9 +75,6 @@ fn get_leaf(
     }
     if kind == 0x14 {
         return get_number(sheet, arena, n, top);
-    }
-    if kind == 0x1D {
-        return get_wide(sheet, arena, n, top);
     }
     arena[top] = kind - 0x11;
     done(top, 1, 0)
@@ -103,7 +100,7 @@ pub fn get_node(
     let n = table[node];
     let below = at.below();
     let kind = sheet::byte_of(sheet, n, 0);
-    if step::is_leaf(kind) {
+    if kind < 0x15 {
         return later(get_leaf(sheet, table, arena, scope, n, kind, below), 1);
     }
     if kind < 0x1A {
@@ -112,14 +109,18 @@ pub fn get_node(
         }
         return later(get_case(sheet, table, arena, scope, n, kind, below), 1);
     }
-    if kind == 0x1A {
-        return later(get_call(sheet, table, arena, scope, n, kind, below), 1);
-    }
-    if kind == 0x1B {
+    if kind < 0x1C {
+        if kind == 0x1A {
+            return later(get_call(sheet, table, arena, scope, n, kind, below), 1);
+        }
         return later(get_add(sheet, table, arena, scope, n, kind, below), 1);
     }
-    // 1C: no other kind is left
-    later(get_each(sheet, table, arena, scope, n, kind, below), 1)
+    if kind == 0x1C {
+        return later(get_each(sheet, table, arena, scope, n, kind, below), 1);
+    }
+    // 1D: no other kind is left
+    let top = below.top;
+    later(get_wide(sheet, arena, n, top), 1)
 }
 
 // A front (15) or a pair (16).

@@ -90,7 +90,7 @@ fn put_wide(sheet: &[u8], n: u16, view: &[u8]) -> usize
     step::put_bytes(&number, view)
 }
 
-// A node without children: a constant must equal the view; a variable (10) takes it.
+// A constant (11 to 14) must equal the view; a variable (10) takes it.
 fn put_leaf(
     sheet: &[u8],
     table: &[u16; 200],
@@ -109,9 +109,6 @@ fn put_leaf(
 {
     if kind == 0x14 {
         return put_number(sheet, n, view);
-    }
-    if kind == 0x1D {
-        return put_wide(sheet, n, view);
     }
     if kind != 0x10 {
         return step::put_constant(kind - 0x11, view);
@@ -148,7 +145,7 @@ pub fn put_node(
     let n = table[node];
     let to = at.below();
     let kind = sheet::byte_of(sheet, n, 0);
-    if step::is_leaf(kind) {
+    if kind < 0x15 {
         let put = put_leaf(sheet, table, arena, slots, scope, cells, n, kind, view, to);
         return later(put, 1);
     }
@@ -160,17 +157,20 @@ pub fn put_node(
         let put = put_case(sheet, table, arena, slots, scope, cells, n, kind, view, to);
         return later(put, 1);
     }
-    if kind == 0x1A {
-        let put = put_call(sheet, table, arena, slots, scope, cells, n, kind, view, to);
-        return later(put, 1);
-    }
-    if kind == 0x1B {
+    if kind < 0x1C {
+        if kind == 0x1A {
+            let put = put_call(sheet, table, arena, slots, scope, cells, n, kind, view, to);
+            return later(put, 1);
+        }
         let put = put_add(sheet, table, arena, slots, scope, cells, n, kind, view, to);
         return later(put, 1);
     }
-    // 1C: no other kind is left
-    let put = put_each(sheet, table, arena, slots, scope, cells, n, kind, view, to);
-    later(put, 1)
+    if kind == 0x1C {
+        let put = put_each(sheet, table, arena, slots, scope, cells, n, kind, view, to);
+        return later(put, 1);
+    }
+    // 1D: no other kind is left
+    later(put_wide(sheet, n, view), 1)
 }
 
 // `view` into node a, then `other` into node b.

@@ -1,20 +1,19 @@
 -- `get_node` meets its contract.
 -- Assumes nothing.
 use borrow.Author.Needs.{needs}
-use mathlib.Core.Path.{_≡_, sym, _∙_}
+use mathlib.Core.Path.{_≡_}
 use Prim.Native.Nat.{ℕ, _+_, _-_, _≤_}
 use native.Mathlib.Omega.{arith}
-use Rattle.step.specs.StepLaws.{entered as both-left, no-leaf}
+use Rattle.step.specs.StepLaws.{entered as both-left}
 use Rattle.walk.specs.Gets.{levels-as}
 use Rattle.walk.specs.GetReady.{sized}
-use Rattle.walk.specs.GetLeaf.{childless}
+use Rattle.walk.specs.GetLeaf.{wide-told}
 use Rattle.walk.specs.GetTwo.{Two, two-kind}
 use Rattle.walk.specs.GetCase.{Case, case-kind}
 use Rattle.walk.specs.GetEnter.{Entered, entry-code, enter-refused, node-few, its-kind, body-ready, body-told, own-as, told-as, answer-as}
 use Rattle.walk.proofs.at.At.below.Reads as below
 use Rattle.sheet.proofs.byte_of.Reads as byte-of
 use Rattle.step.proofs.entry.Reads as entry
-use Rattle.step.proofs.is_leaf.Reads as is-leaf
 use Rattle.walk.proofs.getter.get_add.Reads as get-add
 use Rattle.walk.proofs.getter.get_call.Reads as get-call
 use Rattle.walk.proofs.getter.get_case.Reads as get-case
@@ -22,6 +21,7 @@ use Rattle.walk.proofs.getter.get_each.Reads as get-each
 use Rattle.walk.proofs.getter.get_leaf.Reads as get-leaf
 use Rattle.walk.proofs.getter.get_node.Reads as get-node
 use Rattle.walk.proofs.getter.get_two.Reads as get-two
+use Rattle.walk.proofs.getter.get_wide.Reads as get-wide
 use Rattle.answer.proofs.later.Reads as later
 use Rattle.answer.proofs.refused.Reads as refused
 use Rattle.walk.proofs.getter.+get_add+get_call+get_case+get_each+get_members+get_node+get_two as cycle
@@ -39,8 +39,6 @@ claims t = (
   below.Learnt,
   byte-of.Asked,
   byte-of.Learnt,
-  is-leaf.Asked,
-  is-leaf.Learnt,
   get-leaf.Asked,
   get-leaf.Learnt,
   later.Asked,
@@ -55,6 +53,8 @@ claims t = (
   get-add.Post,
   BelowMeasure (kind get-each.Pre) t,
   get-each.Post,
+  get-wide.Asked,
+  get-wide.Learnt,
 )
 
 module _ (t : ℕ) where
@@ -85,10 +85,6 @@ module _ (t : ℕ) where
       let l = levels-as (c .before .below .ensures) in
       omega (arith, d .0)
 
-  -- a node with children
-  inner : (c : At lts.Else2) → let k = c .before .before .byte-of .result in (0x15 ≤ k) × (k ≡ 0x1D → ⊥)
-  inner c = no-leaf (sym (c .before .is-leaf .ensures) ∙ c .if2 .left)
-
   -- NEEDS
   returns : At lts.Need-returns
   returns c =
@@ -107,75 +103,88 @@ module _ (t : ℕ) where
 
   get-leaf-requires : At lts.Need-get-leaf-requires
   get-leaf-requires c κs =
-      let b = c .before .before .before in
-      let l = childless (its-kind (entered b) .0) (sym (c .before .before .is-leaf .ensures) ∙ c .before .if2 .taken) in
-      (own-as (b .before .below .ensures) (body-ready (entered b)), l)
+      let b = c .before .before in
+      (own-as (b .before .below .ensures) (body-ready (entered b)), record { low = its-kind (entered b) .0; high = omega (arith, c .before .if2 .taken) })
+
+  returns-2 : At lts.Need-returns-2
+  returns-2 c =
+      let b = c .before .before .before .before .before .before in
+      body-told (entered b) (c .later .ensures) (told-as (b .before .below .ensures) (c .before .before .before .get-leaf .ensures))
 
   get-two-requires : At lts.Need-get-two-requires
   get-two-requires c κs =
-      let b = c .before .before .before .before .before in
-      let e : Two (b .byte-of .result) = two-kind (inner (c .before .before .before) .0) (omega (arith, c .before .if4 .taken)) in
+      let b = c .before .before .before .before in
+      let e : Two (b .byte-of .result) = two-kind (omega (arith, c .before .before .before .if2 .left)) (omega (arith, c .before .if4 .taken)) in
       (omega (arith, start (allowed b) .pre .0, lower b), (own-as (b .before .below .ensures) (body-ready (entered b)), e))
+
+  returns-3 : At lts.Need-returns-3
+  returns-3 c =
+      let b = c .before .before .before .before .before .before .before .before in
+      body-told (entered b) (c .later2 .ensures) (told-as (b .before .below .ensures) (c .before .before .before .get-two .ensures))
 
   get-case-requires : At lts.Need-get-case-requires
   get-case-requires c κs =
-      let b = c .before .before .before .before .before in
+      let b = c .before .before .before .before in
       let e : Case (b .byte-of .result) = case-kind (omega (arith, c .before .if4 .left)) (omega (arith, c .before .before .if3 .taken)) in
       (omega (arith, start (allowed b) .pre .0, lower b), (own-as (b .before .below .ensures) (body-ready (entered b)), e))
+
+  returns-4 : At lts.Need-returns-4
+  returns-4 c =
+      let b = c .before .before .before .before .before .before .before .before in
+      body-told (entered b) (c .later3 .ensures) (told-as (b .before .below .ensures) (c .before .before .before .get-case .ensures))
 
   get-call-requires : At lts.Need-get-call-requires
   get-call-requires c κs =
       let b = c .before .before .before .before .before in
-      (omega (arith, start (allowed b) .pre .0, lower b), (own-as (b .before .below .ensures) (body-ready (entered b)), c .before .if5 .taken))
-
-  get-add-requires : At lts.Need-get-add-requires
-  get-add-requires c κs =
-      let b = c .before .before .before .before .before .before in
       (omega (arith, start (allowed b) .pre .0, lower b), (own-as (b .before .below .ensures) (body-ready (entered b)), c .before .if6 .taken))
-
-  get-each-requires : At lts.Need-get-each-requires
-  get-each-requires c κs =
-      let b = c .before .before .before .before .before .before in
-      let k = its-kind (entered b) in
-      let i = inner (c .before .before .before .before) in
-      let e : b .byte-of .result ≡ 0x1C = omega (arith, k .1, i .1, c .before .before .before .if3 .left, c .before .before .if5 .left, c .before .if6 .left) in
-      (omega (arith, start (allowed b) .pre .0, lower b), (own-as (b .before .below .ensures) (body-ready (entered b)), e))
-
-  returns-2 : At lts.Need-returns-2
-  returns-2 c =
-      let b = c .before .before .before .before .before .before .before in
-      body-told (entered b) (c .later .ensures) (told-as (b .before .below .ensures) (c .before .before .before .get-leaf .ensures))
-
-  returns-3 : At lts.Need-returns-3
-  returns-3 c =
-      let b = c .before .before .before .before .before .before .before .before .before in
-      body-told (entered b) (c .later2 .ensures) (told-as (b .before .below .ensures) (c .before .before .before .get-two .ensures))
-
-  returns-4 : At lts.Need-returns-4
-  returns-4 c =
-      let b = c .before .before .before .before .before .before .before .before .before in
-      body-told (entered b) (c .later3 .ensures) (told-as (b .before .below .ensures) (c .before .before .before .get-case .ensures))
 
   returns-5 : At lts.Need-returns-5
   returns-5 c =
       let b = c .before .before .before .before .before .before .before .before .before in
       body-told (entered b) (c .later4 .ensures) (told-as (b .before .below .ensures) (c .before .before .before .get-call .ensures))
 
+  get-add-requires : At lts.Need-get-add-requires
+  get-add-requires c κs =
+      let b = c .before .before .before .before .before in
+      let e : b .byte-of .result ≡ 0x1B = omega (arith, c .before .before .before .if3 .left, c .before .before .if5 .taken, c .before .if6 .left) in
+      (omega (arith, start (allowed b) .pre .0, lower b), (own-as (b .before .below .ensures) (body-ready (entered b)), e))
+
   returns-6 : At lts.Need-returns-6
   returns-6 c =
-      let b = c .before .before .before .before .before .before .before .before .before .before in
+      let b = c .before .before .before .before .before .before .before .before .before in
       body-told (entered b) (c .later5 .ensures) (told-as (b .before .below .ensures) (c .before .before .before .get-add .ensures))
+
+  get-each-requires : At lts.Need-get-each-requires
+  get-each-requires c κs =
+      let b = c .before .before .before .before .before in
+      (omega (arith, start (allowed b) .pre .0, lower b), (own-as (b .before .below .ensures) (body-ready (entered b)), c .before .if7 .taken))
 
   returns-7 : At lts.Need-returns-7
   returns-7 c =
-      let b = c .before .before .before .before .before .before .before .before .before .before in
+      let b = c .before .before .before .before .before .before .before .before .before in
       body-told (entered b) (c .later6 .ensures) (told-as (b .before .below .ensures) (c .before .before .before .get-each .ensures))
+
+  get-wide-requires : At lts.Need-get-wide-requires
+  get-wide-requires c κs =
+      let b = c .before .before .before .before .before in
+      let w = own-as (b .before .below .ensures) (body-ready (entered b)) in
+      (omega (arith, w .long, w .room), omega (arith, w .room))
+
+  returns-8 : At lts.Need-returns-8
+  returns-8 c =
+      let b = c .before .before .before .before .before .before .before .before .before in
+      let k : b .byte-of .result ≡ 0x1D = omega (arith, its-kind (entered b) .1, c .before .before .before .before .before .before .if5 .left, c .before .before .before .before .before .if7 .left) in
+      let g = c .before .before .before .get-wide .ensures in
+      body-told (entered b) (c .later7 .ensures)
+      (told-as (b .before .below .ensures) (wide-told k (own-as (b .before .below .ensures) (body-ready (entered b))) (g .0) (g .1)))
 
 pub get-node-met : {M : Type 1} (t : ℕ) → lts.Closed (claims t) (AtMeasure node t) get-node.Post M
 get-node-met t = lts.spec (claims t) (AtMeasure node t) get-node.Post
     (λ c κs. search needs) (λ c κs. search needs) (returns t) (mul-n t) (element-copy-out-n t) (below-requires t) (λ c κs. search needs)
-    (λ c κs. search needs) (get-leaf-requires t) (λ c κs. search needs) (λ c. returns-2 t c .0 .kept .long) (returns-2 t) (get-two-requires t)
-    (λ c κs. search needs)
-    (λ c. returns-3 t c .0 .kept .long) (returns-3 t) (get-case-requires t) (λ c κs. search needs) (λ c. returns-4 t c .0 .kept .long) (returns-4 t)
-    (get-call-requires t) (λ c κs. search needs) (λ c. returns-5 t c .0 .kept .long) (returns-5 t) (get-add-requires t) (λ c κs. search needs)
-    (λ c. returns-6 t c .0 .kept .long) (returns-6 t) (get-each-requires t) (λ c κs. search needs) (λ c. returns-7 t c .0 .kept .long) (returns-7 t)
+    (get-leaf-requires t) (λ c κs. search needs) (λ c. returns-2 t c .0 .kept .long) (returns-2 t)
+    (get-two-requires t) (λ c κs. search needs) (λ c. returns-3 t c .0 .kept .long) (returns-3 t)
+    (get-case-requires t) (λ c κs. search needs) (λ c. returns-4 t c .0 .kept .long) (returns-4 t)
+    (get-call-requires t) (λ c κs. search needs) (λ c. returns-5 t c .0 .kept .long) (returns-5 t)
+    (get-add-requires t) (λ c κs. search needs) (λ c. returns-6 t c .0 .kept .long) (returns-6 t)
+    (get-each-requires t) (λ c κs. search needs) (λ c. returns-7 t c .0 .kept .long) (returns-7 t)
+    (get-wide-requires t) (λ c κs. search needs) (λ c. returns-8 t c .0 .kept .long) (returns-8 t)

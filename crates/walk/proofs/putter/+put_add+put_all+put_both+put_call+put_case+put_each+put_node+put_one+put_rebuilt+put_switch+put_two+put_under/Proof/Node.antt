@@ -1,22 +1,21 @@
 -- `put_node` meets its contract.
 -- Assumes nothing.
 use borrow.Author.Needs.{needs}
-use mathlib.Core.Path.{_≡_, sym, _∙_}
+use mathlib.Core.Path.{_≡_}
 use Prim.Native.Nat.{ℕ, _+_, _-_, _≤_}
 use native.Mathlib.Omega.{arith}
-use Rattle.step.specs.StepLaws.{entered as both-left, no-leaf}
+use Rattle.step.specs.StepLaws.{entered as both-left}
 use Rattle.walk.specs.Gets.{levels-as}
-use Rattle.walk.specs.GetLeaf.{childless}
 use Rattle.walk.specs.GetTwo.{Two, two-kind}
 use Rattle.walk.specs.GetCase.{Case, case-kind}
 use Rattle.walk.specs.GetEnter.{entry-code, node-few}
 use Rattle.walk.specs.PutReady.{few}
 use Rattle.walk.specs.PutEnter.{PutEntered, enter-refused, its-kind, body-ready, body-told, own-as, told-as, answer-as}
+use Rattle.walk.specs.PutLeaf.{wide-told}
 use Rattle.walk.specs.Cells.{Shown}
 use Rattle.walk.proofs.at.At.below.Reads as below
 use Rattle.sheet.proofs.byte_of.Reads as byte-of
 use Rattle.step.proofs.entry.Reads as entry
-use Rattle.step.proofs.is_leaf.Reads as is-leaf
 use Rattle.answer.proofs.later.Reads as later
 use Rattle.walk.proofs.putter.put_add.Reads as put-add
 use Rattle.walk.proofs.putter.put_call.Reads as put-call
@@ -25,6 +24,7 @@ use Rattle.walk.proofs.putter.put_each.Reads as put-each
 use Rattle.walk.proofs.putter.put_leaf.Reads as put-leaf
 use Rattle.walk.proofs.putter.put_node.Reads as put-node
 use Rattle.walk.proofs.putter.put_two.Reads as put-two
+use Rattle.walk.proofs.putter.put_wide.Reads as put-wide
 use Rattle.answer.proofs.refused.Reads as refused
 use Rattle.walk.proofs.putter.+put_add+put_all+put_both+put_call+put_case+put_each+put_node+put_one+put_rebuilt+put_switch+put_two+put_under as cycle
 use cycle.Lts-put_node as lts
@@ -41,8 +41,6 @@ claims t = (
   below.Learnt,
   byte-of.Asked,
   byte-of.Learnt,
-  is-leaf.Asked,
-  is-leaf.Learnt,
   put-leaf.Asked,
   put-leaf.Learnt,
   later.Asked,
@@ -57,6 +55,8 @@ claims t = (
   put-add.Post,
   BelowMeasure (kind put-each.Pre) t,
   put-each.Post,
+  put-wide.Asked,
+  put-wide.Learnt,
 )
 
 module _ (t : ℕ) where
@@ -89,10 +89,6 @@ module _ (t : ℕ) where
       let l = levels-as (c .before .below .ensures) in
       omega (arith, d .0)
 
-  -- a node with children
-  inner : (c : At lts.Else2) → let k = c .before .before .byte-of .result in (0x15 ≤ k) × (k ≡ 0x1D → ⊥)
-  inner c = no-leaf (sym (c .before .is-leaf .ensures) ∙ c .if2 .left)
-
   -- NEEDS
   returns : At lts.Need-returns
   returns c =
@@ -111,83 +107,81 @@ module _ (t : ℕ) where
 
   put-leaf-requires : At lts.Need-put-leaf-requires
   put-leaf-requires c κs =
-      let b = c .before .before .before .before in (
-        own-as (b .before .below .ensures) (body-ready (entered b)),
-        childless (its-kind (entered b) .0) (sym (c .before .before .before .is-leaf .ensures) ∙ c .before .before .if2 .taken),
-      )
+      let b = c .before .before .before in
+      (own-as (b .before .below .ensures) (body-ready (entered b)), record { low = its-kind (entered b) .0; high = omega (arith, c .before .before .if2 .taken) })
+
+  returns-2 : At lts.Need-returns-2
+  returns-2 c =
+      let b = c .before .before .before .before .before .before .before in
+      body-told (entered b) (c .later .ensures) (told-as (b .before .below .ensures) (c .before .before .before .put-leaf .ensures))
 
   put-two-requires : At lts.Need-put-two-requires
   put-two-requires c κs =
-      let b = c .before .before .before .before .before .before in
-      let e : Two (b .byte-of .result) =
-      two-kind (inner (c .before .before .before .before) .0) (omega (arith, c .before .before .if4 .taken)) in
+      let b = c .before .before .before .before .before in
+      let e : Two (b .byte-of .result) = two-kind (omega (arith, c .before .before .before .before .if2 .left)) (omega (arith, c .before .before .if4 .taken)) in
       (omega (arith, start (allowed b) .pre .0, lower b), (own-as (b .before .below .ensures) (body-ready (entered b)), e))
+
+  returns-3 : At lts.Need-returns-3
+  returns-3 c =
+      let b = c .before .before .before .before .before .before .before .before .before in
+      body-told (entered b) (c .later2 .ensures) (told-as (b .before .below .ensures) (c .before .before .before .put-two .ensures))
 
   put-case-requires : At lts.Need-put-case-requires
   put-case-requires c κs =
-      let b = c .before .before .before .before .before .before in
+      let b = c .before .before .before .before .before in
       let e : Case (b .byte-of .result) = case-kind (omega (arith, c .before .before .if4 .left)) (omega (arith, c .before .before .before .if3 .taken)) in
       (omega (arith, start (allowed b) .pre .0, lower b), (own-as (b .before .below .ensures) (body-ready (entered b)), e))
+
+  returns-4 : At lts.Need-returns-4
+  returns-4 c =
+      let b = c .before .before .before .before .before .before .before .before .before in
+      body-told (entered b) (c .later3 .ensures) (told-as (b .before .below .ensures) (c .before .before .before .put-case .ensures))
 
   put-call-requires : At lts.Need-put-call-requires
   put-call-requires c κs =
       let b = c .before .before .before .before .before .before in
-      (omega (arith, start (allowed b) .pre .0, lower b), (own-as (b .before .below .ensures) (body-ready (entered b)), c .before .before .if5 .taken))
-
-  put-add-requires : At lts.Need-put-add-requires
-  put-add-requires c κs =
-      let b = c .before .before .before .before .before .before .before in
       (omega (arith, start (allowed b) .pre .0, lower b), (own-as (b .before .below .ensures) (body-ready (entered b)), c .before .before .if6 .taken))
-
-  put-each-requires : At lts.Need-put-each-requires
-  put-each-requires c κs =
-      let b = c .before .before .before .before .before .before .before in
-      let k = its-kind (entered b) in
-      let e : b .byte-of .result ≡ 0x1C = omega (
-        arith,
-        k .1,
-        inner (c .before .before .before .before .before) .1,
-        c .before .before .before .before .if3 .left,
-        c .before .before .before .if5 .left,
-        c .before .before .if6 .left,
-      ) in
-      (omega (arith, start (allowed b) .pre .0, lower b), (own-as (b .before .below .ensures) (body-ready (entered b)), e))
-
-  returns-2 : At lts.Need-returns-2
-  returns-2 c =
-      let b = c .before .before .before .before .before .before .before .before in
-      body-told (entered b) (c .later .ensures) (told-as (b .before .below .ensures) (c .before .before .before .put-leaf .ensures))
-
-  returns-3 : At lts.Need-returns-3
-  returns-3 c =
-      let b = c .before .before .before .before .before .before .before .before .before .before in
-      body-told (entered b) (c .later2 .ensures) (told-as (b .before .below .ensures) (c .before .before .before .put-two .ensures))
-
-  returns-4 : At lts.Need-returns-4
-  returns-4 c =
-      let b = c .before .before .before .before .before .before .before .before .before .before in
-      body-told (entered b) (c .later3 .ensures) (told-as (b .before .below .ensures) (c .before .before .before .put-case .ensures))
 
   returns-5 : At lts.Need-returns-5
   returns-5 c =
       let b = c .before .before .before .before .before .before .before .before .before .before in
       body-told (entered b) (c .later4 .ensures) (told-as (b .before .below .ensures) (c .before .before .before .put-call .ensures))
 
+  put-add-requires : At lts.Need-put-add-requires
+  put-add-requires c κs =
+      let b = c .before .before .before .before .before .before in
+      let e : b .byte-of .result ≡ 0x1B = omega (arith, c .before .before .before .before .if3 .left, c .before .before .before .if5 .taken, c .before .before .if6 .left) in
+      (omega (arith, start (allowed b) .pre .0, lower b), (own-as (b .before .below .ensures) (body-ready (entered b)), e))
+
   returns-6 : At lts.Need-returns-6
   returns-6 c =
-      let b = c .before .before .before .before .before .before .before .before .before .before .before in
+      let b = c .before .before .before .before .before .before .before .before .before .before in
       body-told (entered b) (c .later5 .ensures) (told-as (b .before .below .ensures) (c .before .before .before .put-add .ensures))
+
+  put-each-requires : At lts.Need-put-each-requires
+  put-each-requires c κs =
+      let b = c .before .before .before .before .before .before in
+      (omega (arith, start (allowed b) .pre .0, lower b), (own-as (b .before .below .ensures) (body-ready (entered b)), c .before .before .if7 .taken))
 
   returns-7 : At lts.Need-returns-7
   returns-7 c =
-      let b = c .before .before .before .before .before .before .before .before .before .before .before in
+      let b = c .before .before .before .before .before .before .before .before .before .before in
       body-told (entered b) (c .later6 .ensures) (told-as (b .before .below .ensures) (c .before .before .before .put-each .ensures))
+
+  returns-8 : At lts.Need-returns-8
+  returns-8 c =
+      let b = c .before .before .before .before .before .before in
+      let k : b .byte-of .result ≡ 0x1D = omega (arith, its-kind (entered b) .1, c .before .before .before .if5 .left, c .before .before .if7 .left) in
+      body-told (entered b) (c .later7 .ensures)
+      (told-as (b .before .below .ensures) (wide-told (own-as (b .before .below .ensures) (body-ready (entered b))) k (c .before .put-wide .ensures)))
 
 pub put-node-met : {M : Type 1} (t : ℕ) → lts.Closed (claims t) (AtMeasure node t) put-node.Post M
 put-node-met t = lts.spec (claims t) (AtMeasure node t) put-node.Post
     (λ c κs. search needs) (λ c κs. search needs) (returns t) (mul-n t) (element-copy-out-n t) (below-requires t) (λ c κs. search needs)
-    (λ c κs. search needs) (put-leaf-requires t) (λ c κs. search needs) (λ c. returns-2 t c .0 .frame .long) (returns-2 t) (put-two-requires t)
-    (λ c κs. search needs)
-    (λ c. returns-3 t c .0 .frame .long) (returns-3 t) (put-case-requires t) (λ c κs. search needs) (λ c. returns-4 t c .0 .frame .long) (returns-4 t)
-    (put-call-requires t) (λ c κs. search needs) (λ c. returns-5 t c .0 .frame .long) (returns-5 t) (put-add-requires t) (λ c κs. search needs)
-    (λ c. returns-6 t c .0 .frame .long) (returns-6 t) (put-each-requires t) (λ c κs. search needs) (λ c. returns-7 t c .0 .frame .long) (returns-7 t)
+    (put-leaf-requires t) (λ c κs. search needs) (λ c. returns-2 t c .0 .frame .long) (returns-2 t)
+    (put-two-requires t) (λ c κs. search needs) (λ c. returns-3 t c .0 .frame .long) (returns-3 t)
+    (put-case-requires t) (λ c κs. search needs) (λ c. returns-4 t c .0 .frame .long) (returns-4 t)
+    (put-call-requires t) (λ c κs. search needs) (λ c. returns-5 t c .0 .frame .long) (returns-5 t)
+    (put-add-requires t) (λ c κs. search needs) (λ c. returns-6 t c .0 .frame .long) (returns-6 t)
+    (put-each-requires t) (λ c κs. search needs) (λ c. returns-7 t c .0 .frame .long) (returns-7 t)
+    (λ c κs. search needs) (λ c κs. search needs) (returns-8 t)
