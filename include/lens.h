@@ -3,13 +3,14 @@
  *   lens_get          a plan to its list (the "view")
  *   lens_put          the old plan and an edited list to the new plan
  *   lens_put_starts   the same, and where the values of the new plan start
+ *   lens_put_written  the same, and which variables of the plan were written
  *   lens_load         where the values of a plan start
  *   lens_find         where the value of a variable stands, by those starts
  *
  * Bytes of sheets, plans and lists, and what each refusal means, are in docs/SHEETS.md.
  *
- * No function allocates, keeps a pointer, or touches anything but what it is lent to write to (output, scratch, starts, *start and
- * *end), so threads may call all of them at once with buffers of their own. Every pointer must be good for the length behind it (starts:
+ * No function allocates, keeps a pointer, or touches anything but what it is lent to write to (output, scratch, starts, *written,
+ * *start and *end), so threads may call all of them at once with buffers of their own. Every pointer must be good for the length behind it (starts:
  * for LENS_STARTS_MAX numbers) and must not be NULL, also where the length is 0. No two buffers that are written to may overlap, nor one
  * of them and an input. No byte of an input is ever changed.
  */
@@ -25,7 +26,7 @@ extern "C" {
 
 /* What a caller lends. Smaller buffers and other allowances are refused; larger buffers are fine. */
 #define LENS_GET_OUT 256u         /* bytes of output for lens_get */
-#define LENS_PUT_OUT 4096u        /* bytes of output for lens_put and lens_put_starts */
+#define LENS_PUT_OUT 4096u        /* bytes of output for lens_put, lens_put_starts and lens_put_written */
 #define LENS_SCRATCH 65536u       /* bytes of scratch for each of them */
 #define LENS_ALLOWANCE_MAX 1000000u /* the most steps that may be allowed; the least is 1 */
 #define LENS_STARTS_MAX 16u       /* the most values of a plan: starts are an array of so many numbers, always */
@@ -47,10 +48,19 @@ uint64_t lens_put_starts(const uint8_t *sheet, size_t sheet_len, const uint8_t *
                          size_t view_len, uint32_t allowance, uint8_t *out, size_t out_len, uint8_t *scratch, size_t scratch_len,
                          uint16_t starts[LENS_STARTS_MAX]);
 
+/* lens_put_starts, which also gives which variables took a view, in the bits of *written: LENS_WRITTEN takes them apart. A variable is
+ * written where a part of the list is put into it, also where that is its old value. */
+uint64_t lens_put_written(const uint8_t *sheet, size_t sheet_len, const uint8_t *plan, size_t plan_len, const uint8_t *view,
+                          size_t view_len, uint32_t allowance, uint8_t *out, size_t out_len, uint8_t *scratch, size_t scratch_len,
+                          uint16_t starts[LENS_STARTS_MAX], uint16_t *written);
+
+/* Whether the variable, below LENS_STARTS_MAX, was written: bit i for variable i. No bit is set for a variable that the plan does not have. */
+#define LENS_WRITTEN(written, variable) ((unsigned)(((unsigned)(written) >> (variable)) & 1u))
+
 /* Where the values of the plan start, that of variable 0 first. Refusals are the sheet's, then the plan's. */
 uint64_t lens_load(const uint8_t *sheet, size_t sheet_len, const uint8_t *plan, size_t plan_len, uint16_t starts[LENS_STARTS_MAX]);
 
-/* The answer of these four taken apart: the refusal's number in the low 8 bits (LENS_OK: success), the length in the next 16, the count
+/* The answer of these five taken apart: the refusal's number in the low 8 bits (LENS_OK: success), the length in the next 16, the count
  * of starts in the next 8, the steps in the upper 32. What a function does not give is 0, and with a refusal all but the number. */
 #define LENS_NUMBER(answer) ((unsigned)((answer) & 0xFFu))
 #define LENS_LENGTH(answer) ((size_t)(((answer) >> 8) & 0xFFFFu))
@@ -70,6 +80,7 @@ uint8_t lens_find(const uint16_t starts[LENS_STARTS_MAX], size_t count, size_t p
  *               others as before                                            others as before
  *   starts      LENS_COUNT numbers at its front,          as before          as before
  *               those behind as before
+ *   *written    the bits of the variables written         as before          as before
  *   *start,     where the value stands                                       as before
  *   *end
  *
@@ -77,7 +88,10 @@ uint8_t lens_find(const uint16_t starts[LENS_STARTS_MAX], size_t count, size_t p
  * takes no more steps. After a get of n steps with 48 n <= LENS_ALLOWANCE_MAX, the put of its list under every allowance from 48 n
  * to LENS_ALLOWANCE_MAX succeeds and gives the old plan byte for byte.
  *
- * With the starts that lens_load gives of a plan, or lens_put_starts of its new plan, lens_find gives for each of LENS_COUNT variables the
+ * A variable whose bit in *written is clear has its old bytes in the new plan. Of two puts in a row, the second into the new plan of the
+ * first, that holds of the variables whose bit is clear in both: a screen that shows the plan is drawn anew where a bit of either is set.
+ *
+ * With the starts that lens_load gives of a plan, or lens_put_starts and lens_put_written of their new plan, lens_find gives for each of LENS_COUNT variables the
  * bytes of its value as a reading from the front gives them. Starts may be kept beside a plan and lent again: other numbers than a plan's
  * own are refused, or give some part of the plan's bytes. */
 

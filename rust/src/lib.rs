@@ -2,12 +2,13 @@
 //! and the edited list. And the values of a plan, found by their number.
 //!
 //! The work is done by an archive that is proved to follow the definitions of sheets, whose manual is `docs/SHEETS.md`; this crate lends it
-//! its buffers and turns its answers into Rust. Three laws are proved of those answers:
+//! its buffers and turns its answers into Rust. Four laws are proved of those answers:
 //!
 //! - after a [`put`](Sheet::put) that succeeds, the [`get`](Sheet::get) of the new plan, under the same allowance, gives exactly the
 //!   list, in no more steps;
 //! - after a get of n steps, the put of its list under an allowance of 48 × n or more (up to 1,000,000) gives the old plan;
-//! - a value found by its number ([`Plan::value`], [`Put::value`]) is the one that a reading of the plan from the front gives.
+//! - a value found by its number ([`Plan::value`], [`Put::value`]) is the one that a reading of the plan from the front gives;
+//! - a variable that a put did not write ([`Put::written`]) has its old bytes in the new plan.
 //!
 //! A sheet that joins two lists, the edit of a joined list, and the new plan:
 //!
@@ -41,6 +42,7 @@
 //! // The second list of each plan, without reading the first.
 //! assert_eq!(join.load(&old)?.value(1), [0x03, 0x04, 0, 2, 0x02]);
 //! assert_eq!(new.value(1), [0x03, 0x04, 0, 9, 0x02]);
+//! assert!(new.written(0) && new.written(1)); // both lists took a part of the edited one
 //! # Ok::<(), lens::Refusal>(())
 //! ```
 
@@ -82,11 +84,34 @@ pub struct Put {
     pub plan: Vec<u8>,
     /// Where its values start.
     pub starts: Starts,
+    /// Which variables took a view, as [`Put::written`] tells: bit i for variable i.
+    pub bits: u16,
     /// The nodes entered.
     pub steps: u32,
 }
 
+/// Bit i of a put's bits, of which there are 16.
+fn is_set(bits: u16, variable: usize) -> bool {
+    variable < 16 && bits >> variable & 1 == 1
+}
+
 impl Put {
+    /// Whether the list sent back wrote a variable, also where it wrote the old value. A variable that it did not write has its old bytes
+    /// in the new plan, so that a screen that shows the plan is drawn anew where this says yes. Of two puts in a row it is the variables
+    /// that either wrote: `first.bits | second.bits`.
+    ///
+    /// ```
+    /// let sheet = lens::Sheet::new(&[0x01, 0x03, 0x00, 0x16, 0x01, 0x02, 0x10, 0x00, 0x10, 0x02]); // variables 0 and 2 of three
+    /// let put = sheet.put(&[0x00, 0x00, 0x00], &[0x05, 0x01, 0x00], 1000)?; // True for variable 0, False for variable 2
+    /// assert_eq!(put.plan, [0x01, 0x00, 0x00]);
+    /// assert_eq!([0, 1, 2].map(|variable| put.written(variable)), [true, false, true]);
+    /// assert_eq!(put.bits, 0b101);
+    /// # Ok::<(), lens::Refusal>(())
+    /// ```
+    pub fn written(&self, variable: usize) -> bool {
+        is_set(self.bits, variable)
+    }
+
     /// The new plan's value of a variable, as [`Plan::value`].
     pub fn value(&self, variable: usize) -> &[u8] {
         Plan::with_starts(&self.plan, self.starts).value(variable)
@@ -132,7 +157,7 @@ impl<'a> Sheet<'a> {
     pub fn put(self, plan: &[u8], view: &[u8], allowance: u32) -> Result<Put, Refusal> {
         let mut buffers = Buffers::new();
         let put = buffers.put(self, plan, view, allowance)?;
-        Ok(Put { plan: put.plan.bytes().to_vec(), starts: put.plan.starts(), steps: put.steps })
+        Ok(Put { plan: put.plan.bytes().to_vec(), starts: put.plan.starts(), bits: put.bits, steps: put.steps })
     }
 
     /// Reads `plan` once for where its values start, so that each is then found by its number.
@@ -190,8 +215,17 @@ pub struct GotRef<'b> {
 pub struct PutRef<'b> {
     /// The new plan, as many values as the old one.
     pub plan: Plan<'b>,
+    /// Which variables took a view, as [`PutRef::written`] tells: bit i for variable i.
+    pub bits: u16,
     /// The nodes entered.
     pub steps: u32,
+}
+
+impl PutRef<'_> {
+    /// Whether the list sent back wrote a variable, as [`Put::written`].
+    pub fn written(&self, variable: usize) -> bool {
+        is_set(self.bits, variable)
+    }
 }
 
 impl Buffers {
@@ -208,11 +242,12 @@ impl Buffers {
 
     /// [`Sheet::put`] in these buffers.
     pub fn put(&mut self, sheet: Sheet, plan: &[u8], view: &[u8], allowance: u32) -> Result<PutRef<'_>, Refusal> {
-        let mut starts = [0; raw::STARTS_MAX];
-        let answer = raw::put_starts(sheet.bytes, plan, view, allowance, &mut self.out, &mut self.scratch, &mut starts);
+        let (mut starts, mut bits) = ([0; raw::STARTS_MAX], 0);
+        let (out, scratch) = (&mut self.out, &mut self.scratch);
+        let answer = raw::put_written(sheet.bytes, plan, view, allowance, out, scratch, &mut starts, &mut bits);
         Refusal::check(answer.number())?;
         let plan = Plan::with_starts(&self.out[..answer.length()], Starts::new(&starts[..answer.count()]));
-        Ok(PutRef { plan, steps: answer.steps() })
+        Ok(PutRef { plan, bits, steps: answer.steps() })
     }
 }
 

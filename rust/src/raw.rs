@@ -82,6 +82,22 @@ mod archive {
             starts: *mut u16,
         ) -> u64;
 
+        pub fn lens_put_written(
+            sheet: *const u8,
+            sheet_len: usize,
+            plan: *const u8,
+            plan_len: usize,
+            view: *const u8,
+            view_len: usize,
+            allowance: u32,
+            out: *mut u8,
+            out_len: usize,
+            scratch: *mut u8,
+            scratch_len: usize,
+            starts: *mut u16,
+            written: *mut u16,
+        ) -> u64;
+
         pub fn lens_load(sheet: *const u8, sheet_len: usize, plan: *const u8, plan_len: usize, starts: *mut u16) -> u64;
 
         pub fn lens_find(
@@ -158,6 +174,39 @@ pub fn put_starts(
             scratch.as_mut_ptr(),
             scratch.len(),
             starts.as_mut_ptr(),
+        )
+    })
+}
+
+/// Reads a list back into `out`, and gives where the values of the new plan start and which variables took a view: bit i of
+/// `written` for variable i. With a refusal `written` stays what it was.
+#[allow(clippy::too_many_arguments)] // those of the archive's function
+pub fn put_written(
+    sheet: &[u8],
+    plan: &[u8],
+    view: &[u8],
+    allowance: u32,
+    out: &mut [u8],
+    scratch: &mut [u8],
+    starts: &mut [u16; STARTS_MAX],
+    written: &mut u16,
+) -> Answer {
+    // Safety: as in `put_starts`; the last pointer is that of an exclusive reference.
+    Answer(unsafe {
+        archive::lens_put_written(
+            sheet.as_ptr(),
+            sheet.len(),
+            plan.as_ptr(),
+            plan.len(),
+            view.as_ptr(),
+            view.len(),
+            allowance,
+            out.as_mut_ptr(),
+            out.len(),
+            scratch.as_mut_ptr(),
+            scratch.len(),
+            starts.as_mut_ptr(),
+            written,
         )
     })
 }

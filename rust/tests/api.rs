@@ -107,6 +107,27 @@ fn the_starts_of_a_put() {
     assert_eq!((within.plan, within.steps), (Plan::with_starts(&put.plan, put.starts), put.steps));
 }
 
+/// None, some and all of three variables, and one with its old value.
+#[test]
+fn the_variables_that_a_put_writes() {
+    let variables = |put: &lens::Put| (0..3).filter(|&variable| put.written(variable)).collect::<Vec<_>>();
+    let some = PAIR.put(&PLAN, &[0x05, 0x02, 0x04, 0x00, 0x09], 1000).unwrap();
+    assert_eq!((some.bits, variables(&some)), (0b011, vec![0, 1]));
+    let old = PAIR.put(&PLAN, &PAIR.get(&PLAN, 1000).unwrap().view, 1000).unwrap();
+    assert_eq!((old.bits, &old.plan[..]), (0b011, &PLAN[..]));
+    let none = Sheet::new(&[0x01, 0x03, 0x00, 0x12]).put(&PLAN, &[0x01], 1000).unwrap();
+    assert_eq!((none.bits, variables(&none)), (0, vec![]));
+    let all = Sheet::new(&[0x01, 0x03, 0x00, 0x16, 0x01, 0x02, 0x10, 0x02, 0x16, 0x03, 0x04, 0x10, 0x00, 0x10, 0x01]);
+    let all = all.put(&PLAN, &[0x05, 0x00, 0x05, 0x01, 0x01], 1000).unwrap();
+    assert_eq!((all.bits, &all.plan[..]), (0b111, &[0x01, 0x01, 0x00][..]));
+    for none in [3, 15, 16, 17, 64, usize::MAX] {
+        assert!(!all.written(none), "{none}");
+    }
+    let mut buffers = Buffers::new();
+    let within = buffers.put(PAIR, &PLAN, &[0x05, 0x02, 0x04, 0x00, 0x09], 1000).unwrap();
+    assert_eq!((within.bits, within.written(1), within.written(2)), (0b011, true, false));
+}
+
 #[test]
 fn damaged_starts_are_held_and_refused() {
     let many: Vec<u16> = (0..20).collect();

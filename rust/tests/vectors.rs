@@ -27,8 +27,11 @@ fn run_tool(tool: &Tool) -> Result<Given, Refusal> {
             starts.find(plan.len(), *variable)?;
             Ok(Given::Part(Plan::with_starts(plan, starts).value(*variable).to_vec()))
         }
-        Tool::Put { sheet, plan, view, allowance } => {
+        Tool::Put { bits, sheet, plan, view, allowance } => {
             let put = Sheet::new(sheet).put(plan, view, *allowance)?;
+            if *bits {
+                return Ok(Given::Written { steps: put.steps, written: put.bits, plan: put.plan });
+            }
             Ok(Given::Put { steps: put.steps, starts: put.starts.numbers().to_vec(), plan: put.plan })
         }
     }

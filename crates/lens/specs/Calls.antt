@@ -6,6 +6,7 @@ use Prim.Native.Nat.{ℕ}
 use lib.Dec.{leb}
 use lib.ListN.{length, drop}
 use Rattle.rules.specs.Answer.{Answer, refusal, success}
+use Rattle.rules.specs.Written.{putWritten}
 use Rattle.starts.specs.declared.Starts.{Starts}
 use Rattle.starts.specs.Starts.{noStarts, loadOf}
 use Rattle.lens.specs.declared.PutReply.{PutReply}
@@ -45,7 +46,14 @@ unfoldable pub newStarts : (sheet : List ℕ) → Answer → Starts
 newStarts sheet (refusal c) = noStarts
 newStarts sheet (success new n) = loadOf sheet new .starts
 
--- a put's answer is a, for this sheet: its reply says so, output and scratch became o′ and s′, and the starts are those of the new plan
-pub record PutAnswered (sheet : List ℕ) (a : Answer) (r : PutReply) (o o′ s s′ : List ℕ) : Type 0 where
+-- which plan variables took a view; no bit with a refusal
+unfoldable pub newWritten : (sheet plan view : List ℕ) (allowance : ℕ) → Answer → ℕ
+newWritten sheet plan view allowance (refusal c) = 0
+newWritten sheet plan view allowance (success new n) = putWritten sheet plan view allowance
+
+-- the answer of a put with these arguments is a: its reply says so, output and scratch became o′ and s′, the starts are those of the new plan, and
+-- the bits tell which plan variables took a view
+pub record PutAnswered (sheet plan view : List ℕ) (allowance : ℕ) (a : Answer) (r : PutReply) (o o′ s s′ : List ℕ) : Type 0 where
   pub call : Answered a (r .reply) o o′ s s′
   pub starts : r .starts ≡ newStarts sheet a
+  pub written : r .written ≡ newWritten sheet plan view allowance a

@@ -1,9 +1,12 @@
--- What the calls for other languages give of starts: numbers that the caller lends, and a count in the answer.
+-- What the calls for other languages give in numbers that the caller lends: starts, with a count of them in the answer, where a value stands, and bits.
 use mathlib.Core.Path.{_≡_, refl, sym, ap, ap₂, _∙_}
+use mathlib.Core.Bool.{cond}
 use mathlib.Core.List.{List, _∷_, _++_}
-use Prim.Native.Nat.{ℕ, suc, _+_, _*_, _^_, _≤_, _<_}
+use Prim.Native.Nat.{ℕ, suc, _+_, _*_, _%_, _^_, _≤_, _<_}
 use native.Mathlib.Numerals.{add-one}
 use native.Mathlib.Omega.{arith}
+use borrow.Author.Tests.{eq-eqb, ne-eqb}
+use lib.Dec.{eqb}
 use lib.ListN.{length, getD, drop, set, length-set}
 use lib.Seq.{append-snoc, drop-cons, set-append-seam}
 use Rattle.starts.specs.declared.Starts.{Starts}
@@ -13,9 +16,10 @@ use Rattle.starts.specs.declared.Found.the-variants.{At, Refused}
 use Rattle.starts.specs.Starts.{loadOf, firsts, numbers}
 use Rattle.starts.specs.Lookup.{length-firsts, firsts-more}
 use Rattle.starts.specs.StartsLaws.{load-few}
-use Rattle.rules.specs.Answer.{Answer, putAnswer}
+use Rattle.rules.specs.Answer.{Answer, refusal, success, putAnswer}
+use Rattle.rules.specs.Written.{putWritten}
 use Rattle.lens.specs.declared.PutReply.{PutReply}
-use Rattle.lens.specs.Calls.{written, cleared, newStarts, PutAnswered}
+use Rattle.lens.specs.Calls.{reply, written, cleared, newStarts, newWritten, PutAnswered}
 use Rattle.lens.specs.StartsLaws.{put-few}
 use Rattle.lens.specs.Packing.{packed, packedReply, unpacked, Small, packed-with, pack-answered, small-put, packed-small}
 
@@ -34,6 +38,11 @@ pub record PackedPut (sheet : List ℕ) (a : Answer) (r : ℕ) (o o′ s s′ t 
   pub output : o′ ≡ written a o
   pub scratch : s′ ≡ cleared a s
   pub starts : t′ ≡ handedOut (newStarts sheet a) t
+
+-- the caller's number: the bits of a success; with a refusal it is what it was
+unfoldable pub writtenOr : (bits : ℕ) → Answer → ℕ → ℕ
+writtenOr bits (refusal c) old = old
+writtenOr bits (success new n) old = bits
 
 -- loading gave l
 pub record PackedLoad (l : Loaded) (r : ℕ) (t t′ : List ℕ) : Type 0 where
@@ -104,7 +113,7 @@ counted-load e {t = t} f h = record {
 
 -- a put's answer with its count
 module _ (sheet plan view : List ℕ) (allowance output scratch : ℕ) {q : PutReply} {o o′ s s′ : List ℕ}
-    (w : PutAnswered sheet (putAnswer sheet plan view allowance output scratch) q o o′ s s′) where
+    (w : PutAnswered sheet plan view allowance (putAnswer sheet plan view allowance output scratch) q o o′ s s′) where
   small : Small (q .reply)
   small = small-put sheet plan view allowance output scratch (w .call)
 
@@ -123,3 +132,19 @@ module _ (sheet plan view : List ℕ) (allowance output scratch : ℕ) {q : PutR
 
     pub counted-back : {r : ℕ} → r ≡ p + 16777216 * q .starts .count → unpacked r ≡ q .reply
     counted-back f = packed-with (q .reply) small (omega (arith, put-few w)) (f ∙ ap (λ (x : ℕ). x + 16777216 * q .starts .count) e) .0
+
+    -- the bits are handed out behind a success alone
+    pub bits-put : (old : ℕ) {new : ℕ} → new ≡ cond (eqb (p % 256) 0) (q .written) old
+        → new ≡ writtenOr (putWritten sheet plan view allowance) (putAnswer sheet plan view allowance output scratch) old
+    unfolding writtenOr newWritten reply packedReply
+    bits-put old f = f ∙ go (putAnswer sheet plan view allowance output scratch) (w .call .answer) (w .written)
+      where
+        go : (a : Answer) → q .reply ≡ reply a → q .written ≡ newWritten sheet plan view allowance a
+            → cond (eqb (p % 256) 0) (q .written) old ≡ writtenOr (putWritten sheet plan view allowance) a old
+        go (refusal c) g h =
+            let k : (1 ≤ c) × (c < 256) = rw g at small in
+            let m : p ≡ c = e ∙ ap packedReply g in
+            rw (ne-eqb (p % 256) 0 (λ z. omega arith))
+        go (success bs n) g h =
+            let m : p ≡ 256 * length bs + 4294967296 * n = e ∙ ap packedReply g in
+            rw (eq-eqb (p % 256) 0 (omega arith)) h

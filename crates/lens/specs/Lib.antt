@@ -8,3 +8,4 @@ pub mod WalkCalls
 pub mod Packing
 pub mod HandedOut
 pub mod StartsLaws
+pub mod WrittenLaws

@@ -25,8 +25,9 @@ unfolding newStarts noStarts
 new-few sheet (refusal c) = omega arith
 new-few sheet (success new n) = load-few sheet new
 
-pub put-few : {sheet : List ℕ} {a : Answer} {r : PutReply} {o o′ s s′ : List ℕ} → PutAnswered sheet a r o o′ s s′ → r .starts .count ≤ 16
-put-few {sheet} {a} w = rw (w .starts) (new-few sheet a)
+pub put-few : {sheet plan view : List ℕ} {allowance : ℕ} {a : Answer} {r : PutReply} {o o′ s s′ : List ℕ}
+    → PutAnswered sheet plan view allowance a r o o′ s s′ → r .starts .count ≤ 16
+put-few {sheet} {a = a} w = rw (w .starts) (new-few sheet a)
 
 module _ (sheet plan view : List ℕ) (allowance output scratch : ℕ) {new : List ℕ} {n : ℕ}
     (e : putAnswer sheet plan view allowance output scratch ≡ success new n) where

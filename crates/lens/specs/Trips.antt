@@ -11,7 +11,7 @@ use Rattle.rules.specs.Trips.{consistency, acceptability}
 use Rattle.lens.specs.declared.PutReply.{PutReply}
 use Rattle.lens.specs.declared.Reply.{Reply}
 use Rattle.lens.specs.declared.Reply.the-variants.{Done}
-use Rattle.lens.specs.Calls.{reply, written, Answered, newStarts, PutAnswered}
+use Rattle.lens.specs.Calls.{reply, written, Answered, newStarts, newWritten, PutAnswered}
 
 -- a list that was taken back stands: the get of the new plan, the bytes at the front of the output, under the same sheet and allowance
 -- succeeds, gives exactly that list, in no more steps
@@ -58,5 +58,7 @@ with-unmoved sheet plan allowance output scratch w = (w, get-unmoved sheet plan 
 pub with-stands : (sheet plan view : List ℕ) (allowance output scratch : ℕ) {r : PutReply} {o o′ s s′ : List ℕ}
     → Answered (putAnswer sheet plan view allowance output scratch) (r .reply) o o′ s s′
     → r .starts ≡ newStarts sheet (putAnswer sheet plan view allowance output scratch)
-    → PutAnswered sheet (putAnswer sheet plan view allowance output scratch) r o o′ s s′ × Stands sheet view allowance (r .reply) o′
-with-stands sheet plan view allowance output scratch w e = (record { call = w; starts = e }, put-stands sheet plan view allowance output scratch w)
+    → r .written ≡ newWritten sheet plan view allowance (putAnswer sheet plan view allowance output scratch)
+    → PutAnswered sheet plan view allowance (putAnswer sheet plan view allowance output scratch) r o o′ s s′ × Stands sheet view allowance (r .reply) o′
+with-stands sheet plan view allowance output scratch w e f =
+    (record { call = w; starts = e; written = f }, put-stands sheet plan view allowance output scratch w)

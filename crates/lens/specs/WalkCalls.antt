@@ -19,7 +19,8 @@ use Rattle.lens.specs.declared.Reply.the-variants.{Done, Refused}
 use Rattle.lens.specs.Buffers.{zeroed}
 use Rattle.lens.specs.Door.{shut}
 use Rattle.walk.specs.NewStarts.{newStarts as Walk·newStarts}
-use Rattle.lens.specs.Calls.{reply, Answered, newStarts}
+use Rattle.walk.specs.Bits.{newWritten as Walk·newWritten}
+use Rattle.lens.specs.Calls.{reply, Answered, newStarts, newWritten}
 use Rattle.lens.specs.Told.{Fits, replyOf, outputOf}
 use Rattle.lens.specs.CallLaws.{zeros-same, shut-call, refused-behind, done-behind, at-front}
 
@@ -63,6 +64,12 @@ pub none-refused : (sheet : List ℕ) (x : Answer) {c : ℕ} → Refused c ≡ r
 unfolding reply newStarts
 none-refused sheet (refusal c) e = refl
 none-refused sheet (success bs n) e = let z : _≡_ {A = ℕ} 0 1 = cc in absurd (omega arith)
+
+-- and no bit
+pub clear-refused : (sheet plan view : List ℕ) (allowance : ℕ) (x : Answer) {c : ℕ} → Refused c ≡ reply x → 0 ≡ newWritten sheet plan view allowance x
+unfolding reply newWritten
+clear-refused sheet plan view allowance (refusal c) e = refl
+clear-refused sheet plan view allowance (success bs n) e = let z : _≡_ {A = ℕ} 0 1 = cc in absurd (omega arith)
 
 -- THE RETURNS OF A CALL
 module _ {need : ℕ} {w : Out (List ℕ)} {allowance : ℕ} {o s : List ℕ} {x : Answer} (b : Behind need w allowance o s x) where
@@ -111,3 +118,12 @@ module _ {need : ℕ} {w : Out (List ℕ)} {allowance : ℕ} {o s : List ℕ} {x
         go (Walked·Done len n) h =
             let d = said-done says h in
             rw (h, b .is, door-open {o = w} l, d .is) (ap (λ (new : List ℕ). loadOf sheet new .starts) (d .stands))
+
+    -- and so are the bits
+    pub call-written : (sheet plan view : List ℕ) (k : ℕ) → Walk·newWritten sheet plan view k r ≡ newWritten sheet plan view k x
+    unfolding answer newWritten Walk·newWritten
+    call-written sheet plan view k = go r refl
+      where
+        go : (t : Walked) → r ≡ t → Walk·newWritten sheet plan view k r ≡ newWritten sheet plan view k x
+        go (Walked·Refused c) h = rw (h, b .is, door-open {o = w} l, said-refused says h .1)
+        go (Walked·Done len n) h = rw (h, b .is, door-open {o = w} l, said-done says h .is)

@@ -1,11 +1,14 @@
-//! The calls for other languages: a slice is a pointer and a length, 16 starts are a pointer, and the answer is one number.
+//! The calls for other languages: a slice is a pointer and a length, 16 starts and a number of bits are pointers, and the answer is one number.
+ghost use mathlib.Core.Bool.{cond};
 ghost use mathlib.Core.Path.{_≡_};
-ghost use Prim.Native.Nat.{_+_, _*_, _^_, _≤_, _<_};
+ghost use Prim.Native.Nat.{_+_, _*_, _%_, _^_, _≤_, _<_};
+ghost use lib.Dec.{eqb};
 ghost use lib.ListN.{length};
 ghost use Rattle.rules.specs.Answer.{getAnswer, putAnswer};
+ghost use Rattle.rules.specs.Written.{putWritten};
 ghost use Rattle.lens.specs.Packing.{packedReply, unpacked, Small, Packed};
 ghost use Rattle.lens.specs.Trips.{Stands, Unmoved};
-ghost use Rattle.lens.specs.HandedOut.{handedOut, PackedPut, PackedLoad, Lookup};
+ghost use Rattle.lens.specs.HandedOut.{handedOut, writtenOr, PackedPut, PackedLoad, Lookup};
 ghost use Rattle.starts.specs.Starts.{loadOf, findOf};
 use crate::Reply;
 use crate::get;
@@ -43,6 +46,16 @@ fn hand_out(starts: Starts, to: &mut [u16])
         to[i] = starts.at[i];
         i += 1;
     }
+}
+
+// The bits in the caller's number, behind a success; behind a refusal it does not change.
+fn hand_bits(packed: u64, bits: u16, to: &mut u16)
+    ensures { λ _. ⌜ now (to .exit) ≡ cond (eqb (packed % 256) 0) bits (now (to .entry)) ⌝ }
+{
+    if packed % 256 != 0 {
+        return;
+    }
+    *to = bits;
 }
 
 /// `get` for C.
@@ -97,6 +110,31 @@ pub extern "C" fn lens_put_starts(
     let given = answer.starts;
     hand_out(given, starts);
     with_count(pack(reply), given.count)
+}
+
+/// `put` for C that gives the starts of the new plan, as `lens_put_starts` does, and which plan variables took a view, in `written`.
+#[no_mangle]
+pub extern "C" fn lens_put_written(
+    sheet: &[u8],
+    plan: &[u8],
+    view: &[u8],
+    allowance: u32,
+    out: &mut [u8],
+    scratch: &mut [u8],
+    starts: &mut [u16; 16],
+    written: &mut u16,
+) -> u64
+    ensures { λ r. ⌜ PackedPut (now (sheet .entry)) (putAnswer (now (sheet .entry)) (now (plan .entry)) (now (view .entry)) allowance (length (now (out .entry))) (length (now (scratch .entry)))) r (now (out .entry)) (now (out .exit)) (now (scratch .entry)) (now (scratch .exit)) (now (starts .entry)) (now (starts .exit)) ⌝ }
+    ensures { λ r. ⌜ Stands (now (sheet .entry)) (now (view .entry)) allowance (unpacked r) (now (out .exit)) ⌝ }
+    ensures { λ _. ⌜ now (written .exit) ≡ writtenOr (putWritten (now (sheet .entry)) (now (plan .entry)) (now (view .entry)) allowance) (putAnswer (now (sheet .entry)) (now (plan .entry)) (now (view .entry)) allowance (length (now (out .entry))) (length (now (scratch .entry)))) (now (written .entry)) ⌝ }
+{
+    let answer = put(sheet, plan, view, allowance, out, scratch);
+    let reply = answer.reply;
+    let given = answer.starts;
+    hand_out(given, starts);
+    let packed = pack(reply);
+    hand_bits(packed, answer.written, written);
+    with_count(packed, given.count)
 }
 
 /// `starts::load` for C: the starts at the front of `starts`, and how many there are in the answer.

@@ -21,6 +21,7 @@ pub use exports::lens_get;
 pub use exports::lens_load;
 pub use exports::lens_put;
 pub use exports::lens_put_starts;
+pub use exports::lens_put_written;
 use starts::Starts;
 use walk::Walked;
 
@@ -30,10 +31,12 @@ pub enum Reply {
     Refused(u8),
 }
 
-/// What a put answers: the reply, and where the values of its new plan start. With a refusal there is no start.
+/// What a put answers: the reply, where the values of its new plan start, and which plan variables took a view, bit i for
+/// variable i, also where its value is the old one. With a refusal there is no start, and no bit is set.
 pub struct PutReply {
     pub reply: Reply,
     pub starts: Starts,
+    pub written: u16,
 }
 
 /// What a call refuses before it reads anything, 0 for nothing: 1 an output under `need` bytes (rules::GET_OUTPUT,
@@ -102,8 +105,8 @@ pub fn get(sheet: &[u8], plan: &[u8], allowance: u32, out: &mut [u8], scratch: &
     answered(walked, out, scratch)
 }
 
-/// Put: the new plan that a list edited by the venue gives back, at the front of `out`, which takes 4,096 bytes, and where its values
-/// start. Scratch takes 65,536.
+/// Put: the new plan that a list edited by the venue gives back, at the front of `out`, which takes 4,096 bytes, where its values
+/// start, and which variables were written. Scratch takes 65,536.
 pub fn put(
     sheet: &[u8],
     plan: &[u8],
@@ -112,7 +115,7 @@ pub fn put(
     out: &mut [u8],
     scratch: &mut [u8],
 ) -> PutReply
-    ensures { λ r. ⌜ PutAnswered (now (sheet .entry)) (putAnswer (now (sheet .entry)) (now (plan .entry)) (now (view .entry)) allowance (length (now (out .entry))) (length (now (scratch .entry)))) r (now (out .entry)) (now (out .exit)) (now (scratch .entry)) (now (scratch .exit)) ⌝ }
+    ensures { λ r. ⌜ PutAnswered (now (sheet .entry)) (now (plan .entry)) (now (view .entry)) allowance (putAnswer (now (sheet .entry)) (now (plan .entry)) (now (view .entry)) allowance (length (now (out .entry))) (length (now (scratch .entry)))) r (now (out .entry)) (now (out .exit)) (now (scratch .entry)) (now (scratch .exit)) ⌝ }
     ensures { λ r. ⌜ Stands (now (sheet .entry)) (now (view .entry)) allowance (r .reply) (now (out .exit)) ⌝ }
 {
     let steps_allowed = allowance as usize;
@@ -122,11 +125,17 @@ pub fn put(
         return PutReply {
             reply: Reply::Refused(refusal),
             starts,
+            written: 0,
         };
     }
     let put = walk::put(sheet, plan, view, steps_allowed, scratch);
     let walked = put.walked;
     let reply = answered(walked, out, scratch);
     let starts = put.starts;
-    PutReply { reply, starts }
+    let written = put.written;
+    PutReply {
+        reply,
+        starts,
+        written,
+    }
 }

@@ -14,6 +14,9 @@ pub mod Scope
 pub mod Consistency
 pub mod Acceptability
 pub mod Trips
+pub mod Written
+pub mod WrittenLaws
+pub mod WrittenExamples
 pub mod Refusals
 pub mod Published
 pub mod PublishedCost

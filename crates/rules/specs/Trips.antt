@@ -129,7 +129,7 @@ pub record Written (sheet plan view : List ℕ) (allowance : ℕ) (new : List �
   pub new-readable : All Readable (newPlan (p .X) (p .μ))
   pub new-read : readPlan (p .sh .k) new ≡ ok (newPlan (p .X) (p .μ))
 
-written : {sheet plan view : List ℕ} {allowance : ℕ} {new : List ℕ} {n : ℕ} (p : PutBack sheet plan view allowance new n)
+pub written : {sheet plan view : List ℕ} {allowance : ℕ} {new : List ℕ} {n : ℕ} (p : PutBack sheet plan view allowance new n)
     → Written sheet plan view allowance new n p
 written {sheet} {plan} {view} {allowance} {new} {n} p =
     let r = readValues-sound 20 (p .sh .k) plan (p .plan-read) in

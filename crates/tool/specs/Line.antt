@@ -1,15 +1,15 @@
 -- The program `tools` (docs/TOOLS.md): from the bytes of its input to the bytes of the line that it prints. An input is a letter, then fields.
 use mathlib.Core.Path.{_≡_}
-use mathlib.Core.Bool.{cond}
+use mathlib.Core.Bool.{Bool, true, false, cond}
 use mathlib.Core.List.{List, [], _∷_, map}
-use Prim.Native.Nat.{ℕ, zero, suc, _+_, _*_}
+use Prim.Native.Nat.{ℕ, zero, suc, _+_, _*_, _/_, _%_}
 use lib.Dec.{leb, eqb}
 use lib.ListN.{length, getD, take, drop}
 use Rattle.rules.specs.Numbers.{SCRATCH, PUT-OUTPUT}
 use Rattle.rules.specs.Answer.{Answer, refusal, success, putAnswer}
 use Rattle.lens.specs.declared.Reply.{Reply}
 use Rattle.lens.specs.declared.Reply.the-variants.{Done, Refused as Reply·Refused}
-use Rattle.lens.specs.Calls.{written, cleared, newStarts}
+use Rattle.lens.specs.Calls.{written, cleared, newStarts, newWritten}
 use Rattle.report.specs.Text.{hexOf, decimalOf, refusalLine, okLine}
 use Rattle.report.specs.Writing.{Wrote}
 use Rattle.job.specs.declared.fields.Fields.{Fields}
@@ -62,18 +62,30 @@ valueLine bs =
     let plan = drop k bs in
     cond (leb k (length bs)) (foundLine (findOf (startsIn bs) (length plan) (getD bs 1 0)) plan) (refusalLine 60)
 
--- S: the fields of a put, as document 01's program has them behind another letter: the steps, the new plan, the starts of its values
+-- S and W: the fields of a put, as document 01's program has them behind another letter: the steps, the new plan, and behind it what else a put
+-- tells: S the starts of the new plan's values, W which variables took a view
 
-unfoldable pub putLine : (sheet : List ℕ) → Answer → List ℕ
-putLine sheet (refusal c) = refusalLine c
-putLine sheet (success new n) = okLine (decimalOf n ∷ hexOf new ∷ map decimalOf (numbers (newStarts sheet (success new n))))
+-- 16 bits as four hexadecimal digits
+unfoldable pub bitsWord : ℕ → List ℕ
+bitsWord b = hexOf (b / 256 ∷ b % 256 ∷ [])
 
-unfoldable pub puts : List ℕ → Fields → Ending
-puts bs Cut = says (refusalLine 60)
-puts bs (Whole a n m) =
+unfoldable pub besides : (bits : Bool) → Starts → (written : ℕ) → List (List ℕ)
+besides false s b = map decimalOf (numbers s)
+besides true s b = bitsWord b ∷ []
+
+-- with these words behind the new plan
+unfoldable pub putLine : (ws : List (List ℕ)) → Answer → List ℕ
+putLine ws (refusal c) = refusalLine c
+putLine ws (success new n) = okLine (decimalOf n ∷ hexOf new ∷ ws)
+
+unfoldable pub puts : (bits : Bool) → List ℕ → Fields → Ending
+puts bits bs Cut = says (refusalLine 60)
+puts bits bs (Whole a n m) =
     let sheet = part bs 6 n in
-    let answer = putAnswer sheet (part bs (8 + n) m) (drop (8 + n + m) bs) a PUT-OUTPUT SCRATCH in
-    record { line = putLine sheet answer; call = made answer }
+    let plan = part bs (8 + n) m in
+    let view = drop (8 + n + m) bs in
+    let answer = putAnswer sheet plan view a PUT-OUTPUT SCRATCH in
+    record { line = putLine (besides bits (newStarts sheet answer) (newWritten sheet plan view a answer)) answer; call = made answer }
 
 -- BY ITS LETTER: a row for each
 unfoldable pub byLetter : List ℕ → Ending
@@ -81,8 +93,9 @@ byLetter bs =
     let letter = getD bs 0 0 in
     cond (eqb letter 0x4C) (says (loadLine bs))
     (cond (eqb letter 0x56) (says (valueLine bs))
-    (cond (eqb letter 0x53) (puts bs (fieldsOf bs))
-    (says (refusalLine 60))))
+    (cond (eqb letter 0x53) (puts false bs (fieldsOf bs))
+    (cond (eqb letter 0x57) (puts true bs (fieldsOf bs))
+    (says (refusalLine 60)))))
 
 -- over 8,192 bytes: 61, whatever they are
 unfoldable pub toolEnding : List ℕ → Ending
@@ -113,7 +126,7 @@ pub record Ended (e : Ending) (r : ℕ) (t t′ o o′ s s′ : List ℕ) : Type
   pub output : o′ ≡ outputAfter (e .call) o
   pub scratch : s′ ≡ scratchAfter (e .call) s
 
--- the line of a put's reply whose bytes are at the front of the output
-unfoldable pub replyLine : Reply → Starts → List ℕ → List ℕ
-replyLine (Reply·Refused c) starts o = refusalLine c
-replyLine (Done len n) starts o = okLine (decimalOf n ∷ hexOf (take len o) ∷ map decimalOf (numbers starts))
+-- the line of a put's reply whose bytes are at the front of the output, with these words behind them
+unfoldable pub replyLine : Reply → (ws : List (List ℕ)) → List ℕ → List ℕ
+replyLine (Reply·Refused c) ws o = refusalLine c
+replyLine (Done len n) ws o = okLine (decimalOf n ∷ hexOf (take len o) ∷ ws)

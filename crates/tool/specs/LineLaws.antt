@@ -11,7 +11,7 @@ use lib.ListN.{length, getD, take, drop, length-append, length-take, length-drop
 use lib.Seq.{length-take-le, take-all}
 use Rattle.rules.specs.Numbers.{SCRATCH, PUT-OUTPUT}
 use Rattle.rules.specs.Answer.{Answer, refusal, success, answer}
-use Rattle.lens.specs.Calls.{reply, written, cleared, Answered, newStarts}
+use Rattle.lens.specs.Calls.{reply, written, cleared, Answered, newStarts, newWritten}
 use Rattle.lens.specs.Packing.{Small, small-put}
 use Rattle.report.specs.Text.{words, decimalOf, refusalLine, okLine}
 use Rattle.report.specs.TextLaws.{Below, none, each, hex-length, decimal-length, numbers-length, ok-length, refusal-length}
@@ -24,7 +24,22 @@ use Rattle.starts.specs.declared.Found.the-variants.{At, Refused}
 use Rattle.starts.specs.Starts.{loadOf, numbers, proper, standsAt, findOf, partOf}
 use Rattle.starts.specs.Lookup.{length-firsts, proper-is}
 use Rattle.starts.specs.StartsLaws.{load-few}
-use Rattle.tool.specs.Line.{Ending, says, loadedLine, loadLine, startsIn, foundLine, valueLine, putLine, puts, byLetter, toolEnding, toolLine}
+use Rattle.tool.specs.Line.{
+  Ending,
+  says,
+  loadedLine,
+  loadLine,
+  startsIn,
+  foundLine,
+  valueLine,
+  bitsWord,
+  besides,
+  putLine,
+  puts,
+  byLetter,
+  toolEnding,
+  toolLine,
+}
 use Rattle.tool.specs.StartLaws.{load-small}
 
 -- HOW LONG A LINE IS
@@ -94,19 +109,26 @@ fits-value bs h = go (leb (3 + 2 * getD bs 2 0) (length bs)) refl
     go true e = fits-found bs h (leb-true _ _ e) _ refl
     go false e = fits-refusal 60 (omega arith)
 
-fits-put : (sheet : List ℕ) (a : Answer) → Small (reply a) → length (putLine sheet a) ≤ 16378
-unfolding putLine reply newStarts words
-fits-put sheet (refusal c) s = fits-refusal c (s .1)
-fits-put sheet (success new n) s =
-    let m = starts-length sheet new (omega arith) in
+-- what stands behind the new plan: its starts, or four digits
+besides-length : (bits : Bool) (sheet new : List ℕ) (n written : ℕ) → length new ≤ 8192
+    → length (words (besides bits (newStarts sheet (success new n)) written)) ≤ 80
+unfolding besides bitsWord newStarts words
+besides-length false sheet new n written h = starts-length sheet new h
+besides-length true sheet new n written h = simp (length-append, hex-length) (omega arith)
+
+fits-put : (bits : Bool) (sheet : List ℕ) (written : ℕ) (a : Answer) → Small (reply a) → length (putLine (besides bits (newStarts sheet a) written) a) ≤ 16378
+unfolding putLine reply words
+fits-put bits sheet written (refusal c) s = fits-refusal c (s .1)
+fits-put bits sheet written (success new n) s =
+    let m = besides-length bits sheet new n written (omega arith) in
     simp (ok-length, length-append, hex-length) (omega (arith, m, decimal-length n 6 (omega arith)))
 
-fits-puts : (bs : List ℕ) (f : Fields) → length (puts bs f .line) ≤ 16378
+fits-puts : (bits : Bool) (bs : List ℕ) (f : Fields) → length (puts bits bs f .line) ≤ 16378
 unfolding puts
-fits-puts bs Cut = fits-refusal 60 (omega arith)
-fits-puts bs (Whole a n m) =
+fits-puts bits bs Cut = fits-refusal 60 (omega arith)
+fits-puts bits bs (Whole a n m) =
     let sheet = part bs 6 n in
-    fits-put sheet _ (small-put sheet (part bs (8 + n) m) (drop (8 + n + m) bs) a PUT-OUTPUT SCRATCH {o = []} {s = []} answered)
+    fits-put bits sheet _ _ (small-put sheet (part bs (8 + n) m) (drop (8 + n + m) bs) a PUT-OUTPUT SCRATCH {o = []} {s = []} answered)
   where
     answered : {x : Answer} → Answered x (reply x) [] (written x []) [] (cleared x [])
     answered = record { answer = refl; output = refl; scratch = refl }
@@ -115,8 +137,9 @@ fits-letter : (bs : List ℕ) → length bs ≤ 8192 → length (byLetter bs .li
 unfolding byLetter
 fits-letter bs h = let c = getD bs 0 0 in one (eqb c 0x4C) _ _ (fits-load bs h)
     (one (eqb c 0x56) _ _ (fits-value bs h)
-    (one (eqb c 0x53) _ _ (fits-puts bs (fieldsOf bs))
-    (fits-refusal 60 (omega arith))))
+    (one (eqb c 0x53) _ _ (fits-puts false bs (fieldsOf bs))
+    (one (eqb c 0x57) _ _ (fits-puts true bs (fieldsOf bs))
+    (fits-refusal 60 (omega arith)))))
   where
     -- a row and those below it
     one : (p : Bool) (x y : Ending) → length (x .line) ≤ 16378 → length (y .line) ≤ 16378 → length (cond p x y .line) ≤ 16378

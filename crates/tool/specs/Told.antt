@@ -1,5 +1,6 @@
 -- What shows the line of the code: each letter's returns, and the ending of a whole input.
-use mathlib.Core.Path.{_≡_, refl, sym, _∙_}
+use mathlib.Core.Path.{_≡_, refl, sym, ap₂, _∙_}
+use mathlib.Core.Bool.{Bool, true, false}
 use mathlib.Core.List.{List, [], _∷_, map}
 use Prim.Native.Nat.{ℕ, _+_, _*_, _≤_, _<_}
 use borrow.Author.Tests.{le-leb, lt-leb, eq-eqb, ne-eqb}
@@ -10,7 +11,7 @@ use Rattle.rules.specs.Answer.{Answer, refusal, success, putAnswer}
 use Rattle.lens.specs.declared.PutReply.{PutReply}
 use Rattle.lens.specs.declared.Reply.{Reply}
 use Rattle.lens.specs.declared.Reply.the-variants.{Done, Refused as Reply·Refused}
-use Rattle.lens.specs.Calls.{reply, written, newStarts, PutAnswered}
+use Rattle.lens.specs.Calls.{reply, written, newStarts, newWritten, PutAnswered}
 use Rattle.report.specs.Text.{hexOf, decimalOf, refusalLine, okLine}
 use Rattle.report.specs.Writing.{Wrote, Front, wrote-front, wrote-text}
 use Rattle.job.specs.declared.fields.Fields.{Fields}
@@ -30,6 +31,8 @@ use Rattle.tool.specs.Line.{
   startsIn,
   foundLine,
   valueLine,
+  bitsWord,
+  besides,
   putLine,
   puts,
   byLetter,
@@ -83,41 +86,60 @@ module _ (plan : List ℕ) {f : Found} where
   unfolding foundLine
   found-part e q = sym (rw (q, e))
 
--- letter S
+-- letters S and W
 
-pub put-cut : (bs : List ℕ) {f : Fields} → f ≡ fieldsOf bs → f ≡ Cut → puts bs (fieldsOf bs) ≡ says (refusalLine 60)
+pub put-cut : (bits : Bool) (bs : List ℕ) {f : Fields} → f ≡ fieldsOf bs → f ≡ Cut → puts bits bs (fieldsOf bs) ≡ says (refusalLine 60)
 unfolding puts
-put-cut bs e q = rw (sym e ∙ q)
+put-cut bits bs e q = rw (sym e ∙ q)
 
-pub put-whole : (bs : List ℕ) {f : Fields} → f ≡ fieldsOf bs → {a n m : ℕ} → f ≡ Whole a n m → {sheet plan view : List ℕ}
+-- the line of a put whose answer is a, and the call
+abbrev putEnding : (bits : Bool) (sheet plan view : List ℕ) (allowance : ℕ) → Answer → Ending
+putEnding bits sheet plan view allowance a =
+    record { line = putLine (besides bits (newStarts sheet a) (newWritten sheet plan view allowance a)) a; call = made a }
+
+pub put-whole : (bits : Bool) (bs : List ℕ) {f : Fields} → f ≡ fieldsOf bs → {a n m : ℕ} → f ≡ Whole a n m → {sheet plan view : List ℕ}
     → sheet ≡ part bs 6 n → plan ≡ part bs (8 + n) m → view ≡ drop (8 + n + m) bs → {x y : ℕ} → x ≡ PUT-OUTPUT → y ≡ SCRATCH
-    → let answer = putAnswer sheet plan view a x y in puts bs (fieldsOf bs) ≡ record { line = putLine sheet answer; call = made answer }
+    → puts bits bs (fieldsOf bs) ≡ putEnding bits sheet plan view a (putAnswer sheet plan view a x y)
 unfolding puts
-put-whole bs e q es ep ev ex ey = rw (sym e ∙ q, es, ep, ev, ex, ey)
+put-whole bits bs e q es ep ev ex ey = rw (sym e ∙ q, es, ep, ev, ex, ey)
+
+-- what stands behind the new plan
+pub besides-bits : {bits : Bool} → bits ≡ true → (s : Starts) (b : ℕ) → bitsWord b ∷ [] ≡ besides bits s b
+unfolding besides
+besides-bits e s b = rw e
+
+pub besides-starts : {bits : Bool} → bits ≡ false → (s : Starts) (b : ℕ) → map decimalOf (numbers s) ≡ besides bits s b
+unfolding besides
+besides-starts e s b = rw e
 
 -- a reply, case by case
-pub line-refused : (starts : Starts) (o : List ℕ) {q : Reply} {c : ℕ} → q ≡ Reply·Refused c → refusalLine c ≡ replyLine q starts o
+pub line-refused : (ws : List (List ℕ)) (o : List ℕ) {q : Reply} {c : ℕ} → q ≡ Reply·Refused c → refusalLine c ≡ replyLine q ws o
 unfolding replyLine
-line-refused starts o e = rw e
+line-refused ws o e = rw e
 
-pub line-done : (starts : Starts) (o : List ℕ) {q : Reply} {len n : ℕ} → q ≡ Done len n
-    → okLine (decimalOf n ∷ hexOf (take len o) ∷ map decimalOf (numbers starts)) ≡ replyLine q starts o
+pub line-done : (ws : List (List ℕ)) (o : List ℕ) {q : Reply} {len n : ℕ} → q ≡ Done len n
+    → okLine (decimalOf n ∷ hexOf (take len o) ∷ ws) ≡ replyLine q ws o
 unfolding replyLine
-line-done starts o e = rw e
+line-done ws o e = rw e
 
-module _ {sheet : List ℕ} {a : Answer} {p : PutReply} {o o′ s s′ : List ℕ} (w : PutAnswered sheet a p o o′ s s′) where
-  reply-line : replyLine (p .reply) (p .starts) o′ ≡ putLine sheet a
+module _ (bits : Bool) {sheet plan view : List ℕ} {allowance : ℕ} {a : Answer} {p : PutReply} {o o′ s s′ : List ℕ}
+    (w : PutAnswered sheet plan view allowance a p o o′ s s′) where
+  reply-line : (ws : List (List ℕ)) → replyLine (p .reply) ws o′ ≡ putLine ws a
   unfolding replyLine putLine reply written
-  reply-line = rw (w .starts) (go a (w .call .answer) (w .call .output))
+  reply-line ws = go a (w .call .answer) (w .call .output)
     where
-      go : (a : Answer) {q : Reply} → q ≡ reply a → o′ ≡ written a o → replyLine q (newStarts sheet a) o′ ≡ putLine sheet a
+      go : (a : Answer) {q : Reply} → q ≡ reply a → o′ ≡ written a o → replyLine q ws o′ ≡ putLine ws a
       go (refusal c) e f = rw e
       go (success bs n) e f = rw (e, f, take-append-seam bs (drop (length bs) o))
 
-  pub ended-put : {t t′ : List ℕ} {r : ℕ} → Wrote (replyLine (p .reply) (p .starts) o′) 0 t t′ r
-      → Ended (record { line = putLine sheet a; call = made a }) r t t′ o o′ s s′
+  pub ended-put : {t t′ : List ℕ} {r : ℕ} → Wrote (replyLine (p .reply) (besides bits (p .starts) (p .written)) o′) 0 t t′ r
+      → Ended (putEnding bits sheet plan view allowance a) r t t′ o o′ s s′
   unfolding outputAfter scratchAfter
-  ended-put l = record { text = wrote-text l reply-line; output = w .call .output; scratch = w .call .scratch }
+  ended-put l = record {
+    text = wrote-text l (reply-line _ ∙ ap₂ (λ (x : Starts) (y : ℕ). putLine (besides bits x y) a) (w .starts) (w .written));
+    output = w .call .output;
+    scratch = w .call .scratch;
+  }
 
 -- the letter of an input
 module _ (bs : List ℕ) where
@@ -130,13 +152,18 @@ module _ (bs : List ℕ) where
     unfolding toolEnding byLetter
     letter-V q = rw (le-leb (length bs) 8192 h, sym e ∙ q)
 
-    pub letter-S : letter ≡ 0x53 → toolEnding bs ≡ puts bs (fieldsOf bs)
+    pub letter-S : letter ≡ 0x53 → toolEnding bs ≡ puts false bs (fieldsOf bs)
     unfolding toolEnding byLetter
     letter-S q = rw (le-leb (length bs) 8192 h, sym e ∙ q)
 
-    pub letter-none : (letter ≡ 0x4C → ⊥) → (letter ≡ 0x56 → ⊥) → (letter ≡ 0x53 → ⊥) → toolEnding bs ≡ says (refusalLine 60)
+    pub letter-W : letter ≡ 0x57 → toolEnding bs ≡ puts true bs (fieldsOf bs)
     unfolding toolEnding byLetter
-    letter-none l v s = rw (le-leb (length bs) 8192 h, ← e, ne-eqb letter 0x4C l, ne-eqb letter 0x56 v, ne-eqb letter 0x53 s)
+    letter-W q = rw (le-leb (length bs) 8192 h, sym e ∙ q)
+
+    pub letter-none : (letter ≡ 0x4C → ⊥) → (letter ≡ 0x56 → ⊥) → (letter ≡ 0x53 → ⊥) → (letter ≡ 0x57 → ⊥) → toolEnding bs ≡ says (refusalLine 60)
+    unfolding toolEnding byLetter
+    letter-none l v s w =
+        rw (le-leb (length bs) 8192 h, ← e, ne-eqb letter 0x4C l, ne-eqb letter 0x56 v, ne-eqb letter 0x53 s, ne-eqb letter 0x57 w)
 
 -- a line that no call was made for
 pub said : {l : List ℕ} {r : ℕ} {t t′ o s : List ℕ} → Wrote l 0 t t′ r → Ended (says l) r t t′ o o s s

@@ -29,7 +29,8 @@ pub fn line(
     match letter {
         0x4C => load_line(input, text),
         0x56 => value_line(input, text),
-        0x53 => put_line(input, out, scratch, text),
+        0x53 => put_line(input, false, out, scratch, text),
+        0x57 => put_line(input, true, out, scratch, text),
         _ => report::refusal(text, 0, 60),
     }
 }

@@ -40,5 +40,6 @@ pub mod PutCase
 pub mod Plan
 pub mod Entry
 pub mod NewStarts
+pub mod Bits
 pub mod Gather
 pub mod PutEntry

@@ -19,8 +19,9 @@ unfoldable pub newStarts : (sheet a : List ℕ) → Walked → Starts
 newStarts sheet a (Done len n) = loadOf sheet (part a STACK len) .starts
 newStarts sheet a (Refused c) = noStarts
 
+-- a put that is refused gives no start and no bit
 unfoldable pub refusedPut : ℕ → PutWalked
-refusedPut c = record { walked = Refused c; starts = noStarts }
+refusedPut c = record { walked = Refused c; starts = noStarts; written = 0 }
 
 -- a refusal
 module _ {r : PutWalked} (c : ℕ) (e : r ≡ refusedPut c) where

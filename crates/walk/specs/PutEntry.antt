@@ -30,6 +30,7 @@ use Rattle.rules.specs.Text
 use Rattle.rules.specs.Rules.{Env, Cells, orOld, put}
 use Rattle.rules.specs.Answer.{count, newPlan, putWalk, putBytes}
 use Rattle.rules.specs.Numbers.{LEVELS, SCRATCH, STACK}
+use Rattle.rules.specs.Written.{bitsOf, tookIn, putWritten}
 use Rattle.step.specs.declared.Scope.{Scope}
 use Rattle.step.specs.Step.{placeOf}
 use Rattle.step.specs.StepLaws.{was-written}
@@ -43,6 +44,7 @@ use Rattle.walk.specs.Cells.{Slot, blank, full, Written, Named, Shown}
 use Rattle.walk.specs.Frames.{env-framed}
 use Rattle.walk.specs.Puts.{enter, run, Given, Wrote, PutHere, PutAsks, PutTold}
 use Rattle.walk.specs.NewStarts.{newStarts}
+use Rattle.walk.specs.Bits.{newWritten, filledFrom, slots-took}
 use Rattle.walk.specs.Gather.{Rests, Placed, SomePlaced, AllGathered, Counted}
 use Rattle.walk.specs.Entry.{Unread, says-done, says-refused, Planned, PlanWalked, plan-small, plan-env, root-is}
 
@@ -162,6 +164,12 @@ module _ {sheet plan view : List ℕ} {table : Table} {sc : Scope} {allowance : 
       (ap (λ (x : ℕ). mapOut (λ X. flat (newPlan X (w .μ)))
       (within allowance (put LEVELS (w .sh) x (w .μ) (count 0 (length (w .μ))) (s .value) (replicate (length (w .μ)) none)))) (sym (root-is w)))
 
+  written-is : putWritten sheet plan view allowance ≡ tookIn walk-put
+  unfolding putWritten putWalk reading
+  written-is = rw (w .read, w .values, s .read)
+      (ap (λ (x : ℕ). tookIn (within allowance (put LEVELS (w .sh) x (w .μ) (count 0 (length (w .μ))) (s .value) (replicate (length (w .μ)) none))))
+      (sym (root-is w)))
+
   module _ {m cells : List ℕ} (c : CopiedIn plan b m) (n : Counted (sc .count) cells) where
     put-given : Given m (replicate 110 0) sheet (Shown view) sc cells (sc .count) (sc .count) STACK
         (w .sh) (w .μ) (count 0 (length (w .μ))) (s .value) (replicate (length (w .μ)) none)
@@ -219,6 +227,13 @@ module _ {sheet plan view : List ℕ} {table : Table} {sc : Scope} {allowance : 
         wrote : Had (Wrote a slots (sc .count)) (startOf r) (lenOf r) (stepsOf r) walk-put
         unfolding run
         wrote = had (g .told put-given) (said-done r e)
+
+        -- the bits of the slots are those of the cells
+        pub put-written : {bits k : ℕ} → bits ≡ bitsOf (filledFrom slots 0 k) → k ≡ sc .count → (len n : ℕ)
+            → bits ≡ newWritten sheet plan view allowance (Done len n)
+        unfolding newWritten tookIn
+        put-written q e len n =
+            q ∙ ap (λ (k : ℕ). bitsOf (filledFrom slots 0 k)) e ∙ ap bitsOf (slots-took (wrote .that .written)) ∙ sym (written-is ∙ ap tookIn (wrote .is))
 
         placed-new : Placed a slots sc (newPlan (wrote .value) (w .μ))
         placed-new =

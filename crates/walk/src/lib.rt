@@ -5,6 +5,7 @@
 ghost use mathlib.Core.Path.{_≡_};
 ghost use Rattle.rules.specs.Answer.{getBytes, putBytes};
 ghost use Rattle.rules.specs.Numbers.{GET-OUTPUT, PUT-OUTPUT};
+ghost use Rattle.walk.specs.Bits.{newWritten};
 ghost use Rattle.walk.specs.Entry.{Planned, PlanWalked, Unread, WalkCall};
 ghost use Rattle.walk.specs.Gather.{SomePlaced, AllGathered};
 ghost use Rattle.walk.specs.NewStarts.{newStarts, refusedPut};
@@ -21,6 +22,7 @@ mod scope;
 use crate::at::At;
 use crate::bytes::copy;
 use crate::bytes::copy_in;
+use crate::cells::bits_of;
 use crate::cells::first_cells;
 use crate::getter::get_node;
 use crate::got::bring;
@@ -40,10 +42,12 @@ pub enum Walked {
     Refused(u8),
 }
 
-/// What a put gives: the walk's answer, and where the values of the new plan start. With a refusal there is no start.
+/// What a put gives: the walk's answer, where the values of the new plan start, and which variables took a view, bit i for
+/// variable i. With a refusal there is no start, and no bit is set.
 pub struct PutWalked {
     pub walked: Walked,
     pub starts: Starts,
+    pub written: u16,
 }
 
 // The new plan: how many bytes it has, and where its values start.
@@ -134,13 +138,18 @@ fn gather(arena: &mut [u8], slots: &[u16; 110], scope: Scope) -> NewPlan
     NewPlan { len, starts }
 }
 
-// A refusal of a put, with no start.
+// A refusal of a put, with no start and no bit.
 fn refused(number: u8) -> PutWalked
     ensures { λ r. ⌜ r ≡ refusedPut number ⌝ }
 {
     let walked = Walked::Refused(number);
     let starts = starts::none();
-    PutWalked { walked, starts }
+    let written = 0;
+    PutWalked {
+        walked,
+        starts,
+        written,
+    }
 }
 
 // The walk of put from the root, over an arena of 65,536 bytes.
@@ -157,6 +166,7 @@ fn put_plan(
     requires { ⌜ Viewed (now view) ⌝ }
     ensures { λ r. ⌜ PlanWalked PUT-OUTPUT (putBytes (now (sheet .entry)) (now (plan .entry)) (now (view .entry)) allowance) (now (arena .entry)) (now (arena .exit)) (r .walked) ⌝ }
     ensures { λ r. ⌜ r .starts ≡ newStarts (now (sheet .entry)) (now (arena .exit)) (r .walked) ⌝ }
+    ensures { λ r. ⌜ r .written ≡ newWritten (now (sheet .entry)) (now (plan .entry)) (now (view .entry)) allowance (r .walked) ⌝ }
 {
     copy_in(plan, arena);
     let mut slots = [0u16; 110];
@@ -188,14 +198,21 @@ fn put_plan(
         steps: steps_of(put),
     };
     let starts = new.starts;
-    PutWalked { walked, starts }
+    let written = bits_of(&slots, k);
+    PutWalked {
+        walked,
+        starts,
+        written,
+    }
 }
 
 /// Put: the plan for which a sheet's root is the view, at byte 32,256 of the arena, of which the first 65,536 bytes are
-/// used, and where its values start. Where the sheet or the plan is refused the arena is as it was; otherwise those bytes are free, and may hold anything.
+/// used, where its values start, and which variables took a view. Where the sheet or the plan is refused the arena is as it was; otherwise those
+/// bytes are free, and may hold anything.
 pub fn put(sheet: &[u8], plan: &[u8], view: &[u8], allowance: usize, arena: &mut [u8]) -> PutWalked
     ensures { λ r. ⌜ WalkCall (PutUnread (now (sheet .entry)) (now (plan .entry)) (now (view .entry))) PUT-OUTPUT (putBytes (now (sheet .entry)) (now (plan .entry)) (now (view .entry)) allowance) allowance (now (arena .entry)) (now (arena .exit)) (r .walked) ⌝ }
     ensures { λ r. ⌜ r .starts ≡ newStarts (now (sheet .entry)) (now (arena .exit)) (r .walked) ⌝ }
+    ensures { λ r. ⌜ r .written ≡ newWritten (now (sheet .entry)) (now (plan .entry)) (now (view .entry)) allowance (r .walked) ⌝ }
 {
     if arena.len() < rules::SCRATCH {
         return refused(2);

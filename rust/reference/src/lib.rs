@@ -1,11 +1,11 @@
 //! Document 01, "House sheets, plans and venue lists", in plain safe Rust, with requests 1 (the node 1C), 2 (the
-//! starts of a plan's values), 4 (numbers over 65,535: the kind of value 06 and the node 1D) and 5 (defaults of a list case that take
-//! after the list sent) of document 02, "Requests after the base version".
+//! starts of a plan's values), 4 (numbers over 65,535: the kind of value 06 and the node 1D), 5 (defaults of a list case that take
+//! after the list sent) and 8 (which variables a put wrote) of document 02, "Requests after the base version".
 //!
 //! It was written from the papers and shares no line with the Rattle code, so that where the two agree on a job, two readings of the
 //! papers agree. Its tests and the benchmark's baseline are its only uses: programs use the crate `lens`.
 //!
-//! [`get`], [`put`], [`load`] and [`put_starts`] work in the caller's buffers exactly as the archive's functions do, and answer in the
+//! [`get`], [`put`], [`load`], [`put_starts`] and [`put_written`] work in the caller's buffers exactly as the archive's functions do, and answer in the
 //! same form, which [`answer`] takes apart.
 
 #![forbid(unsafe_code)]
@@ -55,8 +55,8 @@ pub fn get(sheet: &[u8], plan: &[u8], allowance: u32, out: &mut [u8], scratch: &
 
 /// Reads a list back: the plan that `view` makes of the old `plan`, at the front of `out`.
 pub fn put(sheet: &[u8], plan: &[u8], view: &[u8], allowance: u32, out: &mut [u8], scratch: &mut [u8]) -> u64 {
-    let result = put_from_door(sheet, plan, view, allowance, out, scratch, &mut [0; STARTS_MAX]);
-    made(result.map(|success| Success { count: 0, ..success }))
+    let result = put_from_door(sheet, plan, view, allowance, out, scratch);
+    made(result.map(|new| Success { count: 0, ..new.success() }))
 }
 
 /// Reads a list back as [`put`] does, and gives the starts of the new plan's values.
@@ -69,7 +69,46 @@ pub fn put_starts(
     scratch: &mut [u8],
     starts: &mut [u16; STARTS_MAX],
 ) -> u64 {
-    made(put_from_door(sheet, plan, view, allowance, out, scratch, starts))
+    made(put_from_door(sheet, plan, view, allowance, out, scratch).map(|new| new.hand_out(starts)))
+}
+
+/// Reads a list back as [`put_starts`] does, and gives which variables took a view: bit i of `written` for variable i.
+#[allow(clippy::too_many_arguments)] // those of the archive's function
+pub fn put_written(
+    sheet: &[u8],
+    plan: &[u8],
+    view: &[u8],
+    allowance: u32,
+    out: &mut [u8],
+    scratch: &mut [u8],
+    starts: &mut [u16; STARTS_MAX],
+    written: &mut u16,
+) -> u64 {
+    made(put_from_door(sheet, plan, view, allowance, out, scratch).map(|new| {
+        *written = new.written;
+        new.hand_out(starts)
+    }))
+}
+
+/// What a put gives beside the bytes of the new plan.
+#[derive(Default)]
+struct New {
+    length: usize,
+    count: usize,
+    starts: [u16; STARTS_MAX],
+    written: u16,
+    steps: u32,
+}
+
+impl New {
+    fn success(&self) -> Success {
+        Success { length: self.length, count: self.count, steps: self.steps }
+    }
+
+    fn hand_out(&self, starts: &mut [u16; STARTS_MAX]) -> Success {
+        starts[..self.count].copy_from_slice(&self.starts[..self.count]);
+        self.success()
+    }
 }
 
 /// Reads the plan of a sheet for the starts of its values.
@@ -96,13 +135,12 @@ fn put_from_door(
     allowance: u32,
     out: &mut [u8],
     scratch: &mut [u8],
-    starts: &mut [u16; STARTS_MAX],
-) -> Result<Success, Refusal> {
+) -> Result<New, Refusal> {
     let Some(arena) = scratch.first_chunk_mut::<SCRATCH>() else {
         return Err(if out.len() < PUT_OUT { 1 } else { 2 });
     };
     door(out.len() >= PUT_OUT, allowance)?;
-    let result = put_past_door(sheet, plan, view, allowance, out, arena, starts);
+    let result = put_past_door(sheet, plan, view, allowance, out, arena);
     arena.fill(0);
     result
 }
@@ -134,8 +172,7 @@ fn put_past_door(
     allowance: u32,
     out: &mut [u8],
     arena: &mut [u8; SCRATCH],
-    starts: &mut [u16; STARTS_MAX],
-) -> Result<Success, Refusal> {
+) -> Result<New, Refusal> {
     let sheet = Sheet::read(sheet)?;
     let mut walk = Walk::new(&sheet, arena, allowance);
     plan::read(sheet.k, plan, |_, value| walk.add_to_plan(value))?;
@@ -150,12 +187,16 @@ fn put_past_door(
         return Err(32);
     }
     walk.put_root(view)?;
-    let mut length = 0;
+    let mut new = New { steps: walk.steps(), ..New::default() };
     for variable in 0..sheet.k {
-        starts[usize::from(variable)] = length as u16;
+        new.starts[new.count] = new.length as u16;
+        if walk.took_view(variable) {
+            new.written |= 1 << variable;
+        }
         let bytes = walk.bytes(walk.new_value(variable));
-        out[length..length + bytes.len()].copy_from_slice(bytes);
-        length += bytes.len();
+        out[new.length..new.length + bytes.len()].copy_from_slice(bytes);
+        new.length += bytes.len();
+        new.count += 1;
     }
-    Ok(Success { length, count: usize::from(sheet.k), steps: walk.steps() })
+    Ok(new)
 }

@@ -6,7 +6,7 @@ use crate::vectors::hex;
 use crate::{Refusal, PUT_OUT, SCRATCH, STARTS_MAX};
 
 /// The letters of the calls that are there: an input begins with one of them.
-pub const LETTERS: [u8; 3] = [0x4C, 0x56, 0x53];
+pub const LETTERS: [u8; 4] = [0x4C, 0x56, 0x53, 0x57];
 
 /// One call.
 #[derive(Clone, Debug, PartialEq, Eq)]
@@ -15,8 +15,8 @@ pub enum Tool {
     Load { sheet: Vec<u8>, plan: Vec<u8> },
     /// 56: a value by its number and the plan's starts.
     Value { variable: usize, starts: Vec<u16>, plan: Vec<u8> },
-    /// 53: a put, with the starts of its new plan.
-    Put { sheet: Vec<u8>, plan: Vec<u8>, view: Vec<u8>, allowance: u32 },
+    /// 53: a put, with the starts of its new plan; 57 (`bits`): with the variables that took a view.
+    Put { bits: bool, sheet: Vec<u8>, plan: Vec<u8>, view: Vec<u8>, allowance: u32 },
 }
 
 /// What a call gives.
@@ -25,6 +25,7 @@ pub enum Given {
     Starts(Vec<u16>),
     Part(Vec<u8>),
     Put { steps: u32, plan: Vec<u8>, starts: Vec<u16> },
+    Written { steps: u32, plan: Vec<u8>, written: u16 },
 }
 
 impl Tool {
@@ -49,9 +50,9 @@ impl Tool {
                 let starts = starts.chunks(2).map(|start| u16::from_be_bytes([start[0], start[1]])).collect();
                 Some(Tool::Value { variable: variable.into(), starts, plan: plan.to_vec() })
             }
-            0x53 => {
+            0x53 | 0x57 => {
                 let Job { sheet, plan, view, allowance } = Job::put(fields)?;
-                Some(Tool::Put { sheet, plan, view: view?, allowance })
+                Some(Tool::Put { bits: letter == 0x57, sheet, plan, view: view?, allowance })
             }
             _ => None,
         }
@@ -69,12 +70,15 @@ impl Tool {
                 crate::find(starts, plan.len(), *variable)?;
                 Ok(Given::Part(crate::part(starts, plan, *variable).to_vec()))
             }
-            Tool::Put { sheet, plan, view, allowance } => {
-                let mut out = [0; PUT_OUT];
-                let answer = crate::put_starts(sheet, plan, view, *allowance, &mut out, &mut [0; SCRATCH], &mut starts);
+            Tool::Put { bits, sheet, plan, view, allowance } => {
+                let (mut out, mut scratch, mut written) = ([0; PUT_OUT], [0; SCRATCH], 0);
+                let answer = crate::put_written(sheet, plan, view, *allowance, &mut out, &mut scratch, &mut starts, &mut written);
                 let answer = taken(answer)?;
-                let (plan, starts) = (out[..answer.length].to_vec(), starts[..answer.count].to_vec());
-                Ok(Given::Put { steps: answer.steps, plan, starts })
+                let (steps, plan) = (answer.steps, out[..answer.length].to_vec());
+                if *bits {
+                    return Ok(Given::Written { steps, plan, written });
+                }
+                Ok(Given::Put { steps, plan, starts: starts[..answer.count].to_vec() })
             }
         }
     }
@@ -86,6 +90,7 @@ pub fn printed(input: &[u8], run: impl Fn(&Tool) -> Result<Given, Refusal>) -> S
         Ok(Given::Starts(starts)) => format!("ok {}", decimal(&starts)),
         Ok(Given::Part(part)) => format!("ok {}", hex(&part)),
         Ok(Given::Put { steps, plan, starts }) => format!("ok {steps} {} {}", hex(&plan), decimal(&starts)),
+        Ok(Given::Written { steps, plan, written }) => format!("ok {steps} {} {written:04X}", hex(&plan)),
         Err(refusal) => format!("no {refusal}"),
     }
 }

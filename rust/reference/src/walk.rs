@@ -110,6 +110,11 @@ impl<'a> Walk<'a> {
         self.value_now(usize::from(variable))
     }
 
+    /// Whether a plan variable took a view, its old value or another.
+    pub fn took_view(&self, variable: u8) -> bool {
+        self.written[usize::from(variable)] > 0
+    }
+
     /// What the variable that came up at `cell` stands for: what was written to it, or else its old value.
     fn value_now(&self, cell: usize) -> Span {
         match self.written[cell] {

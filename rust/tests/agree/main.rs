@@ -1,4 +1,5 @@
-//! The archive and the reference agree, and the laws hold of the archive's answers: both of document 01, and that of a plan's starts.
+//! The archive and the reference agree, and the laws hold of the archive's answers: both of document 01, that of a plan's starts, and that
+//! of the variables that a put wrote.
 //!
 //! Each case is made from its number. `LENS_CASES` says how many there are (200,000), `LENS_FIRST` which is the first (0).
 
@@ -12,6 +13,7 @@ mod sheets;
 mod starts;
 mod switches;
 mod values;
+mod written;
 
 use cases::{case, Case, MORE};
 use lens::raw::{self, Answer, PUT_OUT, SCRATCH, STARTS_MAX};
@@ -23,6 +25,7 @@ use reference::vectors::hex;
 use seen::Seen;
 use starts::{check_behind, check_load, check_values, Given, BEFORE};
 use switches::takes_after;
+use written::{check_bits, check_union, wrote_old};
 
 const CASES: u64 = 200_000;
 
@@ -82,21 +85,27 @@ struct Side {
     out: Vec<u8>,
     scratch: Vec<u8>,
     starts: [u16; STARTS_MAX],
+    written: u16,
 }
 
-/// A job done in lent output, scratch and starts.
-type Run = fn(&Job, &mut [u8], &mut [u8], &mut [u16; STARTS_MAX]) -> u64;
+/// What stands in the lent bits before a call. No put of fewer than 16 variables sets them all.
+const BITS_BEFORE: u16 = 0xFFFF;
+
+/// A job done in lent output, scratch, starts and bits.
+type Run = fn(&Job, &mut [u8], &mut [u8], &mut [u16; STARTS_MAX], &mut u16) -> u64;
 
 impl Side {
     fn new() -> Side {
-        Side { out: vec![0; OUT], scratch: vec![0; ROOM], starts: BEFORE }
+        Side { out: vec![0; OUT], scratch: vec![0; ROOM], starts: BEFORE, written: BITS_BEFORE }
     }
 
     fn call(&mut self, noise: &[u8], case: &Case, run: Run) -> Answer {
         self.out.copy_from_slice(&noise[..OUT]);
         self.scratch.copy_from_slice(&noise[..ROOM]);
         self.starts = BEFORE;
-        Answer(run(&case.job, &mut self.out[..case.out_len], &mut self.scratch[..case.scratch_len], &mut self.starts))
+        self.written = BITS_BEFORE;
+        let (out, scratch) = (&mut self.out[..case.out_len], &mut self.scratch[..case.scratch_len]);
+        Answer(run(&case.job, out, scratch, &mut self.starts, &mut self.written))
     }
 
     /// What the papers say of the buffers after an answer.
@@ -112,6 +121,9 @@ impl Side {
         if self.scratch[cleared..] != noise[cleared..ROOM] {
             return Err("scratch bytes that are to stay changed".into());
         }
+        if answer.number() != 0 && self.written != BITS_BEFORE {
+            return Err(format!("the bits became {:04X}", self.written));
+        }
         check_behind(&self.starts, answer)
     }
 }
@@ -125,17 +137,25 @@ fn run_plain(job: &Job, out: &mut [u8], scratch: &mut [u8]) -> u64 {
 }
 
 /// A get, or a put with starts.
-fn run_archive(job: &Job, out: &mut [u8], scratch: &mut [u8], starts: &mut [u16; STARTS_MAX]) -> u64 {
+fn run_starts(job: &Job, out: &mut [u8], scratch: &mut [u8], starts: &mut [u16; STARTS_MAX]) -> u64 {
     match &job.view {
         None => run_plain(job, out, scratch),
         Some(view) => raw::put_starts(&job.sheet, &job.plan, view, job.allowance, out, scratch, starts).0,
     }
 }
 
-fn run_reference(job: &Job, out: &mut [u8], scratch: &mut [u8], starts: &mut [u16; STARTS_MAX]) -> u64 {
+/// A get, or a put with starts and bits.
+fn run_archive(job: &Job, out: &mut [u8], scratch: &mut [u8], starts: &mut [u16; STARTS_MAX], written: &mut u16) -> u64 {
+    match &job.view {
+        None => run_plain(job, out, scratch),
+        Some(view) => raw::put_written(&job.sheet, &job.plan, view, job.allowance, out, scratch, starts, written).0,
+    }
+}
+
+fn run_reference(job: &Job, out: &mut [u8], scratch: &mut [u8], starts: &mut [u16; STARTS_MAX], written: &mut u16) -> u64 {
     match &job.view {
         None => job.run(out, scratch),
-        Some(view) => reference::put_starts(&job.sheet, &job.plan, view, job.allowance, out, scratch, starts),
+        Some(view) => reference::put_written(&job.sheet, &job.plan, view, job.allowance, out, scratch, starts, written),
     }
 }
 
@@ -144,8 +164,8 @@ struct Bench {
     noise: Vec<u8>,
     archive: Side,
     reference: Side,
-    /// The archive's, for a put without starts.
-    plain: Side,
+    /// The archive's, for a put with less.
+    less: Side,
     spare: Vec<u8>,
     laws: u64,
 }
@@ -158,7 +178,7 @@ impl Bench {
             noise: (0..ROOM).map(|_| random.byte() | 1).collect(),
             archive: Side::new(),
             reference: Side::new(),
-            plain: Side::new(),
+            less: Side::new(),
             spare: vec![0; SCRATCH],
             laws: 0,
         }
@@ -178,35 +198,55 @@ impl Bench {
             let [got, wanted] = [&self.archive, &self.reference].map(|side| side.starts);
             return Err(format!("the archive gives the starts {got:?}, the reference {wanted:?}"));
         }
+        if self.archive.written != self.reference.written {
+            let [got, wanted] = [&self.archive, &self.reference].map(|side| side.written);
+            return Err(format!("the archive gives the bits {got:04X}, the reference {wanted:04X}"));
+        }
         self.archive.judge(&self.noise, answer).map_err(|fault| format!("after {}, {fault}", told(answer)))?;
         self.reference.judge(&self.noise, wanted).map_err(|fault| format!("the reference, after {}: {fault}", told(wanted)))?;
         if case.job.view.is_some() {
-            self.check_plain(case, answer)?;
+            self.check_less(case, answer)?;
         }
         if answer.number() == 0 {
             let bytes = self.archive.out[..answer.length()].to_vec();
             self.check_laws(&case.job, &bytes, answer)?;
+            if case.job.view.is_some() {
+                let written = self.archive.written;
+                seen.written(answer.count(), written, wrote_old(&case.job.plan, &bytes, written));
+            }
         }
         seen.job(&case.job, answer, takes_after(&case.job, &mut self.spare));
         Ok(())
     }
 
-    /// A put without starts answers and leaves its buffers as the one with starts did.
-    fn check_plain(&mut self, case: &Case, answer: Answer) -> Result<(), String> {
-        let plain = self.plain.call(&self.noise, case, |job, out, scratch, _| run_plain(job, out, scratch));
+    /// A put without starts, and one with starts alone, answers and leaves its buffers as the one with both did.
+    fn check_less(&mut self, case: &Case, answer: Answer) -> Result<(), String> {
+        let plain = self.less.call(&self.noise, case, |job, out, scratch, _, _| run_plain(job, out, scratch));
         let wanted = Answer(answer.0 & !(0xFF << 24));
-        if plain != wanted || self.plain.out != self.archive.out || self.plain.scratch != self.archive.scratch {
-            return Err(format!("lens_put answers {}, lens_put_starts {}, or other buffers", told(plain), told(answer)));
+        if plain != wanted || self.less.out != self.archive.out || self.less.scratch != self.archive.scratch {
+            return Err(format!("lens_put answers {}, lens_put_written {}, or other buffers", told(plain), told(answer)));
+        }
+        let with_starts = self.less.call(&self.noise, case, |job, out, scratch, starts, _| run_starts(job, out, scratch, starts));
+        let same = self.less.out == self.archive.out && self.less.scratch == self.archive.scratch;
+        if with_starts != answer || !same || self.less.starts != self.archive.starts {
+            return Err(format!(
+                "lens_put_starts answers {}, lens_put_written {}, or other buffers",
+                told(with_starts),
+                told(answer)
+            ));
         }
         Ok(())
     }
 
-    /// Demand 3, and the starts of a new plan, of the archive's answers.
+    /// Demand 3, the starts of a new plan and the bits of a put, of the archive's answers.
     fn check_laws(&mut self, job: &Job, bytes: &[u8], answer: Answer) -> Result<(), String> {
         let steps = answer.steps();
         match &job.view {
             Some(view) => {
                 self.check_new_starts(job, bytes, answer.count())?;
+                self.laws += 1;
+                check_bits(&job.plan, bytes, self.archive.written)?;
+                check_union(job, bytes, self.archive.written, &mut self.spare)?;
                 let get = Job { plan: bytes.to_vec(), view: None, ..job.clone() };
                 let (answer, list) = self.law(&get);
                 if answer.number() != 0 || list != *view || answer.steps() > steps {

@@ -19,6 +19,17 @@ pub struct Seen {
     switches: [u64; 256],
     loads: [u64; 256],
     lookups: [u64; 256],
+    written: Written,
+}
+
+/// Puts that succeeded, by the variables that they wrote.
+#[derive(Default)]
+struct Written {
+    none: u64,
+    some: u64,
+    all: u64,
+    /// One of them with its old value.
+    old: u64,
 }
 
 impl Default for Seen {
@@ -30,6 +41,7 @@ impl Default for Seen {
             switches: [0; 256],
             loads: [0; 256],
             lookups: [0; 256],
+            written: Written::default(),
         }
     }
 }
@@ -52,6 +64,17 @@ impl Seen {
 
     pub fn lookup(&mut self, number: u8) {
         self.lookups[usize::from(number)] += 1;
+    }
+
+    /// A put that succeeded, of a plan of so many variables, that wrote those of the bits.
+    pub fn written(&mut self, variables: usize, bits: u16, old: bool) {
+        let count = match bits.count_ones() as usize {
+            0 => &mut self.written.none,
+            written if written == variables => &mut self.written.all,
+            _ => &mut self.written.some,
+        };
+        *count += 1;
+        self.written.old += u64::from(old);
     }
 
     /// Every refusal came of each function that has it, also with numbers of four bytes; those that are not seldom where defaults are got
@@ -79,6 +102,8 @@ impl Seen {
         let [gets, puts] = columns(&self.jobs);
         let [each_gets, each_puts] = columns(&self.each);
         let [wide_gets, wide_puts] = columns(&self.wide);
+        let Written { none, some, all: whole, old } = self.written;
+        assert!([none, some, whole, old].iter().all(|&count| count > 1000), "too few of some bits: {self}");
         for (counts, total, of) in [
             (gets, all, "gets"),
             (puts, all, "puts"),
@@ -108,6 +133,7 @@ impl fmt::Display for Seen {
                 writeln!(f, "{answer:>8} {}", counts.join(" "))?;
             }
         }
-        Ok(())
+        let Written { none, some, all, old } = self.written;
+        writeln!(f, "puts that wrote no variable {none}, some {some}, all {all}; one of them with its old value {old}")
     }
 }

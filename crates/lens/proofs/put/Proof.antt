@@ -5,7 +5,7 @@ use Rattle.rules.specs.Numbers.{PUT-OUTPUT}
 use Rattle.rules.specs.AnswerLaws.{Lent}
 use Rattle.lens.specs.Door.{door-lent}
 use Rattle.lens.specs.Trips.{with-stands}
-use Rattle.lens.specs.WalkCalls.{put-behind, none-refused, call-shut, call-fits, call-told, call-starts}
+use Rattle.lens.specs.WalkCalls.{put-behind, none-refused, clear-refused, call-shut, call-fits, call-told, call-starts, call-written}
 use borrow.Author.Needs.{needs}
 use Rattle.lens.proofs.put.Statement.{statement}
 use Rattle.lens.proofs.put.Tie as tie
@@ -28,7 +28,7 @@ lent c = door-lent (c .before .door .ensures) (c .if1 .left)
 returns : tie.Need-returns
 returns c =
     let s = call-shut (put-behind _ _ _ _ _ _) (c .before .before .door .ensures) (c .before .if1 .taken) in
-    with-stands _ _ _ _ _ _ s (c .none .ensures ∙ none-refused _ _ (s .answer))
+    with-stands _ _ _ _ _ _ s (c .none .ensures ∙ none-refused _ _ (s .answer)) (clear-refused _ _ _ _ _ (s .answer))
 
 answered-requires : tie.Need-answered-requires
 answered-requires c κs =
@@ -42,8 +42,10 @@ returns-2 c =
     let w = walked (r .before) in
     let t = r .answered .ensures in
     let p = w .put .ensures in
+    let l = lent (opened w) in
     let b = put-behind _ _ _ _ _ _ in
-    with-stands _ _ _ _ _ _ (call-told b (lent (opened w)) (p .0) (t .0) (t .1) (t .2)) (p .1 ∙ call-starts b (lent (opened w)) (p .0) _)
+    with-stands _ _ _ _ _ _ (call-told b l (p .0) (t .0) (t .1) (t .2)) (p .1 .0 ∙ call-starts b l (p .0) _)
+    (p .1 .1 ∙ call-written b l (p .0) _ _ _ _)
 
 pub put-spec : {M : Type 1} → statement M
 put-spec = tie.close (tie.spec (λ c κs. search needs) (λ c κs. search needs) returns (λ c κs. search needs) answered-requires (λ c. search needs)

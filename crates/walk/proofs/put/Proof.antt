@@ -9,6 +9,7 @@ use lib.Seq.{length-take-le}
 use Rattle.rules.specs.Numbers.{ALLOWANCE, SCRATCH}
 use Rattle.walk.specs.Entry.{TableRead, table-read, call-2, call-3, call-refused, call-done, sheet-refusal, plan-refusal, plan-values, all-read, planned}
 use Rattle.walk.specs.NewStarts.{walked-is, none-with, starts-whole}
+use Rattle.walk.specs.Bits.{none-set}
 use Rattle.walk.specs.PutEntry.{put-all-read, viewed, view-refused, put-sheet-refused, put-plan-refused, put-view-refused}
 use borrow.Author.Needs.{needs}
 use Rattle.walk.proofs.put.Statement.{statement}
@@ -41,12 +42,12 @@ table c = table-read _ (c .before .before .read-sheet .ensures) (c .if3 .left)
 returns : tie.Need-returns
 returns c =
     let e = c .refused .ensures in
-    (rw (walked-is _ e) (call-2 (c .before .if1 .taken)), none-with _ e _ _)
+    (rw (walked-is _ e) (call-2 (c .before .if1 .taken)), (none-with _ e _ _, none-set _ e _ _ _ _))
 
 returns-2 : tie.Need-returns-2
 returns-2 c =
     let e = c .refused2 .ensures in
-    (rw (walked-is _ e) (call-3 (omega (arith, c .before .before .if1 .left)) (c .before .if2 .taken)), none-with _ e _ _)
+    (rw (walked-is _ e) (call-3 (omega (arith, c .before .before .if1 .left)) (c .before .if2 .taken)), (none-with _ e _ _, none-set _ e _ _ _ _))
 
 returns-3 : tie.Need-returns-3
 returns-3 c =
@@ -54,7 +55,7 @@ returns-3 c =
     let h = room (s .before .before .before) in
     let e = c .refused3 .ensures in
     let no = put-sheet-refused _ _ _ _ (sheet-refusal _ (s .before .before .read-sheet .ensures) (s .if3 .taken)) in
-    (rw (walked-is _ e) (call-refused (h .0) (h .1) no), none-with _ e _ _)
+    (rw (walked-is _ e) (call-refused (h .0) (h .1) no), (none-with _ e _ _, none-set _ e _ _ _ _))
 
 returns-4 : tie.Need-returns-4
 returns-4 c =
@@ -64,7 +65,7 @@ returns-4 c =
     let t = table s in
     let e = c .refused4 .ensures in
     let no = put-plan-refused _ _ _ _ (t .read) (plan-refusal _ t (p .before .before .read-plan .ensures) (p .if4 .taken)) in
-    (rw (walked-is _ e) (call-refused (h .0) (h .1) no), none-with _ e _ _)
+    (rw (walked-is _ e) (call-refused (h .0) (h .1) no), (none-with _ e _ _, none-set _ e _ _ _ _))
 
 returns-5 : tie.Need-returns-5
 returns-5 c =
@@ -75,7 +76,7 @@ returns-5 c =
     let e = c .refused5 .ensures in
     let μ = plan-values _ t (p .before .before .read-plan .ensures) (p .if4 .left) .1 in
     let no = put-view-refused _ _ _ _ (t .read) μ (view-refused _ (v .before .read-view .ensures) (v .if5 .taken)) in
-    (rw (walked-is _ e) (call-refused (h .0) (h .1) no), none-with _ e _ _)
+    (rw (walked-is _ e) (call-refused (h .0) (h .1) no), (none-with _ e _ _, none-set _ e _ _ _ _))
 
 of-spans-requires : tie.Need-of-spans-requires
 of-spans-requires c κs = table (of-sheet (of-plan c)) .few
@@ -106,7 +107,7 @@ returns-6 c =
     let read = all-read (t .read) (plan-values _ t (p .before .before .read-plan .ensures) (p .if4 .left) .1) in
     let b = now (entry (lent (of-sheet p)) .args .arena) in (
       call-done (h .0) (h .1) (put-all-read read (viewed _ (v .before .read-view .ensures) (v .if5 .left))) (omega arith) (g .0),
-      g .1 ∙ starts-whole _ _ (omega arith) (g .0 .long ∙ length-take-le SCRATCH b (h .0)) (g .0 .says),
+      (g .1 .0 ∙ starts-whole _ _ (omega arith) (g .0 .long ∙ length-take-le SCRATCH b (h .0)) (g .0 .says), g .1 .1),
     )
 
 pub put-spec : {M : Type 1} → statement M

@@ -1,11 +1,12 @@
 -- `put_plan` meets its contract.
 -- Assumes nothing.
 use mathlib.Core.Bool.{false}
-use mathlib.Core.Path.{_≡_, sym, _∙_}
+use mathlib.Core.Path.{_≡_, refl, sym, _∙_}
 use Rattle.answer.specs.Answer.{isRefusal}
 use Rattle.walk.specs.Entry.{plan-fits}
 use Rattle.walk.specs.NewStarts.{walked-is, none-with}
-use Rattle.walk.specs.PutEntry.{few-variables, put-ready, put-placed, put-refused, put-done, put-starts}
+use Rattle.walk.specs.Bits.{none-set}
+use Rattle.walk.specs.PutEntry.{few-variables, put-ready, put-placed, put-refused, put-done, put-starts, put-written}
 use borrow.Author.Needs.{needs}
 use Rattle.walk.proofs.put_plan.Statement.{statement}
 use Rattle.walk.proofs.put_plan.Tie as tie
@@ -48,7 +49,7 @@ returns c =
     let e = c .refused .ensures in (
       rw (walked-is _ e) (put-refused (entry p .pre .0) (entry p .pre .1) (p .copy-in .ensures) (n .first-cells .ensures) (q .put-node .ensures .0)
           (sym (f .before .is-refused .ensures) ∙ f .if1 .taken) (c .before .code-of .ensures)),
-      none-with _ e _ _,
+      (none-with _ e _ _, none-set _ e _ _ _ _),
     )
 
 gather-requires : tie.Need-gather-requires
@@ -59,20 +60,28 @@ gather-requires c κs =
     let p = copied n in
     put-placed (entry p .pre .0) (entry p .pre .1) (p .copy-in .ensures) (n .first-cells .ensures) (q .put-node .ensures .0) (fine f)
 
+bits-of-requires : tie.Need-bits-of-requires
+bits-of-requires c κs =
+    let p = copied (made (was-put (c .before .before .before .before .before .before .before .before))) in
+    few-variables (entry p .pre .0) (entry p .pre .1)
+
 returns-2 : tie.Need-returns-2
 returns-2 c =
-    let g = c .before .before .before .before in
+    let t = c .before .before .before in
+    let g = t .before .before .before in
     let f = g .before .before .before in
     let q = was-put f in
     let n = made q in
     let p = copied n in
     let e = entry p .pre in (
-      put-done (e .0) (e .1) (p .copy-in .ensures) (n .first-cells .ensures) (q .put-node .ensures .0) (fine f) (g .gather .ensures)
-          (c .before .steps-of .ensures),
-      put-starts (e .0) (e .1) (p .copy-in .ensures) (n .first-cells .ensures) (q .put-node .ensures .0) (fine f) (g .gather .ensures) _,
+      put-done (e .0) (e .1) (p .copy-in .ensures) (n .first-cells .ensures) (q .put-node .ensures .0) (fine f) (g .gather .ensures) (t .steps-of .ensures),
+      (
+        put-starts (e .0) (e .1) (p .copy-in .ensures) (n .first-cells .ensures) (q .put-node .ensures .0) (fine f) (g .gather .ensures) _,
+        put-written (e .0) (e .1) (p .copy-in .ensures) (n .first-cells .ensures) (q .put-node .ensures .0) (fine f) (c .bits-of .ensures) refl _ _,
+      ),
     )
 
 pub put-plan-spec : {M : Type 1} → statement M
 put-plan-spec = tie.close (tie.spec copy-in-requires (λ c. search needs) first-cells-requires put-node-requires (λ c κs. search needs)
-    (λ c κs. search needs) (λ c κs. search needs) (λ c. returns c .0 .long) returns gather-requires (λ c κs. search needs)
+    (λ c κs. search needs) (λ c κs. search needs) (λ c. returns c .0 .long) returns gather-requires (λ c κs. search needs) bits-of-requires
     (λ c. returns-2 c .0 .long) returns-2)

@@ -11,7 +11,7 @@ returns : tie.Need-returns
 returns c =
     let refused = c .before .before in
     let told = refused .before .before in
-    ended-as (put-cut _ (told .before .before .fields-of .ensures) (told .enum-told .given .1)) (said (refused .refusal .ensures))
+    ended-as (put-cut _ _ (told .before .before .fields-of .ensures) (told .enum-told .given .1)) (said (refused .refusal .ensures))
 
 reply-line-requires : tie.Need-reply-line-requires
 reply-line-requires c κs = let w = c .before .before .before .before .put .ensures .0 in (reply-within (w .call), put-few w)
@@ -25,9 +25,9 @@ returns-2 c =
     let sheet = plan .before in
     let told = sheet .before .before in
     ended-as
-    (put-whole _ (told .before .before .fields-of .ensures) (told .allowance .given .1) (sheet .sheet-of .ensures) (plan .plan-of .ensures)
+    (put-whole _ _ (told .before .before .fields-of .ensures) (told .allowance .given .1) (sheet .sheet-of .ensures) (plan .plan-of .ensures)
     (view .view-of .ensures) (omega (arith, called .before .before .put-arg .given)) (omega (arith, called .before .put-arg2 .given)))
-    (ended-put (called .put .ensures .0) (line .reply-line .ensures))
+    (ended-put _ (called .put .ensures .0) (line .reply-line .ensures))
 
 pub put-line-spec : {M : Type 1} → statement M
 put-line-spec = tie.close (tie.spec (λ c κs. search needs) (λ c. search needs) (λ c. search needs) (λ c κs. search needs) (λ c. search needs) returns

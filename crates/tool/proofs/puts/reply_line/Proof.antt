@@ -1,14 +1,14 @@
 -- `reply_line` meets its contract: a case for each case of the reply. Assumes nothing.
 use borrow.Author.Needs.{needs}
-use mathlib.Core.List.{[], _∷_, map}
+use mathlib.Core.List.{[], _∷_}
 use mathlib.Core.Path.{sym}
 use lib.ListN.{take}
 use lib.Seq.{length-take-le}
-use Rattle.starts.specs.Starts.{numbers}
 use Rattle.report.specs.Text.{decimalOf, hexOf}
 use Rattle.report.specs.TextLaws.{wrote-words, wrote-ok}
 use Rattle.report.specs.Writing.{wrote-text}
 use Rattle.job.specs.LineLaws.{within-done}
+use Rattle.tool.specs.Line.{besides}
 use Rattle.tool.specs.Told.{line-refused, line-done}
 use Rattle.tool.proofs.puts.reply_line.Statement.{statement}
 use Rattle.tool.proofs.puts.reply_line.Tie as tie
@@ -35,24 +35,24 @@ returns c =
     let said = c .before .before in
     let told = said .before .before .before in
     let a = told .before .before .before .before .args in
-    wrote-text (said .refusal .ensures) (line-refused (a .starts) (a .out .now) (told .reply .given .1))
+    wrote-text (said .refusal .ensures) (line-refused (besides (a .bits) (a .starts) (a .written)) (a .out .now) (told .reply .given .1))
 
 returns-2 : tie.Need-returns-2
 returns-2 c =
     let feed = c .before .before in
-    let starts = feed .before .before .before .before in
-    let plan = starts .before .before .before .before in
+    let behind = feed .before .before .before .before in
+    let plan = behind .before .before .before .before in
     let steps = plan .before .before .before .before .before in
     let told = done steps in
     let a = entry told .args in
     let n = decimalOf (told .reply2 .given .0 .1 .0) in
     let p = hexOf (take (told .reply2 .given .0 .0) (a .out .now)) in
-    let s = map decimalOf (numbers (a .starts)) in
+    let s = besides (a .bits) (a .starts) (a .written) in
     wrote-text
     (wrote-ok (n ∷ p ∷ s) (worded steps .bytes .ensures)
-    (wrote-words (n ∷ []) (p ∷ s) (steps .decimal-word .ensures) (wrote-words (p ∷ []) s (plan .hex-word .ensures) (starts .start-words .ensures)))
+    (wrote-words (n ∷ []) (p ∷ s) (steps .decimal-word .ensures) (wrote-words (p ∷ []) s (plan .hex-word .ensures) (behind .besides-words .ensures)))
     (feed .byte .ensures))
-    (line-done (a .starts) (a .out .now) (told .reply2 .given .1))
+    (line-done s (a .out .now) (told .reply2 .given .1))
 
 pub reply-line-spec : {M : Type 1} → statement M
 reply-line-spec = tie.close (tie.spec (λ c. search needs) (λ c. search needs) (λ c κs. search needs) (λ c. search needs) (λ c. search needs)
