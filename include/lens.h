@@ -1,4 +1,5 @@
-/* Gabqweshi's archive (rt staticlib lens): one sheet of rules, read both ways, and the values of a plan found by their number.
+/* Gabqweshi's archive (rt staticlib lens): one sheet of rules, read both ways, the values of a plan found by their number, and why a
+ * reading is refused.
  *
  *   lens_get          a plan to its list (the "view")
  *   lens_put          the old plan and an edited list to the new plan
@@ -6,13 +7,15 @@
  *   lens_put_written  the same, and which variables of the plan were written
  *   lens_load         where the values of a plan start
  *   lens_find         where the value of a variable stands, by those starts
+ *   lens_why_get      why lens_get refuses: the node, and the way to it from the root
+ *   lens_why_put      why lens_put refuses
  *
  * Bytes of sheets, plans and lists, and what each refusal means, are in docs/SHEETS.md.
  *
  * No function allocates, keeps a pointer, or touches anything but what it is lent to write to (output, scratch, starts, *written,
- * *start and *end), so threads may call all of them at once with buffers of their own. Every pointer must be good for the length behind it (starts:
- * for LENS_STARTS_MAX numbers) and must not be NULL, also where the length is 0. No two buffers that are written to may overlap, nor one
- * of them and an input. No byte of an input is ever changed.
+ * *start and *end, chain), so threads may call all of them at once with buffers of their own. Every pointer must be good for the length
+ * behind it (starts: for LENS_STARTS_MAX numbers; chain: for LENS_CHAIN_MAX bytes) and must not be NULL, also where the length is 0. No two
+ * buffers that are written to may overlap, nor one of them and an input. No byte of an input is ever changed.
  */
 #ifndef LENS_H
 #define LENS_H
@@ -30,6 +33,7 @@ extern "C" {
 #define LENS_SCRATCH 65536u       /* bytes of scratch for each of them */
 #define LENS_ALLOWANCE_MAX 1000000u /* the most steps that may be allowed; the least is 1 */
 #define LENS_STARTS_MAX 16u       /* the most values of a plan: starts are an array of so many numbers, always */
+#define LENS_CHAIN_MAX 49u        /* the most nodes of a chain: 48 entered, and one that is too deep; chain has so many bytes, always */
 
 /* The most bytes of stack that a call takes: measured on the deepest jobs (rust/tests/stack), not proved, and rounded up to a page. A
  * thread needs this much free when it calls. */
@@ -71,6 +75,22 @@ uint64_t lens_load(const uint8_t *sheet, size_t sheet_len, const uint8_t *plan, 
  * are plan[*start] to plan[*end - 1]. No plan is read. The answer is the refusal's number alone: LENS_STARTS, then LENS_VARIABLE. */
 uint8_t lens_find(const uint16_t starts[LENS_STARTS_MAX], size_t count, size_t plan_len, size_t variable, size_t *start, size_t *end);
 
+/* Why lens_get, or lens_put, refuses: the same refusal, first one first, but no output is asked for, so that LENS_OUTPUT_SMALL is never
+ * met. A refusal that is met in the walk (40 and up) is met at a node: of LENS_DEPTH and LENS_SPENT the node that could not be entered, of
+ * any other the one whose own rule refuses. chain then has the nodes from the root down to that one: each is a child of the one before it,
+ * or the root of the section that this one calls. */
+uint64_t lens_why_get(const uint8_t *sheet, size_t sheet_len, const uint8_t *plan, size_t plan_len, uint32_t allowance,
+                      uint8_t *scratch, size_t scratch_len, uint8_t chain[LENS_CHAIN_MAX]);
+
+uint64_t lens_why_put(const uint8_t *sheet, size_t sheet_len, const uint8_t *plan, size_t plan_len, const uint8_t *view,
+                      size_t view_len, uint32_t allowance, uint8_t *scratch, size_t scratch_len, uint8_t chain[LENS_CHAIN_MAX]);
+
+/* The answer of these two taken apart: the refusal's number in the low 8 bits (LENS_NUMBER; LENS_OK: nothing is refused), how many nodes
+ * chain has in the next 8, and for LENS_CLASH one more than the node that wrote the variable first in the next 16. A success and a refusal
+ * from before the walk have no node, and both are 0. */
+#define LENS_CHAIN_LENGTH(answer) ((size_t)(((answer) >> 8) & 0xFFu))
+#define LENS_FIRST(answer) ((int)(((answer) >> 16) & 0xFFFFu) - 1) /* the node that wrote first; -1: none */
+
 /* What the buffers hold afterwards:
  *
  *               success                                  refusals 1 to 3    every other refusal
@@ -83,6 +103,8 @@ uint8_t lens_find(const uint16_t starts[LENS_STARTS_MAX], size_t count, size_t p
  *   *written    the bits of the variables written         as before          as before
  *   *start,     where the value stands                                       as before
  *   *end
+ *   chain       all 0                                     all 0              LENS_CHAIN_LENGTH nodes at its front,
+ *                                                                            the bytes behind them 0
  *
  * After a put that succeeds, the get of the new plan under the same sheet and allowance succeeds, gives exactly the list, and
  * takes no more steps. After a get of n steps with 48 n <= LENS_ALLOWANCE_MAX, the put of its list under every allowance from 48 n

@@ -1,5 +1,5 @@
 //! One sheet of rules for a venue, read both ways: forwards it gives the list from the plan, backwards the new plan from the old plan
-//! and the edited list. And the values of a plan, found by their number.
+//! and the edited list. The values of a plan are found by their number, and where a reading is refused, it is told at which node and why.
 //!
 //! The work is done by an archive that is proved to follow the definitions of sheets, whose manual is `docs/SHEETS.md`; this crate lends it
 //! its buffers and turns its answers into Rust. Four laws are proved of those answers:
@@ -49,9 +49,11 @@
 mod plan;
 pub mod raw;
 mod refusal;
+mod why;
 
 pub use plan::{Plan, Starts};
 pub use refusal::Refusal;
+pub use why::Explanation;
 
 /// The largest allowance; the least is 1.
 pub const ALLOWANCE_MAX: u32 = 1_000_000;

@@ -6,10 +6,12 @@
 pub const GET_OUT: usize = 256;
 /// Bytes of output that a put asks for.
 pub const PUT_OUT: usize = 4096;
-/// Bytes of scratch that get and put ask for.
+/// Bytes of scratch that get and put ask for, and those that tell why they refuse.
 pub const SCRATCH: usize = 65_536;
 /// The most values of a plan: starts are an array of so many numbers.
 pub const STARTS_MAX: usize = 16;
+/// The most nodes of a chain: 48 that a walk can be in, and one that it could not enter.
+pub const CHAIN_MAX: usize = 49;
 /// The most bytes of stack that a call takes, measured on the deepest jobs (`tests/stack`) and rounded up.
 pub const STACK: usize = 204_800;
 
@@ -36,6 +38,27 @@ impl Answer {
     /// The nodes entered.
     pub fn steps(self) -> u32 {
         (self.0 >> 32) as u32
+    }
+}
+
+/// The archive's answer to why a get or a put is refused. What there is not is 0.
+#[derive(Clone, Copy, Debug, PartialEq, Eq)]
+pub struct WhyAnswer(pub u64);
+
+impl WhyAnswer {
+    /// The refusal's number; 0 where nothing is refused.
+    pub fn number(self) -> u8 {
+        self.0 as u8
+    }
+
+    /// How many nodes at the front of the chain lead from the root to the one where it was met.
+    pub fn depth(self) -> usize {
+        (self.0 >> 8 & 0xFF) as usize
+    }
+
+    /// The node that wrote the variable first, of 54.
+    pub fn first(self) -> Option<u8> {
+        ((self.0 >> 16) as u16).checked_sub(1).map(|node| node as u8)
     }
 }
 
@@ -96,6 +119,30 @@ mod archive {
             scratch_len: usize,
             starts: *mut u16,
             written: *mut u16,
+        ) -> u64;
+
+        pub fn lens_why_get(
+            sheet: *const u8,
+            sheet_len: usize,
+            plan: *const u8,
+            plan_len: usize,
+            allowance: u32,
+            scratch: *mut u8,
+            scratch_len: usize,
+            chain: *mut u8,
+        ) -> u64;
+
+        pub fn lens_why_put(
+            sheet: *const u8,
+            sheet_len: usize,
+            plan: *const u8,
+            plan_len: usize,
+            view: *const u8,
+            view_len: usize,
+            allowance: u32,
+            scratch: *mut u8,
+            scratch_len: usize,
+            chain: *mut u8,
         ) -> u64;
 
         pub fn lens_load(sheet: *const u8, sheet_len: usize, plan: *const u8, plan_len: usize, starts: *mut u16) -> u64;
@@ -207,6 +254,49 @@ pub fn put_written(
             scratch.len(),
             starts.as_mut_ptr(),
             written,
+        )
+    })
+}
+
+/// Tells why [`get`] refuses: the nodes down to the one where it was met are at the front of `chain`.
+pub fn why_get(sheet: &[u8], plan: &[u8], allowance: u32, scratch: &mut [u8], chain: &mut [u8; CHAIN_MAX]) -> WhyAnswer {
+    // Safety: as in `get`; the chain is as many bytes as the archive may write.
+    WhyAnswer(unsafe {
+        archive::lens_why_get(
+            sheet.as_ptr(),
+            sheet.len(),
+            plan.as_ptr(),
+            plan.len(),
+            allowance,
+            scratch.as_mut_ptr(),
+            scratch.len(),
+            chain.as_mut_ptr(),
+        )
+    })
+}
+
+/// Tells why [`put`] refuses, likewise.
+pub fn why_put(
+    sheet: &[u8],
+    plan: &[u8],
+    view: &[u8],
+    allowance: u32,
+    scratch: &mut [u8],
+    chain: &mut [u8; CHAIN_MAX],
+) -> WhyAnswer {
+    // Safety: as in `why_get`.
+    WhyAnswer(unsafe {
+        archive::lens_why_put(
+            sheet.as_ptr(),
+            sheet.len(),
+            plan.as_ptr(),
+            plan.len(),
+            view.as_ptr(),
+            view.len(),
+            allowance,
+            scratch.as_mut_ptr(),
+            scratch.len(),
+            chain.as_mut_ptr(),
         )
     })
 }

@@ -1,6 +1,6 @@
 //! The safe API beyond the examples of its documentation.
 
-use lens::{Buffers, Plan, Refusal, Sheet, Starts, ALLOWANCE_MAX};
+use lens::{Buffers, Explanation, Plan, Refusal, Sheet, Starts, ALLOWANCE_MAX};
 
 const WRAP: Sheet = Sheet::new(&[0x01, 0x01, 0x00, 0x15, 0x01, 0x02, 0x10, 0x00, 0x13]);
 
@@ -142,4 +142,33 @@ fn damaged_starts_are_held_and_refused() {
     assert_ne!(Starts::new(&many[..16]), Starts::new(&many[..17]));
     assert_eq!(Starts::new(&many[..16]).find(16, 15), Ok(15..16));
     assert_eq!(Starts::new(&[0, 9]).find(usize::MAX, 1), Ok(9..usize::MAX));
+}
+
+#[test]
+fn why_it_is_refused() {
+    let mut buffers = Buffers::new();
+    for _ in 0..2 {
+        assert_eq!(buffers.why_get(WRAP, &[0x00], 3), None);
+        assert_eq!(buffers.why_put(WRAP, &[0x00], &[0x03, 0x01, 0x02], 1000), None);
+        let constant = buffers.why_put(WRAP, &[0x00], &[0x03, 0x01, 0x03, 0x01, 0x02], 1000).unwrap();
+        assert_eq!((constant.refusal, constant.node(), constant.depth()), (Refusal::CONSTANT, Some(2), 2));
+        assert_eq!((&constant.chain[..], constant.first), (&[0, 2][..], None));
+    }
+    // From before the walk: the number alone.
+    for (allowance, plan, refusal) in [(0, &[0x00][..], Refusal::ALLOWANCE_RANGE), (1, &[], Refusal::PLAN_COUNT)] {
+        let early = Explanation { refusal, chain: Vec::new(), first: None };
+        assert_eq!((early.node(), early.depth()), (None, 0));
+        assert_eq!(WRAP.why_get(plan, allowance), Some(early.clone()));
+        assert_eq!(WRAP.why_put(plan, &[0x02], allowance), Some(early));
+    }
+}
+
+/// A call of a section that calls itself.
+const LOOP: Sheet = Sheet::new(&[0x01, 0x01, 0x00, 0x20, 0x00, 0x1A, 0x00, 0x00, 0x00]);
+
+#[test]
+fn the_longest_chain() {
+    for why in [LOOP.why_get(&[0x00], ALLOWANCE_MAX), LOOP.why_put(&[0x00], &[0x00], ALLOWANCE_MAX)] {
+        assert_eq!(why, Some(Explanation { refusal: Refusal::DEPTH, chain: vec![0; 49], first: None }));
+    }
 }

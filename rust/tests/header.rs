@@ -28,6 +28,7 @@ fn the_header_has_the_same_numbers() {
         ("PUT_OUT", raw::PUT_OUT),
         ("SCRATCH", raw::SCRATCH),
         ("STARTS_MAX", raw::STARTS_MAX),
+        ("CHAIN_MAX", raw::CHAIN_MAX),
         ("STACK", raw::STACK),
         ("ALLOWANCE_MAX", ALLOWANCE_MAX as usize),
     ];

@@ -6,6 +6,7 @@ use lens::{raw, Plan, Refusal, Sheet, Starts};
 use reference::job::{self, Job};
 use reference::tool::{self, Given, Tool};
 use reference::vectors::{check_jobs, check_tools};
+use reference::why::Explanation;
 
 #[test]
 fn jobs_of_a_file() {
@@ -33,6 +34,17 @@ fn run_tool(tool: &Tool) -> Result<Given, Refusal> {
                 return Ok(Given::Written { steps: put.steps, written: put.bits, plan: put.plan });
             }
             Ok(Given::Put { steps: put.steps, starts: put.starts.numbers().to_vec(), plan: put.plan })
+        }
+        Tool::Why(Job { sheet, plan, view, allowance }) => {
+            let sheet = Sheet::new(sheet);
+            let explanation = match view {
+                None => sheet.why_get(plan, *allowance),
+                Some(view) => sheet.why_put(plan, view, *allowance),
+            };
+            Ok(Given::Why(
+                explanation
+                    .map_or(Ok(()), |why| Err(Explanation { refusal: why.refusal.number(), chain: why.chain, first: why.first })),
+            ))
         }
     }
 }

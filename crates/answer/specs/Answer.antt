@@ -1,30 +1,17 @@
--- The answer of a get or a put as one number, and what it says.
-use mathlib.Core.Path.{_≡_, refl, ap, _∙_}
+-- The answer of a get or a put as one number.
+use mathlib.Core.Path.{_≡_, ap, _∙_}
 use mathlib.Core.Bool.{Bool, true, false}
-use Prim.Native.Nat.{ℕ, _+_, _*_, _/_, _%_, _≤_, _<_}
+use Prim.Native.Nat.{ℕ, suc, _+_, _*_, _/_, _%_, _≤_, _<_}
 use native.Mathlib.Omega.{arith}
 use lib.Dec.{ltb}
 use borrow.Author.Tests.{lt-ltb, le-ltb}
 
--- what an answer says: a value that starts there and is so long, or nothing where a view was put back, and the steps taken; or a refusal
-pub data Said : Type 0 where
-  Done : (start len steps : ℕ) → Said
-  Refused : ℕ → Said
-
--- the same where n steps more were taken before
-unfoldable pub after : ℕ → Said → Said
-after n (Done start len steps) = Done start len (n + steps)
-after n (Refused c) = Refused c
-
-pub after-twice : (m n : ℕ) (p : Said) → after m (after n p) ≡ after (m + n) p
-unfolding after
-after-twice m n (Done start len steps) = ap (Done start len) (omega arith)
-after-twice m n (Refused c) = refl
-
--- THE NUMBER
-
 unfoldable pub doneAs : (start len steps : ℕ) → ℕ
 doneAs start len steps = 256 * (len % 65536) + 16777216 * (start % 65536) + 1099511627776 * (steps % 16777216)
+
+-- a refusal for the sake of what the node n wrote
+unfoldable pub refusedBy : (code n : ℕ) → ℕ
+refusedBy code n = code + 16777216 * suc n
 
 unfoldable pub codeOf : ℕ → ℕ
 codeOf a = a % 256
@@ -41,6 +28,10 @@ startOf a = (a / 16777216) % 65536
 unfoldable pub stepsOf : ℕ → ℕ
 stepsOf a = (a / 1099511627776) % 16777216
 
+-- a refusal with one node more in its chain
+unfoldable pub deeperAs : ℕ → ℕ
+deeperAs a = codeOf a + 256 * ((lenOf a + 1) % 65536) + 16777216 * startOf a
+
 unfoldable laterBy : Bool → ℕ → ℕ → ℕ
 laterBy true a n = a
 laterBy false a n = doneAs (startOf a) (lenOf a) (n % 16777216 + stepsOf a)
@@ -48,15 +39,6 @@ laterBy false a n = doneAs (startOf a) (lenOf a) (n % 16777216 + stepsOf a)
 unfoldable pub laterAs : ℕ → ℕ → ℕ
 unfolding laterBy
 laterAs a n = laterBy (isRefusal a) a n
-
-unfoldable told : Bool → ℕ → Said
-told true a = Refused (codeOf a)
-told false a = Done (startOf a) (lenOf a) (stepsOf a)
-
--- what it says
-unfoldable pub said : ℕ → Said
-unfolding told
-said a = told (isRefusal a) a
 
 -- LAWS
 
@@ -72,21 +54,42 @@ pub steps-small : (a : ℕ) → stepsOf a < 16777216
 unfolding stepsOf
 steps-small a = omega arith
 
--- a refusal, and a success
-pub said-refused : (a : ℕ) → isRefusal a ≡ true → said a ≡ Refused (codeOf a)
-unfolding said told
-said-refused a e = ap (λ (q : Bool). told q a) e
+-- a refusal that is made: none of its chain, and no node that wrote
+pub small-refusal : {a : ℕ} → 1 ≤ a → a < 256 → (isRefusal a ≡ true) × (codeOf a ≡ a) × (lenOf a ≡ 0) × (startOf a ≡ 0)
+unfolding isRefusal codeOf lenOf startOf
+small-refusal {a} some few = (lt-ltb 0 (a % 256) (omega arith), omega arith, omega arith, omega arith)
 
-pub said-done : (a : ℕ) → isRefusal a ≡ false → said a ≡ Done (startOf a) (lenOf a) (stepsOf a)
-unfolding said told
-said-done a e = ap (λ (q : Bool). told q a) e
+-- or one for the sake of what a node wrote
+pub refusal-by : {c n : ℕ} → 1 ≤ c → c < 256 → n < 256
+    → (isRefusal (refusedBy c n) ≡ true) × (codeOf (refusedBy c n) ≡ c) × (lenOf (refusedBy c n) ≡ 0) × (startOf (refusedBy c n) ≡ suc n)
+unfolding refusedBy isRefusal codeOf lenOf startOf
+refusal-by {c} {n} some few h = (lt-ltb 0 ((c + 16777216 * suc n) % 256) (omega arith), omega arith, omega arith, omega arith)
 
--- a refusal that is made
-pub refused-said : {a : ℕ} → 1 ≤ a → a < 256 → said a ≡ Refused a
-unfolding said told isRefusal codeOf
-refused-said {a} some few =
-    let z : a % 256 ≡ a = omega arith in
-    ap (λ (q : Bool). told q a) (lt-ltb 0 (a % 256) (omega arith)) ∙ ap Refused z
+-- a refusal with one node more
+nodes-made : (a n s : ℕ) → s < 65536 → n < 65535 → lenOf (a % 256 + 256 * ((n + 1) % 65536) + 16777216 * s) ≡ suc n
+unfolding lenOf
+nodes-made a n s small few = omega arith
+
+first-made : (a n s : ℕ) → s < 65536 → startOf (a % 256 + 256 * ((n + 1) % 65536) + 16777216 * s) ≡ s
+unfolding startOf
+first-made a n s small = omega arith
+
+module _ (a : ℕ) where
+  code-deeper : codeOf (deeperAs a) ≡ codeOf a
+  unfolding codeOf deeperAs
+  code-deeper = omega arith
+
+  pub deeper-refusal : isRefusal a ≡ true → (isRefusal (deeperAs a) ≡ true) × (codeOf (deeperAs a) ≡ codeOf a)
+  unfolding isRefusal codeOf
+  deeper-refusal e = (ap (ltb 0) code-deeper ∙ e, code-deeper)
+
+  pub deeper-nodes : lenOf a < 65535 → lenOf (deeperAs a) ≡ suc (lenOf a)
+  unfolding deeperAs codeOf
+  deeper-nodes h = nodes-made a (lenOf a) (startOf a) (start-small a) h
+
+  pub deeper-first : startOf (deeperAs a) ≡ startOf a
+  unfolding deeperAs codeOf
+  deeper-first = first-made a (lenOf a) (startOf a) (start-small a)
 
 -- a success that is made
 module _ (start len steps : ℕ) where
@@ -94,25 +97,22 @@ module _ (start len steps : ℕ) where
   unfolding codeOf doneAs
   code-done = omega arith
 
-  done-there : isRefusal (doneAs start len steps) ≡ false
+  pub done-there : isRefusal (doneAs start len steps) ≡ false
   unfolding isRefusal codeOf
   done-there = let z = code-done in le-ltb 0 (doneAs start len steps % 256) (omega arith)
 
   module _ (h : start < 65536) (k : len < 65536) (few : steps < 16777216) where
-    len-done : lenOf (doneAs start len steps) ≡ len
+    pub len-done : lenOf (doneAs start len steps) ≡ len
     unfolding lenOf doneAs
     len-done = omega arith
 
-    start-done : startOf (doneAs start len steps) ≡ start
+    pub start-done : startOf (doneAs start len steps) ≡ start
     unfolding startOf doneAs
     start-done = omega arith
 
-    steps-done : stepsOf (doneAs start len steps) ≡ steps
+    pub steps-done : stepsOf (doneAs start len steps) ≡ steps
     unfolding stepsOf doneAs
     steps-done = omega arith
-
-    pub done-said : said (doneAs start len steps) ≡ Done start len steps
-    done-said = said-done (doneAs start len steps) done-there ∙ rw (start-done, len-done, steps-done)
 
 -- what `later` answers
 module _ (a n : ℕ) where
@@ -123,18 +123,6 @@ module _ (a n : ℕ) where
   pub later-done : isRefusal a ≡ false → laterAs a n ≡ doneAs (startOf a) (lenOf a) (n % 16777216 + stepsOf a)
   unfolding laterAs laterBy
   later-done e = ap (λ (q : Bool). laterBy q a n) e
-
-  -- and what that says
-  pub later-said : (isRefusal a ≡ false → n + stepsOf a < 16777216) → said (laterAs a n) ≡ after n (said a)
-  unfolding after
-  later-said few = go (isRefusal a) refl
-    where
-      go : (p : Bool) → isRefusal a ≡ p → said (laterAs a n) ≡ after n (said a)
-      go true e = rw (later-refused e, said-refused a e)
-      go false e =
-          let few′ = few e in
-          let z : n % 16777216 ≡ n = omega arith in
-          rw (later-done e, said-done a e, z) (done-said (startOf a) (lenOf a) (n + stepsOf a) (start-small a) (len-small a) few′)
 
 -- after as many steps, by another name
 pub later-as : (a : ℕ) {n m r : ℕ} → n ≡ m → r ≡ laterAs a n → r ≡ laterAs a m

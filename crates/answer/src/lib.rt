@@ -1,8 +1,9 @@
 //! What a get or a put answers within a walk: one number, which a register holds. Its low byte is the refusal's number, or 0 for a
 //! success; then the length of the value that was got (16 bits), where it starts (16 bits) and the steps taken (24 bits) stand above it.
-//! A put that succeeds has got nothing: length and start are 0. Above the low byte of a refusal there is room for where it was met.
+//! A put that succeeds has got nothing: length and start are 0. In the length's place a refusal has how many nodes its chain has, and in the
+//! start's, one more than the number of the node that wrote first, or 0.
 ghost use mathlib.Core.Path.{_≡_};
-ghost use Rattle.answer.specs.Answer.{doneAs, isRefusal, codeOf, lenOf, startOf, stepsOf, laterAs};
+ghost use Rattle.answer.specs.Answer.{doneAs, refusedBy, isRefusal, codeOf, lenOf, startOf, stepsOf, deeperAs, laterAs};
 
 const LEN: usize = 256;
 
@@ -22,6 +23,13 @@ pub fn refused(code: u8) -> usize
     ensures { λ r. ⌜ r ≡ code ⌝ }
 {
     code as usize
+}
+
+/// A refusal, by its number, which is not 0, for the sake of what the node `first` wrote.
+pub fn refused_by(code: u8, first: u8) -> usize
+    ensures { λ r. ⌜ r ≡ refusedBy code first ⌝ }
+{
+    code as usize + START * (first as usize + 1)
 }
 
 /// Whether an answer is a refusal.
@@ -57,6 +65,14 @@ pub fn steps_of(answer: usize) -> usize
     ensures { λ r. ⌜ r ≡ stepsOf answer ⌝ }
 {
     (answer / STEPS) % 16777216
+}
+
+/// A refusal with one node more in its chain.
+pub fn deeper(answer: usize) -> usize
+    ensures { λ r. ⌜ r ≡ deeperAs answer ⌝ }
+{
+    let nodes = (len_of(answer) + 1) % 65536;
+    answer % LEN + LEN * nodes + START * start_of(answer)
 }
 
 /// The same answer where `n` steps more were taken before; a refusal is as it was.

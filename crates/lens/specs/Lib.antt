@@ -9,3 +9,6 @@ pub mod Packing
 pub mod HandedOut
 pub mod StartsLaws
 pub mod WrittenLaws
+pub mod Whys
+pub mod WhyCalls
+pub mod WhyLaws

@@ -1,18 +1,24 @@
-//! The calls for other languages: a slice is a pointer and a length, 16 starts and a number of bits are pointers, and the answer is one number.
+//! The calls for other languages: a slice is a pointer and a length, 16 starts, 49 nodes and a number of bits are pointers, and the answer is
+//! one number.
 ghost use mathlib.Core.Bool.{cond};
 ghost use mathlib.Core.Path.{_≡_};
 ghost use Prim.Native.Nat.{_+_, _*_, _%_, _^_, _≤_, _<_};
 ghost use lib.Dec.{eqb};
 ghost use lib.ListN.{length};
 ghost use Rattle.rules.specs.Answer.{getAnswer, putAnswer};
+ghost use Rattle.rules.specs.Explanation.{whyGet, whyPut};
 ghost use Rattle.rules.specs.Written.{putWritten};
 ghost use Rattle.lens.specs.Packing.{packedReply, unpacked, Small, Packed};
 ghost use Rattle.lens.specs.Trips.{Stands, Unmoved};
 ghost use Rattle.lens.specs.HandedOut.{handedOut, writtenOr, PackedPut, PackedLoad, Lookup};
+ghost use Rattle.lens.specs.Whys.{WhyPacked, WhyHanded};
 ghost use Rattle.starts.specs.Starts.{loadOf, findOf};
 use crate::Reply;
+use crate::buffers::copy_out;
 use crate::get;
 use crate::put;
+use crate::why::why_get;
+use crate::why::why_put;
 use starts::Found;
 use starts::Starts;
 
@@ -179,4 +185,47 @@ pub extern "C" fn lens_find(
             0
         }
     }
+}
+
+// Where a refusal was met, in one number: the refusal in the low 8 bits, the depth in the next 8, one more than the node that wrote first
+// in the next 16.
+fn pack_why(refusal: u8, depth: u8, first: u16) -> u64
+    ensures { λ r. ⌜ WhyPacked refusal depth first r ⌝ }
+{
+    (refusal as u64) + 256 * (depth as u64) + 65536 * (first as u64)
+}
+
+/// `why_get` for C: the nodes of the chain in `chain`, zeros behind them.
+#[no_mangle]
+pub extern "C" fn lens_why_get(
+    sheet: &[u8],
+    plan: &[u8],
+    allowance: u32,
+    scratch: &mut [u8],
+    chain: &mut [u8; 49],
+) -> u64
+    ensures { λ r. ⌜ WhyHanded (whyGet (now (sheet .entry)) (now (plan .entry)) allowance (length (now (scratch .entry)))) r (now (scratch .entry)) (now (scratch .exit)) (now (chain .exit)) ⌝ }
+{
+    let why = why_get(sheet, plan, allowance, scratch);
+    let nodes = why.chain;
+    copy_out(&nodes, 0, 49, chain, 0);
+    pack_why(why.refusal, why.depth, why.first)
+}
+
+/// `why_put` for C, likewise.
+#[no_mangle]
+pub extern "C" fn lens_why_put(
+    sheet: &[u8],
+    plan: &[u8],
+    view: &[u8],
+    allowance: u32,
+    scratch: &mut [u8],
+    chain: &mut [u8; 49],
+) -> u64
+    ensures { λ r. ⌜ WhyHanded (whyPut (now (sheet .entry)) (now (plan .entry)) (now (view .entry)) allowance (length (now (scratch .entry)))) r (now (scratch .entry)) (now (scratch .exit)) (now (chain .exit)) ⌝ }
+{
+    let why = why_put(sheet, plan, view, allowance, scratch);
+    let nodes = why.chain;
+    copy_out(&nodes, 0, 49, chain, 0);
+    pack_why(why.refusal, why.depth, why.first)
 }

@@ -1,4 +1,4 @@
-//! What callers call: get and put on lent buffers.
+//! What callers call: get and put on lent buffers, and why they are refused.
 ghost use mathlib.Core.Path.{_≡_};
 ghost use Prim.Native.Nat.{_+_, _≤_};
 ghost use lib.ListN.{length, drop};
@@ -13,6 +13,7 @@ ghost use Rattle.lens.specs.Trips.{Stands, Unmoved};
 
 mod buffers;
 mod exports;
+mod why;
 
 use crate::buffers::clear;
 use crate::buffers::copy_out;
@@ -22,8 +23,13 @@ pub use exports::lens_load;
 pub use exports::lens_put;
 pub use exports::lens_put_starts;
 pub use exports::lens_put_written;
+pub use exports::lens_why_get;
+pub use exports::lens_why_put;
 use starts::Starts;
 use walk::Walked;
+pub use why::Explanation;
+pub use why::why_get;
+pub use why::why_put;
 
 /// What a call answers: the length of the output and the steps taken, or a refusal's number in document 01's table.
 pub enum Reply {
@@ -101,7 +107,8 @@ pub fn get(sheet: &[u8], plan: &[u8], allowance: u32, out: &mut [u8], scratch: &
     if refusal != 0 {
         return Reply::Refused(refusal);
     }
-    let walked = walk::get(sheet, plan, steps_allowed, scratch);
+    let got = walk::get(sheet, plan, steps_allowed, scratch);
+    let walked = got.walked;
     answered(walked, out, scratch)
 }
 

@@ -137,7 +137,7 @@ decimal-length = by-digits (λ n. (k : ℕ) → n < 10 ^ suc k → length (decim
 
 -- WORDS
 
-words-append : (ws vs : List (List ℕ)) → words (ws ++ vs) ≡ words ws ++ words vs
+pub words-append : (ws vs : List (List ℕ)) → words (ws ++ vs) ≡ words ws ++ words vs
 unfolding words
 words-append [] vs = refl
 words-append (w ∷ ws) vs = rw (words-append ws vs, append-assoc w (words ws) (words vs))

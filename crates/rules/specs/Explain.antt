@@ -51,6 +51,10 @@ module _ {A : Type 0} where
   choice (no p) (yes q) x y = y
   choice (no p) (no q) x y = λ _. met (own 53 none) 0
 
+-- with so many steps left
+abbrev pub within : {A : Type 0} → ℕ → Explained A → Told A
+within left m = m left
+
 module _ {A B : Type 0} where
   unfoldable pub follow : Told A → (A → ℕ → Told B) → Told B
   follow (got a s) k = more s (k a s)
@@ -83,6 +87,21 @@ explaining = record {
   clash = λ w. wanted (own 54 (some (w .by)));
 }
 
+-- THE TEXT in this reading, and what it is made of, by the names that they have there
+
+infixl 20 _>>=_
+abbrev pub give : {A : Type 0} → A → Explained A
+give a = explaining .give a
+
+abbrev pub _>>=_ : {A B : Type 0} → Explained A → (A → Explained B) → Explained B
+m >>= f = next m f
+
+abbrev pub given : {A B : Type 0} → ℕ → Option A → (A → Explained B) → Explained B
+given c o f = wanted (own c none) o f
+
+abbrev pub choose : {A P Q : Type 0} → Dec P → Dec Q → Explained A → Explained A → Explained A
+choose p q x y = choice p q x y
+
 abbrev pub Cells : Type 0
 Cells = Text.Cells explaining
 
@@ -112,6 +131,9 @@ orOld = Text.orOld explaining
 
 abbrev pub constant : Value → Value → Cells → Explained Cells
 constant = Text.constant explaining
+
+abbrev pub write : ℕ → ℕ → Value → Cells → Option Cell → Explained Cells
+write n = Text.write explaining (explaining .mark n)
 
 abbrev pub both : Putter → Env → List ℕ → Cells → ℕ → Value → ℕ → Value → Explained Cells
 both = Text.both explaining

@@ -113,18 +113,19 @@ bounded-erases : (v : Value) → Erases same-value (Text.bounded explaining v) (
 unfolding Text.bounded
 bounded-erases v = asked 44 _ _ λ _. erases-give v
 
-tested-erases : (t : ℕ) {m : Explained Value} {o : Out Value} → Erases same-value m o
+pub tested-erases : (t : ℕ) {m : Explained Value} {o : Out Value} → Erases same-value m o
     → Erases same-value (Text.tested explaining t m) (Text.tested counting t o)
 unfolding Text.tested
 tested-erases t e = erases-bind _ e λ v. asked 46 _ _ λ _. erases-give v
 
 module _ (g : Explain.Getter) (k : Count.Getter) (ih : Gets g k) (sh : Sheet) (μ : Env) where
-  get-each-erases : (root : ℕ) (a : Value) (n : ℕ) (l : Values) → Erases (λ ws. ws) (Text.getEach explaining g root a n l) (Text.getEach counting k root a n l)
+  pub get-each-erases : (root : ℕ) (a : Value) (n : ℕ) (l : Values) → Erases (λ ws. ws) (Text.getEach explaining g root a n l)
+      (Text.getEach counting k root a n l)
   unfolding Text.getEach
   get-each-erases root a n nil = erases-give _
   get-each-erases root a n (cons m r) = erases-bind _ (ih root _) λ w. asked 44 _ _ λ _. erases-bind _ (get-each-erases root a _ r) λ ws. erases-give _
 
-  get-node-erases : (nd : Node) → Erases same-value (Text.getNode explaining g sh nd μ) (Text.getNode counting k sh nd μ)
+  pub get-node-erases : (nd : Node) → Erases same-value (Text.getNode explaining g sh nd μ) (Text.getNode counting k sh nd μ)
   unfolding Text.getNode
   get-node-erases (Var x) = asked 42 _ _ λ v. erases-give v
   get-node-erases False = erases-give _
@@ -172,7 +173,7 @@ strip-set [] i o = refl
 strip-set (x ∷ W) zero o = refl
 strip-set (x ∷ W) (suc i) o = ap (λ z. value-of x ∷ z) (strip-set W i o)
 
-old-strip : (o : Option Cell) (v : Value) → Text.orOld counting (value-of o) v ≡ Text.orOld explaining o v
+pub old-strip : (o : Option Cell) (v : Value) → Text.orOld counting (value-of o) v ≡ Text.orOld explaining o v
 unfolding Text.orOld
 old-strip none v = refl
 old-strip (some w) v = refl
@@ -204,7 +205,7 @@ module _ (g : Explain.Getter) (k : Count.Getter) (gets : Gets g k) (p : Explain.
       erases-given value-of (own 42 none) 42 refl _ _ λ x. erases-given value-of (own 42 none) 42 refl _ _ λ y. rw (old-strip x f, old-strip y r) (
       asked 43 _ _ λ u. asked 44 _ _ λ _. rw (strip-take (length W) X) (ih s μ σ u _))))
 
-  put-each-erases : (root d c : ℕ) (a : Value) (n : ℕ) (old l : Values) (X : Explain.Cells) → Erases (λ t. (t .0, strip (t .1)))
+  pub put-each-erases : (root d c : ℕ) (a : Value) (n : ℕ) (old l : Values) (X : Explain.Cells) → Erases (λ t. (t .0, strip (t .1)))
       (Text.putEach explaining g p root d c a n old l X) (Text.putEach counting k q root d c a n old l (strip X))
   unfolding Text.putEach Text.stoodFor
   put-each-erases root d c a n old nil X = erases-give _
@@ -213,7 +214,7 @@ module _ (g : Explain.Getter) (k : Count.Getter) (gets : Gets g k) (p : Explain.
       erases-given value-of (own 42 none) 42 refl _ _ λ o. rw (old-strip o m) (asked 44 _ _ λ _. rw (strip-take (length X) Y) (
       erases-bind _ (put-each-erases root d c a _ _ r _) λ t. erases-give _))))
 
-  put-node-erases : (n : ℕ) (nd : Node)
+  pub put-node-erases : (n : ℕ) (nd : Node)
       → Erases strip (Text.putNode explaining (explaining .mark n) g p sh nd μ σ v W) (Text.putNode counting (λ w. w) k q sh nd μ σ v (strip W))
   unfolding Text.putNode
   put-node-erases n (Var x) = asked 42 _ _ λ c. rw (strip-at W c) (erases-given value-of (own 42 none) 42 refl _ _ λ o. write-erases n c v W o)

@@ -1,19 +1,24 @@
 -- The explanation of a whole call on bytes (request 9).
-use mathlib.Core.Path.{_≡_, refl, ap, _∙_}
+use mathlib.Core.Path.{_≡_, refl, sym, ap, _∙_}
 use mathlib.Core.Option.{Option, none, some}
 use mathlib.Core.List.{List, _∷_}
-use Prim.Native.Nat.{ℕ, zero, suc, _-_}
+use Prim.Native.Nat.{ℕ, zero, suc, _-_, _≤_}
+use native.Mathlib.Omega.{arith}
+use native.Mathlib.Decide.{decLe}
 use lib.ListN.{length, getD, replicate}
 use Rattle.value.specs.Result.{Result, ok, refusal}
 use Rattle.value.specs.Value.{vfalse, encode, flat}
 use Rattle.value.specs.Reading.{readPlan, readView}
-use Rattle.sheet.specs.Sheet.{readSheet}
-use Rattle.rules.specs.Numbers.{LEVELS}
-use Rattle.rules.specs.Outcome.{Out, done, refused, mapOut, reading}
-use Rattle.rules.specs.Answer.{count, newPlan, getWalk, getBytes, putWalk, putBytes}
+use Rattle.sheet.specs.Sheet.{Sheet, readSheet}
+use Rattle.rules.specs.Numbers.{LEVELS, ALLOWANCE, SCRATCH, GET-OUTPUT, PUT-OUTPUT}
+use Rattle.rules.specs.Outcome.{Out, done, refused, when, mapOut, given, reading}
+use Rattle.rules.specs.OutcomeLaws.{given-yes}
+use Rattle.rules.specs.Answer.{Answer, answer, door, count, newPlan, getWalk, getBytes, getAnswer, putWalk, putBytes, putAnswer}
+use Rattle.rules.specs.Answer as Answer
 use Rattle.rules.specs.Explain.{Why, Told, got, met, get, put}
 use Rattle.rules.specs.Explain as Explain
 use Rattle.rules.specs.ExplainLaws.{forget, strip, get-erases, put-erases}
+use Rattle.rules.specs.ExplainChain.{Chain, Meets, came, stop, get-chain, put-chain}
 
 -- the node where it was met, and its depth
 abbrev pub node : Why → ℕ
@@ -45,6 +50,23 @@ explainPut sheet plan view allowance =
     afterwards (readSheet sheet) λ sh. afterwards (readPlan (sh .k) plan) λ μ. afterwards (readView view) λ vs.
     explained (put LEVELS sh (sh .root) μ (count 0 (length μ)) (getD vs 0 vfalse) (replicate (length μ) none) allowance)
 
+-- WHAT A TOOL ANSWERS, for every input. It asks for no output, so that it meets 2 and 3 and never 1
+
+unfoldable pub unlessBefore : {P : Type 0} → ℕ → Dec P → Explanation → Explanation
+unlessBefore c (yes p) e = e
+unlessBefore c (no p) e = before c
+
+-- 2 scratch under 65,536; 3 allowance 0 or over 1,000,000
+unfoldable pub whyDoor : (allowance scratch : ℕ) → Explanation → Explanation
+whyDoor allowance scratch e =
+    unlessBefore 2 (decLe SCRATCH scratch) (unlessBefore 3 (decLe 1 allowance) (unlessBefore 3 (decLe allowance ALLOWANCE) e))
+
+unfoldable pub whyGet : (sheet plan : List ℕ) (allowance scratch : ℕ) → Explanation
+whyGet sheet plan allowance scratch = whyDoor allowance scratch (explainGet sheet plan allowance)
+
+unfoldable pub whyPut : (sheet plan view : List ℕ) (allowance scratch : ℕ) → Explanation
+whyPut sheet plan view allowance scratch = whyDoor allowance scratch (explainPut sheet plan view allowance)
+
 -- ITS NUMBER is that of the call
 
 unfoldable pub number : Explanation → Option ℕ
@@ -73,7 +95,7 @@ get-number sheet plan allowance = number-after _ _ _ λ sh. number-after _ _ _ �
     number-told (λ v. v) encode (get LEVELS sh (sh .root) μ allowance)
     ∙ ap (λ o. refusalOf (mapOut encode o)) (get-erases LEVELS sh (sh .root) μ .same allowance)
 
-strip-blank : (n : ℕ) → strip (replicate n none) ≡ replicate n none
+pub strip-blank : (n : ℕ) → strip (replicate n none) ≡ replicate n none
 strip-blank n = go n
   where
     go : (n : ℕ) → strip (replicate n none) ≡ replicate n none
@@ -88,3 +110,92 @@ put-number sheet plan view allowance = number-after _ _ _ λ sh. number-after _ 
     number-told strip (λ X. flat (newPlan X μ)) (put LEVELS sh (sh .root) μ (count 0 (length μ)) v blank allowance)
     ∙ ap (λ o. refusalOf (mapOut (λ X. flat (newPlan X μ)) o))
     (rw (strip-blank (length μ)) at (put-erases LEVELS sh (sh .root) μ (count 0 (length μ)) v blank .same allowance))
+
+-- and of whole calls, where their output is long enough
+
+unfoldable pub answerNumber : Answer → Option ℕ
+answerNumber (Answer.refusal c) = some c
+answerNumber (Answer.success bs s) = none
+
+answer-number : (o : Out (List ℕ)) → answerNumber (answer o) ≡ refusalOf o
+unfolding answerNumber answer refusalOf
+answer-number (done bs s) = refl
+answer-number (refused c s) = refl
+
+number-unless : {P : Type 0} (c : ℕ) (d : Dec P) (e : Explanation) (o : Out (List ℕ)) → number e ≡ refusalOf o
+    → number (unlessBefore c d e) ≡ refusalOf (given c (when d) λ _. o)
+unfolding unlessBefore given when number refusalOf
+number-unless c (yes p) e o h = h
+number-unless c (no p) e o h = refl
+
+module _ (need output allowance scratch : ℕ) (h : need ≤ output) where
+  number-door : (e : Explanation) (o : Out (List ℕ)) → number e ≡ refusalOf o
+      → number (whyDoor allowance scratch e) ≡ answerNumber (answer (door need output scratch allowance o))
+  unfolding whyDoor door
+  number-door e o same =
+      number-unless 2 (decLe SCRATCH scratch) _ _ (number-unless 3 (decLe 1 allowance) _ _ (number-unless 3 (decLe allowance ALLOWANCE) e o same))
+      ∙ sym (ap refusalOf (given-yes 1 (decLe need output) h)) ∙ sym (answer-number _)
+
+pub why-get-number : (sheet plan : List ℕ) (allowance output scratch : ℕ) → GET-OUTPUT ≤ output
+    → number (whyGet sheet plan allowance scratch) ≡ answerNumber (getAnswer sheet plan allowance output scratch)
+unfolding whyGet getAnswer
+why-get-number sheet plan allowance output scratch h = number-door GET-OUTPUT output allowance scratch h _ _ (get-number sheet plan allowance)
+
+pub why-put-number : (sheet plan view : List ℕ) (allowance output scratch : ℕ) → PUT-OUTPUT ≤ output
+    → number (whyPut sheet plan view allowance scratch) ≡ answerNumber (putAnswer sheet plan view allowance output scratch)
+unfolding whyPut putAnswer
+why-put-number sheet plan view allowance output scratch h = number-door PUT-OUTPUT output allowance scratch h _ _ (put-number sheet plan view allowance)
+
+-- ITS CHAIN begins with the root of the sheet, and each node of it is one that the node before it may enter
+
+pub data Traced (sheet : List ℕ) : Explanation → Type 0 where
+  through : Traced sheet success
+  early : {c : ℕ} → Traced sheet (before c)
+  traced : {y : Why} (sh : Sheet) → readSheet sheet ≡ ok sh → Chain sh (sh .root) LEVELS y → Traced sheet (walked y)
+
+pub traced-chain : {sheet : List ℕ} {y : Why} → Traced sheet (walked y) → (sh : Sheet) × (readSheet sheet ≡ ok sh) × Chain sh (sh .root) LEVELS y
+traced-chain (traced sh e h) = (sh, e, h)
+
+-- it has 1 to 49 nodes, and 49 for 40
+pub chain-depth : {sh : Sheet} {n : ℕ} {y : Why} → Chain sh n LEVELS y → (1 ≤ depth y) × (depth y ≤ 49)
+chain-depth h = (rw (h .begins) (omega arith), rw (h .begins) (omega (arith, h .short)))
+
+pub chain-deepest : {sh : Sheet} {n : ℕ} {y : Why} → Chain sh n LEVELS y → y .code ≡ 40 → depth y ≡ 49
+chain-deepest h e = rw (h .begins) (omega (arith, h .deepest e))
+
+module _ {sheet : List ℕ} where
+  traced-told : {A : Type 0} {sh : Sheet} {t : Told A} → readSheet sheet ≡ ok sh → Meets (Chain sh (sh .root) LEVELS) t → Traced sheet (explained t)
+  unfolding explained
+  traced-told e came = through
+  traced-told e (stop h) = traced _ e h
+
+  traced-after : {A : Type 0} (r : Result A) (f : A → Explanation) → ((a : A) → r ≡ ok a → Traced sheet (f a)) → Traced sheet (afterwards r f)
+  unfolding afterwards
+  traced-after (ok a) f h = h a refl
+  traced-after (refusal c) f h = early
+
+  traced-unless : {P : Type 0} (c : ℕ) (d : Dec P) {e : Explanation} → Traced sheet e → Traced sheet (unlessBefore c d e)
+  unfolding unlessBefore
+  traced-unless c (yes p) h = h
+  traced-unless c (no p) h = early
+
+  traced-door : (allowance scratch : ℕ) {e : Explanation} → Traced sheet e → Traced sheet (whyDoor allowance scratch e)
+  unfolding whyDoor
+  traced-door allowance scratch h = traced-unless 2 _ (traced-unless 3 _ (traced-unless 3 _ h))
+
+pub get-traced : (sheet plan : List ℕ) (allowance : ℕ) → Traced sheet (explainGet sheet plan allowance)
+unfolding explainGet
+get-traced sheet plan allowance = traced-after _ _ λ sh e. traced-after _ _ λ μ _. traced-told e (get-chain LEVELS sh (sh .root) μ allowance)
+
+pub put-traced : (sheet plan view : List ℕ) (allowance : ℕ) → Traced sheet (explainPut sheet plan view allowance)
+unfolding explainPut
+put-traced sheet plan view allowance = traced-after _ _ λ sh e. traced-after _ _ λ μ _. traced-after _ _ λ vs _.
+    traced-told e (put-chain LEVELS sh (sh .root) μ (count 0 (length μ)) (getD vs 0 vfalse) (replicate (length μ) none) allowance)
+
+pub why-get-traced : (sheet plan : List ℕ) (allowance scratch : ℕ) → Traced sheet (whyGet sheet plan allowance scratch)
+unfolding whyGet
+why-get-traced sheet plan allowance scratch = traced-door allowance scratch (get-traced sheet plan allowance)
+
+pub why-put-traced : (sheet plan view : List ℕ) (allowance scratch : ℕ) → Traced sheet (whyPut sheet plan view allowance scratch)
+unfolding whyPut
+why-put-traced sheet plan view allowance scratch = traced-door allowance scratch (put-traced sheet plan view allowance)

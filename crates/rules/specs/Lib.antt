@@ -30,3 +30,4 @@ pub mod ExplainLaws
 pub mod Explanation
 pub mod ExplainExamples
 pub mod ExplainChain
+pub mod ExplainNodes

@@ -21,6 +21,10 @@ SCRATCH = 65536
 abbrev pub STACK : ℕ
 STACK = 32256
 
+-- where the stack has ended, and the chain of a refusal begins: a byte for each of 49 nodes
+abbrev pub CHAIN : ℕ
+CHAIN = 65487
+
 -- the bytes of output that a get takes, and a put
 abbrev pub GET-OUTPUT : ℕ
 GET-OUTPUT = 256

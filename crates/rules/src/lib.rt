@@ -16,6 +16,9 @@ pub const SCRATCH: usize = 65_536;
 /// Where the stack begins in them: behind the plan and a slot for each cell. An answer's bytes stand there at the end.
 pub const STACK: usize = 32_256;
 
+/// Where the stack has ended in them, and the chain of a refusal begins: a byte for each of 49 nodes.
+pub const CHAIN: usize = 65_487;
+
 /// The bytes of output that a get takes, and a put.
 pub const GET_OUTPUT: usize = 256;
 

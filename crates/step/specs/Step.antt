@@ -2,7 +2,7 @@
 use mathlib.Core.Path.{_≡_}
 use mathlib.Core.Bool.{Bool, true, false, _&&_, _||_}
 use mathlib.Core.List.{List}
-use Prim.Native.Nat.{ℕ, zero, suc, _+_, _*_}
+use Prim.Native.Nat.{ℕ, zero, suc, _+_, _-_, _*_, _/_, _%_}
 use lib.Dec.{eqb, ltb}
 use lib.ListN.{getD, set}
 use Rattle.step.specs.declared.Scope.{Scope}
@@ -45,10 +45,21 @@ addedTwo l n a b = set (set l n a) (n + 1) b
 abbrev pub picked : Scope → ℕ → ℕ → Scope
 picked s x y = record { count = 2; starts = pickedTwo (s .starts) x y; lens = pickedTwo (s .lens) x y }
 
+-- what is noted of a slot that a node wrote so many bytes to; of one that nothing was written to, 0
+unfoldable pub noteOf : (by len : ℕ) → ℕ
+noteOf by len = 256 * suc by + (len - 1)
+
+-- the length and the node that a note has
+unfoldable pub notedLen : ℕ → ℕ
+notedLen note = suc (note % 256)
+
+unfoldable pub notedBy : ℕ → ℕ
+notedBy note = note / 256 - 1
+
 -- where a variable's value stands: in the slot of its cell where it was written, or else where it stood
-unfoldable pub placeOf : (written cell start len : ℕ) → Span
+unfoldable pub placeOf : (note cell start len : ℕ) → Span
 placeOf zero cell start len = record { start = start; len = len }
-placeOf (suc w) cell start len = record { start = 4096 + 256 * cell; len = suc w }
+placeOf (suc w) cell start len = record { start = 4096 + 256 * cell; len = notedLen (suc w) }
 
 -- no place
 abbrev pub nowhere : Span

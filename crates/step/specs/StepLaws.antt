@@ -4,7 +4,6 @@ use mathlib.Core.List.{List}
 use mathlib.Core.Bool.{Bool, true, false, false≢true}
 use Prim.Native.Nat.{ℕ, zero, suc, _+_, _*_, _≤_, _<_}
 use native.Mathlib.Omega.{arith}
-use native.Mathlib.Decide.{decLt}
 use lib.Dec.{eqb, ltb}
 use borrow.Author.Tests.{eqb-true, ne-eqb, eq-eqb, lt-ltb, le-ltb}
 use Rattle.value.specs.Parts.{passesBytes}
@@ -18,6 +17,9 @@ use Rattle.answer.specs.Answer.{doneAs}
 use Rattle.step.specs.Step.{
   When,
   where-so,
+  noteOf,
+  notedLen,
+  notedBy,
   placeOf,
   entryRefusal,
   fitsKind,
@@ -69,14 +71,19 @@ pub judged-no : (c : ℕ) {p q : Bool} → p ≡ q → p ≡ false → c ≡ jud
 unfolding judged
 judged-no c e t = rw (← e, t)
 
-pub not-written : (written cell start len : ℕ) → written ≡ 0 → record { start = start; len = len } ≡ placeOf written cell start len
+pub not-written : (note cell start len : ℕ) → note ≡ 0 → record { start = start; len = len } ≡ placeOf note cell start len
 unfolding placeOf
-not-written written cell start len e = rw e
+not-written note cell start len e = rw e
 
-pub was-written : (written cell start len : ℕ) → (written ≡ 0 → ⊥) → record { start = 4096 + 256 * cell; len = written } ≡ placeOf written cell start len
+pub was-written : (note cell start len : ℕ) → (note ≡ 0 → ⊥) → record { start = 4096 + 256 * cell; len = notedLen note } ≡ placeOf note cell start len
 unfolding placeOf
 was-written zero cell start len n = absurd (n refl)
 was-written (suc w) cell start len n = refl
+
+-- a note has what was noted
+pub noted : (by len : ℕ) → 1 ≤ len → len ≤ 256 → (noteOf by len ≡ 0 → ⊥) × (notedLen (noteOf by len) ≡ len) × (notedBy (noteOf by len) ≡ by)
+unfolding noteOf notedLen notedBy
+noted by len some few = ((λ e. omega arith), omega arith, omega arith)
 
 pub other-kind : (kind rest : ℕ) → (kind ≡ 3 → ⊥) → false ≡ unfitRest kind rest
 unfolding unfitRest

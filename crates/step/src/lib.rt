@@ -7,10 +7,11 @@ ghost use Prim.Native.Nat.{_+_, _*_, _/_, _%_, _≤_, _<_};
 ghost use lib.ListN.{length, getD};
 ghost use lib.Seq.{paste};
 ghost use Rattle.value.specs.Parts.{shapeOf, passesBytes, sameBytes};
-ghost use Rattle.answer.specs.Answer.{doneAs};
-ghost use Rattle.step.specs.Step.{When, frontTwo, pickedTwo, addedTwo, nowhere, placeOf, entryRefusal, fitsKind, fitOf, otherOf, choice, takeOf, TakenBy, apartOf, madeOf, judged, unfitRest};
+ghost use Rattle.answer.specs.Answer.{doneAs, refusedBy};
+ghost use Rattle.step.specs.Step.{When, frontTwo, pickedTwo, addedTwo, nowhere, noteOf, notedLen, notedBy, placeOf, entryRefusal, fitsKind, fitOf, otherOf, choice, takeOf, TakenBy, apartOf, madeOf, judged, unfitRest};
 use answer::done;
 use answer::refused;
+use answer::refused_by;
 use value::Shape;
 
 /// The variables in scope, at most 110: where each one's bytes start, and how many they are less one.
@@ -243,20 +244,44 @@ pub fn add_cells(cells: &mut [u8; 110], n: usize, c: usize)
     cells[n + 1] = (c + 1) as u8;
 }
 
-/// Where a variable's value stands: in the slot of its cell where it was written, or else where it stood; nowhere where there is
-/// no such cell.
-pub fn place_of(written: u16, cell: usize, start: usize, len: usize) -> Span
-    ensures { λ r. ⌜ When (cell < 110) r (placeOf written cell start len) nowhere ⌝ }
+/// What is noted of a slot that node `by` writes `len` bytes to: one more than the node, and one less than the length. It is not 0, which is
+/// noted of a slot that nothing was written to.
+pub fn note_of(by: u8, len: usize) -> u16
+    ensures { λ r. ⌜ When ((by < 255) × (1 ≤ len) × (len ≤ 256)) r (noteOf by len) 0 ⌝ }
+{
+    if 254 < by {
+        return 0;
+    }
+    if len == 0 {
+        return 0;
+    }
+    if 256 < len {
+        return 0;
+    }
+    256 * (by as u16 + 1) + (len - 1) as u16
+}
+
+/// The length that a note has.
+pub fn noted_len(note: u16) -> usize
+    ensures { λ r. ⌜ r ≡ notedLen note ⌝ }
+{
+    (note % 256) as usize + 1
+}
+
+/// Where a variable's value stands: in the slot of its cell where it was written, by what is noted of it, or else where it stood; nowhere
+/// where there is no such cell.
+pub fn place_of(note: u16, cell: usize, start: usize, len: usize) -> Span
+    ensures { λ r. ⌜ When (cell < 110) r (placeOf note cell start len) nowhere ⌝ }
 {
     if 110 <= cell {
         return Span { start: 0, len: 0 };
     }
-    if written == 0 {
+    if note == 0 {
         return Span { start, len };
     }
     Span {
         start: 4096 + 256 * cell,
-        len: written as usize,
+        len: noted_len(note),
     }
 }
 
@@ -297,11 +322,24 @@ fn judge(code: u8, a: &[u8], b: &[u8]) -> usize
     refused(code)
 }
 
-/// A second view for a written variable must equal the first.
-pub fn put_again(written: &[u8], view: &[u8]) -> usize
-    ensures { λ r. ⌜ r ≡ judged 54 (sameBytes (now (written .entry)) (now (view .entry))) ⌝ }
+/// A second view for a written variable must equal the first, which its slot's note has the writer of.
+pub fn put_again(note: u16, written: &[u8], view: &[u8]) -> usize
+    ensures { λ r. ⌜ r ≡ judged (refusedBy 54 (notedBy note)) (sameBytes (now (written .entry)) (now (view .entry))) ⌝ }
 {
-    judge(54, written, view)
+    if value::same(written, view) {
+        return done(0, 0, 0);
+    }
+    refused_by(54, noted_by(note))
+}
+
+// The node that a note has.
+fn noted_by(note: u16) -> u8
+    ensures { λ r. ⌜ r ≡ notedBy note ⌝ }
+{
+    if note < 256 {
+        return 0;
+    }
+    (note / 256 - 1) as u8
 }
 
 /// A view for a constant of one byte, its kind, must equal it.

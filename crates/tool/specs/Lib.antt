@@ -1,4 +1,6 @@
+pub mod Why
 pub mod Line
 pub mod StartLaws
+pub mod WhyLaws
 pub mod LineLaws
 pub mod Told

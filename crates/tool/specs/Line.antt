@@ -7,24 +7,30 @@ use lib.Dec.{leb, eqb}
 use lib.ListN.{length, getD, take, drop}
 use Rattle.rules.specs.Numbers.{SCRATCH, PUT-OUTPUT}
 use Rattle.rules.specs.Answer.{Answer, refusal, success, putAnswer}
+use Rattle.rules.specs.Explanation.{Explanation, whyGet, whyPut}
 use Rattle.lens.specs.declared.Reply.{Reply}
 use Rattle.lens.specs.declared.Reply.the-variants.{Done, Refused as Reply·Refused}
 use Rattle.lens.specs.Calls.{written, cleared, newStarts, newWritten}
+use Rattle.lens.specs.Whys.{whyCleared}
 use Rattle.report.specs.Text.{hexOf, decimalOf, refusalLine, okLine}
 use Rattle.report.specs.Writing.{Wrote}
 use Rattle.job.specs.declared.fields.Fields.{Fields}
 use Rattle.job.specs.declared.fields.Fields.the-variants.{Whole, Cut}
-use Rattle.job.specs.Format.{two, part, fieldsOf}
+use Rattle.job.specs.declared.Job.{Job}
+use Rattle.job.specs.declared.Job.the-variants.{Get, Put, Other}
+use Rattle.job.specs.Format.{two, part, fieldsOf, jobOf, jobNumber}
 use Rattle.starts.specs.declared.Starts.{Starts}
 use Rattle.starts.specs.declared.Loaded.{Loaded}
 use Rattle.starts.specs.declared.Found.{Found}
 use Rattle.starts.specs.declared.Found.the-variants.{At, Refused}
 use Rattle.starts.specs.Starts.{loadOf, firsts, numbers, findOf, partOf}
+use Rattle.tool.specs.Why.{whyLine}
 
--- what an input comes to: the line, and the call on output and scratch that was made for it, where one was
+-- what an input comes to: the line, and the call on output and scratch that was made for it, or on scratch alone, where one was
 pub data Call : Type 0 where
   none : Call
   made : Answer → Call
+  asked : Explanation → Call
 
 pub record Ending : Type 0 where
   pub line : List ℕ
@@ -87,6 +93,19 @@ puts bits bs (Whole a n m) =
     let answer = putAnswer sheet plan view a PUT-OUTPUT SCRATCH in
     record { line = putLine (besides bits (newStarts sheet answer) (newWritten sheet plan view a answer)) answer; call = made answer }
 
+-- Y: a job of document 01's program: why it is refused
+
+abbrev pub explains : Explanation → Ending
+explains e = record { line = whyLine e; call = asked e }
+
+unfoldable pub whyBy : List ℕ → Job → Ending
+whyBy bs (Get a n m) = explains (whyGet (part bs 6 n) (part bs (8 + n) m) a SCRATCH)
+whyBy bs (Put a n m) = explains (whyPut (part bs 6 n) (part bs (8 + n) m) (drop (8 + n + m) bs) a SCRATCH)
+whyBy bs Other = says (refusalLine (jobNumber Other))
+
+unfoldable pub whys : List ℕ → Ending
+whys bs = whyBy bs (jobOf bs)
+
 -- BY ITS LETTER: a row for each
 unfoldable pub byLetter : List ℕ → Ending
 byLetter bs =
@@ -95,7 +114,8 @@ byLetter bs =
     (cond (eqb letter 0x56) (says (valueLine bs))
     (cond (eqb letter 0x53) (puts false bs (fieldsOf bs))
     (cond (eqb letter 0x57) (puts true bs (fieldsOf bs))
-    (says (refusalLine 60)))))
+    (cond (eqb letter 0x59) (whys (drop 1 bs))
+    (says (refusalLine 60))))))
 
 -- over 8,192 bytes: 61, whatever they are
 unfoldable pub toolEnding : List ℕ → Ending
@@ -111,10 +131,12 @@ toolLine bs = toolEnding bs .line
 unfoldable pub outputAfter : Call → List ℕ → List ℕ
 outputAfter none o = o
 outputAfter (made a) o = written a o
+outputAfter (asked e) o = o
 
 unfoldable pub scratchAfter : Call → List ℕ → List ℕ
 scratchAfter none s = s
 scratchAfter (made a) s = cleared a s
+scratchAfter (asked e) s = whyCleared e s
 
 pub record Lent (bs o o′ s s′ : List ℕ) : Type 0 where
   pub output : o′ ≡ outputAfter (toolEnding bs .call) o

@@ -11,7 +11,7 @@ use lib.ListN.{length, getD, take, drop, length-append, length-take, length-drop
 use lib.Seq.{length-take-le, take-all}
 use Rattle.rules.specs.Numbers.{SCRATCH, PUT-OUTPUT}
 use Rattle.rules.specs.Answer.{Answer, refusal, success, answer}
-use Rattle.lens.specs.Calls.{reply, written, cleared, Answered, newStarts, newWritten}
+use Rattle.lens.specs.Calls.{reply, written, cleared, Answered, newStarts}
 use Rattle.lens.specs.Packing.{Small, small-put}
 use Rattle.report.specs.Text.{words, decimalOf, refusalLine, okLine}
 use Rattle.report.specs.TextLaws.{Below, none, each, hex-length, decimal-length, numbers-length, ok-length, refusal-length}
@@ -41,6 +41,7 @@ use Rattle.tool.specs.Line.{
   toolLine,
 }
 use Rattle.tool.specs.StartLaws.{load-small}
+use Rattle.tool.specs.WhyLaws.{whys-fit}
 
 -- HOW LONG A LINE IS
 
@@ -139,7 +140,8 @@ fits-letter bs h = let c = getD bs 0 0 in one (eqb c 0x4C) _ _ (fits-load bs h)
     (one (eqb c 0x56) _ _ (fits-value bs h)
     (one (eqb c 0x53) _ _ (fits-puts false bs (fieldsOf bs))
     (one (eqb c 0x57) _ _ (fits-puts true bs (fieldsOf bs))
-    (fits-refusal 60 (omega arith)))))
+    (one (eqb c 0x59) _ _ (omega (arith, whys-fit (drop 1 bs)))
+    (fits-refusal 60 (omega arith))))))
   where
     -- a row and those below it
     one : (p : Bool) (x y : Ending) → length (x .line) ≤ 16378 → length (y .line) ≤ 16378 → length (cond p x y .line) ≤ 16378

@@ -28,7 +28,7 @@ use Rattle.tool.specs.Line.{numbersAt, startsIn}
 
 -- WRITTEN AND LOADED
 
-map-append : (f : ℕ → List ℕ) (s t : List ℕ) → map f (s ++ t) ≡ map f s ++ map f t
+pub map-append : (f : ℕ → List ℕ) (s t : List ℕ) → map f (s ++ t) ≡ map f s ++ map f t
 map-append f [] t = refl
 map-append f (n ∷ s) t = rw (map-append f s t)
 

@@ -35,6 +35,7 @@ use Rattle.tool.specs.Line.{
   besides,
   putLine,
   puts,
+  whys,
   byLetter,
   toolEnding,
   toolLine,
@@ -44,6 +45,7 @@ use Rattle.tool.specs.Line.{
   Ended,
   replyLine,
 }
+use Rattle.tool.specs.WhyLaws.{Explained, whys-output}
 use Rattle.tool.specs.LineLaws.{line-fits}
 
 -- letter L
@@ -141,6 +143,10 @@ module _ (bits : Bool) {sheet plan view : List ℕ} {allowance : ℕ} {a : Answe
     scratch = w .call .scratch;
   }
 
+-- letter Y
+pub ended-why : (bs : List ℕ) {r : ℕ} {t t′ o s s′ : List ℕ} → Explained (whys bs) r t t′ s s′ → Ended (whys bs) r t t′ o o s s′
+ended-why bs {o = o} x = record { text = x .0; output = whys-output bs o; scratch = x .1 }
+
 -- the letter of an input
 module _ (bs : List ℕ) where
   module _ (h : length bs ≤ 8192) {letter : ℕ} (e : letter ≡ getD bs 0 0) where
@@ -160,10 +166,22 @@ module _ (bs : List ℕ) where
     unfolding toolEnding byLetter
     letter-W q = rw (le-leb (length bs) 8192 h, sym e ∙ q)
 
-    pub letter-none : (letter ≡ 0x4C → ⊥) → (letter ≡ 0x56 → ⊥) → (letter ≡ 0x53 → ⊥) → (letter ≡ 0x57 → ⊥) → toolEnding bs ≡ says (refusalLine 60)
+    pub letter-Y : letter ≡ 0x59 → toolEnding bs ≡ whys (drop 1 bs)
     unfolding toolEnding byLetter
-    letter-none l v s w =
-        rw (le-leb (length bs) 8192 h, ← e, ne-eqb letter 0x4C l, ne-eqb letter 0x56 v, ne-eqb letter 0x53 s, ne-eqb letter 0x57 w)
+    letter-Y q = rw (le-leb (length bs) 8192 h, sym e ∙ q)
+
+    pub letter-none : (letter ≡ 0x4C → ⊥) → (letter ≡ 0x56 → ⊥) → (letter ≡ 0x53 → ⊥) → (letter ≡ 0x57 → ⊥) → (letter ≡ 0x59 → ⊥)
+        → toolEnding bs ≡ says (refusalLine 60)
+    unfolding toolEnding byLetter
+    letter-none l v s w y = rw (
+      le-leb (length bs) 8192 h,
+      ← e,
+      ne-eqb letter 0x4C l,
+      ne-eqb letter 0x56 v,
+      ne-eqb letter 0x53 s,
+      ne-eqb letter 0x57 w,
+      ne-eqb letter 0x59 y,
+    )
 
 -- a line that no call was made for
 pub said : {l : List ℕ} {r : ℕ} {t t′ o s : List ℕ} → Wrote l 0 t t′ r → Ended (says l) r t t′ o o s s

@@ -4,10 +4,12 @@ ghost use Rattle.tool.specs.Line.{toolLine, Lent};
 
 mod lookups;
 mod puts;
+mod whys;
 
 use crate::lookups::load_line;
 use crate::lookups::value_line;
 use crate::puts::put_line;
+use crate::whys::why_line;
 
 /// The most bytes of a line: `ok`, a space, a part of 8,187 bytes in hexadecimal, a line feed.
 pub const LINE: usize = 16_378;
@@ -31,6 +33,7 @@ pub fn line(
         0x56 => value_line(input, text),
         0x53 => put_line(input, false, out, scratch, text),
         0x57 => put_line(input, true, out, scratch, text),
+        0x59 => why_line(input, scratch, text),
         _ => report::refusal(text, 0, 60),
     }
 }

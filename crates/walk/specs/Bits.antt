@@ -8,12 +8,12 @@ use native.Mathlib.Omega.{arith}
 use borrow.Author.Tests.{eq-eqb, ne-eqb}
 use lib.Dec.{eqb}
 use lib.ListN.{length, getD}
-use Rattle.value.specs.Value.{Value}
-use Rattle.value.specs.Encoding.{size-pos}
-use Rattle.rules.specs.Rules.{Cells}
+use Rattle.rules.specs.Explain.{Cell, Cells}
+use Rattle.rules.specs.ExplainLaws.{value-of, strip}
 use Rattle.rules.specs.Written.{bitsOf, took, putWritten}
 use Rattle.rules.specs.WrittenLaws.{bits-below}
 use Rattle.walk.specs.declared.PutWalked.{PutWalked}
+use Rattle.walk.specs.declared.chain.Met.{Met}
 use Rattle.walk.specs.declared.Walked.{Walked}
 use Rattle.walk.specs.declared.Walked.the-variants.{Done, Refused}
 use Rattle.walk.specs.Cells.{Slot, blank, full, Written}
@@ -24,10 +24,10 @@ unfoldable pub newWritten : (sheet plan view : List ℕ) (allowance : ℕ) → W
 newWritten sheet plan view allowance (Done len n) = putWritten sheet plan view allowance
 newWritten sheet plan view allowance (Refused c) = 0
 
-pub none-set : {r : PutWalked} (c : ℕ) → r ≡ refusedPut c → (sheet plan view : List ℕ) (allowance : ℕ)
+pub none-set : {r : PutWalked} (c : ℕ) (m : Met) → r ≡ refusedPut c m → (sheet plan view : List ℕ) (allowance : ℕ)
     → r .written ≡ newWritten sheet plan view allowance (r .walked)
 unfolding refusedPut newWritten
-none-set c e sheet plan view allowance = rw e
+none-set c m e sheet plan view allowance = rw e
 
 -- WHAT THE SLOTS SAY
 
@@ -48,13 +48,13 @@ pub filled-so : {s : ℕ} → (s ≡ 0 → ⊥) → _≡_ {A = ℕ} 1 (cond (fil
 unfolding filled
 filled-so {s} n = rw (ne-eqb s 0 n)
 
-slot-took : {a : List ℕ} {start s : ℕ} {o : Option Value} → Slot a start s o → filled s ≡ took o
+slot-took : {a : List ℕ} {start s : ℕ} {o : Option Cell} → Slot a start s o → filled s ≡ took (value-of o)
 unfolding filled took
 slot-took {s = s} (blank z) = rw (eq-eqb s 0 z)
-slot-took {s = s} (full {v = v} z p r) = rw (ne-eqb s 0 (λ e. omega (arith, size-pos v)))
+slot-took {s = s} (full h) = rw (ne-eqb s 0 (h .there))
 
 -- the slots say which cells took a view
-pub slots-took : {a slots : List ℕ} {n : ℕ} {X : Cells} → Written a slots n X → filledFrom slots 0 n ≡ map took X
+pub slots-took : {a slots : List ℕ} {n : ℕ} {X : Cells} → Written a slots n X → filledFrom slots 0 n ≡ map took (strip X)
 unfolding filledFrom
 slots-took {slots = slots} {X = X} w =
     ap (filledFrom slots 0) (sym (w .count)) ∙ go 0 X (λ j h. later j (omega arith) (slot-took (w .each j (omega (arith, w .count)))))
@@ -62,8 +62,8 @@ slots-took {slots = slots} {X = X} w =
     later : {m : ℕ} {b : Bool} (n : ℕ) → m ≡ n → filled (getD slots n 0) ≡ b → filled (getD slots m 0) ≡ b
     later n e h = rw e h
 
-    go : (i : ℕ) (X : Cells) → ((j : ℕ) → j < length X → filled (getD slots (i + j) 0) ≡ took (getD X j none))
-        → filledFrom slots i (length X) ≡ map took X
+    go : (i : ℕ) (X : Cells) → ((j : ℕ) → j < length X → filled (getD slots (i + j) 0) ≡ took (value-of (getD X j none)))
+        → filledFrom slots i (length X) ≡ map took (strip X)
     go i [] f = refl
     go i (o ∷ X) f = ap₂ _∷_ (later (i + 0) (omega arith) (f 0 (omega arith))) (go (suc i) X (λ j h. later (i + suc j) (omega arith) (f (suc j) (omega arith))))
 

@@ -23,12 +23,15 @@ use lib.Seq.{
   drop-paste,
 }
 use Rattle.value.specs.Value.{Value, encode, size}
+use Rattle.value.specs.Encoding.{size-pos}
 use Rattle.value.specs.Laws.{Readable}
-use Rattle.rules.specs.Rules.{Cells, two}
+use Rattle.rules.specs.Text.{two}
+use Rattle.rules.specs.Explain.{Cell, Cells}
 use Rattle.rules.specs.Numbers.{STACK}
 use Rattle.walk.specs.Parts.{part, Kept, part-kept, kept-below}
-use Rattle.step.specs.Step.{frontTwo, pickedTwo}
-use Rattle.walk.specs.Cells.{Frame, Slot, blank, full, Written, Named}
+use Rattle.step.specs.Step.{frontTwo, pickedTwo, noteOf, notedLen}
+use Rattle.step.specs.StepLaws.{noted}
+use Rattle.walk.specs.Cells.{Frame, Holds, holds-as, Slot, blank, full, Written, Named}
 
 module _ {A : Type 0} where
   -- two members more
@@ -183,32 +186,40 @@ module _ {b a s : List ℕ} {n c : ℕ} (f : Filled (4096 + 256 * c) n s b a) (s
     long = f .below .long;
   }
 
-  slot-other : {i len : ℕ} {o : Option Value} → (i ≡ c → ⊥) → Slot b (4096 + 256 * i) len o → Slot a (4096 + 256 * i) len o
+  slot-other : {i note : ℕ} {o : Option Cell} → (i ≡ c → ⊥) → Slot b (4096 + 256 * i) note o → Slot a (4096 + 256 * i) note o
   slot-other ne (blank z) = blank z
-  slot-other {i} {len} ne (full {v = v} z p r) = go (decLt i c)
+  slot-other {i} {note} ne (full {w = w} s) = go (decLt i c)
     where
-      go : Dec (i < c) → Slot a (4096 + 256 * i) len (some v)
-      go (yes h) = full z (part-kept (f .below) (4096 + 256 * i) len (omega (arith, r .fits)) ∙ p) r
-      go (no h) = full z (filled-above f (4096 + 256 * i) len (let k : c < i = omega arith in omega arith) ∙ p) r
+      go : Dec (i < c) → Slot a (4096 + 256 * i) note (some w)
+      go (yes h) = full (holds-as s (part-kept (f .below) (4096 + 256 * i) (notedLen note) (omega (arith, s .long, s .readable .fits))))
+      go (no h) = full (holds-as s (filled-above f (4096 + 256 * i) (notedLen note) (let k : c < i = omega arith in omega arith)))
 
-  -- v was written to the cell c
-  pub written-set : {slots : List ℕ} {m : ℕ} {W : Cells} {v : Value} → Written b slots m W → c < m → n ≡ size v → s ≡ encode v → Readable v
-      → Written a (set slots c n) m (set W c (some v))
-  written-set {slots} {m} {W} {v} w h z e r = record {
-    count = length-set W c (some v) ∙ w .count;
+  -- v was written to the cell c, by the node x
+  pub written-set : (x : ℕ) {slots : List ℕ} {m : ℕ} {W : Cells} {v : Value} → x < 256 → Written b slots m W → c < m → n ≡ size v → s ≡ encode v → Readable v
+      → Written a (set slots c (noteOf x n)) m (set W c (some (record { value = v; by = x })))
+  written-set x {slots} {m} {W} {v} few w h z e r = record {
+    count = length-set W c (some new) ∙ w .count;
     few = w .few;
-    long = length-set slots c n ∙ w .long;
+    long = length-set slots c (noteOf x n) ∙ w .long;
     each = λ i l. go i l (decLt i c) (decLt c i);
   }
     where
-      other : (i : ℕ) → i < m → (i ≡ c → ⊥) → Slot a (4096 + 256 * i) (getD (set slots c n) i 0) (getD (set W c (some v)) i none)
-      other i l ne = rw (getD-set-other slots c i n 0 ne, getD-set-other W c i (some v) none ne) (slot-other ne (w .each i l))
+      new : Cell
+      new = record { value = v; by = x }
 
-      here : (i : ℕ) → i ≡ c → Slot a (4096 + 256 * i) (getD (set slots c n) i 0) (getD (set W c (some v)) i none)
-      here i q = rw (q, getD-set-same slots c n 0 (omega (arith, w .long, w .few)), getD-set-same W c (some v) none (omega (arith, w .count)))
-          (full z (f .bytes ∙ e) r)
+      holds : Holds a (4096 + 256 * c) (noteOf x n) new
+      holds =
+          let k = noted x n (omega (arith, z, size-pos v)) small in
+          record { there = k .0; long = k .1 ∙ z; by = k .2; few = few; bytes = rw (k .1) (f .bytes ∙ e); readable = r }
 
-      go : (i : ℕ) → i < m → Dec (i < c) → Dec (c < i) → Slot a (4096 + 256 * i) (getD (set slots c n) i 0) (getD (set W c (some v)) i none)
+      other : (i : ℕ) → i < m → (i ≡ c → ⊥) → Slot a (4096 + 256 * i) (getD (set slots c (noteOf x n)) i 0) (getD (set W c (some new)) i none)
+      other i l ne = rw (getD-set-other slots c i (noteOf x n) 0 ne, getD-set-other W c i (some new) none ne) (slot-other ne (w .each i l))
+
+      here : (i : ℕ) → i ≡ c → Slot a (4096 + 256 * i) (getD (set slots c (noteOf x n)) i 0) (getD (set W c (some new)) i none)
+      here i q = rw (q, getD-set-same slots c (noteOf x n) 0 (omega (arith, w .long, w .few)), getD-set-same W c (some new) none (omega (arith, w .count)))
+          (full holds)
+
+      go : (i : ℕ) → i < m → Dec (i < c) → Dec (c < i) → Slot a (4096 + 256 * i) (getD (set slots c (noteOf x n)) i 0) (getD (set W c (some new)) i none)
       go i l (yes p) q = other i l (λ k. omega arith)
       go i l (no p) (yes q) = other i l (λ k. omega arith)
       go i l (no p) (no q) = here i (omega arith)

@@ -1,5 +1,5 @@
 -- What was written, as the arena has it: a slot of 256 bytes for each cell, and the cells of the scope's variables.
-use mathlib.Core.Path.{_≡_}
+use mathlib.Core.Path.{_≡_, _∙_}
 use mathlib.Core.Option.{Option, none, some}
 use mathlib.Core.List.{List}
 use Prim.Native.Nat.{ℕ, _+_, _-_, _*_, _≤_, _<_}
@@ -7,8 +7,9 @@ use lib.ListN.{length, take, drop, getD, set, replicate}
 use lib.Seq.{paste}
 use Rattle.value.specs.Value.{Value, encode, size}
 use Rattle.value.specs.Laws.{Readable}
-use Rattle.rules.specs.Rules.{Cells}
+use Rattle.rules.specs.Explain.{Cell, Cells}
 use Rattle.rules.specs.Numbers.{STACK}
+use Rattle.step.specs.Step.{notedLen, notedBy}
 use Rattle.walk.specs.Parts.{part}
 
 -- the bytes of the plan and of the stack below `top` are left alone
@@ -17,10 +18,24 @@ pub record Frame (top : ℕ) (b a : List ℕ) : Type 0 where
   pub stack : part a STACK (top - STACK) ≡ part b STACK (top - STACK)
   pub long : length a ≡ length b
 
--- the slot of a cell holds what was written: a length of 0 where nothing was
-pub data Slot (a : List ℕ) (start len : ℕ) : Option Value → Type 0 where
-  blank : len ≡ 0 → Slot a start len none
-  full : {v : Value} → len ≡ size v → part a start len ≡ encode v → Readable v → Slot a start len (some v)
+-- what the slot of a cell holds that has its length and its writer noted
+pub record Holds (a : List ℕ) (start note : ℕ) (w : Cell) : Type 0 where
+  pub there : note ≡ 0 → ⊥
+  pub long : notedLen note ≡ size (w .value)
+  pub by : notedBy note ≡ w .by
+  pub few : w .by < 256
+  pub bytes : part a start (notedLen note) ≡ encode (w .value)
+  pub readable : Readable (w .value)
+
+-- in an arena with the same bytes there
+pub holds-as : {b a : List ℕ} {start note : ℕ} {w : Cell} → Holds b start note w → part a start (notedLen note) ≡ part b start (notedLen note)
+    → Holds a start note w
+holds-as h e = record { there = h .there; long = h .long; by = h .by; few = h .few; bytes = e ∙ h .bytes; readable = h .readable }
+
+-- the slot of a cell holds what was written: 0 is noted where nothing was
+pub data Slot (a : List ℕ) (start note : ℕ) : Option Cell → Type 0 where
+  blank : note ≡ 0 → Slot a start note none
+  full : {w : Cell} → Holds a start note w → Slot a start note (some w)
 
 -- the n cells hold W
 pub record Written (a slots : List ℕ) (n : ℕ) (W : Cells) : Type 0 where

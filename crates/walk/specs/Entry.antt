@@ -6,7 +6,7 @@ use Prim.Native.Nat.{ℕ, _+_, _≤_, _<_}
 use native.Mathlib.Omega.{arith}
 use lib.ListN.{length, take, drop, getD, length-append, length-drop}
 use lib.Seq.{length-take-le, drop-at, drop-append-le, take-append-le}
-use Rattle.answer.specs.Answer.{isRefusal, codeOf, lenOf, stepsOf, said-refused, said-done}
+use Rattle.answer.specs.Answer.{isRefusal, codeOf, lenOf, startOf, stepsOf}
 use Rattle.value.specs.Result.{ok, refusal}
 use Rattle.value.specs.Value.{Value, vfalse, encode, size, flat}
 use Rattle.value.specs.Encoding.{size-encode, size-pos}
@@ -20,11 +20,14 @@ use Rattle.sheet.specs.Table.{tableOf}
 use Rattle.sheet.specs.declared.Table.{Table}
 use Rattle.sheet.specs.Laws.{sheet-ranges, table-ok, table-refused}
 use Rattle.rules.specs.Outcome.{Out, done, refused, mapOut, reading}
-use Rattle.rules.specs.Allowance.{within}
-use Rattle.rules.specs.Rules.{get}
+use Rattle.rules.specs.Explain.{Told, get}
+use Rattle.rules.specs.ExplainLaws.{forget, get-erases}
+use Rattle.rules.specs.ExplainChain.{get-chain}
+use Rattle.rules.specs.Explanation.{before, afterwards, explained, explainGet}
 use Rattle.rules.specs.Answer.{getWalk, getBytes}
 use Rattle.rules.specs.Numbers.{ALLOWANCE, LEVELS, SCRATCH, STACK}
 use Rattle.step.specs.declared.Scope.{Scope}
+use Rattle.walk.specs.Said.{whyIn, said-done, said-refused}
 use Rattle.walk.specs.declared.Walked.{Walked}
 use Rattle.walk.specs.declared.Walked.the-variants.{Done, Refused}
 use Rattle.walk.specs.Parts.{part, CopiedIn}
@@ -32,6 +35,8 @@ use Rattle.walk.specs.Plan.{standing, flat-short, sizes-at, sizes-length
 use Rattle.walk.specs.Scope.{Spanned}
 use Rattle.walk.specs.Arena.{Held, inPlan, Scoped}
 use Rattle.walk.specs.Seen.{held-short}
+use Rattle.walk.specs.declared.chain.Met.{Met}
+use Rattle.walk.specs.Whys.{Explains, nowhere, few-nodes, met-explains, done-explains}
 use Rattle.walk.specs.Answers.{had, not-had}
 use Rattle.walk.specs.Gets.{run, Here, Asks, ToldOf}
 use Rattle.walk.specs.GetReady.{Sized}
@@ -96,9 +101,13 @@ module _ {sheet plan : List ℕ} {table : Table} {sc : Scope} {allowance : ℕ} 
   unfolding tableOf
   root-is = ap (λ (t : Table). t .root) (w .is)
 
-  get-is : getBytes sheet plan allowance ≡ mapOut encode (within allowance (get LEVELS (w .sh) (table .root) (w .μ)))
+  get-is : getBytes sheet plan allowance ≡ mapOut encode (forget (λ v. v) (get LEVELS (w .sh) (table .root) (w .μ) allowance))
   unfolding getBytes getWalk reading
-  get-is = rw (w .read, w .values) (ap (λ (x : ℕ). mapOut encode (within allowance (get LEVELS (w .sh) x (w .μ)))) (sym root-is))
+  get-is = rw (w .read, w .values, root-is) (ap (mapOut encode) (sym (get-erases LEVELS (w .sh) (w .sh .root) (w .μ) .same allowance)))
+
+  explain-is : explainGet sheet plan allowance ≡ explained (get LEVELS (w .sh) (table .root) (w .μ) allowance)
+  unfolding explainGet afterwards
+  explain-is = rw (w .read, w .values, root-is) refl
 
   module _ {m : List ℕ} (c : CopiedIn plan b m) where
     pub plan-env : Scoped m sc STACK (w .μ)
@@ -149,18 +158,38 @@ module _ {sheet plan : List ℕ} {table : Table} {sc : Scope} {allowance : ℕ} 
       top = at-top plan-ready told sized brought
 
       pub get-refused : {x : ℕ} → isRefusal r ≡ true → x ≡ codeOf r → PlanWalked 256 (getBytes sheet plan allowance) b a₂ (Refused x)
-      unfolding run mapOut
+      unfolding run mapOut forget whyIn
       get-refused {x} e f =
-          let d = not-had (top .gives .told (w .sh) (w .read) (w .μ) plan-env) (said-refused r e) in
-          let z : getBytes sheet plan allowance ≡ refused (codeOf r) (d .0) = get-is ∙ ap (mapOut encode) (d .1) in
+          let d = not-had (top .gives .told (w .sh) (w .read) (w .μ) plan-env) (said-refused a₂ LEVELS r e) in
+          let z : getBytes sheet plan allowance ≡ refused (codeOf r) (d .0) = get-is ∙ ap (λ (t : Told Value). mapOut encode (forget (λ v. v) t)) (d .1) in
           record { long = top .gives .kept .long ∙ c .long; says = rw z (says-refused (ap Refused f)) }
 
+      pub get-met : {x : ℕ} {m : Met} → isRefusal r ≡ true → x ≡ codeOf r → m ≡ record { depth = lenOf r; first = startOf r }
+          → Explains (explainGet sheet plan allowance) allowance b a₂ (Refused x) m
+      unfolding run
+      get-met e f g =
+          let d = not-had (top .gives .told (w .sh) (w .read) (w .μ) plan-env) (said-refused a₂ LEVELS r e) in
+          rw (f, g) (met-explains a₂ r (w .sh) (table .root) (get-chain LEVELS (w .sh) (table .root) (w .μ) allowance) (d .1) explain-is)
+
+      pub few-met : isRefusal r ≡ true → lenOf r ≤ 49
+      unfolding run
+      few-met e =
+          let d = not-had (top .gives .told (w .sh) (w .read) (w .μ) plan-env) (said-refused a₂ LEVELS r e) in
+          few-nodes a₂ r (w .sh) (table .root) (get-chain LEVELS (w .sh) (table .root) (w .μ) allowance) (d .1)
+
+      pub get-unmet : {len n : ℕ} {m : Met} → isRefusal r ≡ false → m ≡ nowhere → Explains (explainGet sheet plan allowance) allowance b a₂ (Done len n) m
+      unfolding run
+      get-unmet e f =
+          let d = had (top .gives .told (w .sh) (w .read) (w .μ) plan-env) (said-done a₂ LEVELS r e) in
+          rw f (done-explains (d .is) explain-is)
+
       pub get-done : {len n : ℕ} → isRefusal r ≡ false → len ≡ lenOf r → n ≡ stepsOf r → PlanWalked 256 (getBytes sheet plan allowance) b a₂ (Done len n)
-      unfolding run mapOut
+      unfolding run mapOut forget
       get-done {len} {n} e f q =
-          let d = had (top .gives .told (w .sh) (w .read) (w .μ) plan-env) (said-done r e) in
+          let d = had (top .gives .told (w .sh) (w .read) (w .μ) plan-env) (said-done a₂ LEVELS r e) in
           let h = d .that .held in
-          let z : getBytes sheet plan allowance ≡ done (encode (d .value)) n = get-is ∙ ap (mapOut encode) (d .is) ∙ ap (done (encode (d .value))) (sym q) in
+          let z : getBytes sheet plan allowance ≡ done (encode (d .value)) n = get-is ∙ ap (λ (t : Told Value). mapOut encode (forget (λ v. v) t)) (d .is)
+          ∙ ap (done (encode (d .value))) (sym q) in
           let y : part a₂ STACK len ≡ encode (d .value) = ap₂ (part a₂) (sym (top .there e)) f ∙ h .bytes in
           let few : len ≤ 256 = omega (arith, f, held-short h) in
           record { long = top .gives .kept .long ∙ c .long; says = rw z (says-done len refl (f ∙ h .long ∙ sym (size-encode (d .value))) few y) }
@@ -273,6 +302,14 @@ module _ (sheet plan : List ℕ) (allowance : ℕ) where
   pub get-sheet-refused : {c : ℕ} → readSheet sheet ≡ refusal c → getBytes sheet plan allowance ≡ refused c 0
   unfolding getBytes reading
   get-sheet-refused e = rw e
+
+  pub explain-sheet-refused : {c : ℕ} → readSheet sheet ≡ refusal c → explainGet sheet plan allowance ≡ before c
+  unfolding explainGet afterwards
+  explain-sheet-refused e = rw e refl
+
+  pub explain-plan-refused : {sh : Sheet} {c : ℕ} → readSheet sheet ≡ ok sh → readPlan (sh .k) plan ≡ refusal c → explainGet sheet plan allowance ≡ before c
+  unfolding explainGet afterwards
+  explain-plan-refused e f = rw (e, f) refl
 
   pub get-plan-refused : {sh : Sheet} {c : ℕ} → readSheet sheet ≡ ok sh → readPlan (sh .k) plan ≡ refusal c → getBytes sheet plan allowance ≡ refused c 0
   unfolding getBytes reading

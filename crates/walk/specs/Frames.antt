@@ -8,12 +8,14 @@ use native.Mathlib.Omega.{arith}
 use lib.ListN.{take, drop}
 use lib.Seq.{take-take, drop-drop}
 use Rattle.value.specs.Value.{Value}
-use Rattle.rules.specs.Rules.{Env, Cells}
+use Rattle.rules.specs.Text.{Env}
+use Rattle.rules.specs.Explain.{Cell, Cells}
 use Rattle.rules.specs.Numbers.{STACK}
 use Rattle.step.specs.declared.Scope.{Scope}
+use Rattle.step.specs.Step.{notedLen}
 use Rattle.walk.specs.Parts.{part, Kept, part-kept, kept-below, take-drop}
 use Rattle.walk.specs.Arena.{Below, inPlan, onStack, Held, Scoped, below-later}
-use Rattle.walk.specs.Cells.{Frame, Slot, blank, full, Written}
+use Rattle.walk.specs.Cells.{Frame, holds-as, Slot, blank, full, Written}
 use Rattle.walk.specs.Puts.{PartsAt}
 
 -- a part of a part
@@ -54,9 +56,9 @@ module _ {b a : List ℕ} {top : ℕ} (f : Frame top b a) (top′ : ℕ) (p : to
   parts-framed s = record { one = held-framed (s .one); two = held-framed (s .two) }
 
 -- the slots of the cells lie below the stack: a get leaves them alone
-slot-kept : {b a : List ℕ} {k start len : ℕ} {o : Option Value} → Kept k b a → start + 256 ≤ k → Slot b start len o → Slot a start len o
+slot-kept : {b a : List ℕ} {k start note : ℕ} {o : Option Cell} → Kept k b a → start + 256 ≤ k → Slot b start note o → Slot a start note o
 slot-kept e h (blank z) = blank z
-slot-kept {start = start} {len = len} e h (full z p r) = full z (part-kept e start len (omega (arith, r .fits)) ∙ p) r
+slot-kept {start = start} {note = note} e h (full s) = full (holds-as s (part-kept e start (notedLen note) (omega (arith, s .long, s .readable .fits))))
 
 pub written-kept : {b a slots : List ℕ} {k n : ℕ} {W : Cells} → Kept k b a → STACK ≤ k → Written b slots n W → Written a slots n W
 written-kept e h w = record { count = w .count; few = w .few; long = w .long; each = λ i l. slot-kept e (omega (arith, w .few)) (w .each i l) }

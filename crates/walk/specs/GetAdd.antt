@@ -6,19 +6,20 @@ use Prim.Native.Nat.{ℕ, suc, _+_, _-_, _*_, _/_, _%_, _≤_, _<_}
 use native.Mathlib.Nat.{le-refl}
 use native.Mathlib.Omega.{arith}
 use lib.ListN.{length, getD, set}
-use Rattle.answer.specs.Answer.{Done, Refused, said, after, isRefusal, lenOf, startOf, stepsOf, said-refused, said-done, refused-said}
+use Rattle.answer.specs.Answer.{isRefusal, lenOf, startOf, stepsOf}
 use Rattle.value.specs.Value.{Value, encode, size}
 use Rattle.value.specs.Parts.{shapeOf}
 use Rattle.value.specs.declared.Shape.the-variants as shapes
 use Rattle.rules.specs.Text
-use Rattle.rules.specs.Rules.{getNode}
+use Rattle.rules.specs.Explain.{getNode, got}
 use Rattle.rules.specs.Readable.{number-readable}
-use Rattle.rules.specs.Numbers.{SCRATCH}
+use Rattle.rules.specs.Numbers.{SCRATCH, CHAIN}
+use Rattle.walk.specs.Said.{Done, Own, after, refused-said, said, said-done, said-refused}
 use Rattle.walk.specs.Parts.{part, kept-then, kept-set}
 use Rattle.walk.specs.Arena.{Held, onStack}
 use Rattle.walk.specs.Seen.{held-head, held-shape}
 use Rattle.walk.specs.Shapes.{NumberOf, number-of, no-number}
-use Rattle.walk.specs.Answers.{finish, then-done, then-refused, give, give-none, give-yes, give-no, had, not-had}
+use Rattle.walk.specs.Answers.{finish, then-done, then-refused, give-some, give-none, give-yes, give-no, had, not-had}
 use Rattle.walk.specs.Gets.{run, Here, Asked, Asks, Tells}
 use Rattle.walk.specs.GetReady.{first-asks}
 use Rattle.walk.specs.GetAt.{AtTop}
@@ -55,9 +56,9 @@ module _ {h : Here} {k n : ℕ} (w : Asked h k n) (add : k ≡ 0x1B) where
     pub addable : isRefusal g ≡ false → Addable a g (h .top)
     unfolding size
     addable e =
-        let d = had (t .gives .told (w .sheet .sh) (w .sheet .read) (w .env) (w .scoped)) (said-done g e) in
+        let d = had (t .gives .told (w .sheet .sh) (w .sheet .read) (w .env) (w .scoped)) (said-done _ _ g e) in
         let s = t .sized .at e in
-        let z : h .top + 513 * suc (h .levels) ≤ SCRATCH = w .room in
+        let z : h .top + 513 * suc (h .levels) ≤ CHAIN = w .room in
         record {
           there = t .there e;
           inside = omega (arith, t .gives .kept .long, w .long);
@@ -71,41 +72,41 @@ module _ {h : Here} {k n : ℕ} (w : Asked h k n) (add : k ≡ 0x1B) where
     unfolding run Text.getNode encode size after
     add-told (passed-on e is f) = rw (is, f, add) (record {
       kept = t .gives .kept;
-      told = λ sh es μ m. let x = said-refused g e in then-refused _ _ (not-had (t .gives .told sh es μ m) x .1) x;
+      told = λ sh es μ m. let x = said-refused _ _ g e in then-refused _ _ (not-had (t .gives .told sh es μ m) x .1) x;
     })
     add-told {r = r} (other e not is f) = rw (f, add) (record {
       kept = t .gives .kept;
       told = λ sh es μ m.
-          let d = had (t .gives .told sh es μ m) (said-done g e) in
-          let x : said r ≡ Refused 43 = ap said is ∙ refused-said (omega arith) (omega arith) in
-          then-done _ _ {q = Refused 43} (d .is) (give-none _ _ (no-number (d .value) (λ i q. not i (q ∙ sym (held-shape (d .that .held) refl)))) refl) x;
+          let d = had (t .gives .told sh es μ m) (said-done _ _ g e) in
+          let x : said a (h .levels) r ≡ Own 43 = ap (said _ _) is ∙ refused-said _ _ (omega arith) (omega arith) in
+          then-done _ _ {q = Own 43} (d .is) (give-none _ _ (no-number (d .value) (λ i q. not i (q ∙ sym (held-shape (d .that .held) refl)))) refl) x;
     })
     add-told {r = r} (over {m = i} e num lt is f) = rw (f, add) (record {
       kept = t .gives .kept;
       told = λ sh es μ m.
-          let d = had (t .gives .told sh es μ m) (said-done g e) in
+          let d = had (t .gives .told sh es μ m) (said-done _ _ g e) in
           let v = the-number num (d .that .held) in
-          let x : said r ≡ Refused 45 = ap said is ∙ refused-said (omega arith) (omega arith) in
-          then-done _ _ {q = Refused 45} (d .is) (give _ _ (v .seen) (give-no _ _ _ (λ le. omega arith) refl)) x;
+          let x : said a (h .levels) r ≡ Own 45 = ap (said _ _) is ∙ refused-said _ _ (omega arith) (omega arith) in
+          then-done _ _ {q = Own 45} (d .is) (give-some _ _ (v .seen) (give-no _ _ _ (λ le. omega arith) refl)) x;
     })
     add-told {a₂} {r} (sums {m = i} e num le is f) =
         let top = h .top in
         let sum = i + amountAt (h .sheet) n in
-        let z : top + 513 * suc (h .levels) ≤ SCRATCH = w .room in
+        let z : top + 513 * suc (h .levels) ≤ CHAIN = w .room in
         let long : length a ≡ SCRATCH = t .gives .kept .long ∙ w .long in
         let p = t .there e in
         rw (is, add) (record {
           kept = rw f (kept-then (kept-then (t .gives .kept) (kept-set top a (top + 1) (sum / 256) (omega arith)) (le-refl top))
               (kept-set top (set a (top + 1) (sum / 256)) (top + 2) (sum % 256) (omega arith)) (le-refl top));
           told = λ sh es μ m.
-              let d = had (t .gives .told sh es μ m) (said-done g e) in
+              let d = had (t .gives .told sh es μ m) (said-done _ _ g e) in
               let v = the-number num (d .that .held) in
               let three : lenOf g ≡ 3 = d .that .held .long ∙ ap size (v .whole) in
               let head : getD a top 0 ≡ 4 = ap (λ (j : ℕ). getD a j 0) (sym p) ∙ held-head (d .that .held)
               ∙ ap (λ (y : Value). getD (encode y) 0 0) (v .whole) in
               let y : stepsOf g + 0 ≡ stepsOf g = omega arith in
-              let x : said g ≡ Done top 3 (stepsOf g + 0) = said-done g e ∙ rw (p, three, y) in
-              then-done _ _ {q = Done top 3 0} (d .is) (give _ _ (v .seen) (give-yes _ _ _ le (λ _. finish refl (record {
+              let x : said a₂ (h .levels) g ≡ Done top 3 (stepsOf g + 0) = said-done _ _ g e ∙ rw (p, three, y) in
+              then-done _ _ {q = Done top 3 0} (d .is) (give-some _ _ (v .seen) (give-yes _ _ _ le (λ _. finish refl (record {
                 low = le-refl top;
                 held = record {
                   place = onStack (w .base) (le-refl _);

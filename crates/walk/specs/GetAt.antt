@@ -6,8 +6,9 @@ use Prim.Native.Nat.{ℕ, _+_, _≤_, _<_}
 use native.Mathlib.Nat.{le-refl}
 use native.Mathlib.Omega.{arith}
 use lib.ListN.{length}
-use Rattle.answer.specs.Answer.{Done, said, isRefusal, doneAs, lenOf, startOf, stepsOf, len-small, steps-small, said-done, done-said}
+use Rattle.answer.specs.Answer.{isRefusal, doneAs, lenOf, startOf, stepsOf, len-small, steps-small}
 use Rattle.rules.specs.Numbers.{SCRATCH}
+use Rattle.walk.specs.Said.{Done, done-said, said, said-done}
 use Rattle.walk.specs.declared.at.At.{At}
 use Rattle.walk.specs.Parts.{kept-then, Copied}
 use Rattle.walk.specs.Arena.{onStack}
@@ -46,14 +47,15 @@ module _ {h : Here} {a : List ℕ} {g x : ℕ} (w : Asks h x) (t : ToldOf h a g 
       let r = w .room in
       record { inside = omega arith; room = omega arith; low = omega arith }
 
-  brought : {a₂ : List ℕ} {r : ℕ} (n : isRefusal g ≡ false) (m : Moved (h .top) g a a₂ r) → said r ≡ Done (h .top) (lenOf g) (stepsOf g) → AtTop h a₂ r x
+  brought : {a₂ : List ℕ} {r : ℕ} (n : isRefusal g ≡ false) (m : Moved (h .top) g a a₂ r) → said a₂ (h .levels) r ≡ Done (h .top) (lenOf g) (stepsOf g)
+      → AtTop h a₂ r x
   brought {a₂} {r} n m d =
       let s = z .at n in
       record {
         gives = record {
           kept = kept-then (t .kept) (m .copied .kept) (le-refl _);
           told = λ sh es μ e.
-              let q = had (t .told sh es μ e) (said-done g n) in
+              let q = had (t .told sh es μ e) (said-done _ _ g n) in
               as-done (q .is) d (record {
                 low = le-refl _;
                 held = record {
@@ -66,13 +68,13 @@ module _ {h : Here} {a : List ℕ} {g x : ℕ} (w : Asks h x) (t : ToldOf h a g 
         };
         sized = record {
           at = λ f.
-              let e = said-done r f in
+              let e = said-done a₂ (h .levels) r f in
               let x : startOf r ≡ h .top = let y = d in cc in
               let y : lenOf r ≡ lenOf g = let y = d in cc in
               let u : stepsOf r ≡ stepsOf g = let y = d in cc in
               rw (x, y, u) (record { low = le-refl _; some = s .some; short = s .short; steps = s .steps; deep = s .deep });
         };
-        there = λ f. let e = said-done r f in let y = d in cc;
+        there = λ f. let e = said-done a₂ (h .levels) r f in let y = d in cc;
       }
 
   -- and what it gives
@@ -83,7 +85,7 @@ module _ {h : Here} {a : List ℕ} {g x : ℕ} (w : Asks h x) (t : ToldOf h a g 
       go true e =
           let q = b .refused e in
           rw (q .0, q .1) (record { gives = t; sized = z; there = λ n. absurd (let y : true ≡ false = cc in let u : _≡_ {A = ℕ} 0 1 = cc in omega arith) })
-      go false e = let m = b .moved e in brought e m (ap said (m .is) ∙ done-said _ _ _ (m .low) (len-small g) (steps-small g))
+      go false e = let m = b .moved e in brought e m (ap (said _ _) (m .is) ∙ done-said _ _ _ _ _ (m .low) (len-small g) (steps-small g))
 
 pub brought-as : {at at′ : At} {g r : ℕ} {b a : List ℕ} → at ≡ at′ → Brought (at .top) g b a r → Brought (at′ .top) g b a r
 brought-as e b = rw e at b

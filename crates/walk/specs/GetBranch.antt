@@ -6,31 +6,15 @@ use lib.ListN.{length}
 use Prim.Native.Nat.{ℕ, _+_, _-_, _≤_, _<_}
 use native.Mathlib.Nat.{le-refl}
 use native.Mathlib.Omega.{arith}
-use Rattle.answer.specs.Answer.{
-  Done,
-  Refused,
-  said,
-  after,
-  isRefusal,
-  doneAs,
-  lenOf,
-  startOf,
-  stepsOf,
-  len-small,
-  start-small,
-  steps-small,
-  said-refused,
-  said-done,
-  done-said,
-  refused-said,
-}
+use Rattle.answer.specs.Answer.{isRefusal, doneAs, lenOf, startOf, stepsOf, len-small, start-small, steps-small}
 use Rattle.value.specs.Value.{Value}
 use Rattle.value.specs.Tests.{passes}
 use Rattle.value.specs.Parts.{passesBytes}
 use Rattle.rules.specs.Text
-use Rattle.rules.specs.Rules.{tested}
+use Rattle.rules.specs.Explain.{tested}
 use Rattle.rules.specs.Numbers.{STACK}
 use Rattle.step.specs.declared.Scope.{Scope}
+use Rattle.walk.specs.Said.{Done, Own, after, done-said, refused-said, said, said-done, said-refused}
 use Rattle.walk.specs.Parts.{part, Kept, kept-refl, kept-below, kept-then, Copied}
 use Rattle.walk.specs.Arena.{onStack, below-within}
 use Rattle.walk.specs.Seen.{held-passes}
@@ -65,28 +49,28 @@ module _ {b a s : List ℕ} {sc : Scope} {from top left test x l g : ℕ} (base 
     (h : Gives b a s sc from from left g l (enter x)) where
   branch-refused : isRefusal g ≡ true → Gives b a s sc from top left g l (branch test x)
   unfolding run Text.tested
-  branch-refused n = let e = said-refused g n in
+  branch-refused n = let e = said-refused _ _ g n in
       record { kept = kept-below (h .kept) top down; told = λ sh es μ w. then-refused _ _ (not-had (h .told sh es μ w) e .1) e }
 
   module _ (n : isRefusal g ≡ false) where
-    branch-46 : {r : ℕ} → said r ≡ Refused 46 → saysOf test g a ≡ false → Gives b a s sc from top left r l (branch test x)
+    branch-46 : {r : ℕ} → said a l r ≡ Own 46 → saysOf test g a ≡ false → Gives b a s sc from top left r l (branch test x)
     unfolding run Text.tested passes after
     branch-46 e f = record {
       kept = kept-below (h .kept) top down;
       told = λ sh es μ w.
-          let d = had (h .told sh es μ w) (said-done g n) in
+          let d = had (h .told sh es μ w) (said-done _ _ g n) in
           let q = held-passes (d .that .held) test in
-          then-done _ _ {q = Refused 46} (d .is) (give-no _ _ _ (λ t. let z : true ≡ false = cc in let y : _≡_ {A = ℕ} 0 1 = cc in omega arith) refl) e;
+          then-done _ _ {q = Own 46} (d .is) (give-no _ _ _ (λ t. let z : true ≡ false = cc in let y : _≡_ {A = ℕ} 0 1 = cc in omega arith) refl) e;
     }
 
     -- it says yes: the value stands where it was, or was moved down to the top
-    branch-yes : {a₂ : List ℕ} {start r : ℕ} → saysOf test g a ≡ true → Kept top a a₂ → said r ≡ Done start (lenOf g) (stepsOf g)
+    branch-yes : {a₂ : List ℕ} {start r : ℕ} → saysOf test g a ≡ true → Kept top a a₂ → said a₂ l r ≡ Done start (lenOf g) (stepsOf g)
         → ((v : Value) → Stands a from (startOf g) (lenOf g) v → Stands a₂ top start (lenOf g) v) → Gives b a₂ s sc from top left r l (branch test x)
     unfolding run Text.tested passes after
     branch-yes {start = start} f k e stands = record {
       kept = kept-then (kept-below (h .kept) top down) k (le-refl top);
       told = λ sh es μ w.
-          let d = had (h .told sh es μ w) (said-done g n) in
+          let d = had (h .told sh es μ w) (said-done _ _ g n) in
           let z : stepsOf g + 0 ≡ stepsOf g = omega arith in
           then-done _ _ {q = Done start (lenOf g) 0} (d .is)
           (give-yes _ _ _ (sym (held-passes (d .that .held) test) ∙ f) (λ _. finish refl (stands _ (d .that))))
@@ -115,10 +99,11 @@ pub judge-gives : {b a a₂ s : List ℕ} {sc : Scope} {from top left test x l g
     → Judged test top g a a₂ r
     → Gives b a₂ s sc from top left r l (branch test x)
 judge-gives base down h (passed-on n e f) = rw (e, f) (branch-refused base down h n)
-judge-gives base down h (fails n p e f) = rw f (branch-46 base down h n (ap said e ∙ refused-said (omega arith) (omega arith)) p)
-judge-gives {g = g} base down h (stays n p low e f) = rw (e, f) (branch-yes base down h n p (kept-refl _ _) (said-done g n) (λ v. stands-lower v low))
+judge-gives base down h (fails n p e f) = rw f (branch-46 base down h n (ap (said _ _) e ∙ refused-said _ _ (omega arith) (omega arith)) p)
+judge-gives {g = g} base down h (stays n p low e f) = rw (e, f) (branch-yes base down h n p (kept-refl _ _) (said-done _ _ g n) (λ v. stands-lower v low))
 judge-gives {g = g} base down h (moves n p high e m) =
-    branch-yes base down h n p (m .kept) (ap said e ∙ done-said _ _ _ (omega (arith, start-small g)) (len-small g) (steps-small g)) (λ v. stands-moved v base m)
+    branch-yes base down h n p (m .kept) (ap (said _ _) e ∙ done-said _ _ _ _ _ (omega (arith, start-small g)) (len-small g) (steps-small g))
+    (λ v. stands-moved v base m)
 
 -- by another test
 pub judged-as : {test test′ top g r : ℕ} {b a : List ℕ} → test ≡ test′ → Judged test top g b a r → Judged test′ top g b a r

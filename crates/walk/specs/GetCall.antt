@@ -5,20 +5,21 @@ use Prim.Native.Nat.{ℕ, suc, _+_, _*_, _≤_, _<_}
 use native.Mathlib.Nat.{le-refl}
 use native.Mathlib.Omega.{arith}
 use lib.ListN.{length, getD}
-use Rattle.answer.specs.Answer.{said, refused-said}
 use Rattle.value.specs.Result.{ok}
 use Rattle.value.specs.Value.{vfalse}
 use Rattle.sheet.specs.Sheet.{Sheet, readSheet}
 use Rattle.sheet.specs.Table.{sectionAt}
 use Rattle.sheet.specs.Laws.{sheet-ranges, section-read}
 use Rattle.rules.specs.Text
-use Rattle.rules.specs.Rules.{Env, two, getNode}
-use Rattle.rules.specs.Numbers.{SCRATCH}
+use Rattle.rules.specs.Text.{Env, two}
+use Rattle.rules.specs.Explain.{getNode}
+use Rattle.rules.specs.Numbers.{CHAIN}
 use Rattle.step.specs.Step.{picked}
+use Rattle.walk.specs.Said.{refused-said, said}
 use Rattle.walk.specs.Parts.{kept-refl}
 use Rattle.walk.specs.Arena.{Scoped, env-pick}
 use Rattle.walk.specs.Seen.{elem-at, elem-none}
-use Rattle.walk.specs.Answers.{give, give-none}
+use Rattle.walk.specs.Answers.{give-some, give-none}
 use Rattle.walk.specs.Gets.{Tabled, Known, own, run, Here, within-scope, Asked, Asks, Tells, ToldOf}
 use Rattle.walk.specs.GetReady.{ready-in}
 use Rattle.walk.specs.GetEnter.{same-sheet}
@@ -41,15 +42,15 @@ module _ {h : Here} {k n : ℕ} (_ : Asked h k n) (call : k ≡ 0x1A) where
   unfolding run Text.getNode
   call-42₁ g e = rw call (record {
     kept = kept-refl (h .top) (h .arena);
-    told = λ sh es μ w. give-none _ _ (elem-none μ _ (omega (arith, w .count))) (ap said e ∙ refused-said (omega arith) (omega arith));
+    told = λ sh es μ w. give-none _ _ (elem-none μ _ (omega (arith, w .count))) (ap (said _ _) e ∙ refused-said _ _ (omega arith) (omega arith));
   })
 
   pub call-42₂ : {r : ℕ} → getD (h .sheet) (n + 2) 0 < h .scope .count → h .scope .count ≤ getD (h .sheet) (n + 3) 0 → r ≡ 42 → Tells h (h .arena) r k n
   unfolding run Text.getNode
   call-42₂ f g e = rw call (record {
     kept = kept-refl (h .top) (h .arena);
-    told = λ sh es μ w. give _ _ (elem-at μ _ vfalse (omega (arith, w .count)))
-        (give-none _ _ (elem-none μ _ (omega (arith, w .count))) (ap said e ∙ refused-said (omega arith) (omega arith)));
+    told = λ sh es μ w. give-some _ _ (elem-at μ _ vfalse (omega (arith, w .count)))
+        (give-none _ _ (elem-none μ _ (omega (arith, w .count))) (ap (said _ _) e ∙ refused-said _ _ (omega arith) (omega arith)));
   })
 
 -- AT A STAGE: both variables are in scope, and `root` is the section's
@@ -73,7 +74,7 @@ module _ {h : Here} {k n root : ℕ} (w : Looked h k n root) where
   call-asks =
       let a = w .asked in
       let y : h .scope .count + 2 * suc (h .levels) ≤ 112 = a .variables in
-      let z : h .top + 513 * suc (h .levels) ≤ SCRATCH = a .room in
+      let z : h .top + 513 * suc (h .levels) ≤ CHAIN = a .room in
       ready-in a (kept-refl _ _) (h .top) (h .levels) (h .left) (le-refl _) (omega (arith, a .few)) (omega arith) (omega (arith, w .first-in))
       (root-known (a .sheet) (call-section (a .sheet .sh) (h .sheet) n (w .call) (a .known)) (w .root-is)) _ (env-few (a .scoped))
 
@@ -81,8 +82,8 @@ module _ {h : Here} {k n root : ℕ} (w : Looked h k n root) where
   unfolding run Text.getNode
   call-told g = rw (w .call) (record {
     kept = g .kept;
-    told = λ sh es μ e. give _ _ (elem-at μ _ vfalse (omega (arith, e .count, w .first-in)))
-        (give _ _ (elem-at μ _ vfalse (omega (arith, e .count, w .second-in)))
+    told = λ sh es μ e. give-some _ _ (elem-at μ _ vfalse (omega (arith, e .count, w .first-in)))
+        (give-some _ _ (elem-at μ _ vfalse (omega (arith, e .count, w .second-in)))
         (rw (← root-read (w .asked .sheet) (call-section (w .asked .sheet .sh) (h .sheet) n (w .call) (w .asked .known)) (w .root-is) es)
         (g .told sh es _ (env-few e))));
   })

@@ -1,6 +1,7 @@
 -- List cases, truth cases and splits: what get shows at each return, and what its calls ask.
-use mathlib.Core.Path.{_≡_, refl, sym, ap, _∙_}
+use mathlib.Core.Path.{_≡_, refl, sym, ap, _∙_, fun-ext}
 use mathlib.Core.Bool.{true, false}
+use mathlib.Core.Option.{none}
 use mathlib.Core.List.{List, [], _∷_, _++_, append-assoc}
 use Prim.Native.Nat.{ℕ, suc, _+_, _-_, _*_, _≤_, _<_}
 use native.Mathlib.Nat.{le-refl, add-zero}
@@ -8,21 +9,7 @@ use native.Mathlib.Decide.{decLt}
 use native.Mathlib.Omega.{arith}
 use lib.Dec.{eqb}
 use lib.ListN.{length, getD}
-use Rattle.answer.specs.Answer.{
-  Said,
-  Refused as Denied,
-  said,
-  after,
-  isRefusal,
-  laterAs,
-  lenOf,
-  startOf,
-  stepsOf,
-  said-refused,
-  said-done,
-  later-said,
-  refused-said,
-}
+use Rattle.answer.specs.Answer.{isRefusal, laterAs, lenOf, startOf, stepsOf}
 use Rattle.value.specs.Value.{Value, vfalse, vtrue, list, number, wide, pair, nil, cons}
 use Rattle.value.specs.Views.{asList, asPair, asTruth}
 use Rattle.value.specs.Tests.{passes, holds, table, class}
@@ -31,16 +18,17 @@ use Rattle.value.specs.PartsLaws.{shape}
 use Rattle.value.specs.declared.Shape.{Shape}
 use Rattle.value.specs.declared.Shape.the-variants as shapes
 use Rattle.sheet.specs.Sheet.{Sheet}
-use Rattle.rules.specs.Outcome.{Out, done, refused, plus, when, _>>=_, given}
-use Rattle.rules.specs.Allowance.{within}
+use Rattle.rules.specs.Outcome.{when}
 use Rattle.rules.specs.Text
-use Rattle.rules.specs.Rules.{Env, Getter, two, getNode, get, tested, onList}
-use Rattle.rules.specs.Numbers.{SCRATCH}
+use Rattle.rules.specs.Text.{Env, onList, two}
+use Rattle.rules.specs.Explain.{Explained, Getter, Told, Why, follow, get, getNode, give, given, got, met, more, next, own as own-rule, tested, wanted, within}
+use Rattle.rules.specs.Numbers.{CHAIN}
 use Rattle.step.specs.declared.Scope.{Scope}
 use Rattle.step.specs.declared.Branch.{Branch}
 use Rattle.step.specs.declared.Branch.the-variants.{Plain, Parts, Switch, Refused}
 use Rattle.step.specs.Step.{where-so, fitsKind, fitOf}
 use Rattle.step.specs.StepLaws.{where-is, where-not, Fits, empty, front, untrue, so, pair as aPair}
+use Rattle.walk.specs.Said.{Own, Refused as Denied, Said, after, later-said, refused-said, said, said-done, said-refused}
 use Rattle.walk.specs.Parts.{part, kept-then}
 use Rattle.walk.specs.Places.{Above, topAfter, above}
 use Rattle.walk.specs.Scope.{withTwo, two-pushed, Stored}
@@ -89,11 +77,11 @@ partsOf (number n) = []
 partsOf (wide n) = []
 partsOf (pair a b) = two a b
 
-unfoldable pub getBranch : Getter → List ℕ → (n kind : ℕ) → Env → Value → Branch → Out Value
+unfoldable pub getBranch : Getter → List ℕ → (n kind : ℕ) → Env → Value → Branch → Explained Value
 getBranch g s n k μ o (Plain i byte) = tested (testOf k s n i) (g (getD s (n + i) 0) μ)
 getBranch g s n k μ o (Parts i mid) = tested (testOf k s n i) (g (getD s (n + i) 0) (μ ++ partsOf o))
-getBranch g s n k μ o Switch = refused 43 0
-getBranch g s n k μ o (Refused c) = refused c 0
+getBranch g s n k μ o Switch = λ _. met (own-rule 43 none) 0
+getBranch g s n k μ o (Refused c) = λ _. met (own-rule c none) 0
 
 -- a test that says yes to anything changes nothing
 any-holds : (v : Value) → holds 0 v ≡ true
@@ -107,21 +95,24 @@ any-holds (number n) = refl
 any-holds (wide n) = refl
 any-holds (pair a b) = refl
 
-untested : (o : Out Value) → tested 0 o ≡ o
-unfolding Text.tested _>>=_ plus given when
-untested (done v s) = ap (plus s) (go (passes 0 v)) ∙ ap (done v) (add-zero s)
+untested : (o : Explained Value) → tested 0 o ≡ o
+unfolding Text.tested next follow more wanted when
+untested o = fun-ext λ left. go left (o left)
   where
-    go : (d : Dec (holds 0 v ≡ true)) → given 46 (when d) (λ _. done v 0) ≡ done v 0
-    go (yes p) = refl
-    go (no n) = absurd (n (any-holds v))
-untested (refused c s) = refl
+    kept : (v : Value) (d : Dec (holds 0 v ≡ true)) (n : ℕ) → within n (given 46 (when d) (λ _. give v)) ≡ got v 0
+    kept v (yes p) n = refl
+    kept v (no q) n = absurd (q (any-holds v))
+
+    go : (left : ℕ) (t : Told Value) → follow t (λ v s. within (left - s) (given 46 (when (passes 0 v)) (λ _. give v))) ≡ t
+    go left (got v s) = ap (more s) (kept v (passes 0 v) (left - s)) ∙ ap (got v) (add-zero s)
+    go left (met y s) = refl
 
 module _ (g : Getter) (s : List ℕ) (n : ℕ) (μ : Env) where
   list-rule : (o : Value)
       → (given 43 (asList o) λ l. onList (l .0) (tested (getD s (n + 3) 0) (g (getD s (n + 2) 0) μ)) λ f r. tested (getD s (n + 5) 0)
       (g (getD s (n + 4) 0) (μ ++ two f (list r))))
       ≡ getBranch g s n 0x17 μ o (fitOf 0x17 (shape o))
-  unfolding getBranch testOf partsOf fitOf fitsKind where-so shape given asList onList
+  unfolding getBranch testOf partsOf fitOf fitsKind where-so shape wanted asList onList
   list-rule vfalse = refl
   list-rule vtrue = refl
   list-rule (list nil) = refl
@@ -134,7 +125,7 @@ module _ (g : Getter) (s : List ℕ) (n : ℕ) (μ : Env) where
       → (given 43 (asTruth o) λ b. tested (Text.pick (b .0) (getD s (n + 3) 0) (getD s (n + 5) 0))
       (g (Text.pick (b .0) (getD s (n + 2) 0) (getD s (n + 4) 0)) μ))
       ≡ getBranch g s n 0x18 μ o (fitOf 0x18 (shape o))
-  unfolding getBranch testOf fitOf fitsKind where-so shape given asTruth
+  unfolding getBranch testOf fitOf fitsKind where-so shape wanted asTruth
   truth-rule vfalse = refl
   truth-rule vtrue = refl
   truth-rule (list nil) = refl
@@ -144,7 +135,7 @@ module _ (g : Getter) (s : List ℕ) (n : ℕ) (μ : Env) where
   truth-rule (pair a b) = refl
 
   split-rule : (o : Value) → (given 43 (asPair o) λ p. g (getD s (n + 2) 0) (μ ++ two (p .0) (p .1))) ≡ getBranch g s n 0x19 μ o (fitOf 0x19 (shape o))
-  unfolding getBranch testOf partsOf fitOf fitsKind where-so shape given asPair
+  unfolding getBranch testOf partsOf fitOf fitsKind where-so shape wanted asPair
   split-rule vfalse = refl
   split-rule vtrue = refl
   split-rule (list nil) = refl
@@ -155,7 +146,7 @@ module _ (g : Getter) (s : List ℕ) (n : ℕ) (μ : Env) where
 
 -- once the subject is got
 module _ {P : (start len : ℕ) → Value → Type 0} {r : Said} {left k : ℕ} (case : Case k) (n l : ℕ) (s : List ℕ) (sh : Sheet) (μ : Env) where
-  case-done : {o : Value} {i : ℕ} {q : Said} → within left (get l sh (getD s (n + 1) 0) μ) ≡ done o i
+  case-done : {o : Value} {i : ℕ} {q : Said} → within left (get l sh (getD s (n + 1) 0) μ) ≡ got o i
       → Answers P q (left - i) (getBranch (get l sh) s n k μ o (fitOf k (shape o)))
       → r ≡ after i q → Answers P r left (run l sh (own k s n) μ)
   unfolding run Text.getNode
@@ -166,7 +157,7 @@ module _ {P : (start len : ℕ) → Value → Type 0} {r : Said} {left k : ℕ} 
       go (truths x) = rw x (then-done _ _ e (answer-by (rw x at t) (truth-rule (get l sh) s n μ o)) d)
       go (splits x) = rw x (then-done _ _ e (answer-by (rw x at t) (split-rule (get l sh) s n μ o)) d)
 
-  case-none : {c i : ℕ} → within left (get l sh (getD s (n + 1) 0) μ) ≡ refused c i → r ≡ Denied c → Answers P r left (run l sh (own k s n) μ)
+  case-none : {c : Why} {i : ℕ} → within left (get l sh (getD s (n + 1) 0) μ) ≡ met c i → r ≡ Denied c → Answers P r left (run l sh (own k s n) μ)
   unfolding run Text.getNode
   case-none e d = go case
     where
@@ -212,7 +203,7 @@ module _ {h : Here} {k n : ℕ} (w : Asked h k n) (case : Case k) where
 
   pub subject-refused : {a : List ℕ} {g : ℕ} → ToldOf h a g (getD (h .sheet) (n + 1) 0) → isRefusal g ≡ true → Tells h a g k n
   unfolding run
-  subject-refused {g = g} t e = let x = said-refused g e in
+  subject-refused {g = g} t e = let x = said-refused _ _ g e in
       record { kept = t .kept; told = λ sh es μ m. case-none case n (h .levels) (h .sheet) sh μ (not-had (t .told sh es μ m) x .1) x }
 
 -- AT A STAGE: the subject was got, as the answer g, and is a value of the shape q
@@ -252,7 +243,7 @@ module _ {h : Here} {k n g : ℕ} {a : List ℕ} {q : Shape} (w : Subject h k n 
   -- A BRANCH WITHOUT VARIABLES
   pub plain-asks : {i byte : ℕ} → Fits k q (Plain i byte) → Asks (behind-here h a g) (getD (h .sheet) (n + i) 0)
   plain-asks f =
-      let z : h .top + 513 * suc (h .levels) ≤ SCRATCH = w .asked .room in
+      let z : h .top + 513 * suc (h .levels) ≤ CHAIN = w .asked .room in
       let s = w .sized .at (w .done) in
       let u = up in
       ready-later (w .asked) (w .gives .kept) top′ (h .levels) (h .left - stepsOf g) (up .over) (omega (arith, w .asked .few)) (omega arith) (omega arith)
@@ -261,10 +252,10 @@ module _ {h : Here} {k n g : ℕ} {a : List ℕ} {q : Shape} (w : Subject h k n 
   -- the answer of a judged branch, after the subject's steps
   later-told : {a₂ : List ℕ} {x t j r : ℕ} {sc : Scope} → Asks (within-scope (behind-here h a g) sc) x
       → Gives a a₂ (h .sheet) sc top′ (h .top) (h .left - stepsOf g) j (h .levels) (branch t x)
-      → r ≡ laterAs j (stepsOf g) → said r ≡ after (stepsOf g) (said j)
+      → r ≡ laterAs j (stepsOf g) → said a₂ (h .levels) r ≡ after (stepsOf g) (said a₂ (h .levels) j)
   later-told {j = j} asks b e =
       let s = w .sized .at (w .done) in
-      ap said e ∙ later-said j (stepsOf g) (λ f. let z = few-steps asks b f in omega (arith, w .asked .few))
+      ap (said _ _) e ∙ later-said _ _ j (stepsOf g) (λ f. let z = few-steps asks b f in omega (arith, w .asked .few))
 
   pub plain-told : {i byte g₂ j r : ℕ} {a₂ a₃ : List ℕ} → Fits k q (Plain i byte) → Plain i byte ≡ fitOf k q
       → ToldOf (behind-here h a g) a₂ g₂ (getD (h .sheet) (n + i) 0)
@@ -275,7 +266,7 @@ module _ {h : Here} {k n g : ℕ} {a : List ℕ} {q : Shape} (w : Subject h k n 
       record {
         kept = kept-then (w .gives .kept) (b .kept) (le-refl _);
         told = λ sh es μ m.
-            let o = had (w .gives .told sh es μ m) (said-done g (w .done)) in
+            let o = had (w .gives .told sh es μ m) (said-done _ _ g (w .done)) in
             case-done (w .case) n (h .levels) (h .sheet) sh μ (o .is) (rw (subject-is e (o .that .held)) (b .told sh es μ (env₂ m)))
             (later-told (plain-asks f) b d);
       }
@@ -288,10 +279,10 @@ module _ {h : Here} {k n g : ℕ} {a : List ℕ} {q : Shape} (w : Subject h k n 
     -- there is room for them
     pub parts-stored : (h .scope .count + 2 ≤ 110) × Stored (startOf g + 1) (mid - 1) (lenOf g - mid) × (1 ≤ mid) × (mid ≤ lenOf g)
     parts-stored =
-        let d = had (w .gives .told (w .asked .sheet .sh) (w .asked .sheet .read) (w .asked .env) (w .asked .scoped)) (said-done g (w .done)) in
+        let d = had (w .gives .told (w .asked .sheet .sh) (w .asked .sheet .read) (w .asked .env) (w .asked .scoped)) (said-done _ _ g (w .done)) in
         let p = the-parts (d .that .held) .held in
         let s = w .sized .at (w .done) in
-        let z : h .top + 513 * suc (h .levels) ≤ SCRATCH = w .asked .room in
+        let z : h .top + 513 * suc (h .levels) ≤ CHAIN = w .asked .room in
         let y : h .scope .count + 2 * suc (h .levels) ≤ 112 = w .asked .variables in
         let one = held-some (p .first) in
         let two = held-some (p .second) in (
@@ -314,11 +305,11 @@ module _ {h : Here} {k n g : ℕ} {a : List ℕ} {q : Shape} (w : Subject h k n 
 
     pub parts-asks : Asks (within-scope (behind-here h a g) inner) (getD (h .sheet) (n + i) 0)
     parts-asks =
-        let z : h .top + 513 * suc (h .levels) ≤ SCRATCH = w .asked .room in
+        let z : h .top + 513 * suc (h .levels) ≤ CHAIN = w .asked .room in
         let y : h .scope .count + 2 * suc (h .levels) ≤ 112 = w .asked .variables in
         let s = w .sized .at (w .done) in
         let u = up in
-        let d = had (w .gives .told (w .asked .sheet .sh) (w .asked .sheet .read) (w .asked .env) (w .asked .scoped)) (said-done g (w .done)) in
+        let d = had (w .gives .told (w .asked .sheet .sh) (w .asked .sheet .read) (w .asked .env) (w .asked .scoped)) (said-done _ _ g (w .done)) in
         ready-in (w .asked) (w .gives .kept) top′ (h .levels) (h .left - stepsOf g) (up .over) (omega (arith, w .asked .few)) (omega arith) (omega arith)
         (parts-known (h .sheet) (w .asked .sheet .sh) n f (w .asked .known)) _
         (env-inner (w .asked .scoped) (the-parts (d .that .held)))
@@ -331,7 +322,7 @@ module _ {h : Here} {k n g : ℕ} {a : List ℕ} {q : Shape} (w : Subject h k n 
         record {
           kept = kept-then (w .gives .kept) (b .kept) (le-refl _);
           told = λ sh es μ m.
-              let o = had (w .gives .told sh es μ m) (said-done g (w .done)) in
+              let o = had (w .gives .told sh es μ m) (said-done _ _ g (w .done)) in
               case-done (w .case) n (h .levels) (h .sheet) sh μ (o .is)
               (rw (subject-is e (o .that .held)) (b .told sh es _ (env-inner m (the-parts (o .that .held))))) (later-told parts-asks b d);
         }
@@ -342,7 +333,7 @@ module _ {h : Here} {k n g : ℕ} {a : List ℕ} {q : Shape} (w : Subject h k n 
   none-told {r} f e d = record {
     kept = w .gives .kept;
     told = λ sh es μ m.
-        let o = had (w .gives .told sh es μ m) (said-done g (w .done)) in
-        let x : said r ≡ Denied 43 = ap said d ∙ refused-said (omega arith) (omega arith) in
-        case-done (w .case) n (h .levels) (h .sheet) sh μ {q = Denied 43} (o .is) (rw (subject-is e (o .that .held)) (refuse refl)) x;
+        let o = had (w .gives .told sh es μ m) (said-done _ _ g (w .done)) in
+        let x : said a (h .levels) r ≡ Own 43 = ap (said _ _) d ∙ refused-said _ _ (omega arith) (omega arith) in
+        case-done (w .case) n (h .levels) (h .sheet) sh μ {q = Own 43} (o .is) (rw (subject-is e (o .that .held)) (refuse refl)) x;
   }

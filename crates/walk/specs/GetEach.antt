@@ -6,37 +6,23 @@ use Prim.Native.Nat.{ℕ, suc, _+_, _-_, _*_, _≤_, _<_}
 use native.Mathlib.Nat.{le-refl}
 use native.Mathlib.Omega.{arith}
 use lib.ListN.{length, getD}
-use Rattle.answer.specs.Answer.{
-  Refused,
-  said,
-  after,
-  isRefusal,
-  laterAs,
-  lenOf,
-  startOf,
-  stepsOf,
-  len-small,
-  steps-small,
-  said-refused,
-  said-done,
-  done-said,
-  refused-said,
-  later-said,
-}
+use Rattle.answer.specs.Answer.{isRefusal, laterAs, lenOf, startOf, stepsOf, len-small, steps-small}
 use Rattle.value.specs.Value.{Value, Values, vfalse, list}
 use Rattle.sheet.specs.Table.{sectionAt}
 use Rattle.rules.specs.Text
-use Rattle.rules.specs.Rules.{Env, getNode}
-use Rattle.rules.specs.Numbers.{SCRATCH, STACK}
+use Rattle.rules.specs.Text.{Env}
+use Rattle.rules.specs.Explain.{getNode}
+use Rattle.rules.specs.Numbers.{SCRATCH, STACK, CHAIN}
 use Rattle.step.specs.declared.Scope.{Scope}
 use Rattle.step.specs.Step.{unfitRest}
+use Rattle.walk.specs.Said.{Own, after, done-said, later-said, refused-said, said, said-done, said-refused}
 use Rattle.walk.specs.declared.at.At.{At}
 use Rattle.walk.specs.Parts.{kept-below, kept-then}
 use Rattle.walk.specs.Places.{Above, topAfter, above}
 use Rattle.walk.specs.Arena.{Held, Scoped, env-later}
 use Rattle.walk.specs.Seen.{elem-at, elem-none, held-short, unfit-no-list, fit-list}
 use Rattle.walk.specs.Members.{onto, frontSizes, getFrom}
-use Rattle.walk.specs.Answers.{as-done, as-refused, then-done, then-refused, give, give-none, had, not-had}
+use Rattle.walk.specs.Answers.{as-done, as-refused, then-done, then-refused, give-some, give-none, had, not-had}
 use Rattle.walk.specs.Gets.{Task, members, run, Gives, Here, Asked, Asks, Tells, ToldOf}
 use Rattle.walk.specs.GetReady.{ready-later, few-steps, first-asks, Sized}
 use Rattle.walk.specs.GetAt.{Movable, Brought}
@@ -53,15 +39,16 @@ brought-down {b} {a} {a₂} {s} {sc} {from} {top} {left} {g} {r} {l} {t} base do
     go : (p : Bool) → isRefusal g ≡ p → Gives b a₂ s sc from top left r l t
     go true e =
         let q = m .refused e in
-        let x = said-refused g e in
+        let x = said-refused _ _ g e in
         rw (q .0, q .1) (record { kept = kept-below (h .kept) top down; told = λ sh es μ w. as-refused (not-had (h .told sh es μ w) x .1) x })
     go false e =
         let n = m .moved e in
         record {
           kept = kept-then (kept-below (h .kept) top down) (n .copied .kept) (le-refl top);
           told = λ sh es μ w.
-              let q = had (h .told sh es μ w) (said-done g e) in
-              as-done (q .is) (ap said (n .is) ∙ done-said _ _ _ (n .low) (len-small g) (steps-small g)) (stands-moved (q .value) base (n .copied) (q .that));
+              let q = had (h .told sh es μ w) (said-done _ _ g e) in
+              as-done (q .is) (ap (said _ _) (n .is) ∙ done-said _ _ _ _ _ (n .low) (len-small g) (steps-small g))
+              (stands-moved (q .value) base (n .copied) (q .that));
         }
 
 module _ {h : Here} {k n : ℕ} (w : Asked h k n) (each : k ≡ 0x1C) where
@@ -73,7 +60,7 @@ module _ {h : Here} {k n : ℕ} (w : Asked h k n) (each : k ≡ 0x1C) where
 
   pub each-refused : {a : List ℕ} {g : ℕ} → ToldOf h a g (getD (h .sheet) (n + 1) 0) → isRefusal g ≡ true → Tells h a g k n
   unfolding run Text.getNode
-  each-refused {g = g} t e = let x = said-refused g e in
+  each-refused {g = g} t e = let x = said-refused _ _ g e in
       rw each (record { kept = t .kept; told = λ sh es μ m. then-refused _ _ (not-had (t .told sh es μ m) x .1) x })
 
 -- AT A STAGE: the subject was got, as the answer g
@@ -88,7 +75,7 @@ module _ {h : Here} {k n g : ℕ} {a : List ℕ} (w : EachGot h k n g a) where
   pub start-inside : startOf g < length a
   start-inside =
       let s = w .sized .at (w .done) in
-      let z : h .top + 513 * suc (h .levels) ≤ SCRATCH = w .asked .room in
+      let z : h .top + 513 * suc (h .levels) ≤ CHAIN = w .asked .room in
       omega (arith, w .gives .kept .long, w .asked .long)
 
   -- it is no list
@@ -97,9 +84,9 @@ module _ {h : Here} {k n g : ℕ} {a : List ℕ} (w : EachGot h k n g a) where
   each-43 {r} bad is = rw (w .each) (record {
     kept = w .gives .kept;
     told = λ sh es μ m.
-        let d = had (w .gives .told sh es μ m) (said-done g (w .done)) in
-        let x : said r ≡ Refused 43 = ap said is ∙ refused-said (omega arith) (omega arith) in
-        then-done _ _ {q = Refused 43} (d .is) (give-none _ _ (unfit-no-list (d .that .held) bad) refl) x;
+        let d = had (w .gives .told sh es μ m) (said-done _ _ g (w .done)) in
+        let x : said a (h .levels) r ≡ Own 43 = ap (said _ _) is ∙ refused-said _ _ (omega arith) (omega arith) in
+        then-done _ _ {q = Own 43} (d .is) (give-none _ _ (unfit-no-list (d .that .held) bad) refl) x;
   })
 
   -- the variable is not in scope
@@ -108,9 +95,9 @@ module _ {h : Here} {k n g : ℕ} {a : List ℕ} (w : EachGot h k n g a) where
   each-42 {r} fit out is = rw (w .each) (record {
     kept = w .gives .kept;
     told = λ sh es μ m.
-        let d = had (w .gives .told sh es μ m) (said-done g (w .done)) in
-        let x : said r ≡ Refused 42 = ap said is ∙ refused-said (omega arith) (omega arith) in
-        then-done _ _ {q = Refused 42} (d .is) (give _ _ (fit-list (d .that .held) fit .is) (give-none _ _ (elem-none μ _ (omega (arith, m .count))) refl)) x;
+        let d = had (w .gives .told sh es μ m) (said-done _ _ g (w .done)) in
+        let x : said a (h .levels) r ≡ Own 42 = ap (said _ _) is ∙ refused-said _ _ (omega arith) (omega arith) in
+        then-done _ _ {q = Own 42} (d .is) (give-some _ _ (fit-list (d .that .held) fit .is) (give-none _ _ (elem-none μ _ (omega (arith, m .count))) refl)) x;
   })
 
 -- AT A STAGE: it is a list, the variable is in scope, and `root` is the section's
@@ -145,10 +132,10 @@ module _ {h : Here} {k n g : ℕ} {a : List ℕ} {root : ℕ} (w : Listed h k n 
   pub members-asks : AsksMembers (behind-here h a g) x root (startOf g) (startOf g + lenOf g)
   members-asks =
       let y : h .scope .count + 2 * suc (h .levels) ≤ 112 = asked .variables in
-      let z : h .top + 513 * suc (h .levels) ≤ SCRATCH = asked .room in
+      let z : h .top + 513 * suc (h .levels) ≤ CHAIN = asked .room in
       let s = w .got .sized .at (w .got .done) in
       let u = up in
-      let d = had (w .got .gives .told (asked .sheet .sh) (asked .sheet .read) (asked .env) (asked .scoped)) (said-done g (w .got .done)) in
+      let d = had (w .got .gives .told (asked .sheet .sh) (asked .sheet .read) (asked .env) (asked .scoped)) (said-done _ _ g (w .got .done)) in
       record {
         asked = ready-later asked (w .got .gives .kept) top′ (h .levels) (h .left - stepsOf g) (up .over) (omega (arith, asked .few)) (omega arith)
             (omega arith) (root-known (asked .sheet) (each-section asked (w .got .each)) (w .root-is));
@@ -165,13 +152,13 @@ module _ {h : Here} {k n g : ℕ} {a : List ℕ} {root : ℕ} (w : Listed h k n 
     list-movable e =
         let q = members-asks in
         let p = t .told (q .held) in
-        let d = had (p .told (q .asked .sheet .sh) (q .asked .sheet .read) (q .asked .env) (q .asked .scoped)) (said-done m e) in
+        let d = had (p .told (q .asked .sheet .sh) (q .asked .sheet .read) (q .asked .env) (q .asked .scoped)) (said-done _ _ m e) in
         let s = held-short (d .that .held) in
         let low = d .that .low in
         let u = up in
         let long : length a₂ ≡ SCRATCH = p .kept .long ∙ q .asked .long in
-        let room : top′ + 256 + 513 * h .levels ≤ SCRATCH = q .room in
-        let z : h .top + 513 * suc (h .levels) ≤ SCRATCH = asked .room in
+        let room : top′ + 256 + 513 * h .levels ≤ CHAIN = q .room in
+        let z : h .top + 513 * suc (h .levels) ≤ CHAIN = asked .room in
         record { inside = omega arith; room = omega arith; low = omega arith }
 
     -- what is told
@@ -180,10 +167,10 @@ module _ {h : Here} {k n g : ℕ} {a : List ℕ} {root : ℕ} (w : Listed h k n 
     each-told {a₃} {q} {r} b is = rw (w .got .each) (record {
       kept = kept-then (w .got .gives .kept) (down (members-asks .held) .kept) (le-refl _);
       told = λ sh es μ e.
-          let d = had (w .got .gives .told sh es μ e) (said-done g (w .got .done)) in
+          let d = had (w .got .gives .told sh es μ e) (said-done _ _ g (w .got .done)) in
           let f = fit-list (d .that .held) (w .fit) in
           let o = down (listed (d .that .held)) in
-          then-done _ _ (d .is) (give _ _ (f .is) (give _ _ (elem-at μ _ vfalse (omega (arith, e .count, w .inside)))
+          then-done _ _ (d .is) (give-some _ _ (f .is) (give-some _ _ (elem-at μ _ vfalse (omega (arith, e .count, w .inside)))
           (rw (← root-read (asked .sheet) (each-section asked (w .got .each)) (w .root-is) es) (o .told sh es μ (env₂ e))))) after-all;
     })
       where
@@ -191,11 +178,11 @@ module _ {h : Here} {k n g : ℕ} {a : List ℕ} {root : ℕ} (w : Listed h k n 
             → Gives a a₃ (h .sheet) (h .scope) top′ (h .top) (h .left - stepsOf g) q (h .levels) (members x root ms)
         down v = brought-down (asked .base) (up .over) (t .told v) b
 
-        after-all : said r ≡ after (stepsOf g) (said q)
+        after-all : said a₃ (h .levels) r ≡ after (stepsOf g) (said a₃ (h .levels) q)
         after-all =
             let s = w .got .sized .at (w .got .done) in
             let y = members-asks in
-            ap said is ∙ later-said q (stepsOf g) (λ f. let z = few-steps (y .asked) (down (y .held)) f in omega (arith, asked .few))
+            ap (said _ _) is ∙ later-said _ _ q (stepsOf g) (λ f. let z = few-steps (y .asked) (down (y .held)) f in omega (arith, asked .few))
 
 -- AT THE PLACE and by the numbers that the code has
 module _ {at at′ : At} {x x′ start start′ end end′ : ℕ} (e : at ≡ at′) (f : x ≡ x′) (p : start ≡ start′) (q : end ≡ end′) where

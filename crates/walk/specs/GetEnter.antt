@@ -1,12 +1,14 @@
 -- Entering a node: the refusals 40 and 41, the record that is read, and the node's own value once its step is paid.
-use mathlib.Core.Path.{_≡_, refl, sym, ap, _∙_}
+use mathlib.Core.Path.{_≡_, refl, sym, ap, subst, _∙_}
+use mathlib.Core.Bool.{true, false}
 use mathlib.Core.List.{List, [], _∷_}
 use Prim.Native.Nat.{ℕ, zero, suc, _+_, _-_, _*_, _≤_, _<_}
 use native.Mathlib.Nat.{le-refl}
 use native.Mathlib.Omega.{arith}
 use lib.ListN.{length, getD}
-use Rattle.answer.specs.Answer.{said, after, laterAs, later-said, refused-said}
+use Rattle.answer.specs.Answer.{isRefusal, lenOf, stepsOf}
 use Rattle.value.specs.Result.{ok}
+use Rattle.value.specs.Value.{Value}
 use Rattle.sheet.specs.declared.Node.{Node}
 use Rattle.sheet.specs.declared.Node.the-variants.{False}
 use Rattle.sheet.specs.Sheet.{Sheet, readSheet}
@@ -17,20 +19,34 @@ use Rattle.sheet.specs.Laws.{Ranged, sheet-ranges, node-made, made-kind, table-
 use Rattle.sheet.specs.Kinds.{width}
 use Rattle.sheet.specs.Rows.{width-8}
 use Rattle.rules.specs.Text
-use Rattle.rules.specs.Rules.{get}
+use Rattle.rules.specs.Text.{Env}
+use Rattle.rules.specs.Explain.{Why, Told, met, below, entered, within, get, getNode}
+use Rattle.rules.specs.ExplainChain.{Chain, Meets, stop, get-chain}
 use Rattle.step.specs.declared.Scope.{Scope}
 use Rattle.step.specs.Step.{entryRefusal}
 use Rattle.step.specs.StepLaws.{no-level, no-step as out-of-steps, both-left}
+use Rattle.walk.specs.Said.{said, beneath, whyIn, bytesAt, chainAt, length-bytes, Left, up, on, barred-said, left-said, said-refused}
 use Rattle.walk.specs.declared.at.At.{At}
-use Rattle.walk.specs.Parts.{kept-refl}
-use Rattle.walk.specs.Answers.{refuse, step, no-step}
-use Rattle.walk.specs.Gets.{enter, own, run, Tabled, Ready, Gives}
+use Rattle.walk.specs.Parts.{Kept, kept-refl, kept-then, kept-set}
+use Rattle.walk.specs.Answers.{Answers, refuse, as-refused, step, no-step, not-had}
+use Rattle.walk.specs.Gets.{enter, own, run, Tabled, Ready, Stands, Gives}
 use Rattle.walk.specs.GetReady.{ready-later, few-steps, Sized, sized}
 
 -- a refusal on entering is a number of the table
 pub data EntryCode (levels left : ℕ) : ℕ → Type 0 where
   no-level-left : levels ≡ 0 → EntryCode levels left 40
   no-step-left : (levels ≡ 0 → ⊥) → left ≡ 0 → EntryCode levels left 41
+
+-- one node further up
+nodes-below : (l : ℕ) (sh : Sheet) (x : ℕ) (μ : Env) (left : ℕ) {nd : Node} {y : Why} {n : ℕ} → getD (sh .nodes) x False ≡ nd
+    → within left (getNode (get l sh) sh nd μ) ≡ met y n → length (y .chain) ≤ suc l
+unfolding Text.get entered below
+nodes-below l sh x μ left {nd} {y} {n} e d =
+    let f : within left (getNode (get l sh) sh (getD (sh .nodes) x False) μ) ≡ met y n = ap (λ (z : Node). within left (getNode (get l sh) sh z μ)) e ∙ d in
+    go (subst (λ (t : Told Value). Meets (Chain sh x (suc l)) (below x t)) f (get-chain (suc l) sh x μ (suc left)))
+  where
+    go : Meets {A = Value} (Chain sh x (suc l)) (below x (met y n)) → length (y .chain) ≤ suc l
+    go (stop c) = let z = ap (λ (k : List ℕ). length k) (c .begins) in omega (arith, c .short)
 
 pub entry-code : {r : ℕ} (levels left : ℕ) → r ≡ entryRefusal levels left → (r ≡ 0 → ⊥) → EntryCode levels left r
 entry-code {r} levels left e n = go levels left refl refl
@@ -43,13 +59,24 @@ entry-code {r} levels left e n = go levels left refl refl
         rw z (no-step-left h q)
     go (suc l) (suc k) p q = absurd (n (e ∙ sym (both-left levels left (λ y. omega (arith, p, y)) (λ y. omega (arith, q, y)))))
 
-pub enter-refused : {b s : List ℕ} {sc : Scope} {top left x levels r : ℕ} → EntryCode levels left r → Gives b b s sc top top left r levels (enter x)
+-- the arena as a refusal's way out leaves it
+pub left-kept : {x levels g r top : ℕ} {b a : List ℕ} → top ≤ chainAt levels → Left x levels g b a r → Kept top b a
+left-kept {x} {levels} {top = top} {b = b} h (up e f q) = rw f (kept-set top b (chainAt levels) x h)
+left-kept {top = top} {b = b} h (on e f q) = rw f (kept-refl top b)
+
+pub enter-refused : {s table b a : List ℕ} {sc : Scope} {top left x levels c r : ℕ} → Ready s table b sc top levels left (enter x) → EntryCode levels left c
+    → Left x levels c b a r → Gives b a s sc top top left r levels (enter x)
 unfolding run Text.get
-enter-refused {b} {top = top} (no-level-left e) = rw e
-    (record { kept = kept-refl top b; told = λ sh es μ w. refuse (refused-said (omega arith) (omega arith)) })
-enter-refused {levels = zero} (no-step-left n e) = absurd (n refl)
-enter-refused {b} {top = top} {levels = suc l} (no-step-left n e) =
-    record { kept = kept-refl top b; told = λ sh es μ w. no-step _ e (refused-said (omega arith) (omega arith)) }
+enter-refused {levels = zero} w (no-level-left e) q = record {
+  kept = left-kept (omega (arith, w .room)) q;
+  told = λ sh es μ m. refuse (barred-said (omega arith) (omega arith) (w .long) (omega arith) q);
+}
+enter-refused {levels = suc l} w (no-level-left e) q = absurd (omega arith)
+enter-refused {levels = zero} w (no-step-left n e) q = absurd (n refl)
+enter-refused {levels = suc l} w (no-step-left n e) q = record {
+  kept = left-kept (omega (arith, w .room)) q;
+  told = λ sh es μ m. no-step _ _ e (barred-said (omega arith) (omega arith) (w .long) (omega (arith, w .room)) q);
+}
 
 -- no record is longer than 8 bytes, so that every start is small
 offset-small : (p : ℕ) (ns : List Node) (i : ℕ) → i < length ns → getD (offsets p ns) i 0 ≤ p + 8 * i
@@ -106,28 +133,52 @@ module _ {s table b : List ℕ} {sc : Scope} {top levels left x k : ℕ} (e : En
       rw (p, q) (ready-later w (kept-refl top b) top levels left (le-refl top) (w .few) (w .room) (le-refl levels)
       (x, record-known (w .sheet) (w .known) its-node))
 
-  entered-told : {a : List ℕ} {q r : ℕ} → said r ≡ after 1 (said q) → Gives b a s sc top top (left - 1) q (levels - 1) (own k s (getD table x 0))
-      → Gives b a s sc top top left r levels (enter x)
-  unfolding run Text.get
-  entered-told {a} {q} {r} d g = go levels (omega (arith, e .deep)) g
-    where
-      go : (l : ℕ) → 1 ≤ l → Gives b a s sc top top (left - 1) q (l - 1) (own k s (getD table x 0)) → Gives b a s sc top top left r l (enter x)
-      go zero h g = absurd (omega arith)
-      go (suc l) h g = record {
-        kept = g .kept;
-        told = λ sh es μ w.
-            let z : suc l - 1 ≡ l = omega arith in
-            let n : getD (sh .nodes) x False ≡ recordAt k s (getD table x 0) = ap (λ (y : Sheet). getD (y .nodes) x False)
-            (sym (same-sheet (e .asked .sheet) es)) ∙ its-node in
-            step _ (omega (arith, e .paid)) (rw (n, ← z) (g .told sh es μ w)) d;
-      }
+  -- no chain has more nodes than there are levels
+  few-nodes : {a : List ℕ} {q : ℕ} → Gives b a s sc top top (left - 1) q (levels - 1) (own k s (getD table x 0)) → isRefusal q ≡ true → lenOf q ≤ levels
+  unfolding run Text.get entered below whyIn
+  few-nodes {a} {q} g n =
+      let w = e .asked in
+      let d = not-had (g .told (w .sheet .sh) (w .sheet .read) (w .env) (w .scoped)) (said-refused a (levels - 1) q n) in
+      let z : length (bytesAt a (chainAt (levels - 1)) (lenOf q)) ≤ suc (levels - 1) =
+      nodes-below (levels - 1) (w .sheet .sh) x (w .env) (left - 1) its-node (d .1) in
+      omega (arith, length-bytes a (chainAt (levels - 1)) (lenOf q), e .deep)
 
   -- what is told, of the answer q that its function gave
-  pub body-told : {a : List ℕ} {q r : ℕ} → r ≡ laterAs q 1 → Gives b a s sc top top (left - 1) q (levels - 1) (own k s (getD table x 0))
+  pub body-told : {m a : List ℕ} {q r : ℕ} → Gives b m s sc top top (left - 1) q (levels - 1) (own k s (getD table x 0)) → Left x levels q m a r
       → Gives b a s sc top top left r levels (enter x) × Sized top left levels r
-  body-told {q = q} d g =
-      let h = entered-told (ap said d ∙ later-said q 1 (λ n. let z = few-steps body-ready g n in omega (arith, e .asked .few))) g in
-      (h, sized (e .asked) h)
+  unfolding run Text.get
+  body-told {m} {a} {q} {r} g v = let h = told in (h, sized (e .asked) h)
+    where
+      w : Ready s table b sc top levels left (enter x)
+      w = e .asked
+
+      few : isRefusal q ≡ false → 1 + stepsOf q < 16777216
+      few n = let z = few-steps body-ready g n in omega (arith, w .few)
+
+      -- a success leaves the arena as it was
+      same : (sh : Sheet) (μ : Env) → Answers (Stands m top) (said m (levels - 1) q) (left - 1) (run (levels - 1) sh (own k s (getD table x 0)) μ)
+          → Answers (Stands a top) (said m (levels - 1) q) (left - 1) (run (levels - 1) sh (own k s (getD table x 0)) μ)
+      same sh μ t = by v
+        where
+          by : Left x levels q m a r → Answers (Stands a top) (said m (levels - 1) q) (left - 1) (run (levels - 1) sh (own k s (getD table x 0)) μ)
+          by (up n f d) = let z = said-refused m (levels - 1) q n in as-refused (not-had t z .1) z
+          by (on n f d) = rw f t
+
+      entered-told : (l : ℕ) (sh : Sheet) (μ : Env) → readSheet s ≡ ok sh → suc l ≡ levels
+          → Answers (Stands a top) (said m l q) (left - 1) (run l sh (own k s (getD table x 0)) μ)
+          → Answers (Stands a top) (said a levels r) left (run levels sh (enter x) μ)
+      entered-told l sh μ es z t =
+          let n : getD (sh .nodes) x False ≡ recordAt k s (getD table x 0) = ap (λ (y : Sheet). getD (y .nodes) x False)
+          (sym (same-sheet (e .asked .sheet) es)) ∙ its-node in
+          let d : said a (suc l) r ≡ beneath x (said m l q) =
+          left-said (g .kept .long ∙ w .long) (omega (arith, w .room, z)) (λ n. let z = few-nodes g n in omega (arith, w .room)) few (rw z v) in
+          rw (← z) (step x _ (omega (arith, e .paid)) (rw n t) d)
+
+      told : Gives b a s sc top top left r levels (enter x)
+      told = record {
+        kept = kept-then (g .kept) (left-kept (omega (arith, w .room)) v) (le-refl top);
+        told = λ sh es μ u. entered-told (levels - 1) sh μ es (omega (arith, e .deep)) (same sh μ (g .told sh es μ u));
+      }
 
 -- AT THE PLACE that the code makes
 module _ {at at′ : At} {sc : Scope} (e : at ≡ at′) where
@@ -138,7 +189,3 @@ module _ {at at′ : At} {sc : Scope} (e : at ≡ at′) where
   pub told-as : {b a s : List ℕ} {r k n : ℕ} → Gives b a s sc (at .top) (at .top) (at .left) r (at .levels) (own k s n)
       → Gives b a s sc (at′ .top) (at′ .top) (at′ .left) r (at′ .levels) (own k s n)
   told-as g = rw e at g
-
-pub answer-as : {b a s : List ℕ} {sc : Scope} {top left r q l x : ℕ} → q ≡ r → Gives b a s sc top top left r l (enter x)
-    → Gives b a s sc top top left q l (enter x)
-answer-as e g = rw e g

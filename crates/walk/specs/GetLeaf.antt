@@ -8,21 +8,22 @@ use native.Mathlib.Decide.{decLt}
 use native.Mathlib.Omega.{arith}
 use lib.ListN.{length, getD, set, length-set}
 use lib.Seq.{getD-set-same, getD-set-other, paste}
-use Rattle.answer.specs.Answer.{said, doneAs, done-said, refused-said}
+use Rattle.answer.specs.Answer.{doneAs}
 use Rattle.value.specs.Value.{Value, vfalse, vtrue, list, nil, number, wide, encode, encodes, size, sizes}
 use Rattle.value.specs.Laws.{Readable}
-use Rattle.rules.specs.Outcome.{done}
 use Rattle.rules.specs.Text
-use Rattle.rules.specs.Rules.{Env, getNode}
+use Rattle.rules.specs.Text.{Env}
+use Rattle.rules.specs.Explain.{getNode, give}
 use Rattle.rules.specs.Readable.{nil-readable, truth-readable, number-readable, wide-readable}
 use Rattle.rules.specs.Numbers.{SCRATCH}
 use Rattle.step.specs.declared.Scope.{Scope}
 use Rattle.step.specs.Step.{When}
+use Rattle.walk.specs.Said.{done-said, refused-said, said}
 use Rattle.walk.specs.Parts.{part, kept-refl, kept-then, kept-set, part-one, part-cons, marked, marked-kept, marked-part}
 use Rattle.walk.specs.Arena.{onStack, below-ends, below-later}
 use Rattle.walk.specs.Seen.{elem-at, elem-none, held-some, held-short}
 use Rattle.walk.specs.CellLaws.{filled}
-use Rattle.walk.specs.Answers.{answer-by, finish, give, give-none}
+use Rattle.walk.specs.Answers.{answer-by, finish, give-some, give-none}
 use Rattle.walk.specs.Gets.{Task, own, run, Ready, Here, Asked, Tells}
 
 -- the first kinds without children
@@ -59,13 +60,13 @@ var-told {h} {n} {r} var w e = rw var (go (decLt (getD (h .sheet) (n + 1) 0) (h 
     go (yes lt) =
         let z = place w lt in
         let q = e .inside (lt, z .few) in
-        let d = ap said q ∙ done-said _ _ _ (z .start-small) (omega (arith, z .short)) (omega arith) in
+        let d = ap (said (h .arena) (h .levels)) q ∙ done-said (h .arena) (h .levels) _ _ _ (z .start-small) (omega (arith, z .short)) (omega arith) in
         record {
           kept = kept-refl (h .top) (h .arena);
           told = λ sh es μ m.
               let i : getD (h .sheet) (n + 1) 0 < length μ = omega (arith, m .count, lt) in
               let v = m .each (getD (h .sheet) (n + 1) 0) i in
-              give _ _ (elem-at μ (getD (h .sheet) (n + 1) 0) vfalse i) (finish d (record {
+              give-some _ _ (elem-at μ (getD (h .sheet) (n + 1) 0) vfalse i) (finish d (record {
                 low = omega (arith, below-ends (v .place) (w .base));
                 held = record {
                   place = below-later (h .top + (getD (h .scope .lens) (getD (h .sheet) (n + 1) 0) 0 + 1)) (omega arith) (v .place);
@@ -76,7 +77,7 @@ var-told {h} {n} {r} var w e = rw var (go (decLt (getD (h .sheet) (n + 1) 0) (h 
               }));
         }
     go (no n′) =
-        let d = ap said (e .outside (λ p. n′ (p .0))) ∙ refused-said (omega arith) (omega arith) in
+        let d = ap (said (h .arena) (h .levels)) (e .outside (λ p. n′ (p .0))) ∙ refused-said (h .arena) (h .levels) (omega arith) (omega arith) in
         record {
           kept = kept-refl (h .top) (h .arena);
           told = λ sh es μ m. give-none _ _ (elem-none μ (getD (h .sheet) (n + 1) 0) (omega (arith, m .count, n′))) d;
@@ -90,7 +91,7 @@ pub record Constant (kind : ℕ) (s : List ℕ) (n : ℕ) : Type 0 where
   pub bytes : (kind - 0x11) ∷ [] ≡ encode value
   pub long : 1 ≡ size value
   pub readable : Readable value
-  pub is : (l : ℕ) (sh : _) (μ : Env) → run l sh (own kind s n) μ ≡ done value 0
+  pub is : (l : ℕ) (sh : _) (μ : Env) → run l sh (own kind s n) μ ≡ give value
 
 constants : (kind : ℕ) (s : List ℕ) (n i : ℕ) → kind ≡ 0x11 + i → i ≤ 2 → Constant kind s n
 unfolding run Text.getNode encode encodes size sizes
@@ -103,7 +104,8 @@ pub constant-told : {h : Here} {n r kind : ℕ} {a : List ℕ} → Childless kin
     → a ≡ set (h .arena) (h .top) (kind - 0x11) → r ≡ doneAs (h .top) 1 0 → Tells h a r kind n
 constant-told {h} {n} {kind = kind} c v m w e f =
     let k = constants kind (h .sheet) n (kind - 0x11) (omega (arith, c .low)) (omega (arith, c .high)) in
-    let d = ap said f ∙ done-said (h .top) 1 0 (omega (arith, w .room)) (omega arith) (omega arith) in
+    let a′ : List ℕ = set (h .arena) (h .top) (kind - 0x11) in
+    let d = ap (said a′ (h .levels)) f ∙ done-said a′ (h .levels) (h .top) 1 0 (omega (arith, w .room)) (omega arith) (omega arith) in
     let mark = marked (kind - 0x11) (h .top) (h .arena) (omega (arith, w .long, w .room)) in
     rw e (record {
       kept = marked-kept mark;
@@ -144,8 +146,8 @@ number-bytes b top n h k =
 pub number-told : {h : Here} {n r kind : ℕ} {a : List ℕ} → kind ≡ 0x14 → Asked h kind n
     → a ≡ numbered (h .arena) (h .top) (256 * getD (h .sheet) (n + 1) 0 + getD (h .sheet) (n + 2) 0) → r ≡ doneAs (h .top) 3 0 → Tells h a r kind n
 unfolding run Text.getNode size
-number-told {h} {n} num w e f =
-    let d = ap said f ∙ done-said (h .top) 3 0 (omega (arith, w .room)) (omega arith) (omega arith) in
+number-told {h} {n} {a = a} num w e f =
+    let d = ap (said a (h .levels)) f ∙ done-said a (h .levels) (h .top) 3 0 (omega (arith, w .room)) (omega arith) (omega arith) in
     let top = h .top in
     let b = h .arena in
     let m = 256 * getD (h .sheet) (n + 1) 0 + getD (h .sheet) (n + 2) 0 in
@@ -190,8 +192,8 @@ wide-bytes s n {a} {b} {c} {d} ea eb ec ed hb hc hd =
 pub wide-told : {h : Here} {n r kind : ℕ} {a : List ℕ} → kind ≡ 0x1D → Asked h kind n
     → a ≡ paste (h .arena) (h .top) (wideBytes (h .sheet) n) 5 → r ≡ doneAs (h .top) 5 0 → Tells h a r kind n
 unfolding run Text.getNode size encode
-wide-told {h} {n} num w e f =
-    let d = ap said f ∙ done-said (h .top) 5 0 (omega (arith, w .room)) (omega arith) (omega arith) in
+wide-told {h} {n} {a = a} num w e f =
+    let d = ap (said a (h .levels)) f ∙ done-said a (h .levels) (h .top) 5 0 (omega (arith, w .room)) (omega arith) (omega arith) in
     let p = filled (h .arena) (wideBytes (h .sheet) n) (h .top) (omega (arith, w .long, w .room)) in
     rw num (record {
       kept = rw e (p .below);

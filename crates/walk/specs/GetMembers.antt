@@ -5,19 +5,20 @@ use Prim.Native.Nat.{ℕ, _+_, _-_, _*_, _≤_, _<_}
 use native.Mathlib.Nat.{le-refl}
 use native.Mathlib.Omega.{arith}
 use lib.ListN.{getD}
-use Rattle.answer.specs.Answer.{Done, said, after, doneAs, done-said}
+use Rattle.answer.specs.Answer.{doneAs}
 use Rattle.value.specs.Result.{ok}
 use Rattle.value.specs.Value.{Value, Values, vfalse, list, nil, encode, encodes, size, sizes, Encodables, eList, eNil}
 use Rattle.sheet.specs.Sheet.{Sheet, readSheet}
-use Rattle.rules.specs.Outcome.{Out}
-use Rattle.rules.specs.Rules.{Env, get}
-use Rattle.rules.specs.Numbers.{SCRATCH}
+use Rattle.rules.specs.Text.{Env}
+use Rattle.rules.specs.Explain.{Explained, get}
+use Rattle.rules.specs.Numbers.{CHAIN}
 use Rattle.step.specs.declared.Scope.{Scope}
+use Rattle.walk.specs.Said.{Done, after, done-said, said}
 use Rattle.walk.specs.declared.at.At.{At}
 use Rattle.walk.specs.Parts.{part, Kept, kept-refl, kept-then, part-kept, part-join, Marked, marked-kept, marked-part}
 use Rattle.walk.specs.Arena.{below-ends, onStack, Held, Scoped, held-later}
 use Rattle.walk.specs.Seen.{held-some, held-head}
-use Rattle.walk.specs.Members.{onto, fronts, frontSizes, getFrom, plus-none, onto-bytes, onto-size, get-end, end-rest}
+use Rattle.walk.specs.Members.{onto, fronts, frontSizes, getFrom, more-none, onto-bytes, onto-size, get-end, end-rest}
 use Rattle.walk.specs.Answers.{Onward, answer-by, finish, onward}
 use Rattle.walk.specs.Gets.{enter, members, run, Ready, Gives, Here}
 
@@ -25,7 +26,7 @@ use Rattle.walk.specs.Gets.{enter, members, run, Ready, Gives, Here}
 
 pub record MembersAsked (s table a : List ℕ) (sc : Scope) (top levels left x root start end : ℕ) : Type 0 where
   pub asked : Ready s table a sc top levels left (enter root)
-  pub room : top + 256 + 513 * levels ≤ SCRATCH
+  pub room : top + 256 + 513 * levels ≤ CHAIN
   pub inside : x < sc .count
   pub narrow : sc .count ≤ 110
   pub some : Values
@@ -49,7 +50,7 @@ TellsMembers h a r x root start end = MembersTold (h .arena) a (h .sheet) (h .sc
 -- THE LIST SO FAR
 
 -- what is left of the list where vs were got and the old members l are not yet
-abbrev pub leftOf : Here → (x root : ℕ) → Sheet → Env → List Value → Values → Out Value
+abbrev pub leftOf : Here → (x root : ℕ) → Sheet → Env → List Value → Values → Explained Value
 leftOf h x root sh μ vs l = getFrom (get (h .levels) sh) root (getD μ x vfalse) vs l
 
 -- vs were got of the members ms, and stand from the base up to `top`; the others, `rest`, stand from `next` on
@@ -89,7 +90,7 @@ building-none {h} {x} {root} at l t e = record {
     bytes = refl;
     encodable = λ q. q;
     held = v;
-    onwards = let z : h .left - h .left ≡ 0 = omega arith in rw (e, z) (record { is = sym (plus-none _) });
+    onwards = let z : h .left - h .left ≡ 0 = omega arith in rw (e, z) (record { is = sym (more-none _) });
   };
 }
 
@@ -129,8 +130,8 @@ module _ {h : Here} {x root start end : ℕ} {a : List ℕ} {to : At} {next : �
             let low = b .low in
             let short = b .short in
             let len : to .top + 1 - h .top ≡ frontSizes (q .vs) + 1 = omega (arith, q .long) in
-            let d : said r ≡ Done (h .top) (frontSizes (q .vs) + 1) (h .left - to .left)
-            = ap said is ∙ done-said _ _ _ (omega arith) (omega arith) (omega (arith, w .asked .few))
+            let d : said m (h .levels) r ≡ Done (h .top) (frontSizes (q .vs) + 1) (h .left - to .left)
+            = ap (said m (h .levels)) is ∙ done-said m (h .levels) _ _ _ (omega arith) (omega arith) (omega (arith, w .asked .few))
             ∙ ap (λ (i : ℕ). Done (h .top) i (h .left - to .left)) len in
             let z : h .left - to .left ≡ h .left - to .left + 0 = omega arith in
             let long : frontSizes (q .vs) + 1 ≡ sizes (onto (q .vs) nil) = omega (arith, onto-size (q .vs) nil) in

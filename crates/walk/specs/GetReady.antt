@@ -6,25 +6,28 @@ use Prim.Native.Nat.{ℕ, zero, suc, _+_, _*_, _≤_, _<_}
 use native.Mathlib.Nat.{le-refl}
 use native.Mathlib.Omega.{arith}
 use lib.ListN.{length}
-use Rattle.answer.specs.Answer.{isRefusal, lenOf, startOf, stepsOf, said-done}
+use Rattle.answer.specs.Answer.{isRefusal, lenOf, startOf, stepsOf}
 use Rattle.value.specs.Value.{Value}
+use Rattle.sheet.specs.Records.{recordAt}
 use Rattle.sheet.specs.Sheet.{Sheet}
-use Rattle.rules.specs.Outcome.{done}
-use Rattle.rules.specs.AllowanceLaws.{within-done}
 use Rattle.rules.specs.Text
-use Rattle.rules.specs.Rules.{Env, get}
-use Rattle.rules.specs.Numbers.{ALLOWANCE, SCRATCH}
+use Rattle.rules.specs.Text.{Env}
+use Rattle.rules.specs.Explain.{get, got, within}
+use Rattle.rules.specs.Numbers.{ALLOWANCE, CHAIN}
 use Rattle.step.specs.declared.Scope.{Scope}
+use Rattle.walk.specs.Said.{said-done}
 use Rattle.walk.specs.declared.at.At.{At}
 use Rattle.walk.specs.Parts.{Kept, kept-refl}
 use Rattle.walk.specs.Arena.{Scoped, env-later}
 use Rattle.walk.specs.Seen.{held-some, held-short}
+use Rattle.walk.specs.Members.{getFrom}
 use Rattle.walk.specs.Answers.{had}
-use Rattle.walk.specs.Gets.{Task, enter, run, Known, Ready, Gives, Here, Asked, Asks}
+use Rattle.walk.specs.Steps.{Frugal, frugal-give, frugal-next, frugal-given, get-frugal, get-node-frugal, get-each-frugal}
+use Rattle.walk.specs.Gets.{Task, enter, own, branch, members, run, Known, Ready, Gives, Here, Asked, Asks}
 
 -- a call further on: the arena is kept below the top, and the top is raised
 module _ {s table b : List ℕ} {sc : Scope} {top levels left : ℕ} {t : Task} (w : Ready s table b sc top levels left t) where
-  module _ {a : List ℕ} (kept : Kept top b a) (top′ levels′ left′ : ℕ) (p : top ≤ top′) (few : left′ ≤ ALLOWANCE) (room : top′ + 513 * levels′ ≤ SCRATCH) where
+  module _ {a : List ℕ} (kept : Kept top b a) (top′ levels′ left′ : ℕ) (p : top ≤ top′) (few : left′ ≤ ALLOWANCE) (room : top′ + 513 * levels′ ≤ CHAIN) where
     -- in another scope
     pub ready-in : {sc′ : Scope} {t′ : Task} → sc′ .count + 2 * levels′ ≤ 112 → Known (w .sheet .sh) t′ → (μ : Env) → Scoped a sc′ top′ μ
         → Ready s table a sc′ top′ levels′ left′ t′
@@ -47,7 +50,7 @@ module _ {s table b : List ℕ} {sc : Scope} {top levels left : ℕ} {t : Task} 
 -- the first call of a kind's function: as it was asked, in the level below
 pub first-asks : {h : Here} {k n x : ℕ} (w : Asked h k n) → x < length (w .sheet .sh .nodes) → Asks h x
 first-asks {h} w i =
-    let z : h .top + 513 * suc (h .levels) ≤ SCRATCH = w .room in
+    let z : h .top + 513 * suc (h .levels) ≤ CHAIN = w .room in
     ready-later w (kept-refl _ _) (h .top) (h .levels) (h .left) (le-refl _) (omega (arith, w .few)) (omega arith) (omega arith) i
 
 -- a call was done: a value's bytes, and no more steps than were left
@@ -59,15 +62,23 @@ pub record Sizes (top start len n left levels : ℕ) : Type 0 where
   pub deep : 1 ≤ levels
 
 -- no more steps were taken than were left
+pub run-frugal : (l : ℕ) (sh : Sheet) (t : Task) (μ : Env) → Frugal (run l sh t μ)
+unfolding run Text.tested getFrom
+run-frugal l sh (enter n) μ = get-frugal l sh n μ
+run-frugal l sh (own k s n) μ = get-node-frugal l sh (recordAt k s n) μ
+run-frugal l sh (branch t n) μ = frugal-next (get-frugal l sh n μ) λ v. frugal-given _ _ λ _. frugal-give v
+run-frugal l sh (members x root ms) μ = frugal-next (get-each-frugal l sh root _ _ ms) λ ws. frugal-give _
+
 pub few-steps : {s table b a : List ℕ} {sc : Scope} {levels left from low left′ q l : ℕ} {t t′ : Task} → Ready s table b sc from levels left t
     → Gives b a s sc from low left′ q l t′ → isRefusal q ≡ false → stepsOf q ≤ left′
-few-steps {left′ = left′} {q = q} w g e = within-done left′ _ (had (g .told (w .sheet .sh) (w .sheet .read) (w .env) (w .scoped)) (said-done q e) .is) .1
+few-steps {left′ = left′} {q = q} {l = l} {t′ = t′} w g e =
+    run-frugal l (w .sheet .sh) t′ (w .env) .few left′ (had (g .told (w .sheet .sh) (w .sheet .read) (w .env) (w .scoped)) (said-done _ _ q e) .is)
 
 -- with no level left a node is refused
-deep : {l : ℕ} (sh : Sheet) (x : ℕ) (μ : Env) {v : Value} {n : ℕ} → run l sh (enter x) μ ≡ done v n → 1 ≤ l
+deep : {l : ℕ} (left : ℕ) (sh : Sheet) (x : ℕ) (μ : Env) {v : Value} {n : ℕ} → within left (run l sh (enter x) μ) ≡ got v n → 1 ≤ l
 unfolding run Text.get
-deep {l = zero} sh x μ e = absurd (let z : _≡_ {A = ℕ} 0 1 = cc in omega arith)
-deep {l = suc l} sh x μ e = omega arith
+deep {l = zero} left sh x μ e = absurd (let z : _≡_ {A = ℕ} 0 1 = cc in omega arith)
+deep {l = suc l} left sh x μ e = omega arith
 
 -- whatever was answered
 pub record Sized (top left levels r : ℕ) : Type 0 where
@@ -75,16 +86,15 @@ pub record Sized (top left levels r : ℕ) : Type 0 where
 
 pub sized : {s table b a : List ℕ} {sc : Scope} {top levels left x r : ℕ} → Ready s table b sc top levels left (enter x)
     → Gives b a s sc top top left r levels (enter x) → Sized top left levels r
-sized {left = left} {r = r} w g = record {
+sized {levels = levels} {left = left} {x = x} {r = r} w g = record {
   at = λ e.
-      let d = had (g .told (w .sheet .sh) (w .sheet .read) (w .env) (w .scoped)) (said-done r e) in
-      let q = within-done left _ (d .is) in
+      let d = had (g .told (w .sheet .sh) (w .sheet .read) (w .env) (w .scoped)) (said-done _ _ r e) in
       record {
         low = d .that .low;
         some = held-some (d .that .held);
         short = held-short (d .that .held);
-        steps = q .1;
-        deep = deep (w .sheet .sh) _ (w .env) (q .0);
+        steps = run-frugal levels (w .sheet .sh) (enter x) (w .env) .few left (d .is);
+        deep = deep left (w .sheet .sh) x (w .env) (d .is);
       };
 }
 

@@ -7,15 +7,17 @@ use native.Mathlib.Nat.{le-refl}
 use native.Mathlib.Decide.{decLe}
 use native.Mathlib.Omega.{arith}
 use lib.ListN.{getD}
-use Rattle.answer.specs.Answer.{Refused, said, after, isRefusal, doneAs, lenOf, startOf, stepsOf, steps-small, said-refused, said-done, done-said, refused-said}
+use Rattle.answer.specs.Answer.{isRefusal, doneAs, lenOf, startOf, stepsOf, steps-small}
 use Rattle.value.specs.Result.{ok}
 use Rattle.value.specs.Value.{Value, Values, vfalse, list, cons, encode, size, eCons}
 use Rattle.value.specs.Parts.{shapeOf, middleOf}
 use Rattle.sheet.specs.Sheet.{Sheet, readSheet}
-use Rattle.rules.specs.Outcome.{when, _>>=_, given}
-use Rattle.rules.specs.Rules.{Env, two, get}
+use Rattle.rules.specs.Outcome.{when}
+use Rattle.rules.specs.Text.{Env, two}
+use Rattle.rules.specs.Explain.{_>>=_, get, given}
 use Rattle.rules.specs.Numbers.{SCRATCH}
 use Rattle.step.specs.declared.Scope.{Scope}
+use Rattle.walk.specs.Said.{Own, after, done-said, refused-said, said, said-done, said-refused}
 use Rattle.walk.specs.declared.at.At.{At}
 use Rattle.walk.specs.Parts.{part, Kept, kept-then, part-kept, part-join, Marked, marked-kept, marked-part}
 use Rattle.walk.specs.Places.{top-above, behindOf}
@@ -23,8 +25,7 @@ use Rattle.walk.specs.Scope.{withMember}
 use Rattle.walk.specs.Arena.{Held, Scoped, env-later, env-member}
 use Rattle.walk.specs.Seen.{held-some, held-short, held-head, held-shape, TwoHeld, held-front}
 use Rattle.walk.specs.Members.{fronts, frontSizes, onto-one, fronts-one, sizes-one, get-member, front-rest, front-middle}
-use Rattle.rules.specs.OutcomeLaws.{given-yes}
-use Rattle.walk.specs.Answers.{Answers, answer-by, onward, then-done, then-refused, give-no, had, not-had, then-onward}
+use Rattle.walk.specs.Answers.{given-so, Answers, answer-by, onward, then-done, then-refused, give-no, had, not-had, then-onward}
 use Rattle.walk.specs.Gets.{run, Stands, Here, Asks}
 use Rattle.walk.specs.GetReady.{ready-in}
 use Rattle.walk.specs.GetAt.{AtTop}
@@ -48,12 +49,12 @@ record FrontDone (base top got r : ℕ) : Type 0 where
 front-done : {base top got r : ℕ} → top < SCRATCH → Fronted base top got r → isRefusal r ≡ false → FrontDone base top got r
 front-done few (passed-on n is) q = absurd (let y : true ≡ false = cc in let z : _≡_ {A = ℕ} 0 1 = cc in omega arith)
 front-done {r = r} few (long n lt is) q =
-    let d = ap said is ∙ refused-said {a = 44} (omega arith) (omega arith) in
-    let y = said-done r q in
+    let d = ap (said [] 0) is ∙ refused-said [] 0 {r = 44} (omega arith) (omega arith) in
+    let y = said-done [] 0 r q in
     absurd (let z : _≡_ {A = ℕ} 0 1 = cc in omega arith)
 front-done {top = top} {got = got} {r = r} few (fits n le is) q =
-    let d = ap said is ∙ done-said top (1 + lenOf got) (stepsOf got) few (omega arith) (steps-small got) in
-    let y = said-done r q in
+    let d = ap (said [] 0) is ∙ done-said [] 0 top (1 + lenOf got) (stepsOf got) few (omega arith) (steps-small got) in
+    let y = said-done [] 0 r q in
     record { there = n; short = le; start = cc; len = cc; steps = cc }
 
 -- AT A STAGE: a turn begins; the next member stands behind a 03, in mid - 1 bytes
@@ -133,7 +134,7 @@ module _ {h : Here} {x root start end : ℕ} {a : List ℕ} {to : At} {next mid 
       kept₂ = kept-then kept₁ (t .gives .kept) (omega (arith, b .low))
 
       answered : (sh : Sheet) → readSheet (h .sheet) ≡ ok sh → (μ : Env) → Scoped (h .arena) (h .scope) (h .top) μ → {ms : Values} (u : Turn sh μ ms)
-          → Answers (Stands a₂ (to .top + 1)) (said g) (to .left) (get (h .levels) sh root (two (u .first) (getD μ x vfalse)))
+          → Answers (Stands a₂ (to .top + 1)) (said a₂ (h .levels) g) (to .left) (get (h .levels) sh root (two (u .first) (getD μ x vfalse)))
       unfolding run
       answered sh es μ e u = rw (b .level) at (t .gives .told sh es _ (env₁ e u))
 
@@ -145,7 +146,7 @@ module _ {h : Here} {x root start end : ℕ} {a : List ℕ} {to : At} {next mid 
           kept = kept₂;
           told = λ sh es μ e.
               let u = turn (b .reached sh es μ e v) in
-              let y = said-refused g n in
+              let y = said-refused _ _ g n in
               onward (u .so-far .onwards) (answer-by (then-refused _ _ (not-had (answered sh es μ e u) y .1) refl) (rule u)) y;
         };
       })
@@ -154,17 +155,17 @@ module _ {h : Here} {x root start end : ℕ} {a : List ℕ} {to : At} {next mid 
           kept = kept₂;
           told = λ sh es μ e.
               let u = turn (b .reached sh es μ e v) in
-              let d = had (answered sh es μ e u) (said-done g n) in
-              let y : said r ≡ Refused 44 = ap said is ∙ refused-said (omega arith) (omega arith) in
-              onward (u .so-far .onwards) (answer-by (then-done _ _ {q = Refused 44} (d .is)
+              let d = had (answered sh es μ e u) (said-done _ _ g n) in
+              let y : said a₂ (h .levels) r ≡ Own 44 = ap (said _ _) is ∙ refused-said _ _ (omega arith) (omega arith) in
+              onward (u .so-far .onwards) (answer-by (then-done _ _ {q = Own 44} (d .is)
               (give-no _ _ _ (λ le. omega (arith, u .so-far .long, d .that .held .long)) refl) refl) (rule u)) y;
         };
       }
       turn-refused {r} (fits n le is) q =
           let room = w .room in
           let short = b .short in
-          let d = ap said is ∙ done-said (to .top) (1 + lenOf g) (stepsOf g) (omega arith) (omega arith) (steps-small g) in
-          let y = said-refused r q in
+          let d = ap (said a₂ (h .levels)) is ∙ done-said a₂ (h .levels) (to .top) (1 + lenOf g) (stepsOf g) (omega arith) (omega arith) (steps-small g) in
+          let y = said-refused a₂ (h .levels) r q in
           absurd (let z : _≡_ {A = ℕ} 0 1 = cc in omega arith)
 
       -- it is there: the list is one member longer
@@ -196,7 +197,7 @@ module _ {h : Here} {x root start end : ℕ} {a : List ℕ} {to : At} {next mid 
               reached = λ sh es μ e {ms} v.
                   let u = turn (b .reached sh es μ e v) in
                   let q = u .so-far in
-                  let d = had (answered sh es μ e u) (said-done g n) in
+                  let d = had (answered sh es μ e u) (said-done _ _ g n) in
                   let z : end - next - mid ≡ end - (next + mid) = omega arith in
                   record {
                     vs = q .vs ++ d .value ∷ [];
@@ -206,7 +207,7 @@ module _ {h : Here} {x root start end : ℕ} {a : List ℕ} {to : At} {next mid 
                     encodable = λ r. rw onto-one (q .encodable (eCons (d .that .held .readable .encodable) r));
                     held = rw z at (u .parts .second);
                     onwards = then-onward _ _ (q .onwards) (rule u) (d .is)
-                        (given-yes 44 _ (omega (arith, q .long, d .that .held .long))) (omega arith);
+                        (given-so 44 _ _ (omega (arith, q .long, d .that .held .long))) (omega arith);
                   };
             }
 

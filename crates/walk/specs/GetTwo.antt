@@ -7,22 +7,22 @@ use native.Mathlib.Nat.{le-refl}
 use native.Mathlib.Decide.{decLt}
 use native.Mathlib.Omega.{arith}
 use lib.ListN.{length, getD}
-use Rattle.answer.specs.Answer.{Said, Done, Refused, said, after, isRefusal, doneAs, lenOf, startOf, stepsOf, said-refused, said-done, done-said, refused-said}
+use Rattle.answer.specs.Answer.{isRefusal, doneAs, lenOf, startOf, stepsOf}
 use Rattle.value.specs.Result.{ok}
 use Rattle.value.specs.Value.{Value, encode}
 use Rattle.sheet.specs.Sheet.{Sheet, readSheet}
-use Rattle.rules.specs.Outcome.{done, refused, given}
-use Rattle.rules.specs.Allowance.{within}
 use Rattle.rules.specs.Text
-use Rattle.rules.specs.Rules.{Env, getNode, get, bounded}
-use Rattle.rules.specs.Numbers.{SCRATCH}
+use Rattle.rules.specs.Text.{Env}
+use Rattle.rules.specs.Explain.{Why, bounded, get, getNode, given, got, met, within}
+use Rattle.rules.specs.Numbers.{SCRATCH, CHAIN}
 use Rattle.step.specs.Step.{unfitRest, madeOf}
 use Rattle.step.specs.StepLaws.{made-front, made-pair}
+use Rattle.walk.specs.Said.{Done, Own, Refused, Said, after, done-said, refused-said, said, said-done, said-refused}
 use Rattle.walk.specs.Parts.{part, Kept, part-kept, kept-then, part-join, Marked, marked-kept, marked-part}
 use Rattle.walk.specs.Arena.{onStack, Scoped, env-later}
 use Rattle.walk.specs.Seen.{held-head}
 use Rattle.walk.specs.Wholes.{Made, aList, aPair, maker, Whole, whole, no-whole, given-list, given-pair}
-use Rattle.walk.specs.Answers.{Answers, answer-by, finish, then-done, then-refused, give, give-none, give-yes, give-no, had, not-had}
+use Rattle.walk.specs.Answers.{Answers, answer-by, finish, then-done, then-refused, give-some, give-none, give-yes, give-no, had, not-had}
 use Rattle.walk.specs.Gets.{own, run, Known, Stands, Here, further, Asked, Asks, Tells}
 use Rattle.walk.specs.GetReady.{ready-later}
 use Rattle.walk.specs.GetAt.{AtTop}
@@ -44,8 +44,8 @@ two-made (aTwo e) = aPair (sym (made-pair (λ y. omega (arith, e, y)) (λ y. ome
 
 -- the rule, once both nodes are got
 module _ {P : (start len : ℕ) → Value → Type 0} {r : Said} {left k : ℕ} (two : Two k) (n l : ℕ) (s : List ℕ) (sh : Sheet) (μ : Env) where
-  two-done : {u v : Value} {i j : ℕ} {q : Said} → within left (get l sh (getD s (n + 1) 0) μ) ≡ done u i
-      → within (left - i) (get l sh (getD s (n + 2) 0) μ) ≡ done v j
+  two-done : {u v : Value} {i j : ℕ} {q : Said} → within left (get l sh (getD s (n + 1) 0) μ) ≡ got u i
+      → within (left - i) (get l sh (getD s (n + 2) 0) μ) ≡ got v j
       → Answers P q (left - i - j) (given 43 (maker (madeOf k) u v) bounded) → r ≡ after i (after j q) → Answers P r left (run l sh (own k s n) μ)
   unfolding run Text.getNode
   two-done {u} {v} e f t d = go two
@@ -56,7 +56,7 @@ module _ {P : (start len : ℕ) → Value → Type 0} {r : Said} {left k : ℕ} 
           (then-done _ _ f (answer-by (rw (← made-pair {kind = k} (λ y. omega (arith, x, y)) (λ y. omega (arith, x, y))) at t) (given-pair u v bounded)) refl)
           d)
 
-  two-none₁ : {c i : ℕ} → within left (get l sh (getD s (n + 1) 0) μ) ≡ refused c i → r ≡ Refused c → Answers P r left (run l sh (own k s n) μ)
+  two-none₁ : {c : Why} {i : ℕ} → within left (get l sh (getD s (n + 1) 0) μ) ≡ met c i → r ≡ Refused c → Answers P r left (run l sh (own k s n) μ)
   unfolding run Text.getNode
   two-none₁ e d = go two
     where
@@ -64,8 +64,8 @@ module _ {P : (start len : ℕ) → Value → Type 0} {r : Said} {left k : ℕ} 
       go (aFront x) = rw x (then-refused _ _ e d)
       go (aTwo x) = rw x (then-refused _ _ e d)
 
-  two-none₂ : {u : Value} {c i j : ℕ} → within left (get l sh (getD s (n + 1) 0) μ) ≡ done u i
-      → within (left - i) (get l sh (getD s (n + 2) 0) μ) ≡ refused c j → r ≡ Refused c
+  two-none₂ : {u : Value} {c : Why} {i j : ℕ} → within left (get l sh (getD s (n + 1) 0) μ) ≡ got u i
+      → within (left - i) (get l sh (getD s (n + 2) 0) μ) ≡ met c j → r ≡ Refused c
       → Answers P r left (run l sh (own k s n) μ)
   unfolding run Text.getNode after
   two-none₂ {c = c} e f d = go two
@@ -117,7 +117,7 @@ module _ {h : Here} {k n : ℕ} {m : List ℕ} (w : TwoAsked h k n m) where
 
   pub one-asks : Asks one-here (getD (h .sheet) (n + 1) 0)
   one-asks =
-      let z : h .top + 513 * suc (h .levels) ≤ SCRATCH = w .asked .room in
+      let z : h .top + 513 * suc (h .levels) ≤ CHAIN = w .asked .room in
       ready-later (w .asked) (marked-kept (w .marked)) (h .top + 1) (h .levels) (h .left) (omega arith) (omega (arith, w .asked .few)) (omega arith)
       (omega arith) (two-known (h .sheet) (w .asked .sheet .sh) n (w .two) (w .asked .known) .0)
 
@@ -132,13 +132,13 @@ module _ {h : Here} {k n : ℕ} {m : List ℕ} (w : TwoAsked h k n m) where
     unfolding run
     one-refused e = record {
       kept = kept₁;
-      told = λ sh es μ m. let x = said-refused f e in two-none₁ (w .two) n (h .levels) (h .sheet) sh μ (not-had (t₁ .gives .told sh es μ (env₁ m)) x .1) x;
+      told = λ sh es μ m. let x = said-refused _ _ f e in two-none₁ (w .two) n (h .levels) (h .sheet) sh μ (not-had (t₁ .gives .told sh es μ (env₁ m)) x .1) x;
     }
 
     module _ (e₁ : isRefusal f ≡ false) where
       pub two-asks : Asks (two-here a₁ f) (getD (h .sheet) (n + 2) 0)
       two-asks =
-          let z : h .top + 513 * suc (h .levels) ≤ SCRATCH = w .asked .room in
+          let z : h .top + 513 * suc (h .levels) ≤ CHAIN = w .asked .room in
           let s = t₁ .sized .at e₁ in
           ready-later (w .asked) kept₁ (h .top + 1 + lenOf f) (h .levels) (h .left - stepsOf f) (omega arith) (omega (arith, w .asked .few)) (omega arith)
           (omega arith) (two-known (h .sheet) (w .asked .sheet .sh) n (w .two) (w .asked .known) .1)
@@ -146,7 +146,7 @@ module _ {h : Here} {k n : ℕ} {m : List ℕ} (w : TwoAsked h k n m) where
       -- what `joined` asks
       pub joinable : {a₂ : List ℕ} {g : ℕ} → AtTop (two-here a₁ f) a₂ g (getD (h .sheet) (n + 2) 0) → isRefusal g ≡ false → Joinable a₂ (h .top) f
       joinable t₂ e₂ =
-          let z : h .top + 513 * suc (h .levels) ≤ SCRATCH = w .asked .room in
+          let z : h .top + 513 * suc (h .levels) ≤ CHAIN = w .asked .room in
           let s = t₁ .sized .at e₁ in
           let x = t₂ .gives .kept .long in
           let y = kept₁ .long in
@@ -163,8 +163,8 @@ module _ {h : Here} {k n : ℕ} {m : List ℕ} (w : TwoAsked h k n m) where
         record Both (sh : Sheet) (μ : Env) : Type 0 where
           u : Value
           v : Value
-          first : within (h .left) (get (h .levels) sh (getD (h .sheet) (n + 1) 0) μ) ≡ done u (stepsOf f)
-          second : within (h .left - stepsOf f) (get (h .levels) sh (getD (h .sheet) (n + 2) 0) μ) ≡ done v (stepsOf g)
+          first : within (h .left) (get (h .levels) sh (getD (h .sheet) (n + 1) 0) μ) ≡ got u (stepsOf f)
+          second : within (h .left - stepsOf f) (get (h .levels) sh (getD (h .sheet) (n + 2) 0) μ) ≡ got v (stepsOf g)
           one : Stands a₁ (h .top + 1) (startOf f) (lenOf f) u
           two : Stands a₂ (h .top + 1 + lenOf f) (startOf g) (lenOf g) v
           bytes : part a₂ (h .top) (1 + lenOf f + lenOf g) ≡ madeOf k ∷ (encode u ++ encode v)
@@ -173,8 +173,8 @@ module _ {h : Here} {k n : ℕ} {m : List ℕ} (w : TwoAsked h k n m) where
         both : isRefusal g ≡ false → (sh : Sheet) → readSheet (h .sheet) ≡ ok sh → (μ : Env) → Scoped (h .arena) (h .scope) (h .top) μ → Both sh μ
         unfolding run
         both e₂ sh es μ m =
-            let d = had (t₁ .gives .told sh es μ (env₁ m)) (said-done f e₁) in
-            let d′ = had (t₂ .gives .told sh es μ (env₂ m)) (said-done g e₂) in
+            let d = had (t₁ .gives .told sh es μ (env₁ m)) (said-done _ _ f e₁) in
+            let d′ = had (t₂ .gives .told sh es μ (env₂ m)) (said-done _ _ g e₂) in
             let p = t₁ .there e₁ in
             let q = t₂ .there e₂ in
             let x : part a₁ (h .top + 1) (lenOf f) ≡ encode (d .value) = ap (λ (i : ℕ). part a₁ i (lenOf f)) (sym p) ∙ d .that .held .bytes in
@@ -205,16 +205,16 @@ module _ {h : Here} {k n : ℕ} {m : List ℕ} (w : TwoAsked h k n m) where
         two-told (passed-on e₂ is) = rw is (record {
           kept = kept₂;
           told = λ sh es μ m.
-              let x = said-refused g e₂ in
-              two-none₂ (w .two) n (h .levels) (h .sheet) sh μ (had (t₁ .gives .told sh es μ (env₁ m)) (said-done f e₁) .is)
+              let x = said-refused _ _ g e₂ in
+              two-none₂ (w .two) n (h .levels) (h .sheet) sh μ (had (t₁ .gives .told sh es μ (env₁ m)) (said-done _ _ f e₁) .is)
               (not-had (t₂ .gives .told sh es μ (env₂ m)) x .1) x;
         })
         two-told {r} (unfit e₂ bad is) = record {
           kept = kept₂;
           told = λ sh es μ m.
               let d = both e₂ sh es μ m in
-              let x : said r ≡ Refused 43 = ap said is ∙ refused-said (omega arith) (omega arith) in
-              two-done (w .two) n (h .levels) (h .sheet) sh μ {q = Refused 43} (d .first) (d .second)
+              let x : said a₂ (h .levels) r ≡ Own 43 = ap (said _ _) is ∙ refused-said _ _ (omega arith) (omega arith) in
+              two-done (w .two) n (h .levels) (h .sheet) sh μ {q = Own 43} (d .first) (d .second)
               (give-none _ _ (no-whole _ _ made (ap (unfitRest (madeOf k)) (sym (d .head)) ∙ bad)) refl) x;
         }
         two-told {r} (long e₂ fit lt is) = record {
@@ -222,9 +222,9 @@ module _ {h : Here} {k n : ℕ} {m : List ℕ} (w : TwoAsked h k n m) where
           told = λ sh es μ m.
               let d = both e₂ sh es μ m in
               let b = whole-of d fit in
-              let x : said r ≡ Refused 44 = ap said is ∙ refused-said (omega arith) (omega arith) in
-              two-done (w .two) n (h .levels) (h .sheet) sh μ {q = Refused 44} (d .first) (d .second)
-              (give _ _ (b .is) (give-no _ _ _ (λ le. omega (arith, b .long, d .one .held .long, d .two .held .long)) refl)) x;
+              let x : said a₂ (h .levels) r ≡ Own 44 = ap (said _ _) is ∙ refused-said _ _ (omega arith) (omega arith) in
+              two-done (w .two) n (h .levels) (h .sheet) sh μ {q = Own 44} (d .first) (d .second)
+              (give-some _ _ (b .is) (give-no _ _ _ (λ le. omega (arith, b .long, d .one .held .long, d .two .held .long)) refl)) x;
         }
         two-told {r} (fits e₂ fit le is) = record {
           kept = kept₂;
@@ -232,13 +232,13 @@ module _ {h : Here} {k n : ℕ} {m : List ℕ} (w : TwoAsked h k n m) where
               let d = both e₂ sh es μ m in
               let b = whole-of d fit in
               let z : stepsOf f + stepsOf g ≡ stepsOf f + (stepsOf g + 0) = omega arith in
-              let room : h .top + 513 * suc (h .levels) ≤ SCRATCH = w .asked .room in
+              let room : h .top + 513 * suc (h .levels) ≤ CHAIN = w .asked .room in
               let s₁ = t₁ .sized .at e₁ in
               let s₂ = t₂ .sized .at e₂ in
-              let x : said r ≡ Done (h .top) (1 + lenOf f + lenOf g) (stepsOf f + stepsOf g)
-              = ap said is ∙ done-said _ _ _ (omega arith) (omega arith) (omega (arith, w .asked .few)) in
+              let x : said a₂ (h .levels) r ≡ Done (h .top) (1 + lenOf f + lenOf g) (stepsOf f + stepsOf g)
+              = ap (said _ _) is ∙ done-said _ _ _ _ _ (omega arith) (omega arith) (omega (arith, w .asked .few)) in
               two-done (w .two) n (h .levels) (h .sheet) sh μ {q = Done (h .top) (1 + lenOf f + lenOf g) 0} (d .first) (d .second)
-              (give _ _ (b .is) (give-yes _ _ _ (omega (arith, b .long, d .one .held .long, d .two .held .long)) (λ small. finish refl (record {
+              (give-some _ _ (b .is) (give-yes _ _ _ (omega (arith, b .long, d .one .held .long, d .two .held .long)) (λ small. finish refl (record {
                 low = le-refl _;
                 held = record {
                   place = onStack (w .asked .base) (omega arith);

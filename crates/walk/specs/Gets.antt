@@ -3,17 +3,17 @@ use mathlib.Core.Path.{_≡_, ap}
 use mathlib.Core.List.{List, []}
 use Prim.Native.Nat.{ℕ, suc, _+_, _*_, _≤_, _<_}
 use lib.ListN.{length, getD}
-use Rattle.answer.specs.Answer.{said}
 use Rattle.value.specs.Result.{ok}
 use Rattle.value.specs.Value.{Value, Values, vfalse}
 use Rattle.sheet.specs.Records.{recordAt}
 use Rattle.sheet.specs.Sheet.{Sheet, readSheet}
 use Rattle.sheet.specs.Table.{tableOf}
 use Rattle.sheet.specs.Laws.{Ranged}
-use Rattle.rules.specs.Outcome.{Out}
-use Rattle.rules.specs.Rules.{Env, getNode, get, tested}
-use Rattle.rules.specs.Numbers.{ALLOWANCE, SCRATCH, STACK}
+use Rattle.rules.specs.Text.{Env}
+use Rattle.rules.specs.Explain.{Explained, get, getNode, tested}
+use Rattle.rules.specs.Numbers.{ALLOWANCE, SCRATCH, STACK, CHAIN}
 use Rattle.step.specs.declared.Scope.{Scope}
+use Rattle.walk.specs.Said.{said}
 use Rattle.walk.specs.declared.at.At.{At}
 use Rattle.walk.specs.Parts.{Kept}
 use Rattle.walk.specs.Arena.{Held, Scoped}
@@ -29,7 +29,7 @@ pub data Task : Type 0 where
   branch : (test node : ℕ) → Task
   members : (x root : ℕ) (ms : Values) → Task
 
-unfoldable pub run : ℕ → Sheet → Task → Env → Out Value
+unfoldable pub run : ℕ → Sheet → Task → Env → Explained Value
 run l sh (enter n) μ = get l sh n μ
 run l sh (own k s n) μ = getNode (get l sh) sh (recordAt k s n) μ
 run l sh (branch t n) μ = tested t (get l sh n μ)
@@ -53,7 +53,7 @@ pub record Ready (s table a : List ℕ) (sc : Scope) (top levels left : ℕ) (t 
   pub long : length a ≡ SCRATCH
   pub few : left ≤ ALLOWANCE
   pub base : STACK ≤ top
-  pub room : top + 513 * levels ≤ SCRATCH
+  pub room : top + 513 * levels ≤ CHAIN
   pub variables : sc .count + 2 * levels ≤ 112
   pub sheet : Tabled s table
   pub known : Known (sheet .sh) t
@@ -68,7 +68,7 @@ pub record Stands (a : List ℕ) (top start len : ℕ) (v : Value) : Type 0 wher
 -- the bytes below `top` are kept, and the answer is the task's, for whatever values the scope's variables stand for
 pub record Gives (b a s : List ℕ) (sc : Scope) (from top left r l : ℕ) (t : Task) : Type 0 where
   pub kept : Kept top b a
-  pub told : (sh : Sheet) → readSheet s ≡ ok sh → (μ : Env) → Scoped b sc from μ → Answers (Stands a top) (said r) left (run l sh t μ)
+  pub told : (sh : Sheet) → readSheet s ≡ ok sh → (μ : Env) → Scoped b sc from μ → Answers (Stands a top) (said a l r) left (run l sh t μ)
 
 -- WHERE A FUNCTION OF A KIND IS: what it is lent, and its place
 

@@ -3,8 +3,11 @@ pub mod Places
 pub mod Scope
 pub mod Arena
 pub mod Seen
+pub mod Said
+pub mod Whys
 pub mod Members
 pub mod Answers
+pub mod Steps
 pub mod Gets
 pub mod GetReady
 pub mod Cells

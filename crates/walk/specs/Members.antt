@@ -2,68 +2,95 @@
 use mathlib.Core.Path.{_≡_, refl, sym, ap, _∙_, fun-ext}
 use mathlib.Core.Option.{Option, none, some}
 use mathlib.Core.List.{List, [], _∷_, _++_, append-assoc, append-nil}
-use Prim.Native.Nat.{ℕ, suc, _+_}
+use Prim.Native.Nat.{ℕ, suc, _+_, _-_}
 use native.Mathlib.Decide.{decLe}
 use native.Mathlib.Omega.{arith}
 use lib.ListN.{length, take, getD, getElem?}
 use Rattle.value.specs.Value.{Value, Values, list, nil, cons, encode, encodes, size, sizes}
 use Rattle.value.specs.Parts.{middleOf}
 use Rattle.value.specs.PartsLaws.{shape}
-use Rattle.rules.specs.Outcome.{Out, done, refused, plus, when, _>>=_, given}
+use Rattle.rules.specs.Outcome.{when}
 use Rattle.rules.specs.Text
-use Rattle.rules.specs.Rules.{Cells, Getter, Putter, two, restOf, orOld, getEach, stoodFor, putEach}
+use Rattle.rules.specs.Text.{two, restOf}
+use Rattle.rules.specs.Explain.{
+  Told,
+  got,
+  met,
+  Explained,
+  more,
+  follow,
+  next,
+  wanted,
+  give,
+  _>>=_,
+  given,
+  Cells,
+  Getter,
+  Putter,
+  orOld,
+  getEach,
+  stoodFor,
+  putEach,
+}
 
 -- OUTCOMES
 
 module _ {A : Type 0} where
-  pub plus-plus : (i j : ℕ) (o : Out A) → plus i (plus j o) ≡ plus (i + j) o
-  unfolding plus
-  plus-plus i j (done a s) = ap (done a) (omega arith)
-  plus-plus i j (refused c s) = ap (refused c) (omega arith)
+  pub more-more : (i j : ℕ) (t : Told A) → more i (more j t) ≡ more (i + j) t
+  unfolding more
+  more-more i j (got a s) = ap (got a) (omega arith)
+  more-more i j (met y s) = ap (met y) (omega arith)
 
-  pub plus-none : (o : Out A) → plus 0 o ≡ o
-  unfolding plus
-  plus-none (done a s) = ap (done a) (omega arith)
-  plus-none (refused c s) = ap (refused c) (omega arith)
+  pub more-none : (t : Told A) → more 0 t ≡ t
+  unfolding more
+  more-none (got a s) = ap (got a) (omega arith)
+  more-none (met y s) = ap (met y) (omega arith)
 
-module _ {A B : Type 0} where
-  plus-bind : (i : ℕ) (m : Out A) (f : A → Out B) → (plus i m >>= f) ≡ plus i (m >>= f)
-  unfolding plus _>>=_
-  plus-bind i (done a s) f = sym (plus-plus i s (f a))
-  plus-bind i (refused c s) f = refl
-
-module _ {A B C : Type 0} (k : B → Out C) where
+module _ {A B C : Type 0} (k : B → Explained C) where
   -- one after the other, and then a third
-  pub bind-bind : (m : Out A) (f : A → Out B) → (m >>= f >>= k) ≡ (m >>= λ a. f a >>= k)
-  unfolding _>>=_
-  bind-bind (done a s) f = plus-bind s (f a) k
-  bind-bind (refused c s) f = refl
+  bind-both : (left : ℕ) (f : A → Explained B) (t : Told A)
+      → follow (follow t (λ a s. f a (left - s))) (λ b s. k b (left - s)) ≡ follow t (λ a s. (f a >>= k) (left - s))
+  unfolding next follow more
+  bind-both left f (got a s) = go (f a (left - s))
+    where
+      go : (t : Told B) → follow (more s t) (λ b n. k b (left - n)) ≡ more s (follow t (λ b n. k b (left - s - n)))
+      go (got b n) = let z : left - (s + n) ≡ left - s - n = omega arith in rw z (sym (more-more s n (k b (left - s - n))))
+      go (met y n) = refl
+  bind-both left f (met y s) = refl
 
-  pub given-bind : (c : ℕ) (o : Option A) (f : A → Out B) → (given c o f >>= k) ≡ given c o (λ a. f a >>= k)
-  unfolding given _>>=_
+  pub bind-bind : (m : Explained A) (f : A → Explained B) → (m >>= f >>= k) ≡ (m >>= λ a. f a >>= k)
+  unfolding next
+  bind-bind m f = fun-ext λ left. bind-both left f (m left)
+
+  pub given-bind : (c : ℕ) (o : Option A) (f : A → Explained B) → (given c o f >>= k) ≡ given c o (λ a. f a >>= k)
+  unfolding wanted next follow
   given-bind c none f = refl
   given-bind c (some a) f = refl
 
 module _ {A B : Type 0} where
-  pub done-bind : (a : A) (f : A → Out B) → (done a 0 >>= f) ≡ f a
-  unfolding _>>=_
-  done-bind a f = plus-none (f a)
+  pub done-bind : (a : A) (f : A → Explained B) → (give a >>= f) ≡ f a
+  unfolding next follow
+  done-bind a f = fun-ext λ left. let z : left - 0 ≡ left = omega arith in rw z (more-none (f a left))
 
 -- what comes behind two outcomes and two tests goes on at their end
-module _ {A B C E F : Type 0} {D : A → B → C → Type 0} (m : Out A) (n : A → Out B) (c : ℕ) (o : A → B → Option C) (c′ : ℕ)
-    (q : (a : A) (b : B) (x : C) → Option (D a b x)) (f : (a : A) (b : B) (x : C) → D a b x → Out E) (k : E → Out F)
-    {h : (a : A) (b : B) (x : C) → D a b x → Out F} where
+module _ {A B C E F : Type 0} {D : A → B → C → Type 0} (m : Explained A) (n : A → Explained B) (c : ℕ) (o : A → B → Option C) (c′ : ℕ)
+    (q : (a : A) (b : B) (x : C) → Option (D a b x)) (f : (a : A) (b : B) (x : C) → D a b x → Explained E) (k : E → Explained F)
+    {h : (a : A) (b : B) (x : C) → D a b x → Explained F} where
   through : ((a : A) (b : B) (x : C) (y : D a b x) → (f a b x y >>= k) ≡ h a b x y)
       → ((m >>= λ a. n a >>= λ b. given c (o a b) λ x. given c′ (q a b x) (f a b x)) >>= k)
       ≡ (m >>= λ a. n a >>= λ b. given c (o a b) λ x. given c′ (q a b x) (h a b x))
-  through e = bind-bind k _ _ ∙ ap (λ (z : A → Out F). m >>= z) (fun-ext λ a. bind-bind k _ _ ∙ ap (λ (z : B → Out F). n a >>= z) (fun-ext λ b.
+  through e = bind-bind k _ _ ∙ ap (λ (z : A → Explained F). m >>= z) (fun-ext λ a. bind-bind k _ _ ∙ ap (λ (z : B → Explained F). n a >>= z) (fun-ext λ b.
       given-bind k c _ _ ∙ ap (given c (o a b)) (fun-ext λ x. given-bind k c′ _ _ ∙ ap (given c′ (q a b x)) (fun-ext λ y. e a b x y))))
 
 module _ {A : Type 0} where
-  pub bind-done : (m : Out A) → (m >>= λ a. done a 0) ≡ m
-  unfolding _>>=_ plus
-  bind-done (done a s) = ap (done a) (omega arith)
-  bind-done (refused c s) = refl
+  unchanged : (left : ℕ) (t : Told A) → follow t (λ a _. got a 0) ≡ t
+  unfolding follow more
+  unchanged left (got a s) = ap (got a) (omega arith)
+  unchanged left (met y s) = refl
+
+  pub bind-done : (m : Explained A) → (m >>= λ a. give a) ≡ m
+  unfolding next
+  bind-done m = fun-ext λ left. unchanged left (m left)
 
 -- A LIST THAT IS BEING BUILT: its members so far
 
@@ -125,34 +152,35 @@ unfolding middleOf shape
 front-middle m r = refl
 
 -- GET BEHIND SOME MEMBERS: the list that they and what is got of the others make
-unfoldable pub getFrom : Getter → (root : ℕ) → Value → List Value → Values → Out Value
-getFrom g root a vs l = getEach g root a (suc (frontSizes vs)) l >>= λ ws. done (list (onto vs ws)) 0
+unfoldable pub getFrom : Getter → (root : ℕ) → Value → List Value → Values → Explained Value
+getFrom g root a vs l = getEach g root a (suc (frontSizes vs)) l >>= λ ws. give (list (onto vs ws))
 
 -- how long the list is with one member more
 longer : (vs : List Value) (w : Value) → suc (frontSizes vs) + suc (size w) ≡ suc (frontSizes (vs ++ w ∷ []))
 longer vs w = omega (arith, sizes-one vs w)
 
 module _ (g : Getter) (root : ℕ) (a : Value) (vs : List Value) where
-  pub get-end : getFrom g root a vs nil ≡ done (list (onto vs nil)) 0
+  pub get-end : getFrom g root a vs nil ≡ give (list (onto vs nil))
   unfolding getFrom Text.getEach
   get-end = done-bind nil _
 
   pub get-member : (m : Value) (r : Values) → getFrom g root a vs (cons m r)
       ≡ (g root (two m a) >>= λ w. given 44 (when (decLe (suc (frontSizes vs) + suc (size w)) 256)) λ _. getFrom g root a (vs ++ w ∷ []) r)
   unfolding getFrom Text.getEach
-  get-member m r = bind-bind _ _ _ ∙ ap (λ (f : Value → Out Value). g root (two m a) >>= f) (fun-ext λ w. given-bind _ 44 _ _
+  get-member m r = bind-bind _ _ _ ∙ ap (λ (f : Value → Explained Value). g root (two m a) >>= f) (fun-ext λ w. given-bind _ 44 _ _
       ∙ ap (given 44 (when (decLe (suc (frontSizes vs) + suc (size w)) 256))) (fun-ext λ _. bind-bind _ _ _ ∙ rw (longer vs w)
-      (ap (λ (f : Values → Out Value). getEach g root a (suc (frontSizes (vs ++ w ∷ []))) r >>= f) (fun-ext λ ws. done-bind (cons w ws) _ ∙ rw onto-one))))
+      (ap (λ (f : Values → Explained Value). getEach g root a (suc (frontSizes (vs ++ w ∷ []))) r >>= f)
+      (fun-ext λ ws. done-bind (cons w ws) _ ∙ rw onto-one))))
 
 -- PUT OF ONE MEMBER, of n bytes with it: what it is then, and what was written
-unfoldable pub putMember : Getter → Putter → (root d c : ℕ) → Value → (n : ℕ) → Values → Value → Cells → Out (Value × Cells)
+unfoldable pub putMember : Getter → Putter → (root d c : ℕ) → Value → (n : ℕ) → Values → Value → Cells → Explained (Value × Cells)
 putMember g p root d c a n old v W =
     stoodFor g d old >>= λ m. p root (two m a) (two (length W) c) v (W ++ none ∷ []) >>= λ X. given 42 (getElem? X (length W)) λ o.
-    given 44 (when (decLe (n + suc (size (orOld o m))) 256)) λ _. done (orOld o m, take (length W) X) 0
+    given 44 (when (decLe (n + suc (size (orOld o m))) 256)) λ _. give (orOld o m, take (length W) X)
 
 -- PUT BEHIND SOME MEMBERS: they and what the others are then, and what was written
-unfoldable pub putFrom : Getter → Putter → (root d c : ℕ) → Value → List Value → Values → Values → Cells → Out (Values × Cells)
-putFrom g p root d c a vs old l W = putEach g p root d c a (suc (frontSizes vs)) old l W >>= λ q. done (onto vs (q .0), q .1) 0
+unfoldable pub putFrom : Getter → Putter → (root d c : ℕ) → Value → List Value → Values → Values → Cells → Explained (Values × Cells)
+putFrom g p root d c a vs old l W = putEach g p root d c a (suc (frontSizes vs)) old l W >>= λ q. give (onto vs (q .0), q .1)
 
 module _ (g : Getter) (p : Putter) (root d c : ℕ) (a : Value) (old : Values) (W : Cells) where
   pub put-begin : (l : Values) → putEach g p root d c a 1 old l W ≡ putFrom g p root d c a [] old l W
@@ -160,12 +188,12 @@ module _ (g : Getter) (p : Putter) (root d c : ℕ) (a : Value) (old : Values) (
   put-begin l = sym (bind-done _)
 
   module _ (vs : List Value) where
-    pub put-end : putFrom g p root d c a vs old nil W ≡ done (onto vs nil, W) 0
+    pub put-end : putFrom g p root d c a vs old nil W ≡ give (onto vs nil, W)
     unfolding putFrom Text.putEach
     put-end = done-bind (nil, W) _
 
     -- a member and then the others, as one
-    unfoldable both-ways : (v : Value) (r : Values) → Out (Values × Cells)
+    unfoldable both-ways : (v : Value) (r : Values) → Explained (Values × Cells)
     both-ways v r =
         stoodFor g d old >>= λ m. p root (two m a) (two (length W) c) v (W ++ none ∷ []) >>= λ X. given 42 (getElem? X (length W)) λ o.
         given 44 (when (decLe (suc (frontSizes vs) + suc (size (orOld o m))) 256)) λ _.
@@ -175,7 +203,7 @@ module _ (g : Getter) (p : Putter) (root d c : ℕ) (a : Value) (old : Values) (
         ≡ (putMember g p root d c a (suc (frontSizes vs)) old v W >>= λ q. putFrom g p root d c a (vs ++ q .0 ∷ []) (restOf old) r (q .1))
     unfolding putFrom putMember both-ways Text.putEach
     put-member v r = _∙_ {b = both-ways v r} (through _ _ 42 _ 44 _ _ _ λ m X o _. bind-bind _ _ _ ∙ rw (longer vs (orOld o m))
-        (ap (λ (f : (Values × Cells) → Out (Values × Cells)).
+        (ap (λ (f : (Values × Cells) → Explained (Values × Cells)).
         putEach g p root d c a (suc (frontSizes (vs ++ orOld o m ∷ []))) (restOf old) r (take (length W) X) >>= f)
         (fun-ext λ q. done-bind (cons (orOld o m) (q .0), q .1) _ ∙ rw onto-one)))
         (sym (through _ _ 42 _ 44 _ _ _ λ m X o _. done-bind (orOld o m, take (length W) X) _))

@@ -9,6 +9,7 @@ use Rattle.starts.specs.Starts.{noStarts, loadOf}
 use Rattle.rules.specs.Numbers.{SCRATCH, STACK}
 use Rattle.rules.specs.Outcome.{Out}
 use Rattle.walk.specs.declared.PutWalked.{PutWalked}
+use Rattle.walk.specs.declared.chain.Met.{Met}
 use Rattle.walk.specs.declared.Walked.{Walked}
 use Rattle.walk.specs.declared.Walked.the-variants.{Done, Refused}
 use Rattle.walk.specs.Parts.{part}
@@ -20,14 +21,18 @@ newStarts sheet a (Done len n) = loadOf sheet (part a STACK len) .starts
 newStarts sheet a (Refused c) = noStarts
 
 -- a put that is refused gives no start and no bit
-unfoldable pub refusedPut : ℕ → PutWalked
-refusedPut c = record { walked = Refused c; starts = noStarts; written = 0 }
+unfoldable pub refusedPut : ℕ → Met → PutWalked
+refusedPut c m = record { walked = Refused c; starts = noStarts; written = 0; met = m }
 
 -- a refusal
-module _ {r : PutWalked} (c : ℕ) (e : r ≡ refusedPut c) where
+module _ {r : PutWalked} (c : ℕ) (m : Met) (e : r ≡ refusedPut c m) where
   pub walked-is : r .walked ≡ Refused c
   unfolding refusedPut
   walked-is = ap (λ (p : PutWalked). p .walked) e
+
+  pub met-is : r .met ≡ m
+  unfolding refusedPut
+  met-is = ap (λ (p : PutWalked). p .met) e
 
   pub none-with : (sheet a : List ℕ) → r .starts ≡ newStarts sheet a (r .walked)
   unfolding refusedPut newStarts

@@ -5,15 +5,15 @@ use Prim.Native.Nat.{ℕ, suc, _+_, _-_, _*_, _/_, _%_, _≤_, _<_}
 use native.Mathlib.Nat.{le-refl}
 use native.Mathlib.Omega.{arith}
 use lib.ListN.{getD}
-use Rattle.answer.specs.Answer.{said, refused-said}
 use Rattle.value.specs.Value.{Value, number, encode}
 use Rattle.value.specs.Parts.{shapeOf}
 use Rattle.value.specs.declared.Shape.the-variants as shapes
 use Rattle.rules.specs.Text
-use Rattle.rules.specs.Rules.{putNode}
+use Rattle.rules.specs.Explain.{putNode}
 use Rattle.rules.specs.Readable.{number-readable}
-use Rattle.rules.specs.Numbers.{SCRATCH}
-use Rattle.walk.specs.Answers.{give, give-none, give-yes, give-no}
+use Rattle.rules.specs.Numbers.{CHAIN}
+use Rattle.walk.specs.Said.{refused-said, said}
+use Rattle.walk.specs.Answers.{give-some, give-none, give-yes, give-no}
 use Rattle.walk.specs.Cells.{Shown}
 use Rattle.walk.specs.Frames.{frame-refl}
 use Rattle.walk.specs.Shapes.{NumberOf, number-of, no-number}
@@ -32,7 +32,7 @@ module _ {h : PutHere} {view : List ℕ} {k n : ℕ} (w : PutAsked h (Shown view
     frame = frame-refl _ _;
     long = refl;
     told = λ {v = v} m. give-none 51 _ (no-number v (λ i q. other i (q ∙ sym (shown-shape (m .shown) refl))))
-        (ap said e ∙ refused-said (omega arith) (omega arith));
+        (ap (said _ _) e ∙ refused-said _ _ (omega arith) (omega arith));
   })
 
   module _ {i : ℕ} (num : shapes.Number i ≡ shapeOf view) where
@@ -41,7 +41,8 @@ module _ {h : PutHere} {view : List ℕ} {k n : ℕ} (w : PutAsked h (Shown view
     add-52 lt e = rw add (record {
       frame = frame-refl _ _;
       long = refl;
-      told = λ m. give 51 _ (the-number num (m .shown) .seen) (give-no 52 _ _ (λ le. omega arith) (ap said e ∙ refused-said (omega arith) (omega arith)));
+      told = λ m. give-some 51 _ (the-number num (m .shown) .seen) (give-no 52 _ _ (λ le. omega arith)
+          (ap (said _ _) e ∙ refused-said _ _ (omega arith) (omega arith)));
     })
 
     -- the view of what is left
@@ -54,7 +55,7 @@ module _ {h : PutHere} {view : List ℕ} {k n : ℕ} (w : PutAsked h (Shown view
 
     pub add-asks : PutAsks h (Shown lessView) (enter (getD (h .sheet) (n + 1) 0))
     add-asks =
-        let z : h .top + 513 * suc (h .levels) ≤ SCRATCH = w .room in
+        let z : h .top + 513 * suc (h .levels) ≤ CHAIN = w .room in
         ready-for w (rw add at (w .known .1) .0 .inside) (given-shown (w .given) less) refl (omega arith) (omega arith) (le-refl _) (omega arith)
 
     pub add-told : {a slots : List ℕ} {r : ℕ} → amountAt (h .sheet) n ≤ i → PutTold h (Shown lessView) a slots r (enter (getD (h .sheet) (n + 1) 0))
@@ -63,5 +64,5 @@ module _ {h : PutHere} {view : List ℕ} {k n : ℕ} (w : PutAsked h (Shown view
     add-told le g = rw add (record {
       frame = g .frame;
       long = g .long;
-      told = λ m. give 51 _ (the-number num (m .shown) .seen) (give-yes 52 _ _ le (λ _. g .told (given-shown m less)));
+      told = λ m. give-some 51 _ (the-number num (m .shown) .seen) (give-yes 52 _ _ le (λ _. g .told (given-shown m less)));
     })

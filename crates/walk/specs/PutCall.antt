@@ -4,18 +4,19 @@ use mathlib.Core.List.{List}
 use Prim.Native.Nat.{ℕ, suc, _+_, _-_, _*_, _≤_, _<_}
 use native.Mathlib.Omega.{arith}
 use lib.ListN.{getD}
-use Rattle.answer.specs.Answer.{said, refused-said}
 use Rattle.value.specs.Value.{Value, vfalse}
 use Rattle.value.specs.declared.Shape.the-variants as shapes
 use Rattle.sheet.specs.Sheet.{Sheet}
 use Rattle.sheet.specs.Table.{sectionAt}
 use Rattle.rules.specs.Text
-use Rattle.rules.specs.Rules.{Env, Cells, two, putNode}
-use Rattle.rules.specs.Numbers.{SCRATCH}
+use Rattle.rules.specs.Text.{Env, two}
+use Rattle.rules.specs.Explain.{Cells, putNode}
+use Rattle.rules.specs.Numbers.{CHAIN}
 use Rattle.step.specs.Step.{picked, pickedTwo}
+use Rattle.walk.specs.Said.{refused-said, said}
 use Rattle.walk.specs.Arena.{env-pick}
 use Rattle.walk.specs.Seen.{elem-at, elem-none}
-use Rattle.walk.specs.Answers.{give, give-none}
+use Rattle.walk.specs.Answers.{give-some, give-none}
 use Rattle.walk.specs.Frames.{frame-refl}
 use Rattle.walk.specs.CellLaws.{named-pick}
 use Rattle.walk.specs.GetCall.{root-read, root-known, call-section}
@@ -27,7 +28,7 @@ module _ {h : PutHere} {P : Value → Type 0} {k n : ℕ} (_ : PutAsked h P k n)
   call-42₁ g e = rw call (record {
     frame = frame-refl _ _;
     long = refl;
-    told = λ {μ = μ} m. give-none 42 _ (elem-none μ _ (omega (arith, m .scoped .count))) (ap said e ∙ refused-said (omega arith) (omega arith));
+    told = λ {μ = μ} m. give-none 42 _ (elem-none μ _ (omega (arith, m .scoped .count))) (ap (said _ _) e ∙ refused-said _ _ (omega arith) (omega arith));
   })
 
   pub call-42₂ : {r : ℕ} → getD (h .sheet) (n + 2) 0 < h .scope .count → h .scope .count ≤ getD (h .sheet) (n + 3) 0 → r ≡ 42
@@ -37,8 +38,8 @@ module _ {h : PutHere} {P : Value → Type 0} {k n : ℕ} (_ : PutAsked h P k n)
     frame = frame-refl _ _;
     long = refl;
     told = λ {μ = μ} {σ = σ} m.
-        give 42 _ (elem-at μ _ vfalse (omega (arith, m .scoped .count))) (give 42 _ (elem-at σ _ 0 (omega (arith, m .scoped .count, m .as-many)))
-        (give-none 42 _ (elem-none μ _ (omega (arith, m .scoped .count))) (ap said e ∙ refused-said (omega arith) (omega arith))));
+        give-some 42 _ (elem-at μ _ vfalse (omega (arith, m .scoped .count))) (give-some 42 _ (elem-at σ _ 0 (omega (arith, m .scoped .count, m .as-many)))
+        (give-none 42 _ (elem-none μ _ (omega (arith, m .scoped .count))) (ap (said _ _) e ∙ refused-said _ _ (omega arith) (omega arith))));
   })
 
 -- AT A STAGE: both variables are in scope, and `root` is the section's
@@ -74,7 +75,7 @@ module _ {h : PutHere} {P : Value → Type 0} {k n root : ℕ} (w : PutLooked h 
       let a = w .asked in
       let x : h .scope .count + 2 * suc (h .levels) ≤ 112 = a .variables in
       let y : h .count + 2 * suc (h .levels) ≤ 112 = a .more-cells in
-      let z : h .top + 513 * suc (h .levels) ≤ SCRATCH = a .room in
+      let z : h .top + 513 * suc (h .levels) ≤ CHAIN = a .room in
       record {
         long = a .long;
         few = omega (arith, a .few);
@@ -97,10 +98,10 @@ module _ {h : PutHere} {P : Value → Type 0} {k n root : ℕ} (w : PutLooked h 
     frame = g .frame;
     long = g .long;
     told = λ {μ = μ} {σ = σ} m.
-        give 42 _ (elem-at μ _ vfalse (omega (arith, m .scoped .count, w .first-in)))
-        (give 42 _ (elem-at σ _ 0 (omega (arith, m .as-many, m .scoped .count, w .first-in)))
-        (give 42 _ (elem-at μ _ vfalse (omega (arith, m .scoped .count, w .second-in)))
-        (give 42 _ (elem-at σ _ 0 (omega (arith, m .as-many, m .scoped .count, w .second-in)))
+        give-some 42 _ (elem-at μ _ vfalse (omega (arith, m .scoped .count, w .first-in)))
+        (give-some 42 _ (elem-at σ _ 0 (omega (arith, m .as-many, m .scoped .count, w .first-in)))
+        (give-some 42 _ (elem-at μ _ vfalse (omega (arith, m .scoped .count, w .second-in)))
+        (give-some 42 _ (elem-at σ _ 0 (omega (arith, m .as-many, m .scoped .count, w .second-in)))
         (rw (← root-read (w .asked .sheet) (call-section (w .asked .sheet .sh) (h .sheet) n (w .call) (w .asked .known)) (w .root-is) (m .read))
         (g .told (given-few m))))));
   })

@@ -1,25 +1,12 @@
 -- Cases and splits: the old subject is got, and then the view is put into the branch that it takes. What each return shows, and what the calls ask.
 use mathlib.Core.Path.{_≡_, refl, sym, ap, ap₂, _∙_}
 use mathlib.Core.Bool.{Bool, true, false, not}
+use mathlib.Core.Option.{none}
 use mathlib.Core.List.{List, [], _∷_}
 use Prim.Native.Nat.{ℕ, zero, suc, _+_, _-_, _*_, _≤_, _<_}
 use native.Mathlib.Omega.{arith}
 use lib.ListN.{length, getD}
-use Rattle.answer.specs.Answer.{
-  Said,
-  Refused as Denied,
-  said,
-  after,
-  isRefusal,
-  laterAs,
-  lenOf,
-  startOf,
-  stepsOf,
-  said-refused,
-  said-done,
-  later-said,
-  refused-said,
-}
+use Rattle.answer.specs.Answer.{isRefusal, laterAs, lenOf, startOf, stepsOf}
 use Rattle.value.specs.Value.{Value, vfalse, vtrue, list, number, wide, pair as aPairOf, nil, cons, encode, encodes, size, sizes, truth}
 use Rattle.value.specs.Value.{eFalse, eTrue, eList, eNil}
 use Rattle.value.specs.Views.{asList, asPair, asTruth}
@@ -30,15 +17,32 @@ use Rattle.value.specs.TestsLaws.{passes-whole}
 use Rattle.value.specs.declared.Shape.{Shape}
 use Rattle.value.specs.declared.Shape.the-variants as shapes
 use Rattle.sheet.specs.Sheet.{Sheet}
-use Rattle.rules.specs.Outcome.{Out, done, refused, given, choose}
-use Rattle.rules.specs.Allowance.{within}
 use Rattle.rules.specs.Text
-use Rattle.rules.specs.Rules.{Env, Cells, two, get, put, putNode, both, under, onList, mkList, mkPair}
-use Rattle.rules.specs.Numbers.{SCRATCH}
+use Rattle.rules.specs.Text.{Env, mkList, mkPair, onList, two}
+use Rattle.rules.specs.Explain.{
+  Cells,
+  Explained,
+  Why,
+  both,
+  choice as choosing,
+  choose,
+  get,
+  given,
+  got,
+  met,
+  own as own-rule,
+  put,
+  putNode,
+  under,
+  wanted,
+  within,
+}
+use Rattle.rules.specs.Numbers.{CHAIN}
 use Rattle.step.specs.declared.Branch.{Branch}
 use Rattle.step.specs.declared.Branch.the-variants.{Plain, Parts, Switch, Refused}
 use Rattle.step.specs.Step.{where-so, fitsKind, fitOf, otherOf, choice, takenFrom, takeOf, madeOf}
 use Rattle.step.specs.StepLaws.{Fits, front, pair as aPair, Took, emptied, denied, affirmed, parted, switched, unfitted, unsaid, made-list, made-pair}
+use Rattle.walk.specs.Said.{Own, Refused as Denied, Said, after, later-said, refused-said, said, said-done, said-refused}
 use Rattle.walk.specs.Parts.{part}
 use Rattle.walk.specs.Places.{Above, topAfter, above}
 use Rattle.walk.specs.Arena.{Held}
@@ -86,26 +90,26 @@ byteValue zero = vfalse
 byteValue (suc zero) = vtrue
 byteValue (suc (suc i)) = list nil
 
-unfoldable pub onTwo : Env → (Value → Value → Out Cells) → Out Cells
-onTwo [] k = refused 43 0
-onTwo (f ∷ []) k = refused 43 0
+unfoldable pub onTwo : Env → (Value → Value → Explained Cells) → Explained Cells
+onTwo [] k = λ _. met (own-rule 43 none) 0
+onTwo (f ∷ []) k = λ _. met (own-rule 43 none) 0
 onTwo (f ∷ r ∷ μ) k = k f r
 
-unfoldable pub putBranch : ℕ → Sheet → List ℕ → (n kind : ℕ) → Env → List ℕ → Value → Cells → Value → Branch → Out Cells
+unfoldable pub putBranch : ℕ → Sheet → List ℕ → (n kind : ℕ) → Env → List ℕ → Value → Cells → Value → Branch → Explained Cells
 putBranch l sh s n k μ σ v W o (Plain i byte) = both (put l sh) μ σ W (getD s (n + i) 0) v (getD s (n + 1) 0) (byteValue byte)
 putBranch l sh s n k μ σ v W o (Parts i mid) = onTwo (partsOf o) λ f r. under (put l sh) μ σ W (getD s (n + i) 0) v (getD s (n + 1) 0) (maker (madeOf k)) f r
 putBranch l sh s n k μ σ v W o Switch =
     withDefaults l sh (getD s (n + 6) 0) (getD s (n + 7) 0) v λ f r. under (put l sh) μ σ W (getD s (n + 4) 0) v (getD s (n + 1) 0) mkList f r
-putBranch l sh s n k μ σ v W o (Refused c) = refused c 0
+putBranch l sh s n k μ σ v W o (Refused c) = λ _. met (own-rule c none) 0
 
 -- a choice by what the two tests say
-unfoldable either : {A : Type 0} → Bool → Bool → Out A → Out A → Out A
+unfoldable either : {A : Type 0} → Bool → Bool → Explained A → Explained A → Explained A
 either true q x y = x
 either false true x y = y
-either false false x y = refused 53 0
+either false false x y = λ _. met (own-rule 53 none) 0
 
-choose-by : {A : Type 0} {p q : Bool} (d : Dec (p ≡ true)) (e : Dec (q ≡ true)) (x y : Out A) → choose d e x y ≡ either p q x y
-unfolding choose either
+choose-by : {A : Type 0} {p q : Bool} (d : Dec (p ≡ true)) (e : Dec (q ≡ true)) (x y : Explained A) → choose d e x y ≡ either p q x y
+unfolding choosing either
 choose-by {p = true} (yes d) e x y = refl
 choose-by {p = true} (no d) e x y = absurd (d refl)
 choose-by {p = false} (yes d) e x y = absurd (let z : _≡_ {A = ℕ} 0 1 = cc in omega arith)
@@ -114,7 +118,8 @@ choose-by {p = false} {q = true} (no d) (no e) x y = absurd (e refl)
 choose-by {p = false} {q = false} (no d) (yes e) x y = absurd (let z : _≡_ {A = ℕ} 0 1 = cc in omega arith)
 choose-by {p = false} {q = false} (no d) (no e) x y = refl
 
-by-choice : (f : Branch → Out Cells) → ((c : ℕ) → f (Refused c) ≡ refused c 0) → (p q : Bool) (b c : Branch) → either p q (f b) (f c) ≡ f (choice p q b c)
+by-choice : (f : Branch → Explained Cells) → ((c : ℕ) → f (Refused c) ≡ (λ _. met (own-rule c none) 0)) → (p q : Bool) (b c : Branch) → either p q (f b)
+    (f c) ≡ f (choice p q b c)
 unfolding either choice
 by-choice f h true q b c = refl
 by-choice f h false true b c = refl
@@ -135,7 +140,7 @@ module _ (l : ℕ) (sh : Sheet) (s : List ℕ) (n : ℕ) (μ : Env) (σ : List �
       (under (put l sh) μ σ W (getD s (n + 4) 0) v (getD s (n + 1) 0) mkList f (list r))
       (both (put l sh) μ σ W (getD s (n + 2) 0) v (getD s (n + 1) 0) (list nil))))
       ≡ putBranch l sh s n 0x17 μ σ v W o (takeOf 0x17 (shape o) (holds (getD s (n + 3) 0) v) (holds (getD s (n + 5) 0) v))
-  unfolding putBranch byteValue onTwo partsOf maker madeOf takeOf takenFrom otherOf fitOf fitsKind where-so shape given asList onList
+  unfolding putBranch byteValue onTwo partsOf maker madeOf takeOf takenFrom otherOf fitOf fitsKind where-so shape wanted asList onList
   list-rule vfalse = refl
   list-rule vtrue = refl
   list-rule (list nil) = chosen 0x17 (list nil) (getD s (n + 3) 0) (getD s (n + 5) 0) (Plain 2 2) Switch
@@ -150,7 +155,7 @@ module _ (l : ℕ) (sh : Sheet) (s : List ℕ) (n : ℕ) (μ : Env) (σ : List �
       (both (put l sh) μ σ W (Text.pick (b .0) (getD s (n + 2) 0) (getD s (n + 4) 0)) v (getD s (n + 1) 0) (truth (b .0)))
       (both (put l sh) μ σ W (Text.pick (not (b .0)) (getD s (n + 2) 0) (getD s (n + 4) 0)) v (getD s (n + 1) 0) (truth (not (b .0)))))
       ≡ putBranch l sh s n 0x18 μ σ v W o (takeOf 0x18 (shape o) (holds (getD s (n + 3) 0) v) (holds (getD s (n + 5) 0) v))
-  unfolding putBranch byteValue takeOf takenFrom otherOf fitOf fitsKind where-so shape given asTruth
+  unfolding putBranch byteValue takeOf takenFrom otherOf fitOf fitsKind where-so shape wanted asTruth
   truth-rule vfalse = chosen 0x18 vfalse (getD s (n + 3) 0) (getD s (n + 5) 0) (Plain 2 0) (Plain 4 1)
   truth-rule vtrue = chosen 0x18 vtrue (getD s (n + 5) 0) (getD s (n + 3) 0) (Plain 4 1) (Plain 2 0)
   truth-rule (list nil) = refl
@@ -161,7 +166,7 @@ module _ (l : ℕ) (sh : Sheet) (s : List ℕ) (n : ℕ) (μ : Env) (σ : List �
 
   split-rule : (o : Value) (p q : Bool) → (given 43 (asPair o) λ c. under (put l sh) μ σ W (getD s (n + 2) 0) v (getD s (n + 1) 0) mkPair (c .0) (c .1))
       ≡ putBranch l sh s n 0x19 μ σ v W o (takeOf 0x19 (shape o) p q)
-  unfolding putBranch onTwo partsOf maker madeOf takeOf takenFrom fitOf fitsKind where-so shape given asPair
+  unfolding putBranch onTwo partsOf maker madeOf takeOf takenFrom fitOf fitsKind where-so shape wanted asPair
   split-rule vfalse p q = refl
   split-rule vtrue p q = refl
   split-rule (list nil) p q = refl
@@ -172,7 +177,7 @@ module _ (l : ℕ) (sh : Sheet) (s : List ℕ) (n : ℕ) (μ : Env) (σ : List �
 
   -- once the subject is got
   module _ {P : (start len : ℕ) → Cells → Type 0} {r : Said} {left k : ℕ} (case : Case k) (c : ℕ) where
-    case-done : {o : Value} {i : ℕ} {q : Said} → within left (get l sh (getD s (n + 1) 0) μ) ≡ done o i
+    case-done : {o : Value} {i : ℕ} {q : Said} → within left (get l sh (getD s (n + 1) 0) μ) ≡ got o i
         → Answers P q (left - i) (putBranch l sh s n k μ σ v W o (takeOf k (shape o) (holds (getD s (n + 3) 0) v) (holds (getD s (n + 5) 0) v)))
         → r ≡ after i q → Answers P r left (run l sh c (own k s n) μ σ v W)
     unfolding run Text.putNode withDefaults
@@ -183,7 +188,7 @@ module _ (l : ℕ) (sh : Sheet) (s : List ℕ) (n : ℕ) (μ : Env) (σ : List �
         go (truths x) = rw x (then-done _ _ e (answer-by (rw x at t) (truth-rule o)) d)
         go (splits x) = rw x (then-done _ _ e (answer-by (rw x at t) (split-rule o _ _)) d)
 
-    case-none : {e i : ℕ} → within left (get l sh (getD s (n + 1) 0) μ) ≡ refused e i → r ≡ Denied e → Answers P r left (run l sh c (own k s n) μ σ v W)
+    case-none : {e : Why} {i : ℕ} → within left (get l sh (getD s (n + 1) 0) μ) ≡ met e i → r ≡ Denied e → Answers P r left (run l sh c (own k s n) μ σ v W)
     unfolding run Text.putNode
     case-none e d = go case
       where
@@ -212,9 +217,9 @@ made-of (aPair e) = aPairMade (sym (made-pair (λ y. omega (arith, e, y)) (λ y.
 was-empty : {k : ℕ} {q : Shape} → Took k q Switch → q ≡ shapes.Empty
 was-empty (switched e f) = f
 
-code-said : {k c : ℕ} {q : Shape} → Took k q (Refused c) → said c ≡ Denied c
-code-said unfitted = refused-said (omega arith) (omega arith)
-code-said unsaid = refused-said (omega arith) (omega arith)
+code-said : (a : List ℕ) (l : ℕ) {k c : ℕ} {q : Shape} → Took k q (Refused c) → said a l c ≡ Own c
+code-said a l unfitted = refused-said a l (omega arith) (omega arith)
+code-said a l unsaid = refused-said a l (omega arith) (omega arith)
 
 took-fits : {k i mid : ℕ} {q : Shape} → Took k q (Parts i mid) → Fits k q (Parts i mid)
 took-fits (parted f) = f
@@ -251,7 +256,7 @@ module _ {h : PutHere} {view : List ℕ} {k n : ℕ} (w : PutAsked h (Shown view
   pub subject-refused : {a : List ℕ} {g : ℕ} → ToldOf (get-here h) a g (getD (h .sheet) (n + 1) 0) → isRefusal g ≡ true
       → PutTells h (Shown view) a (h .slots) g k n
   unfolding gets.run
-  subject-refused {g = g} t e = let x = said-refused g e in record {
+  subject-refused {g = g} t e = let x = said-refused _ _ g e in record {
     frame = kept-frame (t .kept) (w .base);
     long = refl;
     told = λ {sh} {μ} {σ} {v} {W} m. case-none (h .levels) sh (h .sheet) n μ σ v W case (h .count) (not-had (t .told sh (m .read) μ (m .scoped)) x .1) x;
@@ -278,7 +283,7 @@ module _ {h : PutHere} {view : List ℕ} {k n g : ℕ} {a : List ℕ} {q : Shape
   -- a task behind the subject
   behind-asks : {t : Task} → Known (w .asked .sheet .sh) t → PutAsks (put-behind h a g) (Shown view) t
   behind-asks known =
-      let z : h .top + 513 * suc (h .levels) ≤ SCRATCH = w .asked .room in
+      let z : h .top + 513 * suc (h .levels) ≤ CHAIN = w .asked .room in
       let s = w .sized .at (w .done) in
       let u = up in
       ready-for (w .asked) known (given-later (w .asked .given) (w .gives .kept) (w .asked .base) top′ (up .over)) (w .gives .kept .long) (omega arith)
@@ -301,17 +306,18 @@ module _ {h : PutHere} {view : List ℕ} {k n g : ℕ} {a : List ℕ} {q : Shape
       → r ≡ laterAs p (stepsOf g)
       → ((sh : Sheet) (μ : Env) (σ : List ℕ) (v : Value) (W : Cells) (o : Value) → Held a (h .top + lenOf g) (startOf g) (lenOf g) o
       → Given a (h .slots) (h .sheet) (Shown view) (h .scope) (h .cells) (h .count) (h .count) top′ sh μ σ v W
-      → Answers (Wrote a₂ slots (h .count)) (said p) (h .left - stepsOf g) (putBranch (h .levels) sh (h .sheet) n k μ σ v W o d))
+      → Answers (Wrote a₂ slots (h .count)) (said a₂ (h .levels) p) (h .left - stepsOf g) (putBranch (h .levels) sh (h .sheet) n k μ σ v W o d))
       → PutTells h (Shown view) a₂ slots r k n
   unfolding gets.run
-  told-by {p = p} {r = r} asks t is rule =
+  told-by {a₂} {p = p} {r = r} asks t is rule =
       let s = w .sized .at (w .done) in
-      let x : said r ≡ after (stepsOf g) (said p) = ap said is ∙ later-said p (stepsOf g) (λ n. let z = few asks t .at n in omega (arith, w .asked .few)) in
+      let x : said a₂ (h .levels) r ≡ after (stepsOf g) (said a₂ (h .levels) p) = ap (said _ _) is ∙ later-said _ _ p (stepsOf g)
+      (λ n. let z = few asks t .at n in omega (arith, w .asked .few)) in
       record {
         frame = frame-then (kept-frame (w .gives .kept) (w .asked .base)) (t .frame) (w .asked .base) (up .over);
         long = t .long;
         told = λ {sh} {μ} {σ} {v} {W} m.
-            let o = had (w .gives .told sh (m .read) μ (m .scoped)) (said-done g (w .done)) in
+            let o = had (w .gives .told sh (m .read) μ (m .scoped)) (said-done _ _ g (w .done)) in
             case-done (h .levels) sh (h .sheet) n μ σ v W (w .case) (h .count) (o .is)
             (rw (← takes-of (o .that .held) (m .shown))
             (rule sh μ σ v W (o .value) (o .that .held) (given-later m (w .gives .kept) (w .asked .base) top′ (up .over)))) x;
@@ -354,7 +360,7 @@ module _ {h : PutHere} {view : List ℕ} {k n g i mid : ℕ} {a : List ℕ} {q :
 
   old-subject : Had (Stands a (h .top)) (startOf g) (lenOf g) (stepsOf g)
       (within (h .left) (gets.run (h .levels) (w .asked .sheet .sh) (gets.enter (getD (h .sheet) (n + 1) 0)) (w .asked .env)))
-  old-subject = had (w .gives .told (w .asked .sheet .sh) (w .asked .sheet .read) (w .asked .env) (w .asked .given .scoped)) (said-done g (w .done))
+  old-subject = had (w .gives .told (w .asked .sheet .sh) (w .asked .sheet .read) (w .asked .env) (w .asked .given .scoped)) (said-done _ _ g (w .done))
 
   old : PartsHeld a (topAfter (h .top) (startOf g) (lenOf g)) (startOf g) (lenOf g) mid (old-subject .value)
   old = the-parts (old-subject .that .held)
@@ -388,8 +394,8 @@ module _ {h : PutHere} {view : List ℕ} {k n g : ℕ} {a : List ℕ} {q : Shape
   pub switch-asks : Switching (put-behind h a g) view n
   unfolding size sizes
   switch-asks =
-      let d = had (w .gives .told (w .asked .sheet .sh) (w .asked .sheet .read) (w .asked .env) (w .asked .given .scoped)) (said-done g (w .done)) in
-      let z : h .top + 513 * suc (h .levels) ≤ SCRATCH = w .asked .room in
+      let d = had (w .gives .told (w .asked .sheet .sh) (w .asked .sheet .read) (w .asked .env) (w .asked .given .scoped)) (said-done _ _ g (w .done)) in
+      let z : h .top + 513 * suc (h .levels) ≤ CHAIN = w .asked .room in
       let e = empty-of (d .value) (sym (was-empty (w .took)) ∙ held-shape (d .that .held) (w .shape)) in
       let one = rw e at (d .that .held .long) in
       record {
@@ -409,12 +415,12 @@ module _ {h : PutHere} {view : List ℕ} {k n g c : ℕ} {a : List ℕ} {q : Sha
   pub none-told : {r : ℕ} → r ≡ c → PutTells h (Shown view) a (h .slots) r k n
   unfolding gets.run putBranch after
   none-told {r} is =
-      let x : said r ≡ Denied c = ap said is ∙ code-said (w .took) in
+      let x : said a (h .levels) r ≡ Own c = ap (said _ _) is ∙ code-said a (h .levels) (w .took) in
       record {
         frame = kept-frame (w .gives .kept) (w .asked .base);
         long = refl;
         told = λ {sh} {μ} {σ} {v} {W} m.
-            let o = had (w .gives .told sh (m .read) μ (m .scoped)) (said-done g (w .done)) in
-            case-done (h .levels) sh (h .sheet) n μ σ v W (w .case) (h .count) {q = Denied c} (o .is)
+            let o = had (w .gives .told sh (m .read) μ (m .scoped)) (said-done _ _ g (w .done)) in
+            case-done (h .levels) sh (h .sheet) n μ σ v W (w .case) (h .count) {q = Own c} (o .is)
             (rw (← takes-of w (o .that .held) (m .shown)) (refuse refl)) x;
       }

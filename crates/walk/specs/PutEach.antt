@@ -6,22 +6,23 @@ use mathlib.Core.List.{List}
 use Prim.Native.Nat.{ℕ, suc, _+_, _-_, _*_, _≤_, _<_}
 use native.Mathlib.Omega.{arith}
 use lib.ListN.{length, getD}
-use Rattle.answer.specs.Answer.{Refused, said, after, isRefusal, laterAs, lenOf, startOf, stepsOf, said-refused, said-done, refused-said, later-said}
+use Rattle.answer.specs.Answer.{isRefusal, laterAs, lenOf, startOf, stepsOf}
 use Rattle.value.specs.Value.{Value, vfalse, list}
 use Rattle.value.specs.Encoding.{size-encode, size-pos}
 use Rattle.value.specs.Views.{asList}
 use Rattle.sheet.specs.Sheet.{Sheet}
 use Rattle.sheet.specs.Table.{sectionAt}
 use Rattle.rules.specs.Text
-use Rattle.rules.specs.Rules.{Env, Cells, get, put, putNode}
-use Rattle.rules.specs.Numbers.{SCRATCH}
-use Rattle.rules.specs.AllowanceLaws.{within-done}
+use Rattle.rules.specs.Text.{Env}
+use Rattle.rules.specs.Explain.{Cells, get, put, putNode}
+use Rattle.rules.specs.Numbers.{CHAIN}
 use Rattle.step.specs.Step.{unfitRest}
+use Rattle.walk.specs.Said.{Own, after, later-said, refused-said, said, said-done, said-refused}
 use Rattle.walk.specs.declared.putter.Members.{Members}
 use Rattle.walk.specs.Places.{Above, topAfter, above}
 use Rattle.walk.specs.Arena.{Held}
 use Rattle.walk.specs.Seen.{View, elem-at, elem-none, no-list, a-list, unfit-no-list, fit-list}
-use Rattle.walk.specs.Answers.{then-done, then-refused, give, give-none, had, not-had}
+use Rattle.walk.specs.Answers.{then-done, then-refused, give-some, give-none, had, not-had}
 use Rattle.walk.specs.Members.{put-begin}
 use Rattle.walk.specs.Gets as gets
 use Rattle.walk.specs.Gets.{Asks, ToldOf}
@@ -35,7 +36,7 @@ use Rattle.walk.specs.Puts.{run, Any, Given, PutHere, PutAsked, PutTells
 use Rattle.walk.specs.PutReady.{ready-for, get-ready, given-later, given-shown}
 use Rattle.walk.specs.PutCase.{get-here}
 use Rattle.walk.specs.PutMember.{MembersAsked}
-use Rattle.walk.specs.PutMembers.{SomeList, membersRun, MembersTold}
+use Rattle.walk.specs.PutMembers.{SomeList, membersRun, members-frugal, MembersTold}
 
 -- THE VIEW, by its kind byte
 view-none : {view : List ℕ} {v : Value} → Shown view v → unfitRest 3 (getD view 0 0) ≡ true → asList v ≡ none
@@ -53,7 +54,7 @@ module _ {h : PutHere} {view : List ℕ} {k n : ℕ} (w : PutAsked h (Shown view
   each-51 bad e = rw each (record {
     frame = frame-refl _ _;
     long = refl;
-    told = λ m. give-none 51 _ (view-none (m .shown) bad) (ap said e ∙ refused-said (omega arith) (omega arith));
+    told = λ m. give-none 51 _ (view-none (m .shown) bad) (ap (said _ _) e ∙ refused-said _ _ (omega arith) (omega arith));
   })
 
   pub each-asks : Asks (get-here h) (getD (h .sheet) (n + 1) 0)
@@ -65,10 +66,10 @@ module _ {h : PutHere} {view : List ℕ} {k n : ℕ} (w : PutAsked h (Shown view
   pub each-refused : {a : List ℕ} {g : ℕ} → unfitRest 3 (getD view 0 0) ≡ false → ToldOf (get-here h) a g (getD (h .sheet) (n + 1) 0) → isRefusal g ≡ true
       → PutTells h (Shown view) a (h .slots) g k n
   unfolding run Text.putNode gets.run
-  each-refused {g = g} fit t e = let x = said-refused g e in rw each (record {
+  each-refused {g = g} fit t e = let x = said-refused _ _ g e in rw each (record {
     frame = kept-frame (t .kept) (w .base);
     long = refl;
-    told = λ {sh} {μ} m. give 51 _ (view-list (m .shown) fit .is) (then-refused _ _ (not-had (t .told sh (m .read) μ (m .scoped)) x .1) x);
+    told = λ {sh} {μ} m. give-some 51 _ (view-list (m .shown) fit .is) (then-refused _ _ (not-had (t .told sh (m .read) μ (m .scoped)) x .1) x);
   })
 
 -- AT A STAGE: the view is a list, and the subject was got, as the answer g
@@ -84,7 +85,7 @@ module _ {h : PutHere} {view : List ℕ} {k n g : ℕ} {a : List ℕ} (w : EachP
   pub start-inside : startOf g < length a
   start-inside =
       let s = w .sized .at (w .done) in
-      let z : h .top + 513 * suc (h .levels) ≤ SCRATCH = w .asked .room in
+      let z : h .top + 513 * suc (h .levels) ≤ CHAIN = w .asked .room in
       omega (arith, w .gives .kept .long, w .asked .long)
 
   -- it is no list
@@ -94,10 +95,10 @@ module _ {h : PutHere} {view : List ℕ} {k n g : ℕ} {a : List ℕ} (w : EachP
     frame = kept-frame (w .gives .kept) (w .asked .base);
     long = refl;
     told = λ {sh} {μ} m.
-        let d = had (w .gives .told sh (m .read) μ (m .scoped)) (said-done g (w .done)) in
-        let x : said r ≡ Refused 43 = ap said is ∙ refused-said (omega arith) (omega arith) in
-        give 51 _ (view-list (m .shown) (w .fit) .is)
-        (then-done _ _ {q = Refused 43} (d .is) (give-none 43 _ (unfit-no-list (d .that .held) bad) refl) x);
+        let d = had (w .gives .told sh (m .read) μ (m .scoped)) (said-done _ _ g (w .done)) in
+        let x : said a (h .levels) r ≡ Own 43 = ap (said _ _) is ∙ refused-said _ _ (omega arith) (omega arith) in
+        give-some 51 _ (view-list (m .shown) (w .fit) .is)
+        (then-done _ _ {q = Own 43} (d .is) (give-none 43 _ (unfit-no-list (d .that .held) bad) refl) x);
   })
 
   -- the variable is not in scope
@@ -108,10 +109,10 @@ module _ {h : PutHere} {view : List ℕ} {k n g : ℕ} {a : List ℕ} (w : EachP
     frame = kept-frame (w .gives .kept) (w .asked .base);
     long = refl;
     told = λ {sh} {μ} m.
-        let d = had (w .gives .told sh (m .read) μ (m .scoped)) (said-done g (w .done)) in
-        let x : said r ≡ Refused 42 = ap said is ∙ refused-said (omega arith) (omega arith) in
-        give 51 _ (view-list (m .shown) (w .fit) .is) (then-done _ _ {q = Refused 42} (d .is)
-        (give 43 _ (fit-list (d .that .held) fit .is) (give-none 42 _ (elem-none μ _ (omega (arith, m .scoped .count))) refl)) x);
+        let d = had (w .gives .told sh (m .read) μ (m .scoped)) (said-done _ _ g (w .done)) in
+        let x : said a (h .levels) r ≡ Own 42 = ap (said _ _) is ∙ refused-said _ _ (omega arith) (omega arith) in
+        give-some 51 _ (view-list (m .shown) (w .fit) .is) (then-done _ _ {q = Own 42} (d .is)
+        (give-some 43 _ (fit-list (d .that .held) fit .is) (give-none 42 _ (elem-none μ _ (omega (arith, m .scoped .count))) refl)) x);
   })
 
 -- AT A STAGE: it is a list, the variable is in scope, and `root` is the section's
@@ -154,11 +155,11 @@ module _ {h : PutHere} {view : List ℕ} {k n g : ℕ} {a : List ℕ} {root : �
   members-asks =
       let x : h .scope .count + 2 * suc (h .levels) ≤ 112 = asked .variables in
       let y : h .count + 2 * suc (h .levels) ≤ 112 = asked .more-cells in
-      let z : h .top + 513 * suc (h .levels) ≤ SCRATCH = asked .room in
+      let z : h .top + 513 * suc (h .levels) ≤ CHAIN = asked .room in
       let s = w .got .sized .at (w .got .done) in
       let u = up in
       let known = rw (w .got .each) at (asked .known .1) in
-      let d = had (w .got .gives .told (asked .sheet .sh) (asked .sheet .read) (asked .env) (asked .given .scoped)) (said-done g (w .got .done)) in
+      let d = had (w .got .gives .told (asked .sheet .sh) (asked .sheet .read) (asked .env) (asked .given .scoped)) (said-done _ _ g (w .got .done)) in
       record {
         ready = ready-for asked (root-known (asked .sheet) (each-section asked (w .got .each)) (w .root-is), known .1 .1 .1 .0 .inside)
             (given-behind (asked .given)) (w .got .gives .kept .long) (omega arith) (omega arith) (up .over) (omega arith);
@@ -176,27 +177,30 @@ module _ {h : PutHere} {view : List ℕ} {k n g : ℕ} {a : List ℕ} {root : �
       → MembersTold (h .sheet) a a₂ (h .slots) slots₂ (h .scope) (h .cells) eachBy view (h .count) top′ (h .levels) (h .left - stepsOf g) q
       → r ≡ laterAs q (stepsOf g) → PutTells h (Shown view) a₂ slots₂ r k n
   unfolding run Text.putNode gets.run membersRun
-  each-told {q = q} {r = r} t is = rw (w .got .each) (record {
+  each-told {a₂} {q = q} {r = r} t is = rw (w .got .each) (record {
     frame = frame-then (kept-frame (w .got .gives .kept) (asked .base)) (t .frame) (asked .base) (up .over);
     long = t .long;
     told = λ {sh} {μ} {σ} {v} {W} m.
-        let d = had (w .got .gives .told sh (m .read) μ (m .scoped)) (said-done g (w .got .done)) in
+        let d = had (w .got .gives .told sh (m .read) μ (m .scoped)) (said-done _ _ g (w .got .done)) in
         let f = fit-list (d .that .held) (w .fit) in
         let l = view-list (m .shown) (w .got .fit) in
         let e = put-begin (get (h .levels) sh) (put (h .levels) sh) root (eachBy .default) (getD σ (eachBy .x) 0) (getD μ (eachBy .x) vfalse) (f .seen .0) W
         (l .seen .0) in
-        give 51 _ (l .is) (then-done _ _ (d .is) (give 43 _ (f .is) (give 42 _ (elem-at μ _ vfalse (omega (arith, m .scoped .count, w .inside)))
-        (give 42 _ (elem-at σ _ 0 (omega (arith, m .as-many, m .scoped .count, w .inside)))
+        give-some 51 _ (l .is) (then-done _ _ (d .is) (give-some 43 _ (f .is) (give-some 42 _ (elem-at μ _ vfalse (omega (arith, m .scoped .count, w .inside)))
+        (give-some 42 _ (elem-at σ _ 0 (omega (arith, m .as-many, m .scoped .count, w .inside)))
         (rw (← root-read (asked .sheet) (each-section asked (w .got .each)) (w .root-is) (m .read), e)
         (t .told (given-behind m) (rw (l .seen .1) at (m .shown)) (listed (d .that .held))))))) after-all);
   })
     where
-      after-all : said r ≡ after (stepsOf g) (said q)
+      after-all : said a₂ (h .levels) r ≡ after (stepsOf g) (said a₂ (h .levels) q)
       after-all =
           let s = w .got .sized .at (w .got .done) in
           let y = members-asks in
-          ap said is ∙ later-said q (stepsOf g) (λ f.
-          let z = within-done _ _ (had (t .told (y .ready .given) (view-is .shown) (y .old .held)) (said-done q f) .is) .1 in omega (arith, asked .few))
+          ap (said _ _) is ∙ later-said _ _ q (stepsOf g) (λ f.
+          let z : stepsOf q ≤ h .left - stepsOf g = members-frugal (h .levels) (y .ready .sheet .sh) eachBy (y .ready .env) (y .ready .names)
+          (y .old .members) (view-is .members)
+          (y .ready .cells-now) .few (h .left - stepsOf g) (had (t .told (y .ready .given) (view-is .shown) (y .old .held)) (said-done _ _ q f) .is) in omega
+          (arith, asked .few))
 
 -- by the numbers that the code has
 pub by-as : {subject subject′ x x′ root default default′ old old′ : ℕ} → subject ≡ subject′ → x ≡ x′ → default ≡ default′ → old ≡ old′

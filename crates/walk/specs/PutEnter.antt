@@ -1,33 +1,73 @@
 -- Entering a node for put: depth, allowance, the record that is read, and the node's own put once its step is paid.
-use mathlib.Core.Path.{_≡_, refl, sym, ap, _∙_}
+use mathlib.Core.Path.{_≡_, refl, sym, ap, subst, _∙_}
+use mathlib.Core.Bool.{true, false}
 use mathlib.Core.List.{List}
-use Prim.Native.Nat.{ℕ, zero, suc, _+_, _-_, _≤_}
+use Prim.Native.Nat.{ℕ, zero, suc, _+_, _-_, _≤_, _<_}
 use native.Mathlib.Nat.{le-refl}
 use native.Mathlib.Omega.{arith}
-use lib.ListN.{getD}
-use Rattle.answer.specs.Answer.{said, after, laterAs, later-said, refused-said}
+use lib.ListN.{length, getD}
+use Rattle.answer.specs.Answer.{isRefusal, lenOf, stepsOf}
+use Rattle.value.specs.Result.{ok}
 use Rattle.value.specs.Value.{Value}
+use Rattle.sheet.specs.declared.Node.{Node}
 use Rattle.sheet.specs.declared.Node.the-variants.{False}
 use Rattle.sheet.specs.Records.{recordAt}
-use Rattle.sheet.specs.Sheet.{Sheet}
+use Rattle.sheet.specs.Sheet.{Sheet, readSheet}
 use Rattle.rules.specs.Text
-use Rattle.rules.specs.Rules.{put}
+use Rattle.rules.specs.Text.{Env}
+use Rattle.rules.specs.Explain.{Why, Told, met, Explained, below, entered, within, Cells, Getter, Putter, get, putNode, put}
+use Rattle.rules.specs.ExplainChain.{Chain, Meets, stop, put-chain}
 use Rattle.step.specs.declared.Scope.{Scope}
 use Rattle.walk.specs.declared.at.At.{At}
-use Rattle.walk.specs.Answers.{refuse, step, no-step}
-use Rattle.walk.specs.Frames.{frame-refl}
-use Rattle.walk.specs.GetEnter.{EntryCode, no-level-left, no-step-left, same-sheet, kind-range, record-there, record-known}
-use Rattle.walk.specs.Puts.{enter, own, run, Ready, Gives, Few}
+use Rattle.walk.specs.Said.{said, beneath, whyIn, bytesAt, chainAt, length-bytes, Left, up, on, barred-said, left-said, said-refused}
+use Rattle.walk.specs.Answers.{Answers, answer-by, refuse, as-refused, step, no-step, not-had}
+use Rattle.walk.specs.Frames.{kept-frame, frame-then}
+use Rattle.walk.specs.GetEnter.{EntryCode, no-level-left, no-step-left, left-kept, same-sheet, kind-range, record-there, record-known}
+use Rattle.walk.specs.Puts.{Task, enter, own, leaf, run, Known, Ready, Wrote, Gives, Few}
 use Rattle.walk.specs.PutReady.{ready-for, few}
 
-pub enter-refused : {b slots s cells : List ℕ} {P : Value → Type 0} {sc : Scope} {count m top left x levels r : ℕ} → EntryCode levels left r
-    → Gives b b slots slots s P sc cells count m top left r levels (enter x)
+-- one node further up
+nodes-below : (l : ℕ) (sh : Sheet) (x : ℕ) (μ : Env) (σ : List ℕ) (v : Value) (W : Cells) (left : ℕ) {nd : Node} {y : Why} {n : ℕ}
+    → getD (sh .nodes) x False ≡ nd → within left (putNode x (get l sh) (put l sh) sh nd μ σ v W) ≡ met y n → length (y .chain) ≤ suc l
+unfolding Text.put entered below
+nodes-below l sh x μ σ v W left {nd} {y} {n} e d =
+    let f : within left (putNode x (get l sh) (put l sh) sh (getD (sh .nodes) x False) μ σ v W) ≡ met y n =
+    ap (λ (z : Node). within left (putNode x (get l sh) (put l sh) sh z μ σ v W)) e ∙ d in
+    go (subst (λ (t : Told Cells). Meets (Chain sh x (suc l)) (below x t)) f (put-chain (suc l) sh x μ σ v W (suc left)))
+  where
+    go : Meets {A = Cells} (Chain sh x (suc l)) (below x (met y n)) → length (y .chain) ≤ suc l
+    go (stop c) = let z = ap (λ (k : List ℕ). length k) (c .begins) in omega (arith, c .short)
+
+pub enter-refused : {s table b a slots cells : List ℕ} {P : Value → Type 0} {sc : Scope} {count m top left x levels c r : ℕ}
+    → Ready s table b slots P sc cells count m top levels left (enter x) → EntryCode levels left c → Left x levels c b a r
+    → Gives b a slots slots s P sc cells count m top left r levels (enter x)
 unfolding run Text.put
-enter-refused {b} {top = top} (no-level-left e) = rw e
-    (record { frame = frame-refl top b; long = refl; told = λ w. refuse (refused-said (omega arith) (omega arith)) })
-enter-refused {levels = zero} (no-step-left n e) = absurd (n refl)
-enter-refused {b} {top = top} {levels = suc l} (no-step-left n e) =
-    record { frame = frame-refl top b; long = refl; told = λ w. no-step _ e (refused-said (omega arith) (omega arith)) }
+enter-refused {levels = zero} w (no-level-left e) q = record {
+  frame = kept-frame (left-kept (omega (arith, w .room)) q) (w .base);
+  long = refl;
+  told = λ g. refuse (barred-said (omega arith) (omega arith) (w .long) (omega arith) q);
+}
+enter-refused {levels = suc l} w (no-level-left e) q = absurd (omega arith)
+enter-refused {levels = zero} w (no-step-left n e) q = absurd (n refl)
+enter-refused {levels = suc l} w (no-step-left n e) q = record {
+  frame = kept-frame (left-kept (omega (arith, w .room)) q) (w .base);
+  long = refl;
+  told = λ g. no-step _ _ e (barred-said (omega arith) (omega arith) (w .long) (omega (arith, w .room)) q);
+}
+
+-- a kind other than a variable's writes nothing itself
+same-mark : (x k : ℕ) (s : List ℕ) (n i : ℕ) → k ≡ 0x15 + i → i ≤ 7 → (g : Getter) (p : Putter) (sh : Sheet) (μ : Env) (σ : List ℕ) (v : Value) (W : Cells)
+    → putNode x g p sh (recordAt k s n) μ σ v W ≡ putNode 0 g p sh (recordAt k s n) μ σ v W
+unfolding Text.putNode
+same-mark x k s n zero e h g p sh μ σ v W = rw e refl
+same-mark x k s n (suc zero) e h g p sh μ σ v W = rw e refl
+same-mark x k s n (suc (suc zero)) e h g p sh μ σ v W = rw e refl
+same-mark x k s n (suc (suc (suc zero))) e h g p sh μ σ v W = rw e refl
+same-mark x k s n (suc (suc (suc (suc zero)))) e h g p sh μ σ v W = rw e refl
+same-mark x k s n (suc (suc (suc (suc (suc zero))))) e h g p sh μ σ v W = rw e refl
+same-mark x k s n (suc (suc (suc (suc (suc (suc zero)))))) e h g p sh μ σ v W = rw e refl
+same-mark x k s n (suc (suc (suc (suc (suc (suc (suc zero))))))) e h g p sh μ σ v W = rw e refl
+same-mark x k s n (suc (suc (suc (suc (suc (suc (suc (suc i)))))))) e h g p sh μ σ v W = absurd (omega arith)
 
 -- AT A STAGE: a node is entered, a level and a step are there for it, and its record's kind byte is k
 pub record PutEntered (s table b slots : List ℕ) (P : Value → Type 0) (sc : Scope) (cells : List ℕ) (count top levels left x k : ℕ) : Type 0 where
@@ -45,39 +85,80 @@ module _ {s table b slots : List ℕ} {P : Value → Type 0} {sc : Scope} {cells
   its-kind = kind-range (e .asked .sheet) (e .asked .known) (e .kind)
 
   -- what the function of its kind is asked
-  pub body-ready : Ready s table b slots P sc cells count count top (suc (levels - 1)) (suc (left - 1)) (own k s (getD table x 0))
-  body-ready =
+  ready-as-entered : {y : Task} → Known (e .asked .sheet .sh) y → Ready s table b slots P sc cells count count top (suc (levels - 1)) (suc (left - 1)) y
+  ready-as-entered known =
       let w = e .asked in
       let p : suc (levels - 1) ≡ levels = omega (arith, e .deep) in
       let q : suc (left - 1) ≡ left = omega (arith, e .paid) in
-      rw (p, q) (ready-for w (x, record-known (w .sheet) (w .known) its-node) (w .given) refl (le-refl _) (le-refl _) (le-refl _) (w .room))
+      rw (p, q) (ready-for w known (w .given) refl (le-refl _) (le-refl _) (le-refl _) (w .room))
 
-  entered-told : {a slots′ : List ℕ} {q r : ℕ} → said r ≡ after 1 (said q)
-      → Gives b a slots slots′ s P sc cells count count top (left - 1) q (levels - 1) (own k s (getD table x 0))
-      → Gives b a slots slots′ s P sc cells count count top left r levels (enter x)
-  unfolding run Text.put
-  entered-told {a} {slots′} {q} {r} d g = go levels (omega (arith, e .deep)) g
-    where
-      go : (l : ℕ) → 1 ≤ l → Gives b a slots slots′ s P sc cells count count top (left - 1) q (l - 1) (own k s (getD table x 0))
-          → Gives b a slots slots′ s P sc cells count count top left r l (enter x)
-      go zero h g = absurd (omega arith)
-      go (suc l) h g = record {
-        frame = g .frame;
-        long = g .long;
-        told = λ {sh} w.
-            let z : suc l - 1 ≡ l = omega arith in
-            let n : getD (sh .nodes) x False ≡ recordAt k s (getD table x 0) = ap (λ (y : Sheet). getD (y .nodes) x False)
-            (sym (same-sheet (e .asked .sheet) (w .read))) ∙ its-node in
-            step _ (omega (arith, e .paid)) (rw (n, ← z) (g .told w)) d;
-      }
+  pub body-ready : Ready s table b slots P sc cells count count top (suc (levels - 1)) (suc (left - 1)) (own k s (getD table x 0))
+  body-ready = ready-as-entered (x, record-known (e .asked .sheet) (e .asked .known) its-node)
+
+  pub leaf-ready : Ready s table b slots P sc cells count count top (suc (levels - 1)) (suc (left - 1)) (leaf x k s (getD table x 0))
+  leaf-ready = ready-as-entered (e .asked .known, (x, record-known (e .asked .sheet) (e .asked .known) its-node))
+
+  -- no chain has more nodes than there are levels
+  few-nodes : {a slots′ : List ℕ} {q : ℕ} → Gives b a slots slots′ s P sc cells count count top (left - 1) q (levels - 1) (leaf x k s (getD table x 0))
+      → isRefusal q ≡ true → lenOf q ≤ levels
+  unfolding run whyIn
+  few-nodes {a} {q = q} g n =
+      let w = e .asked in
+      let d = not-had (g .told (w .given)) (said-refused a (levels - 1) q n) in
+      let z : length (bytesAt a (chainAt (levels - 1)) (lenOf q)) ≤ suc (levels - 1) =
+      nodes-below (levels - 1) (w .sheet .sh) x (w .env) (w .names) (w .value) (w .cells-now) (left - 1) its-node (d .1) in
+      omega (arith, length-bytes a (chainAt (levels - 1)) (lenOf q), e .deep)
 
   -- what is told, of the answer q that its function gave
-  pub body-told : {a slots′ : List ℕ} {q r : ℕ} → r ≡ laterAs q 1
-      → Gives b a slots slots′ s P sc cells count count top (left - 1) q (levels - 1) (own k s (getD table x 0))
+  pub leaf-told : {m a slots′ : List ℕ} {q r : ℕ} → Gives b m slots slots′ s P sc cells count count top (left - 1) q (levels - 1) (leaf x k s (getD table x 0))
+      → Left x levels q m a r
       → Gives b a slots slots′ s P sc cells count count top left r levels (enter x) × Few left r
-  body-told {q = q} d g =
-      let h = entered-told (ap said d ∙ later-said q 1 (λ n. let z = few body-ready g .at n in omega (arith, e .asked .few))) g in
-      (h, few (e .asked) h)
+  unfolding run Text.put
+  leaf-told {m} {a} {slots′} {q} {r} g v = let h = told in (h, few w h)
+    where
+      w : Ready s table b slots P sc cells count count top levels left (enter x)
+      w = e .asked
+
+      short : isRefusal q ≡ false → 1 + stepsOf q < 16777216
+      short n = let z = few leaf-ready g .at n in omega (arith, w .few)
+
+      -- a success leaves the arena as it was
+      same : (o : Explained Cells) → Answers (Wrote m slots′ count) (said m (levels - 1) q) (left - 1) o
+          → Answers (Wrote a slots′ count) (said m (levels - 1) q) (left - 1) o
+      same o t = by v
+        where
+          by : Left x levels q m a r → Answers (Wrote a slots′ count) (said m (levels - 1) q) (left - 1) o
+          by (up n f d) = let z = said-refused m (levels - 1) q n in as-refused (not-had t z .1) z
+          by (on n f d) = rw f t
+
+      entered-told : (l : ℕ) (sh : Sheet) (μ : Env) (σ : List ℕ) (u : Value) (W : Cells) → readSheet s ≡ ok sh → suc l ≡ levels
+          → Answers (Wrote a slots′ count) (said m l q) (left - 1) (run l sh count (leaf x k s (getD table x 0)) μ σ u W)
+          → Answers (Wrote a slots′ count) (said a levels r) left (run levels sh count (enter x) μ σ u W)
+      entered-told l sh μ σ u W es z t =
+          let n : getD (sh .nodes) x False ≡ recordAt k s (getD table x 0) = ap (λ (y : Sheet). getD (y .nodes) x False)
+          (sym (same-sheet (e .asked .sheet) es)) ∙ its-node in
+          let d : said a (suc l) r ≡ beneath x (said m l q) =
+          left-said (g .frame .long ∙ w .long) (omega (arith, w .room, z)) (λ n. let y = few-nodes g n in omega (arith, w .room)) short (rw z v) in
+          rw (← z) (step x _ (omega (arith, e .paid)) (rw n t) d)
+
+      told : Gives b a slots slots′ s P sc cells count count top left r levels (enter x)
+      told = record {
+        frame = frame-then (g .frame) (kept-frame (left-kept (omega (arith, w .room)) v) (w .base)) (w .base) (le-refl top);
+        long = g .long;
+        told = λ {sh} {μ} {σ} {v = u} {W} z. entered-told (levels - 1) sh μ σ u W (z .read) (omega (arith, e .deep)) (same _ (g .told z));
+      }
+
+  -- of a kind with children
+  pub body-told : {m a slots′ : List ℕ} {q r : ℕ} → 0x15 ≤ k → k ≤ 0x1C
+      → Gives b m slots slots′ s P sc cells count count top (left - 1) q (levels - 1) (own k s (getD table x 0)) → Left x levels q m a r
+      → Gives b a slots slots′ s P sc cells count count top left r levels (enter x) × Few left r
+  unfolding run
+  body-told lo hi g v = leaf-told (record {
+    frame = g .frame;
+    long = g .long;
+    told = λ {sh} {μ} {σ} {v = u} {W} z. answer-by (g .told z)
+        (same-mark x k s (getD table x 0) (k - 0x15) (omega arith) (omega arith) (get (levels - 1) sh) (put (levels - 1) sh) sh μ σ u W);
+  }) v
 
 -- AT THE PLACE that the code makes
 module _ {at at′ : At} {sc : Scope} {cells : List ℕ} {P : Value → Type 0} (e : at ≡ at′) where
@@ -86,12 +167,17 @@ module _ {at at′ : At} {sc : Scope} {cells : List ℕ} {P : Value → Type 0} 
       → Ready s table a slots P sc cells (at .cells) (at .cells) (at .top) (suc (at .levels)) (suc (at .left)) (own k s n)
   own-as w = rw e w
 
+  pub leaf-as : {s table a slots : List ℕ} {x k n : ℕ}
+      → Ready s table a slots P sc cells (at′ .cells) (at′ .cells) (at′ .top) (suc (at′ .levels)) (suc (at′ .left)) (leaf x k s n)
+      → Ready s table a slots P sc cells (at .cells) (at .cells) (at .top) (suc (at .levels)) (suc (at .left)) (leaf x k s n)
+  leaf-as w = rw e w
+
+  pub leaf-told-as : {b a slots slots′ s : List ℕ} {r x k n : ℕ}
+      → Gives b a slots slots′ s P sc cells (at .cells) (at .cells) (at .top) (at .left) r (at .levels) (leaf x k s n)
+      → Gives b a slots slots′ s P sc cells (at′ .cells) (at′ .cells) (at′ .top) (at′ .left) r (at′ .levels) (leaf x k s n)
+  leaf-told-as g = rw e at g
+
   pub told-as : {b a slots slots′ s : List ℕ} {r k n : ℕ}
       → Gives b a slots slots′ s P sc cells (at .cells) (at .cells) (at .top) (at .left) r (at .levels) (own k s n)
       → Gives b a slots slots′ s P sc cells (at′ .cells) (at′ .cells) (at′ .top) (at′ .left) r (at′ .levels) (own k s n)
   told-as g = rw e at g
-
-pub answer-as : {b a slots slots′ s cells : List ℕ} {P : Value → Type 0} {sc : Scope} {count m top left r q l x : ℕ} → q ≡ r
-    → Gives b a slots slots′ s P sc cells count m top left r l (enter x)
-    → Gives b a slots slots′ s P sc cells count m top left q l (enter x)
-answer-as e g = rw e g

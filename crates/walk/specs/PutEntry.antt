@@ -8,11 +8,10 @@ use native.Mathlib.Nat.{le-refl}
 use native.Mathlib.Omega.{arith}
 use lib.ListN.{length, take, getD, replicate, length-replicate, getD-replicate}
 use lib.Seq.{take-length}
-use Rattle.answer.specs.Answer.{isRefusal, codeOf, startOf, lenOf, stepsOf, said-refused, said-done}
+use Rattle.answer.specs.Answer.{isRefusal, codeOf, startOf, lenOf, stepsOf}
 use Rattle.value.specs.Result.{ok, refusal}
 use Rattle.value.specs.All.{All, none, each}
 use Rattle.value.specs.Value.{Value, vfalse, encode, flat}
-use Rattle.value.specs.Encoding.{size-pos}
 use Rattle.value.specs.Laws.{Readable, readValues-sound, readValues-back}
 use Rattle.value.specs.Reading.{readPlan, readView}
 use Rattle.value.specs.Spans.{places, starts, viewCode}
@@ -24,16 +23,24 @@ use Rattle.sheet.specs.Laws.{sheet-ranges}
 use Rattle.starts.specs.declared.Loaded.{Loaded}
 use Rattle.starts.specs.Starts.{startsOf, loadOf}
 use Rattle.starts.specs.StartsLaws.{load-gives}
-use Rattle.rules.specs.Outcome.{Out, done, refused, mapOut, reading}
+use Rattle.rules.specs.Outcome.{done, refused, mapOut, reading}
 use Rattle.rules.specs.Allowance.{within}
+use Rattle.rules.specs.Rules
+use Rattle.rules.specs.ExplainLaws.{forget, strip, old-strip, put-erases}
+use Rattle.rules.specs.ExplainChain.{Chain, Meets, put-chain}
+use Rattle.rules.specs.Explanation.{before as unmet-by, afterwards, explained, explainPut, strip-blank}
+use Rattle.walk.specs.declared.chain.Met.{Met}
+use Rattle.walk.specs.Whys.{Explains, nowhere, few-nodes, met-explains, done-explains}
 use Rattle.rules.specs.Text
-use Rattle.rules.specs.Rules.{Env, Cells, orOld, put}
+use Rattle.rules.specs.Text.{Env}
+use Rattle.rules.specs.Explain.{Cell, Cells, Told, orOld, put}
 use Rattle.rules.specs.Answer.{count, newPlan, putWalk, putBytes}
 use Rattle.rules.specs.Numbers.{LEVELS, SCRATCH, STACK}
 use Rattle.rules.specs.Written.{bitsOf, tookIn, putWritten}
 use Rattle.step.specs.declared.Scope.{Scope}
 use Rattle.step.specs.Step.{placeOf}
 use Rattle.step.specs.StepLaws.{was-written}
+use Rattle.walk.specs.Said.{whyIn, said-done, said-refused}
 use Rattle.walk.specs.declared.NewPlan.{NewPlan}
 use Rattle.walk.specs.declared.Walked.the-variants.{Done, Refused}
 use Rattle.walk.specs.Parts.{part, part-length, CopiedIn}
@@ -102,38 +109,39 @@ none-written a m n e h = record {
   count = length-replicate n none ∙ sym e;
   few = omega arith;
   long = refl;
-  each = λ i l. rw (getD-replicate {A = ℕ} 110 i 0 0 (omega arith), getD-replicate {A = Option Value} n i none none (omega arith)) (blank refl);
+  each = λ i l. rw (getD-replicate {A = ℕ} 110 i 0 0 (omega arith), getD-replicate {A = Option Cell} n i none none (omega arith)) (blank refl);
 }
 
 -- THE NEW PLAN
 
-new-count : (X : Cells) (μ : Env) → length X ≡ length μ → length (newPlan X μ) ≡ length μ
+new-count : (X : Cells) (μ : Env) → length X ≡ length μ → length (newPlan (strip X) μ) ≡ length μ
 unfolding newPlan
 new-count [] [] e = refl
 new-count [] (v ∷ μ) e = refl
 new-count (o ∷ X) [] e = refl
 new-count (o ∷ X) (v ∷ μ) e = ap suc (new-count X μ (omega arith))
 
-new-at : (X : Cells) (μ : Env) (i : ℕ) → length X ≡ length μ → i < length μ → getD (newPlan X μ) i vfalse ≡ orOld (getD X i none) (getD μ i vfalse)
+new-at : (X : Cells) (μ : Env) (i : ℕ) → length X ≡ length μ → i < length μ → getD (newPlan (strip X) μ) i vfalse ≡ orOld (getD X i none) (getD μ i vfalse)
 unfolding newPlan
 new-at X [] i e h = absurd (omega arith)
 new-at [] (v ∷ μ) i e h = absurd (omega arith)
-new-at (o ∷ X) (v ∷ μ) zero e h = refl
+new-at (o ∷ X) (v ∷ μ) zero e h = old-strip o v
 new-at (o ∷ X) (v ∷ μ) (suc i) e h = new-at X μ i (omega arith) (omega arith)
 
-rests : {a : List ℕ} {start len c w : ℕ} {o : Option Value} {v : Value} → Slot a (4096 + 256 * c) w o → c < 110 → Held a STACK start len v
+rests : {a : List ℕ} {start len c w : ℕ} {o : Option Cell} {v : Value} → Slot a (4096 + 256 * c) w o → c < 110 → Held a STACK start len v
     → Rests a (placeOf w c start len) (orOld o v)
 unfolding placeOf Text.orOld
 rests (blank z) h k = rw z (record { bytes = k .bytes; readable = k .readable; short = held-short k; inside = below-ends (k .place) (le-refl STACK) })
-rests {start = start} {len = len} {c = c} {w = w} (full {v = u} z p r) h k =
-    let n : w ≡ 0 → ⊥ = λ e. omega (arith, size-pos u) in
-    rw (← was-written w c start len n) (record { bytes = p; readable = r; short = omega (arith, r .fits); inside = omega (arith, r .fits) })
+rests {start = start} {len = len} {c = c} {w = w} (full s) h k =
+    let short = s .readable .fits in
+    rw (← was-written w c start len (s .there))
+    (record { bytes = s .bytes; readable = s .readable; short = omega (arith, s .long); inside = omega (arith, s .long) })
 
 new-placed : {a slots : List ℕ} {sc : Scope} {n : ℕ} {μ : Env} {X : Cells} → length a ≡ SCRATCH → length μ ≤ 16 → n ≡ length μ → Scoped a sc STACK μ
-    → Written a slots n X → Placed a slots sc (newPlan X μ)
+    → Written a slots n X → Placed a slots sc (newPlan (strip X) μ)
 new-placed {a} {slots} {sc} {n} {μ} {X} long few e w x =
     let l : length X ≡ length μ = x .count ∙ e in
-    let k : length (newPlan X μ) ≡ length μ = new-count X μ l in
+    let k : length (newPlan (strip X) μ) ≡ length μ = new-count X μ l in
     record {
       count = w .count ∙ sym k;
       few = omega arith;
@@ -155,20 +163,31 @@ module _ {sheet plan view : List ℕ} {table : Table} {sc : Scope} {allowance : 
   few-variables = omega (arith, w .spanned .count, sheet-ranges sheet (w .read) .few-variables)
 
   -- the walk, and the bytes of the plan that it gives
-  abbrev walk-put : Out Cells
-  walk-put = within allowance (put LEVELS (w .sh) (table .root) (w .μ) (count 0 (length (w .μ))) (s .value) (replicate (length (w .μ)) none))
+  abbrev walk-put : Told Cells
+  walk-put = put LEVELS (w .sh) (table .root) (w .μ) (count 0 (length (w .μ))) (s .value) (replicate (length (w .μ)) none) allowance
 
-  put-is : putBytes sheet plan view allowance ≡ mapOut (λ X. flat (newPlan X (w .μ))) walk-put
+  -- its writers forgotten
+  walk-erased : forget strip walk-put ≡ within allowance (Rules.put LEVELS (w .sh) (w .sh .root) (w .μ) (count 0 (length (w .μ))) (s .value)
+      (replicate (length (w .μ)) none))
+  walk-erased =
+      let blank : Cells = replicate (length (w .μ)) none in
+      rw (root-is w) (rw (strip-blank (length (w .μ))) at (put-erases LEVELS (w .sh) (w .sh .root) (w .μ) (count 0 (length (w .μ)))
+      (s .value) blank .same allowance))
+
+  put-is : putBytes sheet plan view allowance ≡ mapOut (λ X. flat (newPlan X (w .μ))) (forget strip walk-put)
   unfolding putBytes putWalk reading
-  put-is = rw (w .read, w .values, s .read)
-      (ap (λ (x : ℕ). mapOut (λ X. flat (newPlan X (w .μ)))
-      (within allowance (put LEVELS (w .sh) x (w .μ) (count 0 (length (w .μ))) (s .value) (replicate (length (w .μ)) none)))) (sym (root-is w)))
+  put-is = rw (w .read, w .values, s .read) (ap (mapOut (λ X. flat (newPlan X (w .μ)))) (sym walk-erased))
 
-  written-is : putWritten sheet plan view allowance ≡ tookIn walk-put
+  explain-put : explainPut sheet plan view allowance ≡ explained walk-put
+  unfolding explainPut afterwards
+  explain-put = rw (w .read, w .values, s .read, root-is w) refl
+
+  walk-chain : Meets (Chain (w .sh) (table .root) LEVELS) walk-put
+  walk-chain = put-chain LEVELS (w .sh) (table .root) (w .μ) (count 0 (length (w .μ))) (s .value) (replicate (length (w .μ)) none) allowance
+
+  written-is : putWritten sheet plan view allowance ≡ tookIn (forget strip walk-put)
   unfolding putWritten putWalk reading
-  written-is = rw (w .read, w .values, s .read)
-      (ap (λ (x : ℕ). tookIn (within allowance (put LEVELS (w .sh) x (w .μ) (count 0 (length (w .μ))) (s .value) (replicate (length (w .μ)) none))))
-      (sym (root-is w)))
+  written-is = rw (w .read, w .values, s .read) (ap tookIn (sym walk-erased))
 
   module _ {m cells : List ℕ} (c : CopiedIn plan b m) (n : Counted (sc .count) cells) where
     put-given : Given m (replicate 110 0) sheet (Shown view) sc cells (sc .count) (sc .count) STACK
@@ -217,45 +236,61 @@ module _ {sheet plan view : List ℕ} {table : Table} {sc : Scope} {allowance : 
 
     module _ {a slots : List ℕ} {r : ℕ} (g : PutTold put-root (Shown view) a slots r (enter (table .root))) where
       pub put-refused : {x : ℕ} → isRefusal r ≡ true → x ≡ codeOf r → PlanWalked 4096 (putBytes sheet plan view allowance) b a (Refused x)
-      unfolding run mapOut
+      unfolding run mapOut forget whyIn
       put-refused {x} e f =
-          let d = not-had (g .told put-given) (said-refused r e) in
-          let z : putBytes sheet plan view allowance ≡ refused (codeOf r) (d .0) = put-is ∙ ap (mapOut (λ X. flat (newPlan X (w .μ)))) (d .1) in
+          let d = not-had (g .told put-given) (said-refused a LEVELS r e) in
+          let z : putBytes sheet plan view allowance ≡ refused (codeOf r) (d .0) = put-is ∙ ap
+          (λ (t : Told Cells). mapOut (λ X. flat (newPlan X (w .μ))) (forget strip t)) (d .1) in
           record { long = g .frame .long ∙ c .long; says = rw z (says-refused (ap Refused f)) }
+
+      pub put-met : {x : ℕ} {m′ : Met} → isRefusal r ≡ true → x ≡ codeOf r → m′ ≡ record { depth = lenOf r; first = startOf r }
+          → Explains (explainPut sheet plan view allowance) allowance b a (Refused x) m′
+      unfolding run
+      put-met e f h =
+          let d = not-had (g .told put-given) (said-refused a LEVELS r e) in
+          rw (f, h) (met-explains a r (w .sh) (table .root) walk-chain (d .1) explain-put)
+
+      pub few-met : isRefusal r ≡ true → lenOf r ≤ 49
+      unfolding run
+      few-met e = few-nodes a r (w .sh) (table .root) walk-chain (not-had (g .told put-given) (said-refused a LEVELS r e) .1)
 
       module _ (e : isRefusal r ≡ false) where
         wrote : Had (Wrote a slots (sc .count)) (startOf r) (lenOf r) (stepsOf r) walk-put
         unfolding run
-        wrote = had (g .told put-given) (said-done r e)
+        wrote = had (g .told put-given) (said-done a LEVELS r e)
+
+        pub put-unmet : {a′ : List ℕ} {len n : ℕ} {m′ : Met} → m′ ≡ nowhere → Explains (explainPut sheet plan view allowance) allowance b a′ (Done len n) m′
+        put-unmet f = rw f (done-explains (wrote .is) explain-put)
 
         -- the bits of the slots are those of the cells
         pub put-written : {bits k : ℕ} → bits ≡ bitsOf (filledFrom slots 0 k) → k ≡ sc .count → (len n : ℕ)
             → bits ≡ newWritten sheet plan view allowance (Done len n)
-        unfolding newWritten tookIn
+        unfolding newWritten tookIn forget
         put-written q e len n =
-            q ∙ ap (λ (k : ℕ). bitsOf (filledFrom slots 0 k)) e ∙ ap bitsOf (slots-took (wrote .that .written)) ∙ sym (written-is ∙ ap tookIn (wrote .is))
+            q ∙ ap (λ (k : ℕ). bitsOf (filledFrom slots 0 k)) e ∙ ap bitsOf (slots-took (wrote .that .written)) ∙ sym
+            (written-is ∙ ap (λ (t : Told Cells). tookIn (forget strip t)) (wrote .is))
 
-        placed-new : Placed a slots sc (newPlan (wrote .value) (w .μ))
+        placed-new : Placed a slots sc (newPlan (strip (wrote .value)) (w .μ))
         placed-new =
             let v = env-framed (g .frame) STACK (le-refl STACK) (plan-env w c) in
             new-placed (g .frame .long ∙ c .long ∙ w .long) (plan-small w .0) (v .count) v (wrote .that .written)
 
         pub put-placed : SomePlaced a slots sc
-        put-placed = record { values = newPlan (wrote .value) (w .μ); placed = placed-new }
+        put-placed = record { values = newPlan (strip (wrote .value)) (w .μ); placed = placed-new }
 
         module _ {a′ : List ℕ} {new : NewPlan} (all : AllGathered slots sc a a′ new) where
           abbrev ws : Env
-          ws = newPlan (wrote .value) (w .μ)
+          ws = newPlan (strip (wrote .value)) (w .μ)
 
           new-bytes : part a′ STACK (new .len) ≡ flat ws
           new-bytes = let p = placed-new in all .all .told p ∙ ap flat (ap (λ (i : ℕ). take i ws) (p .count) ∙ take-length ws)
 
           pub put-done : {n : ℕ} → n ≡ stepsOf r → PlanWalked 4096 (putBytes sheet plan view allowance) b a′ (Done (new .len) n)
-          unfolding mapOut
+          unfolding mapOut forget
           put-done {n} q =
               let h = all .all in
               let z : putBytes sheet plan view allowance ≡ done (flat ws) n
-              = put-is ∙ ap (mapOut (λ X. flat (newPlan X (w .μ)))) (wrote .is) ∙ ap (done (flat ws)) (sym q) in
+              = put-is ∙ ap (λ (t : Told Cells). mapOut (λ X. flat (newPlan X (w .μ))) (forget strip t)) (wrote .is) ∙ ap (done (flat ws)) (sym q) in
               let few : new .len ≤ 4096 = omega (arith, h .short, few-variables) in
               let l : length (part a′ STACK (new .len)) ≡ new .len = part-length a′ STACK (new .len) (omega (arith, h .kept .long, placed-new .long)) in
               record { long = h .kept .long ∙ g .frame .long ∙ c .long; says = rw z (says-done (new .len) refl (sym l ∙ ap length new-bytes) few new-bytes) }
@@ -279,6 +314,20 @@ module _ (sheet plan view : List ℕ) (allowance : ℕ) where
   pub put-sheet-refused : {c : ℕ} → readSheet sheet ≡ refusal c → putBytes sheet plan view allowance ≡ refused c 0
   unfolding putBytes reading
   put-sheet-refused e = rw e
+
+  pub explain-sheet-refused : {c : ℕ} → readSheet sheet ≡ refusal c → explainPut sheet plan view allowance ≡ unmet-by c
+  unfolding explainPut afterwards
+  explain-sheet-refused e = rw e refl
+
+  pub explain-plan-refused : {sh : Sheet} {c : ℕ} → readSheet sheet ≡ ok sh → readPlan (sh .k) plan ≡ refusal c
+      → explainPut sheet plan view allowance ≡ unmet-by c
+  unfolding explainPut afterwards
+  explain-plan-refused e f = rw (e, f) refl
+
+  pub explain-view-refused : {sh : Sheet} {μ : Env} {c : ℕ} → readSheet sheet ≡ ok sh → readPlan (sh .k) plan ≡ ok μ → readView view ≡ refusal c
+      → explainPut sheet plan view allowance ≡ unmet-by c
+  unfolding explainPut afterwards
+  explain-view-refused e f g = rw (e, f, g) refl
 
   pub put-plan-refused : {sh : Sheet} {c : ℕ} → readSheet sheet ≡ ok sh → readPlan (sh .k) plan ≡ refusal c → putBytes sheet plan view allowance ≡ refused c 0
   unfolding putBytes reading

@@ -7,75 +7,80 @@ use Prim.Native.Nat.{ℕ, zero, suc, _+_, _-_, _*_, _/_, _%_, _≤_, _<_}
 use native.Mathlib.Omega.{arith}
 use lib.ListN.{length, getD, set, length-set, getElem?}
 use lib.Seq.{paste}
-use Rattle.answer.specs.Answer.{Done, said, doneAs, done-said, refused-said}
+use Rattle.answer.specs.Answer.{doneAs, refusedBy}
 use Rattle.value.specs.Value.{Value, vfalse, vtrue, list, number, wide, nil, encode, encodes, size}
 use Rattle.value.specs.Encoding.{size-encode, size-pos}
 use Rattle.value.specs.Parts.{sameBytes}
 use Rattle.value.specs.PartsLaws.{same-values, other-values}
 use Rattle.sheet.specs.Sheet.{Sheet}
+use Rattle.sheet.specs.Laws.{sheet-ranges}
 use Rattle.rules.specs.Text
-use Rattle.rules.specs.Rules.{Env, Cells, putNode, constant, write}
+use Rattle.rules.specs.Text.{Env}
+use Rattle.rules.specs.Explain.{own as own-rule, Cell, Cells, constant, putNode, write}
 use Rattle.rules.specs.Numbers.{SCRATCH}
 use Rattle.step.specs.declared.Scope.{Scope}
-use Rattle.step.specs.Step.{judged}
+use Rattle.step.specs.Step.{noteOf, notedLen, notedBy, judged}
+use Rattle.walk.specs.Said.{Done, Refused, said, done-said, refused-said, refused-by-said}
 use Rattle.walk.specs.Parts.{part}
 use Rattle.walk.specs.Seen.{elem-at, elem-none}
-use Rattle.walk.specs.Answers.{Answers, answer-by, finish, give, give-none, give-yes, give-no}
-use Rattle.walk.specs.Cells.{Slot, blank, full, Written, Shown}
+use Rattle.walk.specs.Answers.{Answers, answer-by, finish, give-some, give-none, give-yes, give-no, clash-yes, clash-no}
+use Rattle.walk.specs.Cells.{Holds, Slot, blank, full, Written, Shown}
 use Rattle.walk.specs.Frames.{frame-refl}
 use Rattle.walk.specs.CellLaws.{filled, filled-frame, written-set}
 use Rattle.walk.specs.GetLeaf.{Childless, wideBytes}
-use Rattle.walk.specs.Puts.{own, run, Given, Wrote, PutHere, PutAsked, PutTells}
+use Rattle.walk.specs.Puts.{leaf, run, Given, Wrote, PutHere, LeafAsked, LeafTells}
 
 -- the bytes of the constant number whose record starts at byte n of the sheet s
 abbrev pub numberBytes : List ℕ → ℕ → List ℕ
 numberBytes s n = 4 ∷ (256 * getD s (n + 1) 0 + getD s (n + 2) 0) / 256 ∷ (256 * getD s (n + 1) 0 + getD s (n + 2) 0) % 256 ∷ []
 
 -- nothing was got, and no step was taken
-nothing : said (doneAs 0 0 0) ≡ Done 0 0 0
-nothing = done-said 0 0 0 (omega arith) (omega arith) (omega arith)
+nothing : (a : List ℕ) (l : ℕ) → said a l (doneAs 0 0 0) ≡ Done 0 0 0
+nothing a l = done-said a l 0 0 0 (omega arith) (omega arith) (omega arith)
 
 -- CONSTANTS
 
 -- the value of each kind, and its bytes
-record Constant (kind : ℕ) (s : List ℕ) (n : ℕ) (bytes : List ℕ) : Type 0 where
+record Constant (x kind : ℕ) (s : List ℕ) (n : ℕ) (bytes : List ℕ) : Type 0 where
   value : Value
   are : bytes ≡ encode value
-  rule : (l : ℕ) (sh : Sheet) (c : ℕ) (μ : Env) (σ : List ℕ) (v : Value) (W : Cells) → run l sh c (own kind s n) μ σ v W ≡ constant v value W
+  rule : (l : ℕ) (sh : Sheet) (c : ℕ) (μ : Env) (σ : List ℕ) (v : Value) (W : Cells) → run l sh c (leaf x kind s n) μ σ v W ≡ constant v value W
 
-same-constant : (u v : Value) {b slots view : List ℕ} {left n : ℕ} {W : Cells} {q : Bool} → Shown view v → q ≡ sameBytes view (encode u) → Written b slots n W
-    → Answers (Wrote b slots n) (said (judged 50 q)) left (constant v u W)
+same-constant : (u v : Value) (l : ℕ) {b slots view : List ℕ} {left n : ℕ} {W : Cells} {q : Bool} → Shown view v → q ≡ sameBytes view (encode u)
+    → Written b slots n W
+    → Answers (Wrote b slots n) (said b l (judged 50 q)) left (constant v u W)
 unfolding judged Text.constant
-same-constant u v {q = true} h e w = give-yes 50 _ _ (same-values v u (rw (h .bytes) at (sym e))) λ _. finish nothing (record { written = w })
-same-constant u v {q = false} h e w = give-no 50 _ _ (other-values v u (rw (h .bytes) at (sym e))) (refused-said (omega arith) (omega arith))
+same-constant u v l {q = true} h e w = give-yes 50 _ _ (same-values v u (rw (h .bytes) at (sym e))) λ _. finish (nothing _ _) (record { written = w })
+same-constant u v l {q = false} h e w = give-no 50 _ _ (other-values v u (rw (h .bytes) at (sym e))) (refused-said _ _ (omega arith) (omega arith))
 
-constant-gives : {h : PutHere} {view bytes : List ℕ} {kind n r : ℕ} → PutAsked h (Shown view) kind n → Constant kind (h .sheet) n bytes
+constant-gives : {h : PutHere} {view bytes : List ℕ} {x kind n r : ℕ} → LeafAsked h (Shown view) x kind n → Constant x kind (h .sheet) n bytes
     → r ≡ judged 50 (sameBytes view bytes)
-    → PutTells h (Shown view) (h .arena) (h .slots) r kind n
+    → LeafTells h (Shown view) (h .arena) (h .slots) r x kind n
 constant-gives {h} {view} {bytes} _ k is = record {
   frame = frame-refl (h .top) (h .arena);
   long = refl;
   told = λ {sh} {μ} {σ} {v} {W} w.
-      rw is (answer-by (same-constant (k .value) v (w .shown) (ap (sameBytes view) (k .are)) (w .written)) (k .rule (h .levels) sh (h .count) μ σ v W));
+      rw is (answer-by (same-constant (k .value) v (h .levels) (w .shown) (ap (sameBytes view) (k .are)) (w .written))
+      (k .rule (h .levels) sh (h .count) μ σ v W));
 }
 
-constants : (kind : ℕ) (s : List ℕ) (n i : ℕ) → kind ≡ 0x11 + i → i ≤ 2 → Constant kind s n ((kind - 0x11) ∷ [])
+constants : (x kind : ℕ) (s : List ℕ) (n i : ℕ) → kind ≡ 0x11 + i → i ≤ 2 → Constant x kind s n ((kind - 0x11) ∷ [])
 unfolding run Text.putNode encode encodes
-constants kind s n zero e h = rw e (record { value = vfalse; are = refl; rule = λ _ _ _ _ _ _ _. refl })
-constants kind s n (suc zero) e h = rw e (record { value = vtrue; are = refl; rule = λ _ _ _ _ _ _ _. refl })
-constants kind s n (suc (suc zero)) e h = rw e (record { value = list nil; are = refl; rule = λ _ _ _ _ _ _ _. refl })
-constants kind s n (suc (suc (suc i))) e h = absurd (omega arith)
+constants x kind s n zero e h = rw e (record { value = vfalse; are = refl; rule = λ _ _ _ _ _ _ _. refl })
+constants x kind s n (suc zero) e h = rw e (record { value = vtrue; are = refl; rule = λ _ _ _ _ _ _ _. refl })
+constants x kind s n (suc (suc zero)) e h = rw e (record { value = list nil; are = refl; rule = λ _ _ _ _ _ _ _. refl })
+constants x kind s n (suc (suc (suc i))) e h = absurd (omega arith)
 
-module _ {h : PutHere} {view : List ℕ} {kind n r : ℕ} (w : PutAsked h (Shown view) kind n) where
+module _ {h : PutHere} {view : List ℕ} {x kind n r : ℕ} (w : LeafAsked h (Shown view) x kind n) where
   pub constant-told : Childless kind → (kind ≡ 0x10 → ⊥) → (kind ≡ 0x14 → ⊥) → r ≡ judged 50 (sameBytes view ((kind - 0x11) ∷ []))
-      → PutTells h (Shown view) (h .arena) (h .slots) r kind n
-  constant-told c v m is = constant-gives w (constants kind (h .sheet) n (kind - 0x11) (omega (arith, c .low)) (omega (arith, c .high))) is
+      → LeafTells h (Shown view) (h .arena) (h .slots) r x kind n
+  constant-told c v m is = constant-gives w (constants x kind (h .sheet) n (kind - 0x11) (omega (arith, c .low)) (omega (arith, c .high))) is
 
-  pub number-told : kind ≡ 0x14 → r ≡ judged 50 (sameBytes view (numberBytes (h .sheet) n)) → PutTells h (Shown view) (h .arena) (h .slots) r kind n
+  pub number-told : kind ≡ 0x14 → r ≡ judged 50 (sameBytes view (numberBytes (h .sheet) n)) → LeafTells h (Shown view) (h .arena) (h .slots) r x kind n
   unfolding run Text.putNode encode
   number-told e is = constant-gives w (rw e (record { value = number _; are = refl; rule = λ _ _ _ _ _ _ _. refl })) is
 
-  pub wide-told : kind ≡ 0x1D → r ≡ judged 50 (sameBytes view (wideBytes (h .sheet) n)) → PutTells h (Shown view) (h .arena) (h .slots) r kind n
+  pub wide-told : kind ≡ 0x1D → r ≡ judged 50 (sameBytes view (wideBytes (h .sheet) n)) → LeafTells h (Shown view) (h .arena) (h .slots) r x kind n
   unfolding run Text.putNode
   wide-told e is = constant-gives w (rw e (record { value = wide _; are = refl; rule = λ _ _ _ _ _ _ _. refl })) is
 
@@ -86,50 +91,47 @@ pub record Writable (a slots : List ℕ) (c : ℕ) (view : List ℕ) : Type 0 wh
   pub cell : c < 110
   pub long : length a ≡ SCRATCH
   pub slots-long : length slots ≡ 110
-  pub short : getD slots c 0 ≤ 256
+  pub some : 1 ≤ length view
   pub view-short : length view ≤ 256
 
-pub data Write (c : ℕ) (view b a slots slots′ : List ℕ) (r : ℕ) : Type 0 where
-  first : getD slots c 0 ≡ 0 → a ≡ paste b (4096 + 256 * c) view (length view) → slots′ ≡ set slots c (length view) → r ≡ doneAs 0 0 0
-      → Write c view b a slots slots′ r
-  again : (getD slots c 0 ≡ 0 → ⊥) → a ≡ b → slots′ ≡ slots → r ≡ judged 54 (sameBytes (part b (4096 + 256 * c) (getD slots c 0)) view)
-      → Write c view b a slots slots′ r
+pub data Write (c x : ℕ) (view b a slots slots′ : List ℕ) (r : ℕ) : Type 0 where
+  first : getD slots c 0 ≡ 0 → a ≡ paste b (4096 + 256 * c) view (length view) → slots′ ≡ set slots c (noteOf x (length view)) → r ≡ doneAs 0 0 0
+      → Write c x view b a slots slots′ r
+  again : (getD slots c 0 ≡ 0 → ⊥) → a ≡ b → slots′ ≡ slots
+      → r ≡ judged (refusedBy 54 (notedBy (getD slots c 0))) (sameBytes (part b (4096 + 256 * c) (notedLen (getD slots c 0))) view)
+      → Write c x view b a slots slots′ r
 
 -- the same for a cell by another name
 pub writable-as : {a slots view : List ℕ} {c d : ℕ} → c ≡ d → Writable a slots d view → Writable a slots c view
 writable-as e w = rw e w
 
-pub write-as : {view b a slots slots′ : List ℕ} {c d r : ℕ} → c ≡ d → Write c view b a slots slots′ r → Write d view b a slots slots′ r
+pub write-as : {view b a slots slots′ : List ℕ} {c d x r : ℕ} → c ≡ d → Write c x view b a slots slots′ r → Write d x view b a slots slots′ r
 write-as e w = rw e at w
 
-judged-so : {p : Bool} → p ≡ true → judged 54 p ≡ doneAs 0 0 0
+judged-so : (c : ℕ) {p : Bool} → p ≡ true → judged c p ≡ doneAs 0 0 0
 unfolding judged
-judged-so e = rw e
+judged-so c e = rw e
 
-judged-not : {p : Bool} → p ≡ false → judged 54 p ≡ 54
+judged-not : (c : ℕ) {p : Bool} → p ≡ false → judged c p ≡ c
 unfolding judged
-judged-not e = rw e
+judged-not c e = rw e
 
-slot-none : {a : List ℕ} {start len : ℕ} {o : Option Value} → Slot a start len o → len ≡ 0 → o ≡ none
+slot-none : {a : List ℕ} {start note : ℕ} {o : Option Cell} → Slot a start note o → note ≡ 0 → o ≡ none
 slot-none (blank z) e = refl
-slot-none (full {v = v} z p r) e = absurd (omega (arith, size-pos v))
+slot-none (full s) e = absurd (s .there e)
 
 -- a slot that holds a value
-record Full (a : List ℕ) (start len : ℕ) (o : Option Value) : Type 0 where
-  value : Value
-  is : o ≡ some value
-  bytes : part a start len ≡ encode value
+record Full (a : List ℕ) (start note : ℕ) (o : Option Cell) : Type 0 where
+  cell : Cell
+  is : o ≡ some cell
+  held : Holds a start note cell
 
-slot-full : {a : List ℕ} {start len : ℕ} {o : Option Value} → Slot a start len o → (len ≡ 0 → ⊥) → Full a start len o
+slot-full : {a : List ℕ} {start note : ℕ} {o : Option Cell} → Slot a start note o → (note ≡ 0 → ⊥) → Full a start note o
 slot-full (blank z) n = absurd (n z)
-slot-full (full z p r) n = record { value = _; is = refl; bytes = p }
-
-slot-short : {a : List ℕ} {start len : ℕ} {o : Option Value} → Slot a start len o → len ≤ 256
-slot-short (blank z) = omega arith
-slot-short (full z p r) = omega (arith, r .fits)
+slot-full (full s) n = record { cell = _; is = refl; held = s }
 
 -- the cell c of the variable x
-record Cell (n x c : ℕ) (a slots σ : List ℕ) (W : Cells) : Type 0 where
+record CellOf (n x c : ℕ) (a slots σ : List ℕ) (W : Cells) : Type 0 where
   named : getElem? σ x ≡ some c
   inside : c < n
   there : getElem? W c ≡ some (getD W c none)
@@ -137,7 +139,7 @@ record Cell (n x c : ℕ) (a slots σ : List ℕ) (W : Cells) : Type 0 where
 
 cell : {b slots s cells : List ℕ} {P : Value → Type 0} {sc : Scope} {count top x : ℕ} {sh : Sheet} {μ : Env} {σ : List ℕ} {v : Value} {W : Cells}
     → x < sc .count
-    → Given b slots s P sc cells count count top sh μ σ v W → Cell count x (getD cells x 0) b slots σ W
+    → Given b slots s P sc cells count count top sh μ σ v W → CellOf count x (getD cells x 0) b slots σ W
 cell {cells = cells} {count = count} {x = x} {σ = σ} {W = W} lt w =
     let h : x < length σ = omega (arith, w .as-many, w .scoped .count) in
     let e : getD cells x 0 ≡ getD σ x 0 = w .named .each x h in
@@ -152,17 +154,25 @@ cell {cells = cells} {count = count} {x = x} {σ = σ} {W = W} lt w =
 pub shown-short : {view : List ℕ} {v : Value} → Shown view v → length view ≤ 256
 shown-short {view} {v} h = let z : length view ≡ size v = rw (h .bytes) (size-encode v) in omega (arith, h .readable .fits)
 
-module _ {h : PutHere} {view : List ℕ} {kind n : ℕ} (w : PutAsked h (Shown view) kind n) (var : kind ≡ 0x10) where
+pub shown-some : {view : List ℕ} {v : Value} → Shown view v → 1 ≤ length view
+shown-some {view} {v} h = let z : length view ≡ size v = rw (h .bytes) (size-encode v) in omega (arith, size-pos v)
+
+module _ {h : PutHere} {view : List ℕ} {by kind n : ℕ} (w : LeafAsked h (Shown view) by kind n) (var : kind ≡ 0x10) where
   abbrev x : ℕ
   x = getD (h .sheet) (n + 1) 0
 
-  pub var-42 : {r : ℕ} → h .scope .count ≤ x → r ≡ 42 → PutTells h (Shown view) (h .arena) (h .slots) r kind n
+  pub var-42 : {r : ℕ} → h .scope .count ≤ x → r ≡ 42 → LeafTells h (Shown view) (h .arena) (h .slots) r by kind n
   unfolding run Text.putNode
   var-42 le e = rw var (record {
     frame = frame-refl _ _;
     long = refl;
-    told = λ {σ = σ} g. give-none 42 _ (elem-none σ x (omega (arith, g .as-many, g .scoped .count))) (ap said e ∙ refused-said (omega arith) (omega arith));
+    told = λ {σ = σ} g. give-none 42 _ (elem-none σ x (omega (arith, g .as-many, g .scoped .count)))
+        (ap (said _ _) e ∙ refused-said _ _ (omega arith) (omega arith));
   })
+
+  -- the nodes are few
+  few : by < 256
+  few = omega (arith, w .known .0, sheet-ranges (h .sheet) (w .sheet .read) .few-nodes)
 
   module _ (lt : x < h .scope .count) where
     abbrev c : ℕ
@@ -176,50 +186,57 @@ module _ {h : PutHere} {view : List ℕ} {kind n : ℕ} (w : PutAsked h (Shown v
           cell = omega (arith, q .inside, g .few);
           long = w .long;
           slots-long = g .long;
-          short = slot-short (q .slot);
-          view-short = shown-short (w .given .shown);
+          some = shown-some (w .given .shown);
+          view-short = shown-short
+              (w .given .shown);
         }
 
-    pub var-told : {a slots : List ℕ} {r : ℕ} → Write c view (h .arena) a (h .slots) slots r → PutTells h (Shown view) a slots r kind n
+    pub var-told : {a slots : List ℕ} {r : ℕ} → Write c by view (h .arena) a (h .slots) slots r → LeafTells h (Shown view) a slots r by kind n
     unfolding run Text.putNode Text.write
     var-told (first z e f is) =
         let u = var-writable in
         let fill = rw (← e) at (filled (h .arena) view (4096 + 256 * c) (omega (arith, u .cell, u .view-short, u .long))) in
         rw (f, var) (record {
           frame = filled-frame fill (u .view-short) (h .top) (u .cell);
-          long = length-set (h .slots) c (length view);
+          long = length-set (h .slots) c (noteOf by (length view));
           told = λ {v = v} {W = W} g.
               let q = cell lt g in
               let len : length view ≡ size v = rw (g .shown .bytes) (size-encode v) in
-              give 42 _ (q .named) (give 42 _ (q .there ∙ ap some (slot-none (q .slot) z))
-              (finish (ap said is ∙ nothing)
-              (record { written = written-set fill (u .view-short) (g .written) (q .inside) len (g .shown .bytes) (g .shown .readable) })));
+              give-some 42 _ (q .named) (give-some 42 _ (q .there ∙ ap some (slot-none (q .slot) z))
+              (finish (ap (said _ _) is ∙ nothing _ _)
+              (record { written = written-set fill (u .view-short) by few (g .written) (q .inside) len (g .shown .bytes) (g .shown .readable) })));
         })
-    var-told {r = r} (again z e f is) = rw (e, f, var) (by (sameBytes (part (h .arena) (4096 + 256 * c) (getD (h .slots) c 0)) view) refl)
+    var-told {r = r} (again z e f is) = rw (e, f, var) (by-test (sameBytes (part (h .arena) (4096 + 256 * c) (notedLen note)) view) refl)
       where
-        compared : (u v : Value) (p : Bool) → sameBytes (part (h .arena) (4096 + 256 * c) (getD (h .slots) c 0)) view ≡ p
-            → part (h .arena) (4096 + 256 * c) (getD (h .slots) c 0) ≡ encode u
+        note : ℕ
+        note = getD (h .slots) c 0
+
+        compared : (u v : Value) (p : Bool) → sameBytes (part (h .arena) (4096 + 256 * c) (notedLen note)) view ≡ p
+            → part (h .arena) (4096 + 256 * c) (notedLen note) ≡ encode u
             → Shown view v → sameBytes (encode u) (encode v) ≡ p
         compared u v p i q s = rw (q, s .bytes) at i
 
-        by : (p : Bool) → sameBytes (part (h .arena) (4096 + 256 * c) (getD (h .slots) c 0)) view ≡ p → PutTells h (Shown view) (h .arena) (h .slots) r 0x10 n
-        by true i = record {
+        by-test : (p : Bool) → sameBytes (part (h .arena) (4096 + 256 * c) (notedLen note)) view ≡ p
+            → LeafTells h (Shown view) (h .arena) (h .slots) r by 0x10 n
+        by-test true i = record {
           frame = frame-refl _ _;
           long = refl;
           told = λ {v = v} g.
               let q = cell lt g in
               let k = slot-full (q .slot) z in
-              give 42 _ (q .named) (give 42 _ (q .there ∙ ap some (k .is))
-              (give-yes 54 _ _ (same-values (k .value) v (compared _ _ true i (k .bytes) (g .shown))) λ _.
-              finish (ap said (is ∙ judged-so i) ∙ nothing) (record { written = g .written })));
+              give-some 42 _ (q .named) (give-some 42 _ (q .there ∙ ap some (k .is))
+              (clash-yes (k .cell .by) _ _ (same-values (k .cell .value) v (compared _ _ true i (k .held .bytes) (g .shown))) λ _.
+              finish (ap (said _ _) (is ∙ judged-so _ i) ∙ nothing _ _) (record { written = g .written })));
         }
-        by false i = record {
+        by-test false i = record {
           frame = frame-refl _ _;
           long = refl;
           told = λ {v = v} g.
               let q = cell lt g in
               let k = slot-full (q .slot) z in
-              give 42 _ (q .named) (give 42 _ (q .there ∙ ap some (k .is))
-              (give-no 54 _ _ (other-values (k .value) v (compared _ _ false i (k .bytes) (g .shown)))
-              (ap said (is ∙ judged-not i) ∙ refused-said (omega arith) (omega arith))));
+              let s : said (h .arena) (h .levels) r ≡ Refused (own-rule 54 (some (k .cell .by))) =
+              ap (said _ _) (is ∙ judged-not _ i) ∙ refused-by-said _ _ (omega arith) (omega arith) (omega (arith, k .held .by, k .held .few)) ∙ ap
+              (λ (j : ℕ). Refused (own-rule 54 (some j))) (k .held .by) in
+              give-some 42 _ (q .named) (give-some 42 _ (q .there ∙ ap some (k .is))
+              (clash-no (k .cell .by) _ _ (other-values (k .cell .value) v (compared _ _ false i (k .held .bytes) (g .shown))) s));
         }

@@ -8,7 +8,7 @@ use native.Mathlib.Nat.{le-refl}
 use native.Mathlib.Omega.{arith}
 use lib.ListN.{length, take, drop, getD, set, getElem?, length-set, length-drop, take-append-drop}
 use lib.Seq.{paste, take-paste, take-suc-set}
-use Rattle.answer.specs.Answer.{Done, Refused, said, after, isRefusal, doneAs, lenOf, startOf, stepsOf, said-refused, said-done, done-said, refused-said}
+use Rattle.answer.specs.Answer.{isRefusal, doneAs, lenOf, startOf, stepsOf}
 use Rattle.value.specs.Result.{ok}
 use Rattle.value.specs.Value.{Value, Values, vfalse, list, nil, cons, encode, size, sizes}
 use Rattle.value.specs.Laws.{Readable}
@@ -16,26 +16,27 @@ use Rattle.value.specs.Parts.{shapeOf, middleOf}
 use Rattle.value.specs.PartsLaws.{shape, shape-encode}
 use Rattle.sheet.specs.Sheet.{Sheet, readSheet}
 use native.Mathlib.Decide.{decLe}
-use Rattle.rules.specs.Outcome.{Out, done, when, _>>=_, given}
-use Rattle.rules.specs.Allowance.{within}
-use Rattle.rules.specs.AllowanceLaws.{within-done}
+use Rattle.rules.specs.Outcome.{when}
 use Rattle.rules.specs.Text
-use Rattle.rules.specs.Rules.{Env, Cells, Getter, Putter, two, onList, get, put, orOld, stoodFor}
-use Rattle.rules.specs.Numbers.{ALLOWANCE, SCRATCH, STACK}
+use Rattle.rules.specs.Text.{Env, onList, two}
+use Rattle.rules.specs.Explain.{Cells, Explained, Getter, Putter, _>>=_, get, give, given, got, orOld, put, stoodFor, within}
+use Rattle.rules.specs.Numbers.{ALLOWANCE, SCRATCH, STACK, CHAIN}
 use Rattle.step.specs.declared.Scope.{Scope}
 use Rattle.step.specs.declared.Span.{Span}
 use Rattle.step.specs.Step.{frontTwo, placeOf}
+use Rattle.walk.specs.Said.{Done, Own, Refused, after, done-said, refused-said, said, said-done, said-refused}
 use Rattle.walk.specs.declared.putter.Members.{Members}
 use Rattle.walk.specs.Parts.{Kept, kept-refl}
 use Rattle.walk.specs.Places.{topAfter, Above, above}
 use Rattle.walk.specs.Scope.{noVariable, withMember}
 use Rattle.walk.specs.Arena.{Held, below-ends, below-later, env-member, env-later}
 use Rattle.walk.specs.Seen.{elem-at, held-some, held-short, held-front}
-use Rattle.walk.specs.Answers.{Answers, answer-by, finish, then-done, then-refused, give, give-yes, give-no, Had, had, not-had}
+use Rattle.walk.specs.Answers.{Answers, answer-by, finish, then-done, then-refused, give-some, give-yes, give-no, Had, had, not-had}
 use Rattle.walk.specs.Members.{putMember}
 use Rattle.walk.specs.Gets as gets
 use Rattle.walk.specs.Gets.{Tabled, Stands}
 use Rattle.walk.specs.GetCase.{held-above}
+use Rattle.walk.specs.Steps.{Frugal, frugal-give, frugal-next, frugal-given, get-frugal, put-frugal}
 use Rattle.walk.specs.Cells.{Frame, Written, Shown}
 use Rattle.walk.specs.Frames.{frame-then, kept-frame, held-framed, written-kept}
 use Rattle.walk.specs.CellLaws.{named-member, written-one, written-less}
@@ -79,7 +80,7 @@ pub record StoodAsked (s table a : List ℕ) (d old mid top levels left : ℕ) :
   pub long : length a ≡ SCRATCH
   pub few : left ≤ ALLOWANCE
   pub base : STACK ≤ top
-  pub room : top + 513 * levels ≤ SCRATCH
+  pub room : top + 513 * levels ≤ CHAIN
   pub deep : 2 * levels ≤ 112
   pub sheet : Tabled s table
   pub known : d < length (sheet .sh .nodes)
@@ -89,7 +90,7 @@ pub record StoodAsked (s table a : List ℕ) (d old mid top levels left : ℕ) :
 pub record Stood (s b a : List ℕ) (d old top levels left r : ℕ) : Type 0 where
   pub kept : Kept top b a
   pub told : {sh : Sheet} → readSheet s ≡ ok sh → {l : Values} {len : ℕ} → Held b top old len (list l)
-      → Answers (Stands a top) (said r) left (stoodFor (get levels sh) d l)
+      → Answers (Stands a top) (said a levels r) left (stoodFor (get levels sh) d l)
 
 module _ {s table b : List ℕ} {d old mid top levels left : ℕ} (w : StoodAsked s table b d old mid top levels left) where
   -- an old member
@@ -98,14 +99,14 @@ module _ {s table b : List ℕ} {d old mid top levels left : ℕ} (w : StoodAske
   old-stood {r} n e = record { kept = kept-refl top b; told = λ {sh} es {l} h. go sh l (first-bytes h (w .middle)) h }
     where
       go : (sh : Sheet) (l : Values) {len : ℕ} → mid ≡ firstBytes l → Held b top old len (list l)
-          → Answers (Stands b top) (said r) left (stoodFor (get levels sh) d l)
+          → Answers (Stands b top) (said b levels r) left (stoodFor (get levels sh) d l)
       go sh nil f h = absurd (n f)
       go sh (cons m rest) f h =
           let t = held-front f h in
           let z = below-ends (t .first .place) (w .base) in
           let y = held-short (t .first) in
           let x = held-some (t .first) in
-          finish (ap said e ∙ done-said _ _ _ (omega (arith, w .room, x)) (omega arith) (omega arith)) (record {
+          finish (ap (said _ _) e ∙ done-said _ _ _ _ _ (omega (arith, w .room, x)) (omega arith) (omega arith)) (record {
             low = omega (arith, x);
             held = record {
               place = below-later (top + (mid - 1)) (omega arith) (t .first .place);
@@ -133,7 +134,7 @@ module _ {s table b : List ℕ} {d old mid top levels left : ℕ} (w : StoodAske
   unfolding Text.stoodFor onList firstBytes gets.run
   default-stood {a} {r} n g = record { kept = g .kept; told = λ {sh} es {l} h. go sh es l (first-bytes h (w .middle)) }
     where
-      go : (sh : Sheet) → readSheet s ≡ ok sh → (l : Values) → mid ≡ firstBytes l → Answers (Stands a top) (said r) left (stoodFor (get levels sh) d l)
+      go : (sh : Sheet) → readSheet s ≡ ok sh → (l : Values) → mid ≡ firstBytes l → Answers (Stands a top) (said a levels r) left (stoodFor (get levels sh) d l)
       go sh es nil f = g .told sh es [] (env-none b top)
       go sh es (cons m rest) f = absurd (omega arith)
 
@@ -143,7 +144,7 @@ module _ {s table b : List ℕ} {d old mid top levels left : ℕ} (w : StoodAske
 pub record MembersAsked (s table a slots : List ℕ) (sc : Scope) (cells : List ℕ) (by : Members) (count top levels left : ℕ) : Type 0 where
   pub ready : Ready s table a slots Any sc cells count count top levels left (pair (by .root) (by .default) vfalse)
   pub inner : Inner sc count levels
-  pub room : top + 256 + 513 * levels ≤ SCRATCH
+  pub room : top + 256 + 513 * levels ≤ CHAIN
   pub subject : (sh : Sheet) → readSheet s ≡ ok sh → by .subject < length (sh .nodes)
   pub variable : by .x < sc .count
   pub old : SomeOld a top (by .old)
@@ -159,9 +160,20 @@ pub record Remade (a slots before whole : List ℕ) (count built : ℕ) (old : V
   pub readable : Readable (q .0)
 
 -- the put of one member u, where the variables in scope stand for μ and are the cells σ
-abbrev pub oneMember : (l : ℕ) → Sheet → Members → (built : ℕ) → Env → List ℕ → Values → Value → Cells → Out (Value × Cells)
+abbrev pub oneMember : (l : ℕ) → Sheet → Members → (built : ℕ) → Env → List ℕ → Values → Value → Cells → Explained (Value × Cells)
 oneMember l sh by built μ σ old u W =
     putMember (get l sh) (put l sh) (by .root) (by .default) (getD σ (by .x) 0) (getD μ (by .x) vfalse) (suc built) old u W
+
+stood-frugal : (l : ℕ) (sh : Sheet) (d : ℕ) (old : Values) → Frugal (stoodFor (get l sh) d old)
+unfolding Text.stoodFor onList
+stood-frugal l sh d nil = get-frugal l sh d []
+stood-frugal l sh d (cons m rest) = frugal-give m
+
+pub member-frugal : (l : ℕ) (sh : Sheet) (by : Members) (built : ℕ) (μ : Env) (σ : List ℕ) (old : Values) (u : Value) (W : Cells)
+    → Frugal (oneMember l sh by built μ σ old u W)
+unfolding putMember
+member-frugal l sh by built μ σ old u W = frugal-next (stood-frugal l sh _ old) λ m. frugal-next (put-frugal l sh _ _ _ u _) λ X. frugal-given _ _ λ o.
+    frugal-given _ _ λ _. frugal-give _
 
 pub record MemberTold (s b a slots slots′ before whole : List ℕ) (sc : Scope) (cells : List ℕ) (by : Members) (view : List ℕ)
     (built count top levels left r : ℕ) : Type 0 where
@@ -170,7 +182,7 @@ pub record MemberTold (s b a slots slots′ before whole : List ℕ) (sc : Scope
   pub whole-long : length whole ≡ length before
   pub told : {sh : Sheet} {μ : Env} {σ : List ℕ} {v : Value} {W : Cells} → Given b slots s Any sc cells count count top sh μ σ v W
       → {u : Value} → Shown view u → {old : Values} {len : ℕ} → Held b top (by .old) len (list old)
-      → Answers (Remade a slots′ before whole count built old) (said r) left (oneMember levels sh by built μ σ old u W)
+      → Answers (Remade a slots′ before whole count built old) (said a levels r) left (oneMember levels sh by built μ σ old u W)
 
 -- a value of the arena behind a 03, in `whole`
 whole-bytes : (before a : List ℕ) (built : ℕ) (p : Span) {v : Value} → Found a p v → built + (1 + p .len) ≤ length before → length a ≡ SCRATCH
@@ -187,7 +199,7 @@ whole-bytes before a built p {v} f h l =
 -- with the number of cells for the length of what was written
 member-run : (g : Getter) (p : Putter) (root d c : ℕ) (a : Value) (k : ℕ) (old : Values) (v : Value) (W : Cells) (n : ℕ) → length W ≡ n
     → putMember g p root d c a k old v W ≡ (stoodFor g d old >>= λ m. p root (two m a) (two n c) v (W ++ none ∷ []) >>= λ X. given 42 (getElem? X n) λ o.
-    given 44 (when (decLe (k + suc (size (orOld o m))) 256)) λ _. done (orOld o m, take n X) 0)
+    given 44 (when (decLe (k + suc (size (orOld o m))) 256)) λ _. give (orOld o m, take n X))
 unfolding putMember
 member-run g p root d c a k old v W n e = rw e
 
@@ -229,7 +241,7 @@ module _ {h : PutHere} {by : Members} {a₁ : List ℕ} {g : ℕ} (w : MemberSto
 
   pub stood-refused : {view before : List ℕ} {built : ℕ} → isRefusal g ≡ true → MemberTells h by view built before a₁ (h .slots) before g
   unfolding putMember
-  stood-refused e = let x = said-refused g e in record {
+  stood-refused e = let x = said-refused _ _ g e in record {
     frame = kept-frame (w .stood .kept) (w .asked .ready .base);
     long = refl;
     whole-long = refl;
@@ -241,12 +253,12 @@ module _ {h : PutHere} {by : Members} {a₁ : List ℕ} {g : ℕ} (w : MemberSto
     HadValue sh l = Had (Stands a₁ (h .top)) (startOf g) (lenOf g) (stepsOf g) (within (h .left) (stoodFor (get (h .levels) sh) (by .default) l))
 
     the-value : {sh : Sheet} → readSheet (h .sheet) ≡ ok sh → {l : Values} {len : ℕ} → OldHere l len → HadValue sh l
-    the-value r o = had (w .stood .told r o) (said-done g e)
+    the-value r o = had (w .stood .told r o) (said-done _ _ g e)
 
     pub stood-sizes : (startOf g ≤ h .top) × (1 ≤ lenOf g) × (lenOf g ≤ 256) × (stepsOf g ≤ h .left)
     stood-sizes =
         let d = the-value (w .asked .ready .sheet .read) (w .asked .old .held) in
-        (d .that .low, held-some (d .that .held), held-short (d .that .held), within-done (h .left) _ (d .is) .1)
+        (d .that .low, held-some (d .that .held), held-short (d .that .held), stood-frugal _ _ _ _ .few (h .left) (d .is))
 
     abbrev top′ : ℕ
     top′ = topAfter (h .top) (startOf g) (lenOf g)
@@ -317,7 +329,7 @@ module _ {h : PutHere} {by : Members} {a₁ : List ℕ} {g : ℕ} (w : MemberSto
 
       pub put-refused : {before : List ℕ} {built : ℕ} → isRefusal r₂ ≡ true → MemberTells h by view built before a₂ slots₂ before r₂
       unfolding run after
-      put-refused e₂ = let x = said-refused r₂ e₂ in record {
+      put-refused e₂ = let x = said-refused _ _ r₂ e₂ in record {
         frame = frame₂;
         long = long₂;
         whole-long = refl;
@@ -333,7 +345,7 @@ module _ {h : PutHere} {by : Members} {a₁ : List ℕ} {g : ℕ} (w : MemberSto
         record Then (sh : Sheet) (μ : Env) (σ : List ℕ) (u : Value) (W : Cells) (m : Value) : Type 0 where
           X : Cells
           put-is : within (h .left - stepsOf g) (put (h .levels) sh (by .root) (two m (getD μ (by .x) vfalse)) (two (h .count) (getD σ (by .x) 0)) u
-              (W ++ none ∷ [])) ≡ done X (stepsOf r₂)
+              (W ++ none ∷ [])) ≡ got X (stepsOf r₂)
           there : getElem? X (h .count) ≡ some (getD X (h .count) none)
           stands-now : Found a₂ now (orOld (getD X (h .count) none) m)
           written : Written a₂ slots₂ (h .count) (take (h .count) X)
@@ -342,7 +354,7 @@ module _ {h : PutHere} {by : Members} {a₁ : List ℕ} {g : ℕ} (w : MemberSto
             → Stands a₁ (h .top) (startOf g) (lenOf g) m → Then sh μ σ u W m
         unfolding run
         after-put c s st =
-            let d = had (t .told (given-member c s st)) (said-done r₂ e₂) in
+            let d = had (t .told (given-member c s st)) (said-done _ _ r₂ e₂) in
             let x = d .that .written in
             let i = w .asked .inner in
             let y = up in
@@ -376,8 +388,8 @@ module _ {h : PutHere} {by : Members} {a₁ : List ℕ} {g : ℕ} (w : MemberSto
           told = λ {W = W} c s o.
               let d = the-value (c .read) o in
               let n = after-put c s (d .that) in
-              let x : said r ≡ Refused 44 = ap said f ∙ refused-said (omega arith) (omega arith) in
-              answer-by (then-done _ _ {q = Refused 44} (d .is) (then-done _ _ {q = Refused 44} (n .put-is) (give 42 _ (n .there)
+              let x : said a₂ (h .levels) r ≡ Own 44 = ap (said _ _) f ∙ refused-said _ _ (omega arith) (omega arith) in
+              answer-by (then-done _ _ {q = Own 44} (d .is) (then-done _ _ {q = Own 44} (n .put-is) (give-some 42 _ (n .there)
               (give-no 44 _ _ (λ z. omega (arith, n .stands-now .long)) refl)) refl) x)
               (member-run _ _ _ _ _ _ _ _ _ W (h .count) (c .written .count));
         }
@@ -398,10 +410,11 @@ module _ {h : PutHere} {by : Members} {a₁ : List ℕ} {g : ℕ} (w : MemberSto
               let y : stepsOf g + stepsOf r₂ ≡ stepsOf g + (stepsOf r₂ + 0) = omega arith in
               let z = first-short o (first-bytes o mi) in
               let k = stood-sizes in
-              let x : said r ≡ Done mid (1 + now .len) (stepsOf g + (stepsOf r₂ + 0)) = ap said f
-              ∙ done-said mid (1 + now .len) _ (omega arith) (omega arith) (omega (arith, w .asked .ready .few, few .at e₂)) ∙ ap (Done mid (1 + now .len)) y in
+              let x : said a₂ (h .levels) r ≡ Done mid (1 + now .len) (stepsOf g + (stepsOf r₂ + 0)) = ap (said _ _) f
+              ∙ done-said _ _ mid (1 + now .len) _ (omega arith) (omega arith) (omega (arith, w .asked .ready .few, few .at e₂)) ∙ ap
+              (Done mid (1 + now .len)) y in
               answer-by (then-done _ _ {q = Done mid (1 + now .len) (stepsOf r₂ + 0)} (d .is) (then-done _ _ {q = Done mid (1 + now .len) 0} (n .put-is)
-              (give 42 _ (n .there) (give-yes 44 _ _ (omega (arith, n .stands-now .long)) (λ _. finish refl (record {
+              (give-some 42 _ (n .there) (give-yes 44 _ _ (omega (arith, n .stands-now .long)) (λ _. finish refl (record {
                 written = n .written;
                 took = first-bytes o mi;
                 long = omega (arith, n .stands-now .long);

@@ -7,20 +7,19 @@ use native.Mathlib.Nat.{le-refl}
 use native.Mathlib.Omega.{arith}
 use lib.ListN.{length, take, drop, getD, set, length-drop}
 use lib.Seq.{take-suc-set, getD-drop, drop-drop}
-use Rattle.answer.specs.Answer.{said, isRefusal, laterAs, lenOf, startOf, stepsOf, said-refused, said-done, later-said}
+use Rattle.answer.specs.Answer.{isRefusal, laterAs, lenOf, startOf, stepsOf}
 use Rattle.value.specs.Value.{Value, Values, vfalse, list, nil, cons, encode, encodes, size, sizes, Encodables, eNil, eCons, eList}
 use Rattle.value.specs.Encoding.{size-encode, size-pos}
 use Rattle.value.specs.Laws.{readable-front}
 use Rattle.value.specs.Parts.{shapeOf, middleOf, firstPart}
 use Rattle.value.specs.PartsLaws.{shape-whole, first-of-list, rest-of-list}
 use Rattle.sheet.specs.Sheet.{Sheet}
-use Rattle.rules.specs.Outcome.{Out, done, _>>=_}
-use Rattle.rules.specs.Allowance.{within}
-use Rattle.rules.specs.AllowanceLaws.{within-done}
 use Rattle.rules.specs.Text
-use Rattle.rules.specs.Rules.{Env, Cells, restOf, get, put}
+use Rattle.rules.specs.Text.{Env, restOf}
+use Rattle.rules.specs.Explain.{Cells, Explained, _>>=_, get, got, put, within}
 use Rattle.rules.specs.Numbers.{SCRATCH}
 use Rattle.step.specs.declared.Scope.{Scope}
+use Rattle.walk.specs.Said.{later-said, said, said-done, said-refused}
 use Rattle.walk.specs.declared.at.At.{At}
 use Rattle.walk.specs.declared.putter.Members.{Members}
 use Rattle.walk.specs.Places.{afterOf}
@@ -36,7 +35,7 @@ use Rattle.walk.specs.Members.{
   onto-bytes,
   onto-size,
   sizes-one,
-  plus-none,
+  more-none,
   front-rest,
   end-rest,
   front-middle,
@@ -44,11 +43,12 @@ use Rattle.walk.specs.Members.{
   put-end,
   put-member,
 }
+use Rattle.walk.specs.Steps.{Frugal, frugal-give, frugal-next, put-frugal, put-each-frugal}
 use Rattle.walk.specs.Cells.{Frame, Written, Shown}
 use Rattle.walk.specs.Frames.{frame-refl, frame-then, held-framed}
 use Rattle.walk.specs.Puts.{enter, run, Any, SomeView, Given, Wrote, Few, PutHere, PutAsks, PutTold}
 use Rattle.walk.specs.PutReady.{ready-for, given-after}
-use Rattle.walk.specs.PutMember.{firstBytes, MembersAsked, oneMember, MemberTold}
+use Rattle.walk.specs.PutMember.{firstBytes, MembersAsked, oneMember, member-frugal, MemberTold}
 
 -- WHAT `put_all` ASKS AND GIVES
 
@@ -57,18 +57,23 @@ pub record SomeList (view : List ℕ) : Type 0 where
   pub shown : Shown view (list members)
 
 -- the rule from the members on, where the variables in scope stand for μ and are the cells σ
-abbrev pub membersPut : (l : ℕ) → Sheet → Members → Env → List ℕ → List Value → Values → Values → Cells → Out (Values × Cells)
+abbrev pub membersPut : (l : ℕ) → Sheet → Members → Env → List ℕ → List Value → Values → Values → Cells → Explained (Values × Cells)
 membersPut l sh by μ σ vs old us W = putFrom (get l sh) (put l sh) (by .root) (by .default) (getD σ (by .x) 0) (getD μ (by .x) vfalse) vs old us W
 
-unfoldable pub membersRun : (l : ℕ) → Sheet → Members → Env → List ℕ → Values → Values → Cells → Out Cells
+unfoldable pub membersRun : (l : ℕ) → Sheet → Members → Env → List ℕ → Values → Values → Cells → Explained Cells
 membersRun l sh by μ σ old us W = membersPut l sh by μ σ [] old us W >>= λ q. put l sh (by .subject) μ σ (list (q .0)) (q .1)
+
+pub members-frugal : (l : ℕ) (sh : Sheet) (by : Members) (μ : Env) (σ : List ℕ) (old us : Values) (W : Cells) → Frugal (membersRun l sh by μ σ old us W)
+unfolding membersRun putFrom
+members-frugal l sh by μ σ old us W =
+    frugal-next (frugal-next (put-each-frugal l sh _ _ _ _ _ old us W) λ q. frugal-give _) λ q. put-frugal l sh _ μ σ _ _
 
 pub record MembersTold (s b a slots slots′ : List ℕ) (sc : Scope) (cells : List ℕ) (by : Members) (view : List ℕ) (count top levels left r : ℕ) : Type 0 where
   pub frame : Frame top b a
   pub long : length slots′ ≡ length slots
   pub told : {sh : Sheet} {μ : Env} {σ : List ℕ} {v : Value} {W : Cells} → Given b slots s Any sc cells count count top sh μ σ v W
       → {us : Values} → Shown view (list us) → {old : Values} {len : ℕ} → Held b top (by .old) len (list old)
-      → Answers (Wrote a slots′ count) (said r) left (membersRun levels sh by μ σ old us W)
+      → Answers (Wrote a slots′ count) (said a levels r) left (membersRun levels sh by μ σ old us W)
 
 -- BEHIND SOME MEMBERS: the values that they are then (their bytes in `whole`), the old ones and the view's that are left, and what was written
 pub record Reached (l : ℕ) (by : Members) (count top all left : ℕ) (view a slots whole : List ℕ) (old-at from built : ℕ)
@@ -132,7 +137,7 @@ turned-none {b = b} {at = at} l = record {
         many = refl;
         encodable = λ q. q;
         fewer = le-refl _;
-        on = let z : at .left - at .left ≡ 0 = omega arith in rw z (record { is = sym (plus-none _) });
+        on = let z : at .left - at .left ≡ 0 = omega arith in rw z (record { is = sym (more-none _) });
       };
 }
 
@@ -289,7 +294,7 @@ module _ {s table b slots₀ cells view a slots whole : List ℕ} {sc : Scope} {
 
       pub member-stops : isRefusal r ≡ true → MembersTold s b a₂ slots₀ slots₂ sc cells by view (at .cells) (at .top) (at .levels) (at .left) r
       unfolding membersRun
-      member-stops e = let x = said-refused r e in record {
+      member-stops e = let x = said-refused _ _ r e in record {
         frame = frame₂;
         long = t .long ∙ w .turned .long;
         told = λ g v o.
@@ -300,8 +305,9 @@ module _ {s table b slots₀ cells view a slots whole : List ℕ} {sc : Scope} {
 
       module _ (e : isRefusal r ≡ false) where
         pub member-steps : stepsOf r ≤ to .left
-        member-steps = within-done (to .left) _ (had (t .told (given-now (w .asked .ready .given) (some .written)) (more some .parts .first) (some .held))
-            (said-done r e) .is) .1
+        member-steps = member-frugal (at .levels) _ by′ built (w .asked .ready .env) (w .asked .ready .names) (some .olds) (more some .u) (some .X) .few
+            (to .left)
+            (had (t .told (given-now (w .asked .ready .given) (some .written)) (more some .parts .first) (some .held)) (said-done _ _ r e) .is)
 
         pub member-turned : Turned s b slots₀ sc cells by view at a₂ slots₂ whole₂ (afterOf to r)
             (record { subject = by .subject; x = by .x; root = by .root; default = by .default; old = next .old + startOf r }) (from + mid) (built + lenOf r)
@@ -311,12 +317,12 @@ module _ {s table b slots₀ cells view a slots whole : List ℕ} {sc : Scope} {
           whole-long = t .whole-long ∙ w .turned .whole-long;
           place = ap (λ (x : At). afterOf x r) (w .turned .place);
           same = refl;
-          short = had (t .told (given-now (w .asked .ready .given) (some .written)) (more some .parts .first) (some .held)) (said-done r e) .that .short;
-          reached = λ g v o.
+          short = had (t .told (given-now (w .asked .ready .given) (some .written)) (more some .parts .first) (some .held)) (said-done _ _ r e) .that .short;
+          reached = λ {sh} {μ} {σ} g v o.
               let z = w .turned .reached g v o in
               let m = more z in
-              let d = had (t .told (given-now g (z .written)) (m .parts .first) (z .held)) (said-done r e) in
-              let k = within-done (to .left) _ (d .is) .1 in
+              let d = had (t .told (given-now g (z .written)) (m .parts .first) (z .held)) (said-done _ _ r e) in
+              let k = member-frugal (at .levels) sh by′ built μ σ (z .olds) (m .u) (z .X) .few (to .left) (d .is) in
               let j = z .fewer in
               let (len′, h) = held-rest (z .olds) (z .held) (d .that .took) in
               record {
@@ -359,7 +365,7 @@ module _ {s table b slots₀ cells view a slots whole : List ℕ} {sc : Scope} {
         ∙ omega (arith, onto-size (some .values) nil, some .many))
 
     end-left : {sh : Sheet} {μ : Env} {σ : List ℕ} {old us : Values} {W : Cells} (z : ReachedOf sh μ σ old us W)
-        → within (at .left) (membersPut (at .levels) sh by μ σ [] old us W) ≡ done (onto (z .values) nil, z .X) (at .left - to .left)
+        → within (at .left) (membersPut (at .levels) sh by μ σ [] old us W) ≡ got (onto (z .values) nil, z .X) (at .left - to .left)
     end-left {sh} {μ} {σ} z = onward-done (z .on) (ap (λ (l : Values). membersPut (at .levels) sh by μ σ (z .values) (z .olds) l (z .X))
         (end-rest (z .rest) (λ e. none (head-is z ∙ e))) ∙ put-end _ _ _ _ _ _ (z .olds) (z .X) (z .values))
 
@@ -395,5 +401,5 @@ module _ {s table b slots₀ cells view a slots whole : List ℕ} {sc : Scope} {
           let k = z .fewer in
           let y : at .left - (at .left - to .left) ≡ to .left = omega arith in
           then-done _ _ (end-left z) (rw y (t .told (given-after g (w .turned .frame) (z .written) (end-shown z))))
-          (ap said e ∙ later-said q (at .left - to .left) (λ n. let x = few .at n in omega (arith, w .asked .ready .few)));
+          (ap (said _ _) e ∙ later-said _ _ q (at .left - to .left) (λ n. let x = few .at n in omega (arith, w .asked .ready .few)));
     }

@@ -1,41 +1,43 @@
 -- What a call of put asks, handed on from call to call, and what is given after one; and the choice of two that put makes.
 use mathlib.Core.Path.{_≡_, _∙_}
+use mathlib.Core.Option.{Option}
 use mathlib.Core.List.{List}
 use Prim.Native.Nat.{ℕ, _+_, _*_, _≤_}
 use native.Mathlib.Nat.{le-refl}
 use native.Mathlib.Omega.{arith}
 use lib.ListN.{length}
-use Rattle.answer.specs.Answer.{Said, Refused, said-done}
 use Rattle.value.specs.Value.{Value}
 use Rattle.sheet.specs.Sheet.{Sheet}
-use Rattle.rules.specs.Outcome.{Out, choose}
-use Rattle.rules.specs.AllowanceLaws.{within-done}
-use Rattle.rules.specs.Rules.{Env, Cells}
-use Rattle.rules.specs.Numbers.{SCRATCH, STACK}
+use Rattle.rules.specs.Text
+use Rattle.rules.specs.Text.{Env}
+use Rattle.rules.specs.Explain.{Cells, Explained, choice, choose, put, under}
+use Rattle.rules.specs.Numbers.{STACK, CHAIN}
 use Rattle.step.specs.declared.Scope.{Scope}
+use Rattle.walk.specs.Said.{Own, Said, said-done}
 use Rattle.walk.specs.declared.at.At.{At}
 use Rattle.walk.specs.Parts.{Kept}
 use Rattle.walk.specs.Arena.{env-later}
 use Rattle.walk.specs.Answers.{Answers, refuse, had}
+use Rattle.walk.specs.Steps.{Frugal, frugal-next, frugal-given, get-frugal, put-frugal, put-node-frugal}
 use Rattle.walk.specs.Gets as gets
 use Rattle.walk.specs.Cells.{Frame, Written, Shown}
 use Rattle.walk.specs.Frames.{env-framed, written-kept}
-use Rattle.walk.specs.Puts.{Task, enter, Known, Given, Ready, Gives, Few, Inner}
+use Rattle.walk.specs.Puts.{Task, enter, own, leaf, pair, inside, rebuilt, switch, rebuild, withDefaults, run, Known, Given, Ready, Gives, Few, Inner}
 
 module _ {A : Type 0} {P : (start len : ℕ) → A → Type 0} {r : Said} {left : ℕ} {X Y : Type 0} where
-  pub choose-first : (p : Dec X) (q : Dec Y) (x y : Out A) → X → Answers P r left x → Answers P r left (choose p q x y)
-  unfolding choose
+  pub choose-first : (p : Dec X) (q : Dec Y) (x y : Explained A) → X → Answers P r left x → Answers P r left (choose p q x y)
+  unfolding choice
   choose-first (yes p) q x y h t = t
   choose-first (no p) q x y h t = absurd (p h)
 
-  pub choose-second : (p : Dec X) (q : Dec Y) (x y : Out A) → (X → ⊥) → Y → Answers P r left y → Answers P r left (choose p q x y)
-  unfolding choose
+  pub choose-second : (p : Dec X) (q : Dec Y) (x y : Explained A) → (X → ⊥) → Y → Answers P r left y → Answers P r left (choose p q x y)
+  unfolding choice
   choose-second (yes p) q x y n h t = absurd (n p)
   choose-second (no p) (yes q) x y n h t = t
   choose-second (no p) (no q) x y n h t = absurd (q h)
 
-  pub choose-none : (p : Dec X) (q : Dec Y) (x y : Out A) → (X → ⊥) → (Y → ⊥) → r ≡ Refused 53 → Answers P r left (choose p q x y)
-  unfolding choose
+  pub choose-none : (p : Dec X) (q : Dec Y) (x y : Explained A) → (X → ⊥) → (Y → ⊥) → r ≡ Own 53 → Answers P r left (choose p q x y)
+  unfolding choice
   choose-none (yes p) q x y n m d = absurd (n p)
   choose-none (no p) (yes q) x y n m d = absurd (m q)
   choose-none (no p) (no q) x y n m d = refuse d
@@ -76,7 +78,7 @@ pub ready-for : {s table b a slots slots′ cells : List ℕ} {P Q : Value
     → Type 0} {sc : Scope} {count m m′ top top′ levels levels′ left left′ : ℕ} {t t′ : Task} {u : Value} {X : Cells}
     (w : Ready s table b slots P sc cells count m top levels left t) → Known (w .sheet .sh) t′
     → Given a slots′ s Q sc cells count m′ top′ (w .sheet .sh) (w .env) (w .names) u X → length a ≡ length b
-    → left′ ≤ left → levels′ ≤ levels → top ≤ top′ → top′ + 513 * levels′ ≤ SCRATCH → Ready s table a slots′ Q sc cells count m′ top′ levels′ left′ t′
+    → left′ ≤ left → levels′ ≤ levels → top ≤ top′ → top′ + 513 * levels′ ≤ CHAIN → Ready s table a slots′ Q sc cells count m′ top′ levels′ left′ t′
 ready-for w k g l h p q z = record {
   long = l ∙ w .long;
   few = omega (arith, w .few);
@@ -110,10 +112,27 @@ get-ready w k h l = record {
 }
 
 -- no more steps were taken than were left
+under-frugal : (l : ℕ) (sh : Sheet) (μ : Env) (σ : List ℕ) (W : Cells) (b : ℕ) (v : Value) (s : ℕ) (mk : Value → Value → Option Value) (f r : Value)
+    → Frugal (under (put l sh) μ σ W b v s mk f r)
+unfolding Text.under
+under-frugal l sh μ σ W b v s mk f r = frugal-next (put-frugal l sh b _ _ v _) λ X. frugal-given _ _ λ x. frugal-given _ _ λ y. frugal-given _ _ λ u.
+    frugal-given _ _ λ _. put-frugal l sh s μ σ u _
+
+run-frugal : (l : ℕ) (sh : Sheet) (n : ℕ) (t : Task) (μ : Env) (σ : List ℕ) (v : Value) (W : Cells) → Frugal (run l sh n t μ σ v W)
+unfolding run rebuild withDefaults Text.both
+run-frugal l sh n (enter x) μ σ v W = put-frugal l sh x μ σ v W
+run-frugal l sh n (own k s i) μ σ v W = put-node-frugal l sh 0 _ μ σ v W
+run-frugal l sh n (leaf x k s i) μ σ v W = put-node-frugal l sh x _ μ σ v W
+run-frugal l sh n (pair a b u) μ σ v W = frugal-next (put-frugal l sh a μ σ v W) λ X. put-frugal l sh b μ σ u X
+run-frugal l sh n (inside k b s f r) μ σ v W = under-frugal l sh μ σ W b v s _ f r
+run-frugal l sh n (rebuilt k s f r) μ σ v X = frugal-given _ _ λ x. frugal-given _ _ λ y. frugal-given _ _ λ u. frugal-given _ _ λ _. put-frugal l sh s μ σ u _
+run-frugal l sh n (switch b s df dr) μ σ v W = frugal-next (get-frugal l sh df _) λ f. frugal-next (get-frugal l sh dr _) λ r. frugal-given _ _ λ _.
+    under-frugal l sh μ σ W b v s _ f r
+
 pub few : {s table b a slots slots′ cells : List ℕ} {P : Value → Type 0} {sc : Scope} {count m top levels left left′ l r : ℕ} {t t′ : Task}
     → Ready s table b slots P sc cells count m top levels left t
     → Gives b a slots slots′ s P sc cells count m top left′ r l t′ → Few left′ r
-few {left′ = left′} {r = r} w g = record { at = λ e. within-done left′ _ (had (g .told (w .given)) (said-done r e) .is) .1 }
+few {left′ = left′} {r = r} {t′ = t′} w g = record { at = λ e. run-frugal _ _ _ t′ _ _ _ _ .few left′ (had (g .told (w .given)) (said-done _ _ r e) .is) }
 
 -- THE SAME at a place, with cells, in a scope and for a node by other names
 module _ {at at′ : At} {sc sc′ : Scope} {cells cells′ : List ℕ} {x x′ : ℕ} (e : at ≡ at′) (f : sc ≡ sc′) (c : cells ≡ cells′) (g : x ≡ x′) where

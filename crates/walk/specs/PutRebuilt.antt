@@ -9,21 +9,22 @@ use native.Mathlib.Numerals.{add-one}
 use native.Mathlib.Omega.{arith}
 use lib.ListN.{length, take, drop, getD, set, length-drop, replicate, getElem?}
 use lib.Seq.{getD-take, getD-drop, paste, take-paste, length-paste}
-use Rattle.answer.specs.Answer.{said, refused-said}
 use Rattle.value.specs.Value.{Value, vfalse, encode, size}
 use Rattle.value.specs.Encoding.{size-encode, size-pos}
 use Rattle.value.specs.Laws.{Readable}
 use Rattle.sheet.specs.Sheet.{Sheet}
 use Rattle.rules.specs.Text
-use Rattle.rules.specs.Rules.{Env, Cells, orOld}
+use Rattle.rules.specs.Text.{Env}
+use Rattle.rules.specs.Explain.{Cell, Cells, orOld}
 use Rattle.rules.specs.Numbers.{SCRATCH, STACK}
 use Rattle.step.specs.declared.Span.{Span}
 use Rattle.step.specs.Step.{placeOf, unfitRest}
 use Rattle.step.specs.StepLaws.{was-written}
+use Rattle.walk.specs.Said.{refused-said, said}
 use Rattle.walk.specs.Parts.{part}
 use Rattle.walk.specs.Arena.{Held, below-ends}
 use Rattle.walk.specs.Seen.{elem-at}
-use Rattle.walk.specs.Answers.{give, give-none, give-yes, give-no}
+use Rattle.walk.specs.Answers.{give-some, give-none, give-yes, give-no}
 use Rattle.walk.specs.Cells.{Slot, blank, full, Written, Shown, rebuiltIn, rebuiltBytes}
 use Rattle.walk.specs.Frames.{frame-refl}
 use Rattle.walk.specs.CellLaws.{written-less}
@@ -39,15 +40,14 @@ pub record Stands (a : List ℕ) (p : Span) (v : Value) : Type 0 where
   pub readable : Readable v
   pub inside : p .start + p .len ≤ SCRATCH
 
-pub stands : {a : List ℕ} {top start len c w : ℕ} {o : Option Value} {v : Value} → Slot a (4096 + 256 * c) w o → c < 110 → Held a top start len v → STACK ≤ top
+pub stands : {a : List ℕ} {top start len c w : ℕ} {o : Option Cell} {v : Value} → Slot a (4096 + 256 * c) w o → c < 110 → Held a top start len v → STACK ≤ top
     → top ≤ SCRATCH
     → Stands a (placeOf w c start len) (orOld o v)
 unfolding placeOf Text.orOld
 stands {start = start} {len = len} (blank z) h k base most = rw z
     (record { long = k .long; bytes = k .bytes; readable = k .readable; inside = omega (arith, below-ends (k .place) base) })
-stands {start = start} {len = len} {c = c} {w = w} (full {v = u} z p r) h k base most =
-    let n : w ≡ 0 → ⊥ = λ e. omega (arith, size-pos u) in
-    rw (← was-written w c start len n) (record { long = z; bytes = p; readable = r; inside = omega (arith, r .fits) })
+stands {start = start} {len = len} {c = c} {w = w} (full s) h k base most = rw (← was-written w c start len (s .there))
+    (record { long = s .long; bytes = s .bytes; readable = s .readable; inside = omega (arith, s .long, s .readable .fits) })
 
 -- its kind byte
 stands-head : {a : List ℕ} {p : Span} {v : Value} → Stands a p v → getD a (p .start) 0 ≡ getD (encode v) 0 0
@@ -133,8 +133,9 @@ module _ {h : PutHere} {k y start first second : ℕ} {f r : Span} (w : Rebuildi
     long = refl;
     told = λ g.
         let o = both-of (g .written) t in
-        give 42 _ (o .named) (give 42 _ (o .named′)
-        (give-none 43 _ (no-whole _ _ made (ap (unfitRest k) (sym (stands-head (o .two))) ∙ n)) (ap said e ∙ refused-said (omega arith) (omega arith))));
+        give-some 42 _ (o .named) (give-some 42 _ (o .named′)
+        (give-none 43 _ (no-whole _ _ made (ap (unfitRest k) (sym (stands-head (o .two))) ∙ n))
+        (ap (said _ _) e ∙ refused-said _ _ (omega arith) (omega arith))));
   }
 
   module _ (n : unfitRest k (getD (h .arena) (r .start) 0) ≡ false) where
@@ -152,8 +153,9 @@ module _ {h : PutHere} {k y start first second : ℕ} {f r : Span} (w : Rebuildi
       told = λ g.
           let o = both-of (g .written) t in
           let b = the-whole (g .written) t in
-          give 42 _ (o .named) (give 42 _ (o .named′) (give 43 _ (b .is) (give-no 44 _ _ (λ z. omega (arith, b .long, o .one .long, o .two .long))
-          (ap said e ∙ refused-said (omega arith) (omega arith)))));
+          give-some 42 _ (o .named) (give-some 42 _ (o .named′) (give-some 43 _ (b .is)
+          (give-no 44 _ _ (λ z. omega (arith, b .long, o .one .long, o .two .long))
+          (ap (said _ _) e ∙ refused-said _ _ (omega arith) (omega arith)))));
     }
 
     module _ (le : 1 + f .len + r .len ≤ 256) {bytes : List ℕ} (eb : bytes ≡ rebuiltBytes (h .arena) k (f .start) (f .len) (r .start) (r .len)) where
@@ -198,6 +200,6 @@ module _ {h : PutHere} {k y start first second : ℕ} {f r : Span} (w : Rebuildi
         told = λ g.
             let o = both-of (g .written) t in
             let b = the-whole (g .written) t in
-            give 42 _ (o .named) (give 42 _ (o .named′)
-            (give 43 _ (b .is) (give-yes 44 _ _ (omega (arith, b .long, o .one .long, o .two .long)) λ _. p .told (given-whole g t))));
+            give-some 42 _ (o .named) (give-some 42 _ (o .named′)
+            (give-some 43 _ (b .is) (give-yes 44 _ _ (omega (arith, b .long, o .one .long, o .two .long)) λ _. p .told (given-whole g t))));
       }

@@ -7,41 +7,22 @@ use native.Mathlib.Nat.{le-refl}
 use native.Mathlib.Omega.{arith}
 use lib.ListN.{length, getD}
 use lib.Seq.{paste}
-use Rattle.answer.specs.Answer.{
-  Said,
-  Done,
-  Refused,
-  said,
-  after,
-  after-twice,
-  isRefusal,
-  doneAs,
-  laterAs,
-  lenOf,
-  startOf,
-  stepsOf,
-  said-refused,
-  said-done,
-  done-said,
-  refused-said,
-  later-said,
-}
+use Rattle.answer.specs.Answer.{isRefusal, doneAs, laterAs, lenOf, startOf, stepsOf}
 use Rattle.value.specs.Result.{ok}
 use Rattle.value.specs.Value.{Value, encode, size}
 use Rattle.value.specs.Encoding.{size-encode, size-pos}
 use Rattle.sheet.specs.Sheet.{Sheet, readSheet}
-use Rattle.rules.specs.Outcome.{Out, done}
-use Rattle.rules.specs.Allowance.{within}
-use Rattle.rules.specs.Rules.{Cells, get}
-use Rattle.rules.specs.Numbers.{ALLOWANCE, SCRATCH, STACK}
+use Rattle.rules.specs.Explain.{Cells, Explained, get, got, within}
+use Rattle.rules.specs.Numbers.{ALLOWANCE, SCRATCH, STACK, CHAIN}
 use Rattle.step.specs.declared.Scope.{Scope}
 use Rattle.step.specs.Step.{unfitRest}
+use Rattle.walk.specs.Said.{after-twice, Done, Own, Said, after, done-said, later-said, refused-said, said, said-done, said-refused}
 use Rattle.walk.specs.declared.at.At.{At}
 use Rattle.walk.specs.Parts.{Kept, kept-then, Copied, part-join, part-split}
 use Rattle.walk.specs.Scope.{noVariable, pushed}
 use Rattle.walk.specs.Arena.{onStack, Scoped, Held, held-later, env-later, env-push}
 use Rattle.walk.specs.Seen.{unfit-no-list, fit-list}
-use Rattle.walk.specs.Answers.{Answers, then-done, then-refused, give, give-none, had, not-had}
+use Rattle.walk.specs.Answers.{Answers, then-done, then-refused, give-some, give-none, had, not-had}
 use Rattle.walk.specs.Cells.{Shown}
 use Rattle.walk.specs.Frames.{frame-then, kept-frame}
 use Rattle.walk.specs.CellLaws.{Filled, filled}
@@ -68,7 +49,7 @@ pub record BothAsked (s table a : List ℕ) (sc : Scope) (n top levels left : �
   pub long : length a ≡ SCRATCH
   pub few : left ≤ ALLOWANCE
   pub base : STACK ≤ top
-  pub room : top + 256 + 513 * levels ≤ SCRATCH
+  pub room : top + 256 + 513 * levels ≤ CHAIN
   pub variables : sc .count + 2 * levels ≤ 112
   pub sheet : Tabled s table
   pub known : (getD s (n + 6) 0 < length (sheet .sh .nodes)) × (getD s (n + 7) 0 < length (sheet .sh .nodes))
@@ -80,15 +61,16 @@ pub record TwoDefaults (s : List ℕ) (n : ℕ) (a : List ℕ) (top levels left 
   pub f : Value
   pub u : Value
   pub parts : PartsAt a (top + startOf r + lenOf r) top (startOf r) (lenOf r) f u
-  pub goes-on : (a₂ slots : List ℕ) (count : ℕ) {p q : Said} (k : Value → Value → Out Cells) → Answers (Wrote a₂ slots count) p (left - stepsOf r) (k f u)
+  pub goes-on : (a₂ slots : List ℕ) (count : ℕ) {p q : Said} (k : Value → Value → Explained Cells) → Answers (Wrote a₂ slots count) p (left - stepsOf r) (k f u)
       → q ≡ after (stepsOf r) p
       → Answers (Wrote a₂ slots count) q left (withDefaults levels sh (getD s (n + 6) 0) (getD s (n + 7) 0) v k)
 
 -- for whatever view P holds of
 pub record Defaults (s : List ℕ) (n : ℕ) (P : Value → Type 0) (b a : List ℕ) (top levels left r : ℕ) : Type 0 where
   pub kept : Kept top b a
-  pub refused : isRefusal r ≡ true → (sh : Sheet) → readSheet s ≡ ok sh → {v : Value} → P v → (a₂ slots : List ℕ) (count : ℕ) (k : Value → Value → Out Cells)
-      → Answers (Wrote a₂ slots count) (said r) left (withDefaults levels sh (getD s (n + 6) 0) (getD s (n + 7) 0) v k)
+  pub refused : isRefusal r ≡ true → (sh : Sheet) → readSheet s ≡ ok sh → {v : Value} → P v → (a₂ slots : List ℕ) (count : ℕ)
+      (k : Value → Value → Explained Cells)
+      → Answers (Wrote a₂ slots count) (said a levels r) left (withDefaults levels sh (getD s (n + 6) 0) (getD s (n + 7) 0) v k)
   pub done : isRefusal r ≡ false → (sh : Sheet) → readSheet s ≡ ok sh → {v : Value} → P v → TwoDefaults s n a top levels left r sh v
   pub sizes : isRefusal r ≡ false → (startOf r ≤ 256) × (lenOf r ≤ 256) × (stepsOf r ≤ left)
 
@@ -118,7 +100,7 @@ module _ {s table b : List ℕ} {sc : Scope} {n top levels left : ℕ} (w : Both
   module _ {a₁ : List ℕ} {f : ℕ} (t₁ : AtTop (default-here w) a₁ f (getD s (n + 6) 0)) where
     pub defaults-refused₁ : isRefusal f ≡ true → Defaults s n (Sees b sc top) b a₁ top levels left f
     unfolding gets.run withDefaults
-    defaults-refused₁ e = let x = said-refused f e in record {
+    defaults-refused₁ e = let x = said-refused _ _ f e in record {
       kept = t₁ .gives .kept;
       refused = λ _ sh es m a₂ slots count k. then-refused _ _ (not-had (t₁ .gives .told sh es _ m) x .1) x;
       done = λ i. absurd (let z : true ≡ false = cc in let y : _≡_ {A = ℕ} 0 1 = cc in omega arith);
@@ -151,11 +133,11 @@ module _ {s table b : List ℕ} {sc : Scope} {n top levels left : ℕ} (w : Both
 
         pub defaults-refused₂ : isRefusal g ≡ true → Defaults s n (Sees b sc top) b a₂ top levels left g
         unfolding gets.run withDefaults after
-        defaults-refused₂ e = let x = said-refused g e in record {
+        defaults-refused₂ e = let x = said-refused a₂ levels g e in record {
           kept = kept₂;
           refused = λ _ sh es m a₃ slots count k.
-              let d = had (t₁ .gives .told sh es _ m) (said-done f e₁) in
-              then-done _ _ {q = said g} (d .is) (then-refused _ _ (not-had (t₂ .gives .told sh es _ (later m)) x .1) x)
+              let d = had (t₁ .gives .told sh es _ m) (said-done _ _ f e₁) in
+              then-done _ _ {q = said a₂ levels g} (d .is) (then-refused _ _ (not-had (t₂ .gives .told sh es _ (later m)) x .1) x)
               (x ∙ sym (ap (after (stepsOf f)) x));
           done = λ i. absurd (let z : true ≡ false = cc in let y : _≡_ {A = ℕ} 0 1 = cc in omega arith);
           sizes = λ i. absurd (let z : true ≡ false = cc in let y : _≡_ {A = ℕ} 0 1 = cc in omega arith);
@@ -170,17 +152,17 @@ module _ {s table b : List ℕ} {sc : Scope} {n top levels left : ℕ} (w : Both
           pub defaults-43 : {r : ℕ} → unfitRest 3 (getD a₂ (top + lenOf f) 0) ≡ true → r ≡ 43 → Defaults s n (Sees b sc top) b a₂ top levels left r
           unfolding gets.run withDefaults after
           defaults-43 {r} bad is =
-              let x : said r ≡ Refused 43 = ap said is ∙ refused-said (omega arith) (omega arith) in
+              let x : said a₂ levels r ≡ Own 43 = ap (said _ _) is ∙ refused-said _ _ (omega arith) (omega arith) in
               record {
                 kept = kept₂;
                 refused = λ _ sh es m a₃ slots count k.
-                    let d = had (t₁ .gives .told sh es _ m) (said-done f e₁) in
-                    let d′ = had (t₂ .gives .told sh es _ (later m)) (said-done g e₂) in
+                    let d = had (t₁ .gives .told sh es _ m) (said-done _ _ f e₁) in
+                    let d′ = had (t₂ .gives .told sh es _ (later m)) (said-done _ _ g e₂) in
                     let y = ap (λ (i : ℕ). getD a₂ i 0) (t₂ .there e₂) in
-                    then-done _ _ {q = Refused 43} (d .is) (then-done _ _ {q = Refused 43} (d′ .is)
+                    then-done _ _ {q = Own 43} (d .is) (then-done _ _ {q = Own 43} (d′ .is)
                     (give-none 43 _ (unfit-no-list (d′ .that .held) (ap (unfitRest 3) y ∙ bad)) refl) refl) x;
-                done = λ i. absurd (let q = said-done r i in let y : _≡_ {A = ℕ} 0 1 = cc in omega arith);
-                sizes = λ i. absurd (let q = said-done r i in let y : _≡_ {A = ℕ} 0 1 = cc in omega arith);
+                done = λ i. absurd (let q = said-done a₂ levels r i in let y : _≡_ {A = ℕ} 0 1 = cc in omega arith);
+                sizes = λ i. absurd (let q = said-done a₂ levels r i in let y : _≡_ {A = ℕ} 0 1 = cc in omega arith);
               }
 
           pub defaults-done : {r : ℕ} → unfitRest 3 (getD a₂ (top + lenOf f) 0) ≡ false → r ≡ doneAs (lenOf f) (lenOf g) (stepsOf f + stepsOf g)
@@ -189,21 +171,21 @@ module _ {s table b : List ℕ} {sc : Scope} {n top levels left : ℕ} (w : Both
           defaults-done {r} fit is =
               let z₁ = t₁ .sized .at e₁ in
               let z₂ = t₂ .sized .at e₂ in
-              let x : said r ≡ Done (lenOf f) (lenOf g) (stepsOf f + stepsOf g) = ap said is
-              ∙ done-said _ _ _ (omega arith) (omega arith) (omega (arith, w .few)) in
+              let x : said a₂ levels r ≡ Done (lenOf f) (lenOf g) (stepsOf f + stepsOf g) = ap (said _ _) is
+              ∙ done-said _ _ _ _ _ (omega arith) (omega arith) (omega (arith, w .few)) in
               record {
                 kept = kept₂;
-                refused = λ i. absurd (let q = said-refused r i in let y : _≡_ {A = ℕ} 0 1 = cc in omega arith);
+                refused = λ i. absurd (let q = said-refused a₂ levels r i in let y : _≡_ {A = ℕ} 0 1 = cc in omega arith);
                 done = λ i sh es m.
-                    let q = said-done r i in
+                    let q = said-done a₂ levels r i in
                     let p₁ : startOf r ≡ lenOf f = cc in
                     let p₂ : lenOf r ≡ lenOf g = cc in
                     let p₃ : stepsOf r ≡ stepsOf f + stepsOf g = cc in
-                    let d = had (t₁ .gives .told sh es _ m) (said-done f e₁) in
-                    let d′ = had (t₂ .gives .told sh es _ (later m)) (said-done g e₂) in
+                    let d = had (t₁ .gives .told sh es _ m) (said-done _ _ f e₁) in
+                    let d′ = had (t₂ .gives .told sh es _ (later m)) (said-done _ _ g e₂) in
                     two-defaults sh _ p₁ p₂ p₃ (d .value) (d′ .value) (d .is) (d′ .is) (d .that .held) (d′ .that .held) fit;
                 sizes = λ i.
-                    let q = said-done r i in
+                    let q = said-done a₂ levels r i in
                     let p₁ : startOf r ≡ lenOf f = cc in
                     let p₂ : lenOf r ≡ lenOf g = cc in
                     let p₃ : stepsOf r ≡ stepsOf f + stepsOf g = cc in
@@ -211,8 +193,8 @@ module _ {s table b : List ℕ} {sc : Scope} {n top levels left : ℕ} (w : Both
               }
             where
               two-defaults : {r : ℕ} (sh : Sheet) (x : Value) → startOf r ≡ lenOf f → lenOf r ≡ lenOf g → stepsOf r ≡ stepsOf f + stepsOf g → (u v : Value)
-                  → within left (get levels sh (getD s (n + 6) 0) (x ∷ [])) ≡ done u (stepsOf f)
-                  → within (left - stepsOf f) (get levels sh (getD s (n + 7) 0) (x ∷ [])) ≡ done v (stepsOf g)
+                  → within left (get levels sh (getD s (n + 6) 0) (x ∷ [])) ≡ got u (stepsOf f)
+                  → within (left - stepsOf f) (get levels sh (getD s (n + 7) 0) (x ∷ [])) ≡ got v (stepsOf g)
                   → Held a₁ (top + lenOf f) (startOf f) (lenOf f) u → Held a₂ (top + lenOf f + lenOf g) (startOf g) (lenOf g) v
                   → unfitRest 3 (getD a₂ (top + lenOf f) 0) ≡ false
                   → TwoDefaults s n a₂ top levels left r sh x
@@ -226,7 +208,7 @@ module _ {s table b : List ℕ} {sc : Scope} {n top levels left : ℕ} (w : Both
                 goes-on = λ a₃ slots count {p} k t d.
                     let z : left - stepsOf r ≡ left - stepsOf f - stepsOf g = omega (arith, p₃) in
                     let y = ap (λ (i : ℕ). getD a₂ i 0) (t₂ .there e₂) in
-                    then-done _ _ is₁ (then-done _ _ is₂ (give 43 _ (fit-list h₂ (ap (unfitRest 3) y ∙ fit) .is) (rw z at t)) refl)
+                    then-done _ _ is₁ (then-done _ _ is₂ (give-some 43 _ (fit-list h₂ (ap (unfitRest 3) y ∙ fit) .is) (rw z at t)) refl)
                     (d ∙ ap (λ (i : ℕ). after i p) p₃ ∙ sym (after-twice (stepsOf f) (stepsOf g) p));
               }
 
@@ -236,7 +218,7 @@ pub record DefaultsAsked (s table a view : List ℕ) (n top levels left : ℕ) :
   pub long : length a ≡ SCRATCH
   pub few : left ≤ ALLOWANCE
   pub base : STACK ≤ top
-  pub room : top + 512 + 513 * levels ≤ SCRATCH
+  pub room : top + 512 + 513 * levels ≤ CHAIN
   pub some : 1 ≤ levels
   pub deep : 1 + 2 * levels ≤ 112
   pub sheet : Tabled s table
@@ -341,7 +323,7 @@ copied-as e f c = rw (e, f) at c
 pub record Switching (h : PutHere) (view : List ℕ) (n : ℕ) : Type 0 where
   pub asked : PutAsks h (Shown view) (switchAt (h .sheet) n)
   pub inner : Inner (h .scope) (h .count) (h .levels)
-  pub room : h .top + 512 + 513 * h .levels ≤ SCRATCH
+  pub room : h .top + 512 + 513 * h .levels ≤ CHAIN
 
 module _ {h : PutHere} {view : List ℕ} {n : ℕ} (w : Switching h view n) where
   pub defaults-asked : DefaultsAsked (h .sheet) (h .table) (h .arena) view n (h .top) (h .levels) (h .left)
@@ -389,12 +371,13 @@ module _ {h : PutHere} {view : List ℕ} {n : ℕ} (w : Switching h view n) wher
           → PutTold switch-here (Shown view) a₂ slots p (inside 3 (getD (h .sheet) (n + 4) 0) (getD (h .sheet) (n + 1) 0) f u))
           → (isRefusal p ≡ false → stepsOf p ≤ h .left - stepsOf g) → r ≡ laterAs p (stepsOf g) → PutTold h (Shown view) a₂ slots r (switchAt (h .sheet) n)
       unfolding run maker
-      switch-told {p = p} {r = r} g₂ fewer is =
+      switch-told {a₂} {p = p} {r = r} g₂ fewer is =
           let a = w .asked in
           let t₀ = d .done e (a .sheet .sh) (a .sheet .read) (a .given .shown) in
           let g₀ = g₂ _ _ (parts-of (a .sheet .read) t₀) in
           let z = d .sizes e in
-          let x : said r ≡ after (stepsOf g) (said p) = ap said is ∙ later-said p (stepsOf g) (λ n. let y = fewer n in omega (arith, a .few)) in
+          let x : said a₂ (h .levels) r ≡ after (stepsOf g) (said a₂ (h .levels) p) = ap (said _ _) is ∙ later-said _ _ p (stepsOf g)
+          (λ n. let y = fewer n in omega (arith, a .few)) in
           record {
             frame = frame-then (kept-frame (d .kept) (a .base)) (g₀ .frame) (a .base) (omega arith);
             long = g₀ .long;
@@ -404,5 +387,5 @@ module _ {h : PutHere} {view : List ℕ} {n : ℕ} (w : Switching h view n) wher
           }
 
 -- the same at a place by another name
-pub switch-room : {at at′ : At} → at ≡ at′ → at′ .top + 512 + 513 * at′ .levels ≤ SCRATCH → at .top + 512 + 513 * at .levels ≤ SCRATCH
+pub switch-room : {at at′ : At} → at ≡ at′ → at′ .top + 512 + 513 * at′ .levels ≤ CHAIN → at .top + 512 + 513 * at .levels ≤ CHAIN
 switch-room e w = rw e w

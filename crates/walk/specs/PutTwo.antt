@@ -6,7 +6,7 @@ use Prim.Native.Nat.{ℕ, suc, _+_, _-_, _*_, _≤_}
 use native.Mathlib.Nat.{le-refl}
 use native.Mathlib.Omega.{arith}
 use lib.ListN.{getD}
-use Rattle.answer.specs.Answer.{Refused, said, after, isRefusal, laterAs, stepsOf, said-refused, said-done, later-said, refused-said}
+use Rattle.answer.specs.Answer.{isRefusal, laterAs, stepsOf}
 use Rattle.value.specs.Value.{Value, vfalse, list, pair as aPairOf, cons, encode}
 use Rattle.value.specs.Laws.{Readable, readable-front, readable-pair}
 use Rattle.value.specs.Parts.{shapeOf, firstPart, secondPart}
@@ -14,14 +14,15 @@ use Rattle.value.specs.PartsLaws.{shape, shape-whole, first-of-list, rest-of-li
 use Rattle.value.specs.declared.Shape.{Shape}
 use Rattle.value.specs.declared.Shape.the-variants.{False, True, Empty, Front, Number, Pair, Wide, Malformed}
 use Rattle.sheet.specs.Sheet.{Sheet}
-use Rattle.rules.specs.Outcome.{given}
 use Rattle.rules.specs.Text
-use Rattle.rules.specs.Rules.{Env, Cells, putNode, put, both}
-use Rattle.rules.specs.Numbers.{SCRATCH}
+use Rattle.rules.specs.Text.{Env}
+use Rattle.rules.specs.Explain.{wanted, Cells, both, given, put, putNode}
+use Rattle.rules.specs.Numbers.{CHAIN}
 use Rattle.step.specs.declared.Apart.{Apart}
 use Rattle.step.specs.declared.Apart.the-variants.{At, Other}
 use Rattle.step.specs.Step.{where-so, apartOf}
 use Rattle.step.specs.declared.Scope.{Scope}
+use Rattle.walk.specs.Said.{Own, after, later-said, refused-said, said, said-done, said-refused}
 use Rattle.walk.specs.declared.at.At.{At as Where}
 use Rattle.walk.specs.Answers.{then-done, then-refused, answer-by, give-none, had, not-had}
 use Rattle.walk.specs.Cells.{Shown}
@@ -44,19 +45,24 @@ module _ {h : PutHere} {P : Value → Type 0} {x y : ℕ} {u₀ : Value} (w : Pu
   module _ {a₁ slots₁ : List ℕ} {r₁ : ℕ} (g₁ : PutTold h P a₁ slots₁ r₁ (enter x)) where
     pub both-refused : isRefusal r₁ ≡ true → (u : Value) → PutTold h P a₁ slots₁ r₁ (pair x y u)
     unfolding run Text.both
-    both-refused e u = let d = said-refused r₁ e in record { frame = g₁ .frame; long = g₁ .long; told = λ w. then-refused _ _ (not-had (g₁ .told w) d .1) d }
+    both-refused e u = let d = said-refused _ _ r₁ e in record {
+      frame = g₁ .frame;
+      long = g₁ .long;
+      told = λ w. then-refused _ _
+          (not-had (g₁ .told w) d .1) d;
+    }
 
     module _ (e₁ : isRefusal r₁ ≡ false) where
       pub both-asks₂ : {other : List ℕ} → SomeView other → PutAsks (after-here h a₁ slots₁ r₁) (Shown other) (enter y)
       both-asks₂ q =
-          ready-for w (w .known .1) (given-after (w .given) (g₁ .frame) (had (g₁ .told (w .given)) (said-done r₁ e₁) .that .written) (q .shown))
+          ready-for w (w .known .1) (given-after (w .given) (g₁ .frame) (had (g₁ .told (w .given)) (said-done _ _ r₁ e₁) .that .written) (q .shown))
           (g₁ .frame .long)
           (omega arith) (le-refl _) (le-refl _) (w .room)
 
       module _ {Q : Value → Type 0} {a₂ slots₂ : List ℕ} {r₂ r : ℕ} (few₁ : Few (h .left) r₁) (few₂ : Few (h .left - stepsOf r₁) r₂)
           (g₂ : PutTold (after-here h a₁ slots₁ r₁) Q a₂ slots₂ r₂ (enter y)) where
-        later-is : r ≡ laterAs r₂ (stepsOf r₁) → said r ≡ after (stepsOf r₁) (said r₂)
-        later-is e = ap said e ∙ later-said r₂ (stepsOf r₁) (λ n. let y = few₂ .at n in let x = few₁ .at e₁ in omega (arith, w .few))
+        later-is : r ≡ laterAs r₂ (stepsOf r₁) → said a₂ (h .levels) r ≡ after (stepsOf r₁) (said a₂ (h .levels) r₂)
+        later-is e = ap (said _ _) e ∙ later-said _ _ r₂ (stepsOf r₁) (λ n. let y = few₂ .at n in let x = few₁ .at e₁ in omega (arith, w .few))
 
         pub both-told : r ≡ laterAs r₂ (stepsOf r₁) → (u : Value) → Q u → PutTold h P a₂ slots₂ r (pair x y u)
         unfolding run Text.both
@@ -64,7 +70,7 @@ module _ {h : PutHere} {P : Value → Type 0} {x y : ℕ} {u₀ : Value} (w : Pu
           frame = frame-then (g₁ .frame) (g₂ .frame) (w .base) (le-refl _);
           long = g₂ .long ∙ g₁ .long;
           told = λ w.
-              let d = had (g₁ .told w) (said-done r₁ e₁) in
+              let d = had (g₁ .told w) (said-done _ _ r₁ e₁) in
               then-done _ _ (d .is) (g₂ .told (given-after w (g₁ .frame) (d .that .written) q)) (later-is e);
         }
 
@@ -123,7 +129,7 @@ record ViewParts (k : ℕ) (s : List ℕ) (n : ℕ) (left right : List ℕ) (v :
 module _ {n mid : ℕ} {s view left right : List ℕ} {q : Shape} {v : Value} (e : q ≡ shapeOf view) (e₁ : left ≡ firstPart view mid)
     (e₂ : right ≡ secondPart view mid) (h : Shown view v) where
   front-parts : Front mid ≡ q → ViewParts 0x15 s n left right v
-  unfolding run Text.putNode given
+  unfolding run Text.putNode wanted
   front-parts i =
       let o = front-of v (i ∙ shown-shape h e) in
       let z : view ≡ encode (list (cons (o .first) (o .rest))) = h .bytes ∙ ap encode (o .whole) in
@@ -137,7 +143,7 @@ module _ {n mid : ℕ} {s view left right : List ℕ} {q : Shape} {v : Value} (e
       }
 
   pair-parts : Pair mid ≡ q → ViewParts 0x16 s n left right v
-  unfolding run Text.putNode given
+  unfolding run Text.putNode wanted
   pair-parts i =
       let o = pair-of v (i ∙ shown-shape h e) in
       let z : view ≡ encode (aPairOf (o .first) (o .second)) = h .bytes ∙ ap encode (o .whole) in
@@ -169,7 +175,7 @@ module _ {h : PutHere} {view left right : List ℕ} {k n mid : ℕ} (w : TakenAp
   -- what is asked of its two parts, one after the other
   pub two-asks : PutAsks h (Shown left) (pair (getD (h .sheet) (n + 1) 0) (getD (h .sheet) (n + 2) 0) vfalse)
   two-asks =
-      let z : h .top + 513 * suc (h .levels) ≤ SCRATCH = w .asked .room in
+      let z : h .top + 513 * suc (h .levels) ≤ CHAIN = w .asked .room in
       ready-for (w .asked) (two-known (h .sheet) (w .asked .sheet .sh) n (w .two) (w .asked .known))
       (given-shown (w .asked .given) (parts (w .asked .given .shown) .one)) refl (omega arith) (omega arith) (le-refl _)
       (omega arith)
@@ -197,8 +203,8 @@ pub two-51 : {h : PutHere} {view : List ℕ} {k n r : ℕ} → PutAsked h (Shown
 unfolding run Text.putNode apartOf where-so there
 two-51 {h} {view} {k} {n} {r} w two o is = go two
   where
-    x : said r ≡ Refused 51
-    x = ap said is ∙ refused-said (omega arith) (omega arith)
+    x : said (h .arena) (h .levels) r ≡ Own 51
+    x = ap (said _ _) is ∙ refused-said _ _ (omega arith) (omega arith)
 
     go : Two k → PutTells h (Shown view) (h .arena) (h .slots) r k n
     go (aFront e) = rw e (record {

@@ -7,14 +7,15 @@ use Prim.Native.Nat.{ℕ, suc, _+_, _-_, _≤_}
 use native.Mathlib.Nat.{le-refl}
 use native.Mathlib.Omega.{arith}
 use lib.ListN.{length, length-set, length-append}
-use Rattle.answer.specs.Answer.{said, after, isRefusal, laterAs, stepsOf, said-refused, said-done, later-said}
+use Rattle.answer.specs.Answer.{isRefusal, laterAs, stepsOf}
 use Rattle.value.specs.Value.{Value, vfalse}
 use Rattle.sheet.specs.Sheet.{Sheet}
-use Rattle.rules.specs.Outcome.{_>>=_}
 use Rattle.rules.specs.Text
-use Rattle.rules.specs.Rules.{Env, Cells, Putter, two, under}
+use Rattle.rules.specs.Text.{Env, two}
+use Rattle.rules.specs.Explain.{Cells, Putter, _>>=_, under}
 use Rattle.step.specs.declared.Scope.{Scope}
 use Rattle.step.specs.Step.{addedTwo}
+use Rattle.walk.specs.Said.{after, later-said, said, said-done, said-refused}
 use Rattle.walk.specs.declared.at.At.{At}
 use Rattle.walk.specs.declared.putter.Parts.{Parts}
 use Rattle.walk.specs.Scope.{withTwo, two-pushed, Stored}
@@ -121,7 +122,7 @@ module _ {h : PutHere} {P : Value → Type 0} {k x y start first second : ℕ} (
 
     pub under-refused : isRefusal r₁ ≡ true → (f u : Value) → PartsAt (h .arena) (h .top) start first second f u → PutTold h P a₁ slots₁ r₁ (inside k x y f u)
     unfolding run
-    under-refused e f u t = let d = said-refused r₁ e in record {
+    under-refused e f u t = let d = said-refused _ _ r₁ e in record {
       frame = g₁ .frame;
       long = long₁;
       told = λ {sh} {μ} {σ} {v} {W} g.
@@ -134,8 +135,8 @@ module _ {h : PutHere} {P : Value → Type 0} {k x y start first second : ℕ} (
           (g : Given (h .arena) (h .slots) (h .sheet) P (h .scope) (h .cells) (h .count) (h .count) (h .top) sh μ σ v W)
           (t : PartsAt (h .arena) (h .top) start first second f u)
           → Given a₁ slots₁ (h .sheet) Any (h .scope) (h .cells) (h .count) (h .count + 2) (h .top) sh μ σ v
-          (had (g₁ .told (given-inner g t)) (said-done r₁ e₁) .value)
-      given-rest g t = given-after g (g₁ .frame) (had (g₁ .told (given-inner g t)) (said-done r₁ e₁) .that .written) tt
+          (had (g₁ .told (given-inner g t)) (said-done _ _ r₁ e₁) .value)
+      given-rest g t = given-after g (g₁ .frame) (had (g₁ .told (given-inner g t)) (said-done _ _ r₁ e₁) .that .written) tt
 
       abbrev pub rest-here : PutHere
       rest-here = after-here h a₁ slots₁ r₁
@@ -155,15 +156,15 @@ module _ {h : PutHere} {P : Value → Type 0} {k x y start first second : ℕ} (
           (rebuilt k y f u))
           → r ≡ laterAs r₂ (stepsOf r₁) → (f u : Value) → PartsAt (h .arena) (h .top) start first second f u → PutTold h P a₂ slots₂ r (inside k x y f u)
       unfolding run
-      under-told {r₂ = r₂} {r = r} few₁ few₂ g₂ e f u t =
+      under-told {a₂} {r₂ = r₂} {r = r} few₁ few₂ g₂ e f u t =
           let g = g₂ f u (parts-framed (g₁ .frame) (h .top) (le-refl _) t) in
-          let d : said r ≡ after (stepsOf r₁) (said r₂)
-          = ap said e ∙ later-said r₂ (stepsOf r₁) (λ n. let p = few₂ .at n in let q = few₁ .at e₁ in omega (arith, w .asked .few)) in
+          let d : said a₂ (h .levels) r ≡ after (stepsOf r₁) (said a₂ (h .levels) r₂)
+          = ap (said _ _) e ∙ later-said _ _ r₂ (stepsOf r₁) (λ n. let p = few₂ .at n in let q = few₁ .at e₁ in omega (arith, w .asked .few)) in
           record {
             frame = frame-then (g₁ .frame) (g .frame) (w .asked .base) (le-refl _);
             long = g .long ∙ long₁;
             told = λ {sh} {μ} {σ} {v} {W} m.
-                answer-by (then-done _ _ (had (g₁ .told (given-inner m t)) (said-done r₁ e₁) .is) (g .told (given-rest m t)) d)
+                answer-by (then-done _ _ (had (g₁ .told (given-inner m t)) (said-done _ _ r₁ e₁) .is) (g .told (given-rest m t)) d)
                 (under-run _ μ σ W x v y (maker k) f u (h .count) (m .written .count));
           }
 

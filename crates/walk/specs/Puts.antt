@@ -6,47 +6,52 @@ use mathlib.Core.List.{List, [], _∷_}
 use Prim.Native.Nat.{ℕ, suc, _+_, _*_, _≤_, _<_}
 use native.Mathlib.Decide.{decLe}
 use lib.ListN.{length, take, getD, getElem?}
-use Rattle.answer.specs.Answer.{said, isRefusal, stepsOf}
+use Rattle.answer.specs.Answer.{isRefusal, stepsOf}
 use Rattle.value.specs.Result.{ok}
 use Rattle.value.specs.Value.{Value, size}
 use Rattle.value.specs.Views.{asList}
 use Rattle.sheet.specs.Records.{recordAt}
 use Rattle.sheet.specs.Sheet.{Sheet, readSheet}
 use Rattle.sheet.specs.Laws.{Ranged}
-use Rattle.rules.specs.Outcome.{Out, when, _>>=_, given}
-use Rattle.rules.specs.Rules.{Env, Cells, Putter, get, putNode, put, orOld, both, under, mkList}
-use Rattle.rules.specs.Numbers.{ALLOWANCE, SCRATCH, STACK}
+use Rattle.rules.specs.Outcome.{when}
+use Rattle.rules.specs.Text.{Env, mkList}
+use Rattle.rules.specs.Explain.{Cells, Explained, Putter, _>>=_, both, get, given, orOld, put, putNode, under}
+use Rattle.rules.specs.Numbers.{ALLOWANCE, SCRATCH, STACK, CHAIN}
 use Rattle.step.specs.declared.Scope.{Scope}
+use Rattle.walk.specs.Said.{said}
 use Rattle.walk.specs.Arena.{Scoped, Held}
 use Rattle.walk.specs.Answers.{Answers}
 use Rattle.walk.specs.Wholes.{maker, Made}
 use Rattle.walk.specs.Gets.{Tabled}
 use Rattle.walk.specs.Cells.{Frame, Written, Named, Shown}
 
--- what a function of put does: enter a node by its number; put the view into the node whose record of that kind starts at byte n of the sheet
--- s; put it into a and then u into b; put it into branch b, whose two variables stand for f and r, and then the rebuilt subject into
--- s; only rebuild and put the subject; or get the two defaults first and go on as with a branch
+-- what a function of put does: enter a node by its number; put the view into the node whose record of that kind starts at byte n of the sheet s,
+-- and which writes nothing itself, so that 0 stands for its number; or into one that may be a variable, and has the number x; put it into a and then
+-- u into b; put it into branch b, whose two variables stand for f and r, and then the rebuilt subject into s; only rebuild and put the subject; or
+-- get the two defaults first and go on as with a branch
 pub data Task : Type 0 where
   enter : ℕ → Task
   own : (kind : ℕ) (s : List ℕ) (n : ℕ) → Task
+  leaf : (x kind : ℕ) (s : List ℕ) (n : ℕ) → Task
   pair : (a b : ℕ) (u : Value) → Task
   inside : (k b s : ℕ) (f r : Value) → Task
   rebuilt : (k s : ℕ) (f r : Value) → Task
   switch : (b s df dr : ℕ) → Task
 
 -- n cells are there before the branch; X are the cells with its two behind them
-unfoldable pub rebuild : Putter → Env → List ℕ → ℕ → Cells → ℕ → (Value → Value → Option Value) → Value → Value → Out Cells
+unfoldable pub rebuild : Putter → Env → List ℕ → ℕ → Cells → ℕ → (Value → Value → Option Value) → Value → Value → Explained Cells
 rebuild p μ σ n X s mk f r =
     given 42 (getElem? X n) λ x. given 42 (getElem? X (suc n)) λ y.
     given 43 (mk (orOld x f) (orOld y r)) λ u. given 44 (when (decLe (size u) 256)) λ _. p s μ σ u (take n X)
 
 -- the two defaults of a list case, got in the scope of the view v alone, and what goes on with them
-unfoldable pub withDefaults : ℕ → Sheet → (df dr : ℕ) → Value → (Value → Value → Out Cells) → Out Cells
+unfoldable pub withDefaults : ℕ → Sheet → (df dr : ℕ) → Value → (Value → Value → Explained Cells) → Explained Cells
 withDefaults l sh df dr v k = get l sh df (v ∷ []) >>= λ f. get l sh dr (v ∷ []) >>= λ r. given 43 (asList r) λ _. k f r
 
-unfoldable pub run : ℕ → Sheet → ℕ → Task → Env → List ℕ → Value → Cells → Out Cells
+unfoldable pub run : ℕ → Sheet → ℕ → Task → Env → List ℕ → Value → Cells → Explained Cells
 run l sh n (enter x) μ σ v W = put l sh x μ σ v W
-run l sh n (own k s i) μ σ v W = putNode (get l sh) (put l sh) sh (recordAt k s i) μ σ v W
+run l sh n (own k s i) μ σ v W = putNode 0 (get l sh) (put l sh) sh (recordAt k s i) μ σ v W
+run l sh n (leaf x k s i) μ σ v W = putNode x (get l sh) (put l sh) sh (recordAt k s i) μ σ v W
 run l sh n (pair a b u) μ σ v W = both (put l sh) μ σ W a v b u
 run l sh n (inside k b s f r) μ σ v W = under (put l sh) μ σ W b v s (maker k) f r
 run l sh n (rebuilt k s f r) μ σ v X = rebuild (put l sh) μ σ n X s (maker k) f r
@@ -56,6 +61,7 @@ run l sh n (switch b s df dr) μ σ v W = withDefaults l sh df dr v λ f r. unde
 abbrev pub Known : Sheet → Task → Type 0
 Known sh (enter n) = n < length (sh .nodes)
 Known sh (own k s n) = (i : ℕ) × Ranged (length (sh .nodes)) (length (sh .sections)) i (recordAt k s n)
+Known sh (leaf x k s n) = (x < length (sh .nodes)) × ((i : ℕ) × Ranged (length (sh .nodes)) (length (sh .sections)) i (recordAt k s n))
 Known sh (pair a b u) = (a < length (sh .nodes)) × (b < length (sh .nodes))
 Known sh (inside k b s f r) = ((b < length (sh .nodes)) × (s < length (sh .nodes))) × Made k
 Known sh (rebuilt k s f r) = (s < length (sh .nodes)) × Made k
@@ -95,7 +101,7 @@ pub record Ready (s table a slots : List ℕ) (P : Value → Type 0) (sc : Scope
   pub long : length a ≡ SCRATCH
   pub few : left ≤ ALLOWANCE
   pub base : STACK ≤ top
-  pub room : top + 513 * levels ≤ SCRATCH
+  pub room : top + 513 * levels ≤ CHAIN
   pub variables : sc .count + 2 * levels ≤ 112
   pub more-cells : count + 2 * levels ≤ 112
   pub sheet : Tabled s table
@@ -116,7 +122,7 @@ pub record Gives (b a slots slots′ s : List ℕ) (P : Value → Type 0) (sc : 
   pub frame : Frame top b a
   pub long : length slots′ ≡ length slots
   pub told : {sh : Sheet} {μ : Env} {σ : List ℕ} {v : Value} {W : Cells} → Given b slots s P sc cells count m top sh μ σ v W
-      → Answers (Wrote a slots′ count) (said r) left (run l sh count t μ σ v W)
+      → Answers (Wrote a slots′ count) (said a l r) left (run l sh count t μ σ v W)
 
 -- no more steps were taken than were left
 pub record Few (left r : ℕ) : Type 0 where
@@ -204,3 +210,11 @@ PutTold h P a slots r t = Gives (h .arena) a (h .slots) slots (h .sheet) P (h .s
 
 abbrev pub PutTells : PutHere → (Value → Type 0) → (a slots : List ℕ) → (r k n : ℕ) → Type 0
 PutTells h P a slots r k n = PutTold h P a slots r (own k (h .sheet) n)
+
+-- the same of a leaf, which has the number x
+abbrev pub LeafAsked : PutHere → (Value → Type 0) → (x kind n : ℕ) → Type 0
+LeafAsked h P x k n = Ready (h .sheet) (h .table) (h .arena) (h .slots) P (h .scope) (h .cells) (h .count) (h .count) (h .top) (suc (h .levels)) (suc (h .left))
+    (leaf x k (h .sheet) n)
+
+abbrev pub LeafTells : PutHere → (Value → Type 0) → (a slots : List ℕ) → (r x k n : ℕ) → Type 0
+LeafTells h P a slots r x k n = PutTold h P a slots r (leaf x k (h .sheet) n)

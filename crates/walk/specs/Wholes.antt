@@ -10,8 +10,8 @@ use lib.ListN.{getD}
 use Rattle.value.specs.Value.{Value, Values, vfalse, vtrue, list, number, wide, pair, nil, cons, encode, encodes, size, sizes, Encodable, ePair}
 use Rattle.value.specs.Views.{asList}
 use Rattle.value.specs.Laws.{encodable-front}
-use Rattle.rules.specs.Outcome.{Out, given}
-use Rattle.rules.specs.Rules.{mkList, mkPair}
+use Rattle.rules.specs.Text.{mkList, mkPair}
+use Rattle.rules.specs.Explain.{wanted, Explained, given}
 use Rattle.step.specs.Step.{unfitRest}
 
 unfoldable pub maker : ℕ → Value → Value → Option Value
@@ -64,14 +64,14 @@ no-whole x y (aList e) n = rw e (none-list x y (rw e at n))
 no-whole x y (aPair e) n = absurd (let q = rw e at n in let z : _≡_ {A = ℕ} 0 1 = cc in omega arith)
 
 -- what is given of a list that is made, or of its rest
-pub given-list : {B : Type 0} (x y : Value) (f : Value → Out B) → given 43 (asList y) (λ l. f (list (cons x (l .0)))) ≡ given 43 (maker 3 x y) f
-unfolding maker mkList Option·map given
+pub given-list : {B : Type 0} (x y : Value) (f : Value → Explained B) → given 43 (asList y) (λ l. f (list (cons x (l .0)))) ≡ given 43 (maker 3 x y) f
+unfolding maker mkList Option·map wanted
 given-list x y f = go (asList y)
   where
     go : (o : Option ((l : Values) × (y ≡ list l))) → given 43 o (λ l. f (list (cons x (l .0)))) ≡ given 43 (Option·map (λ l. list (cons x (l .0))) o) f
     go none = refl
     go (some l) = refl
 
-pub given-pair : {B : Type 0} (x y : Value) (f : Value → Out B) → f (pair x y) ≡ given 43 (maker 5 x y) f
-unfolding maker mkPair given
+pub given-pair : {B : Type 0} (x y : Value) (f : Value → Explained B) → f (pair x y) ≡ given 43 (maker 5 x y) f
+unfolding maker mkPair wanted
 given-pair x y f = refl

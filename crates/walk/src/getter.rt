@@ -14,6 +14,7 @@ ghost use Rattle.walk.specs.GetLeaf.{Childless, numbered, wideBytes};
 ghost use Rattle.walk.specs.GetMembers.{MembersAsked, MembersTold};
 use crate::at::At;
 use crate::bytes::wide_bytes;
+use crate::chain::leave;
 use crate::got::added;
 use crate::got::bring;
 use crate::got::fronted;
@@ -95,32 +96,39 @@ pub fn get_node(
 {
     let code = step::entry(at.levels, at.left);
     if code != 0 {
-        return refused(code);
+        return leave(arena, refused(code), node, at.levels);
     }
     let n = table[node];
     let below = at.below();
     let kind = sheet::byte_of(sheet, n, 0);
     if kind < 0x15 {
-        return later(get_leaf(sheet, table, arena, scope, n, kind, below), 1);
+        let got = get_leaf(sheet, table, arena, scope, n, kind, below);
+        return leave(arena, got, node, at.levels);
     }
     if kind < 0x1A {
         if kind < 0x17 {
-            return later(get_two(sheet, table, arena, scope, n, kind, below), 1);
+            let got = get_two(sheet, table, arena, scope, n, kind, below);
+            return leave(arena, got, node, at.levels);
         }
-        return later(get_case(sheet, table, arena, scope, n, kind, below), 1);
+        let got = get_case(sheet, table, arena, scope, n, kind, below);
+        return leave(arena, got, node, at.levels);
     }
     if kind < 0x1C {
         if kind == 0x1A {
-            return later(get_call(sheet, table, arena, scope, n, kind, below), 1);
+            let got = get_call(sheet, table, arena, scope, n, kind, below);
+            return leave(arena, got, node, at.levels);
         }
-        return later(get_add(sheet, table, arena, scope, n, kind, below), 1);
+        let got = get_add(sheet, table, arena, scope, n, kind, below);
+        return leave(arena, got, node, at.levels);
     }
     if kind == 0x1C {
-        return later(get_each(sheet, table, arena, scope, n, kind, below), 1);
+        let got = get_each(sheet, table, arena, scope, n, kind, below);
+        return leave(arena, got, node, at.levels);
     }
     // 1D: no other kind is left
     let top = below.top;
-    later(get_wide(sheet, arena, n, top), 1)
+    let got = get_wide(sheet, arena, n, top);
+    leave(arena, got, node, at.levels)
 }
 
 // A front (15) or a pair (16).

@@ -1,19 +1,22 @@
 //! Get and put over a lent arena, proved equal to the rules.
 //!
 //! The arena is 65,536 bytes: the plan from 0, the 256 bytes of each cell from 4,096, and from 32,256 a stack of the values
-//! that are being built. A walk at `top` leaves the stack below `top` and the plan alone.
+//! that are being built; the last 49 bytes are for the chain of a refusal. A walk at `top` leaves the stack below `top` and the plan alone.
 ghost use mathlib.Core.Path.{_≡_};
 ghost use Rattle.rules.specs.Answer.{getBytes, putBytes};
 ghost use Rattle.rules.specs.Numbers.{GET-OUTPUT, PUT-OUTPUT};
+ghost use Rattle.rules.specs.Explanation.{explainGet, explainPut};
 ghost use Rattle.walk.specs.Bits.{newWritten};
 ghost use Rattle.walk.specs.Entry.{Planned, PlanWalked, Unread, WalkCall};
 ghost use Rattle.walk.specs.Gather.{SomePlaced, AllGathered};
 ghost use Rattle.walk.specs.NewStarts.{newStarts, refusedPut};
+ghost use Rattle.walk.specs.Whys.{Explains, refusedGet};
 ghost use Rattle.walk.specs.PutEntry.{PutUnread, Viewed};
 
 mod at;
 mod bytes;
 mod cells;
+mod chain;
 mod getter;
 mod got;
 mod putter;
@@ -24,6 +27,8 @@ use crate::bytes::copy;
 use crate::bytes::copy_in;
 use crate::cells::bits_of;
 use crate::cells::first_cells;
+use crate::chain::met_at;
+use crate::chain::nowhere;
 use crate::getter::get_node;
 use crate::got::bring;
 use crate::putter::put_node;
@@ -32,6 +37,7 @@ use answer::code_of;
 use answer::is_refused;
 use answer::len_of;
 use answer::steps_of;
+pub use chain::Met;
 use sheet::Table;
 use starts::Starts;
 use step::Scope;
@@ -42,18 +48,34 @@ pub enum Walked {
     Refused(u8),
 }
 
-/// What a put gives: the walk's answer, where the values of the new plan start, and which variables took a view, bit i for
-/// variable i. With a refusal there is no start, and no bit is set.
+/// What a get gives: the walk's answer, and where a refusal was met.
+pub struct GetWalked {
+    pub walked: Walked,
+    pub met: Met,
+}
+
+/// What a put gives: the walk's answer, where the values of the new plan start, which variables took a view, bit i for
+/// variable i, and where a refusal was met. With a refusal there is no start, and no bit is set.
 pub struct PutWalked {
     pub walked: Walked,
     pub starts: Starts,
     pub written: u16,
+    pub met: Met,
 }
 
 // The new plan: how many bytes it has, and where its values start.
 struct NewPlan {
     len: usize,
     starts: Starts,
+}
+
+// A refusal of a get from before the walk.
+fn unread(number: u8) -> GetWalked
+    ensures { λ r. ⌜ r ≡ refusedGet number ⌝ }
+{
+    let walked = Walked::Refused(number);
+    let met = nowhere();
+    GetWalked { walked, met }
 }
 
 // The walk from the root, over an arena of 65,536 bytes.
@@ -64,9 +86,10 @@ fn get_plan(
     scope: Scope,
     allowance: usize,
     arena: &mut [u8],
-) -> Walked
+) -> GetWalked
     requires { ⌜ Planned (now sheet) (now plan) table scope allowance (now arena) ⌝ }
-    ensures { λ r. ⌜ PlanWalked GET-OUTPUT (getBytes (now (sheet .entry)) (now (plan .entry)) allowance) (now (arena .entry)) (now (arena .exit)) r ⌝ }
+    ensures { λ r. ⌜ PlanWalked GET-OUTPUT (getBytes (now (sheet .entry)) (now (plan .entry)) allowance) (now (arena .entry)) (now (arena .exit)) (r .walked) ⌝ }
+    ensures { λ r. ⌜ Explains (explainGet (now (sheet .entry)) (now (plan .entry)) allowance) allowance (now (arena .entry)) (now (arena .exit)) (r .walked) (r .met) ⌝ }
 {
     copy_in(plan, arena);
     let at = At {
@@ -78,32 +101,38 @@ fn get_plan(
     let got = get_node(sheet, &table.starts, arena, scope, table.root, at);
     let got = bring(arena, got, rules::STACK);
     if is_refused(got) {
-        return Walked::Refused(code_of(got));
+        let walked = Walked::Refused(code_of(got));
+        let met = met_at(got);
+        return GetWalked { walked, met };
     }
-    Walked::Done {
+    let walked = Walked::Done {
         len: len_of(got),
         steps: steps_of(got),
-    }
+    };
+    let met = nowhere();
+    GetWalked { walked, met }
 }
 
 /// Get: the value of a sheet's root for a plan, at byte 32,256 of the arena, of which the first 65,536 bytes are
-/// used. Where the sheet or the plan is refused the arena is as it was; otherwise those bytes are free, and may hold anything.
-pub fn get(sheet: &[u8], plan: &[u8], allowance: usize, arena: &mut [u8]) -> Walked
-    ensures { λ r. ⌜ WalkCall (Unread (now (sheet .entry)) (now (plan .entry))) GET-OUTPUT (getBytes (now (sheet .entry)) (now (plan .entry)) allowance) allowance (now (arena .entry)) (now (arena .exit)) r ⌝ }
+/// used; and where a refusal was met. Where the sheet or the plan is refused the arena is as it was; otherwise those bytes are free, and may hold
+/// anything, but for a refusal's chain.
+pub fn get(sheet: &[u8], plan: &[u8], allowance: usize, arena: &mut [u8]) -> GetWalked
+    ensures { λ r. ⌜ WalkCall (Unread (now (sheet .entry)) (now (plan .entry))) GET-OUTPUT (getBytes (now (sheet .entry)) (now (plan .entry)) allowance) allowance (now (arena .entry)) (now (arena .exit)) (r .walked) ⌝ }
+    ensures { λ r. ⌜ Explains (explainGet (now (sheet .entry)) (now (plan .entry)) allowance) allowance (now (arena .entry)) (now (arena .exit)) (r .walked) (r .met) ⌝ }
 {
     if arena.len() < rules::SCRATCH {
-        return Walked::Refused(2);
+        return unread(2);
     }
     if rules::ALLOWANCE < allowance {
-        return Walked::Refused(3);
+        return unread(3);
     }
     let table = sheet::read_sheet(sheet);
     if table.refusal != 0 {
-        return Walked::Refused(table.refusal);
+        return unread(table.refusal);
     }
     let spans = value::read_plan(table.k, plan);
     if spans.refusal != 0 {
-        return Walked::Refused(spans.refusal);
+        return unread(spans.refusal);
     }
     let scope = of_spans(table.k, spans);
     get_plan(
@@ -138,9 +167,9 @@ fn gather(arena: &mut [u8], slots: &[u16; 110], scope: Scope) -> NewPlan
     NewPlan { len, starts }
 }
 
-// A refusal of a put, with no start and no bit.
-fn refused(number: u8) -> PutWalked
-    ensures { λ r. ⌜ r ≡ refusedPut number ⌝ }
+// A refusal of a put that was met there, with no start and no bit.
+fn refused(number: u8, met: Met) -> PutWalked
+    ensures { λ r. ⌜ r ≡ refusedPut number met ⌝ }
 {
     let walked = Walked::Refused(number);
     let starts = starts::none();
@@ -149,6 +178,7 @@ fn refused(number: u8) -> PutWalked
         walked,
         starts,
         written,
+        met,
     }
 }
 
@@ -167,6 +197,7 @@ fn put_plan(
     ensures { λ r. ⌜ PlanWalked PUT-OUTPUT (putBytes (now (sheet .entry)) (now (plan .entry)) (now (view .entry)) allowance) (now (arena .entry)) (now (arena .exit)) (r .walked) ⌝ }
     ensures { λ r. ⌜ r .starts ≡ newStarts (now (sheet .entry)) (now (arena .exit)) (r .walked) ⌝ }
     ensures { λ r. ⌜ r .written ≡ newWritten (now (sheet .entry)) (now (plan .entry)) (now (view .entry)) allowance (r .walked) ⌝ }
+    ensures { λ r. ⌜ Explains (explainPut (now (sheet .entry)) (now (plan .entry)) (now (view .entry)) allowance) allowance (now (arena .entry)) (now (arena .exit)) (r .walked) (r .met) ⌝ }
 {
     copy_in(plan, arena);
     let mut slots = [0u16; 110];
@@ -190,7 +221,8 @@ fn put_plan(
         at,
     );
     if is_refused(put) {
-        return refused(code_of(put));
+        let met = met_at(put);
+        return refused(code_of(put), met);
     }
     let new = gather(arena, &slots, scope);
     let walked = Walked::Done {
@@ -199,38 +231,41 @@ fn put_plan(
     };
     let starts = new.starts;
     let written = bits_of(&slots, k);
+    let met = nowhere();
     PutWalked {
         walked,
         starts,
         written,
+        met,
     }
 }
 
 /// Put: the plan for which a sheet's root is the view, at byte 32,256 of the arena, of which the first 65,536 bytes are
-/// used, where its values start, and which variables took a view. Where the sheet or the plan is refused the arena is as it was; otherwise those
-/// bytes are free, and may hold anything.
+/// used, where its values start, which variables took a view, and where a refusal was met. Where the sheet, the plan or the view is refused the
+/// arena is as it was; otherwise those bytes are free, and may hold anything, but for a refusal's chain.
 pub fn put(sheet: &[u8], plan: &[u8], view: &[u8], allowance: usize, arena: &mut [u8]) -> PutWalked
     ensures { λ r. ⌜ WalkCall (PutUnread (now (sheet .entry)) (now (plan .entry)) (now (view .entry))) PUT-OUTPUT (putBytes (now (sheet .entry)) (now (plan .entry)) (now (view .entry)) allowance) allowance (now (arena .entry)) (now (arena .exit)) (r .walked) ⌝ }
     ensures { λ r. ⌜ r .starts ≡ newStarts (now (sheet .entry)) (now (arena .exit)) (r .walked) ⌝ }
     ensures { λ r. ⌜ r .written ≡ newWritten (now (sheet .entry)) (now (plan .entry)) (now (view .entry)) allowance (r .walked) ⌝ }
+    ensures { λ r. ⌜ Explains (explainPut (now (sheet .entry)) (now (plan .entry)) (now (view .entry)) allowance) allowance (now (arena .entry)) (now (arena .exit)) (r .walked) (r .met) ⌝ }
 {
     if arena.len() < rules::SCRATCH {
-        return refused(2);
+        return refused(2, nowhere());
     }
     if rules::ALLOWANCE < allowance {
-        return refused(3);
+        return refused(3, nowhere());
     }
     let table = sheet::read_sheet(sheet);
     if table.refusal != 0 {
-        return refused(table.refusal);
+        return refused(table.refusal, nowhere());
     }
     let spans = value::read_plan(table.k, plan);
     if spans.refusal != 0 {
-        return refused(spans.refusal);
+        return refused(spans.refusal, nowhere());
     }
     let code = value::read_view(view);
     if code != 0 {
-        return refused(code);
+        return refused(code, nowhere());
     }
     let scope = of_spans(table.k, spans);
     put_plan(

@@ -1,17 +1,17 @@
 //! Put: a view put back into a node, with what was written in the arena's slots. A node's record starts at byte `n` of the sheet; lent are,
-//! beside what a get is lent, the length of what each slot has in `slots`, 0 for nothing, and the cell of each variable in `cells`.
+//! beside what a get is lent, what is noted of each slot in `slots`, 0 where nothing was written, and the cell of each variable in `cells`.
 ghost use mathlib.Core.Path.{_≡_};
 ghost use Prim.Native.Nat.{ℕ, suc, _+_, _*_, _≤_, _<_};
 ghost use lib.ListN.{length, getD};
 ghost use Rattle.value.specs.Value.{Value, vfalse};
 ghost use Rattle.value.specs.Parts.{sameBytes};
-ghost use Rattle.rules.specs.Numbers.{SCRATCH};
+ghost use Rattle.rules.specs.Numbers.{SCRATCH, CHAIN};
 ghost use Rattle.step.specs.Step.{judged};
 ghost use Rattle.walk.specs.Cells.{Shown};
 ghost use Rattle.walk.specs.GetTwo.{Two};
 ghost use Rattle.walk.specs.GetCase.{Case};
 ghost use Rattle.walk.specs.GetLeaf.{Childless, wideBytes};
-ghost use Rattle.walk.specs.Puts.{Ready, Inner, Gives, Few, Any, PartsAt, SomeParts, SomeView, enter, own, pair, inside, rebuilt, switchAt};
+ghost use Rattle.walk.specs.Puts.{Ready, Inner, Gives, Few, Any, PartsAt, SomeParts, SomeView, enter, own, leaf, pair, inside, rebuilt, switchAt};
 ghost use Rattle.walk.specs.PutLeaf.{Writable, Write, numberBytes};
 ghost use Rattle.walk.specs.PutSwitch.{BothAsked, Sees, DefaultsAsked, Defaults};
 ghost use Rattle.walk.specs.PutMember.{StoodAsked, Stood, MembersAsked, MemberTold};
@@ -21,6 +21,7 @@ use crate::bytes::copy;
 use crate::bytes::fill;
 use crate::bytes::rebuild;
 use crate::bytes::wide_bytes;
+use crate::chain::leave;
 use crate::getter::get_node;
 use crate::got::bring;
 use crate::got::shape_at;
@@ -58,20 +59,20 @@ pub struct Members {
     pub old: usize,
 }
 
-// A view for the cell c: written where nothing was, or else it must equal what was.
-fn write(arena: &mut [u8], slots: &mut [u16; 110], c: usize, view: &[u8]) -> usize
-    requires { ⌜ Writable (now arena) (now slots) c (now view) ⌝ }
-    ensures { λ r. ⌜ Write c (now (view .entry)) (now (arena .entry)) (now (arena .exit)) (now (slots .entry)) (now (slots .exit)) r ⌝ }
+// A view for the cell c: written by the node where nothing was, or else it must equal what was.
+fn write(arena: &mut [u8], slots: &mut [u16; 110], c: usize, node: usize, view: &[u8]) -> usize
+    requires { ⌜ Writable (now arena) (now slots) c (now view) × (node < 200) ⌝ }
+    ensures { λ r. ⌜ Write c node (now (view .entry)) (now (arena .entry)) (now (arena .exit)) (now (slots .entry)) (now (slots .exit)) r ⌝ }
 {
     let slot = step::slot_of(c);
-    let len = slots[c] as usize;
-    if len == 0 {
+    let note = slots[c];
+    if note == 0 {
         step::store(arena, slot, view);
-        slots[c] = view.len() as u16;
+        slots[c] = step::note_of(node as u8, view.len());
         return done(0, 0, 0);
     }
-    let end = slot + len;
-    step::put_again(&arena[slot..end], view)
+    let end = slot + step::noted_len(note);
+    step::put_again(note, &arena[slot..end], view)
 }
 
 // A constant number (14) must equal the view.
@@ -98,14 +99,15 @@ fn put_leaf(
     slots: &mut [u16; 110],
     scope: Scope,
     cells: &[u8; 110],
+    node: usize,
     n: u16,
     kind: u8,
     view: &[u8],
     at: At,
 ) -> usize
-    requires { ⌜ Ready (now sheet) (now table) (now arena) (now slots) (Shown (now view)) scope (now cells) (at .cells) (at .cells) (at .top) (suc (at .levels)) (suc (at .left)) (own kind (now sheet) n) ⌝ }
+    requires { ⌜ Ready (now sheet) (now table) (now arena) (now slots) (Shown (now view)) scope (now cells) (at .cells) (at .cells) (at .top) (suc (at .levels)) (suc (at .left)) (leaf node kind (now sheet) n) ⌝ }
     requires { ⌜ Childless kind ⌝ }
-    ensures { λ r. ⌜ Gives (now (arena .entry)) (now (arena .exit)) (now (slots .entry)) (now (slots .exit)) (now (sheet .entry)) (Shown (now (view .entry))) scope (now (cells .entry)) (at .cells) (at .cells) (at .top) (at .left) r (at .levels) (own kind (now (sheet .entry)) n) ⌝ }
+    ensures { λ r. ⌜ Gives (now (arena .entry)) (now (arena .exit)) (now (slots .entry)) (now (slots .exit)) (now (sheet .entry)) (Shown (now (view .entry))) scope (now (cells .entry)) (at .cells) (at .cells) (at .top) (at .left) r (at .levels) (leaf node kind (now (sheet .entry)) n) ⌝ }
 {
     if kind == 0x14 {
         return put_number(sheet, n, view);
@@ -119,7 +121,7 @@ fn put_leaf(
         return refused(42);
     }
     let c = cells[x] as usize;
-    write(arena, slots, c, view)
+    write(arena, slots, c, node, view)
 }
 
 /// A view put back into a node: its depth is judged, then the allowance. The sheet's reader lets no kind over 1D through.
@@ -140,37 +142,50 @@ pub fn put_node(
 {
     let code = step::entry(at.levels, at.left);
     if code != 0 {
-        return refused(code);
+        return leave(arena, refused(code), node, at.levels);
     }
     let n = table[node];
     let to = at.below();
     let kind = sheet::byte_of(sheet, n, 0);
     if kind < 0x15 {
-        let put = put_leaf(sheet, table, arena, slots, scope, cells, n, kind, view, to);
-        return later(put, 1);
+        let put = put_leaf(
+            sheet,
+            table,
+            arena,
+            slots,
+            scope,
+            cells,
+            node,
+            n,
+            kind,
+            view,
+            to,
+        );
+        return leave(arena, put, node, at.levels);
     }
     if kind < 0x1A {
         if kind < 0x17 {
             let put = put_two(sheet, table, arena, slots, scope, cells, n, kind, view, to);
-            return later(put, 1);
+            return leave(arena, put, node, at.levels);
         }
         let put = put_case(sheet, table, arena, slots, scope, cells, n, kind, view, to);
-        return later(put, 1);
+        return leave(arena, put, node, at.levels);
     }
     if kind < 0x1C {
         if kind == 0x1A {
             let put = put_call(sheet, table, arena, slots, scope, cells, n, kind, view, to);
-            return later(put, 1);
+            return leave(arena, put, node, at.levels);
         }
         let put = put_add(sheet, table, arena, slots, scope, cells, n, kind, view, to);
-        return later(put, 1);
+        return leave(arena, put, node, at.levels);
     }
     if kind == 0x1C {
         let put = put_each(sheet, table, arena, slots, scope, cells, n, kind, view, to);
-        return later(put, 1);
+        return leave(arena, put, node, at.levels);
     }
     // 1D: no other kind is left
-    later(put_wide(sheet, n, view), 1)
+    let put = put_wide(sheet, n, view);
+    leave(arena, put, node, at.levels)
 }
 
 // `view` into node a, then `other` into node b.
@@ -478,7 +493,7 @@ fn put_switch(
 ) -> usize
     requires { ⌜ Ready (now sheet) (now table) (now arena) (now slots) (Shown (now view)) scope (now cells) (at .cells) (at .cells) (at .top) (at .levels) (at .left) (switchAt (now sheet) n) ⌝ }
     requires { ⌜ Inner scope (at .cells) (at .levels) ⌝ }
-    requires { ⌜ at .top + 512 + 513 * at .levels ≤ SCRATCH ⌝ }
+    requires { ⌜ at .top + 512 + 513 * at .levels ≤ CHAIN ⌝ }
     ensures { λ r. ⌜ Gives (now (arena .entry)) (now (arena .exit)) (now (slots .entry)) (now (slots .exit)) (now (sheet .entry)) (Shown (now (view .entry))) scope (now (cells .entry)) (at .cells) (at .cells) (at .top) (at .left) r (at .levels) (switchAt (now (sheet .entry)) n) ⌝ }
 {
     let got = defaults(sheet, table, arena, n, view, at);

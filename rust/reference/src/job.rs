@@ -26,7 +26,7 @@ impl Job {
         Job::take_apart(input).ok_or(60)
     }
 
-    fn take_apart(input: &[u8]) -> Option<Job> {
+    pub(crate) fn take_apart(input: &[u8]) -> Option<Job> {
         let (&kind, rest) = input.split_first()?;
         let put = Job::put(rest)?;
         match kind {

@@ -1,6 +1,6 @@
 //! Document 01, "House sheets, plans and venue lists", in plain safe Rust, with requests 1 (the node 1C), 2 (the
 //! starts of a plan's values), 4 (numbers over 65,535: the kind of value 06 and the node 1D), 5 (defaults of a list case that take
-//! after the list sent) and 8 (which variables a put wrote) of document 02, "Requests after the base version".
+//! after the list sent), 8 (which variables a put wrote) and 9 (why a call is refused) of document 02, "Requests after the base version".
 //!
 //! It was written from the papers and shares no line with the Rattle code, so that where the two agree on a job, two readings of the
 //! papers agree. Its tests and the benchmark's baseline are its only uses: programs use the crate `lens`.
@@ -18,6 +18,7 @@ pub mod tool;
 mod value;
 pub mod vectors;
 mod walk;
+pub mod why;
 
 pub use plan::{find, from_front, part};
 
@@ -25,6 +26,7 @@ use answer::{made, Success};
 use sheet::Sheet;
 use value::Flaw;
 use walk::Walk;
+use why::Explanation;
 
 /// Bytes of output that a get asks for.
 pub const GET_OUT: usize = 256;
@@ -116,6 +118,24 @@ pub fn load(sheet: &[u8], plan: &[u8], starts: &mut [u16; STARTS_MAX]) -> u64 {
     made(load_starts(sheet, plan, starts))
 }
 
+/// Why the [`get`] of a plan is refused, if it is: no output is asked for.
+pub fn why_get(sheet: &[u8], plan: &[u8], allowance: u32, scratch: &mut [u8]) -> Result<(), Explanation> {
+    why(sheet, plan, None, allowance, scratch)
+}
+
+/// Why the [`put`] of a list is refused, if it is.
+pub fn why_put(sheet: &[u8], plan: &[u8], view: &[u8], allowance: u32, scratch: &mut [u8]) -> Result<(), Explanation> {
+    why(sheet, plan, Some(view), allowance, scratch)
+}
+
+fn why(sheet: &[u8], plan: &[u8], view: Option<&[u8]>, allowance: u32, scratch: &mut [u8]) -> Result<(), Explanation> {
+    let arena = scratch.first_chunk_mut::<SCRATCH>().ok_or(Explanation::early(2))?;
+    door(true, allowance).map_err(Explanation::early)?;
+    let result = why::explain(sheet, plan, view, allowance);
+    arena.fill(0);
+    result
+}
+
 fn load_starts(sheet: &[u8], plan: &[u8], starts: &mut [u16; STARTS_MAX]) -> Result<Success, Refusal> {
     let sheet = Sheet::read(sheet)?;
     let mut found = [0; STARTS_MAX];
@@ -155,6 +175,21 @@ fn door(room: bool, allowance: u32) -> Result<(), Refusal> {
     Ok(())
 }
 
+/// Judges the list sent: it is one value.
+fn one_value(view: &[u8]) -> Result<(), Refusal> {
+    if view.is_empty() {
+        return Err(32);
+    }
+    let length = value::read(view).map_err(|flaw| match flaw {
+        Flaw::Malformed => 30,
+        Flaw::TooLong => 31,
+    })?;
+    if length < view.len() {
+        return Err(32);
+    }
+    Ok(())
+}
+
 fn get_past_door(sheet: &[u8], plan: &[u8], allowance: u32, out: &mut [u8], arena: &mut [u8; SCRATCH]) -> Result<Success, Refusal> {
     let sheet = Sheet::read(sheet)?;
     let mut walk = Walk::new(&sheet, arena, allowance);
@@ -176,16 +211,7 @@ fn put_past_door(
     let sheet = Sheet::read(sheet)?;
     let mut walk = Walk::new(&sheet, arena, allowance);
     plan::read(sheet.k, plan, |_, value| walk.add_to_plan(value))?;
-    if view.is_empty() {
-        return Err(32);
-    }
-    let length = value::read(view).map_err(|flaw| match flaw {
-        Flaw::Malformed => 30,
-        Flaw::TooLong => 31,
-    })?;
-    if length < view.len() {
-        return Err(32);
-    }
+    one_value(view)?;
     walk.put_root(view)?;
     let mut new = New { steps: walk.steps(), ..New::default() };
     for variable in 0..sheet.k {

@@ -3,10 +3,11 @@
 use crate::answer::taken;
 use crate::job::{counted, Job, LONGEST_INPUT};
 use crate::vectors::hex;
+use crate::why::Explanation;
 use crate::{Refusal, PUT_OUT, SCRATCH, STARTS_MAX};
 
 /// The letters of the calls that are there: an input begins with one of them.
-pub const LETTERS: [u8; 4] = [0x4C, 0x56, 0x53, 0x57];
+pub const LETTERS: [u8; 5] = [0x4C, 0x56, 0x53, 0x57, 0x59];
 
 /// One call.
 #[derive(Clone, Debug, PartialEq, Eq)]
@@ -17,6 +18,8 @@ pub enum Tool {
     Value { variable: usize, starts: Vec<u16>, plan: Vec<u8> },
     /// 53: a put, with the starts of its new plan; 57 (`bits`): with the variables that took a view.
     Put { bits: bool, sheet: Vec<u8>, plan: Vec<u8>, view: Vec<u8>, allowance: u32 },
+    /// 59: why a job of document 01's program is refused.
+    Why(Job),
 }
 
 /// What a call gives.
@@ -26,6 +29,7 @@ pub enum Given {
     Part(Vec<u8>),
     Put { steps: u32, plan: Vec<u8>, starts: Vec<u16> },
     Written { steps: u32, plan: Vec<u8>, written: u16 },
+    Why(Result<(), Explanation>),
 }
 
 impl Tool {
@@ -54,6 +58,7 @@ impl Tool {
                 let Job { sheet, plan, view, allowance } = Job::put(fields)?;
                 Some(Tool::Put { bits: letter == 0x57, sheet, plan, view: view?, allowance })
             }
+            0x59 => Job::take_apart(fields).map(Tool::Why),
             _ => None,
         }
     }
@@ -80,6 +85,13 @@ impl Tool {
                 }
                 Ok(Given::Put { steps, plan, starts: starts[..answer.count].to_vec() })
             }
+            Tool::Why(Job { sheet, plan, view, allowance }) => {
+                let scratch = &mut [0; SCRATCH];
+                Ok(Given::Why(match view {
+                    None => crate::why_get(sheet, plan, *allowance, scratch),
+                    Some(view) => crate::why_put(sheet, plan, view, *allowance, scratch),
+                }))
+            }
         }
     }
 }
@@ -91,6 +103,8 @@ pub fn printed(input: &[u8], run: impl Fn(&Tool) -> Result<Given, Refusal>) -> S
         Ok(Given::Part(part)) => format!("ok {}", hex(&part)),
         Ok(Given::Put { steps, plan, starts }) => format!("ok {steps} {} {}", hex(&plan), decimal(&starts)),
         Ok(Given::Written { steps, plan, written }) => format!("ok {steps} {} {written:04X}", hex(&plan)),
+        Ok(Given::Why(Ok(()))) => "ok".to_string(),
+        Ok(Given::Why(Err(explanation))) => explanation.line(),
         Err(refusal) => format!("no {refusal}"),
     }
 }

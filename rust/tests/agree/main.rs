@@ -1,5 +1,5 @@
-//! The archive and the reference agree, and the laws hold of the archive's answers: both of document 01, that of a plan's starts, and that
-//! of the variables that a put wrote.
+//! The archive and the reference agree, and the laws hold of the archive's answers: both of document 01, that of a plan's starts, that of
+//! the variables that a put wrote, and that a refusal is explained by its own number.
 //!
 //! Each case is made from its number. `LENS_CASES` says how many there are (200,000), `LENS_FIRST` which is the first (0).
 
@@ -13,6 +13,7 @@ mod sheets;
 mod starts;
 mod switches;
 mod values;
+mod why;
 mod written;
 
 use cases::{case, Case, MORE};
@@ -25,6 +26,7 @@ use reference::vectors::hex;
 use seen::Seen;
 use starts::{check_behind, check_load, check_values, Given, BEFORE};
 use switches::takes_after;
+use why::check_why;
 use written::{check_bits, check_union, wrote_old};
 
 const CASES: u64 = 200_000;
@@ -164,7 +166,7 @@ struct Bench {
     noise: Vec<u8>,
     archive: Side,
     reference: Side,
-    /// The archive's, for a put with less.
+    /// The archive's, for a put with less, and for why a job is refused.
     less: Side,
     spare: Vec<u8>,
     laws: u64,
@@ -206,6 +208,10 @@ impl Bench {
         self.reference.judge(&self.noise, wanted).map_err(|fault| format!("the reference, after {}: {fault}", told(wanted)))?;
         if case.job.view.is_some() {
             self.check_less(case, answer)?;
+        }
+        let refusal = check_why(case, &self.noise, &mut self.less.scratch)?;
+        if answer.number() != 1 && refusal != answer.number() {
+            return Err(format!("asked why, the archive answers {refusal}, and otherwise {}", told(answer)));
         }
         if answer.number() == 0 {
             let bytes = self.archive.out[..answer.length()].to_vec();

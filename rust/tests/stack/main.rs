@@ -16,13 +16,19 @@ fn lent() -> Lent {
     Lent { out: vec![0; raw::PUT_OUT], scratch: vec![0; raw::SCRATCH], starts: [0; raw::STARTS_MAX] }
 }
 
-/// Loads the job's plan and does the job, a put alone, with starts, and with starts and bits; gives the answer of the put alone.
+/// Loads the job's plan, asks why the job is refused and does it, a put alone, with starts, and with starts and bits; gives the answer of the
+/// put alone.
 fn run(job: &Job, lent: &mut Lent) -> u64 {
     let Lent { out, scratch, starts } = lent;
     raw::load(&job.sheet, &job.plan, starts);
+    let chain = &mut [0; raw::CHAIN_MAX];
     let answer = match &job.view {
-        None => raw::get(&job.sheet, &job.plan, job.allowance, out, scratch),
+        None => {
+            raw::why_get(&job.sheet, &job.plan, job.allowance, scratch, chain);
+            raw::get(&job.sheet, &job.plan, job.allowance, out, scratch)
+        }
         Some(view) => {
+            raw::why_put(&job.sheet, &job.plan, view, job.allowance, scratch, chain);
             raw::put_written(&job.sheet, &job.plan, view, job.allowance, out, scratch, starts, &mut 0);
             raw::put_starts(&job.sheet, &job.plan, view, job.allowance, out, scratch, starts);
             raw::put(&job.sheet, &job.plan, view, job.allowance, out, scratch)

@@ -31,14 +31,14 @@ answered-requires : tie.Need-answered-requires
 answered-requires c κs =
     let w = walked c in
     let a = entry (opened w .before) .args in
-    call-fits (get-behind (a .sheet .now) (a .plan .now) (a .allowance) (a .out .now) (a .scratch .now)) (lent (opened w)) (w .get .ensures)
+    call-fits (get-behind (a .sheet .now) (a .plan .now) (a .allowance) (a .out .now) (a .scratch .now)) (lent (opened w)) (w .get .ensures .0)
 
 returns-2 : tie.Need-returns-2
 returns-2 c =
     let r = c .before .before .before .before in
     let w = walked (r .before) in
     let t = r .answered .ensures in
-    with-unmoved _ _ _ _ _ (call-told (get-behind _ _ _ _ _) (lent (opened w)) (w .get .ensures) (t .0) (t .1) (t .2))
+    with-unmoved _ _ _ _ _ (call-told (get-behind _ _ _ _ _) (lent (opened w)) (w .get .ensures .0) (t .0) (t .1) (t .2))
 
 pub get-spec : {M : Type 1} → statement M
 get-spec = tie.close (tie.spec (λ c κs. search needs) returns (λ c κs. search needs) answered-requires (λ c. search needs) (λ c. search needs) returns-2)

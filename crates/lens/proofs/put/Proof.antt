@@ -45,7 +45,7 @@ returns-2 c =
     let l = lent (opened w) in
     let b = put-behind _ _ _ _ _ _ in
     with-stands _ _ _ _ _ _ (call-told b l (p .0) (t .0) (t .1) (t .2)) (p .1 .0 ∙ call-starts b l (p .0) _)
-    (p .1 .1 ∙ call-written b l (p .0) _ _ _ _)
+    (p .1 .1 .0 ∙ call-written b l (p .0) _ _ _ _)
 
 pub put-spec : {M : Type 1} → statement M
 put-spec = tie.close (tie.spec (λ c κs. search needs) (λ c κs. search needs) returns (λ c κs. search needs) answered-requires (λ c. search needs)

@@ -19,7 +19,9 @@ add-t7 : tie.Need-add-t7
 add-t7 c = search needs
 
 returns-3 : tie.Need-returns-3
-returns-3 c = when-in (c .before .if1 .left) (was-written _ _ _ _ (c .if2 .left))
+returns-3 c =
+    let b = c .before in
+    when-in (b .before .if1 .left) (rw (c .noted-len .ensures) (was-written _ _ _ _ (b .if2 .left)))
 
 pub place-of-spec : {M : Type 1} → statement M
-place-of-spec = tie.close (tie.spec returns returns-2 mul-t6 add-t7 returns-3)
+place-of-spec = tie.close (tie.spec returns returns-2 mul-t6 add-t7 (λ c κs. search needs) returns-3)

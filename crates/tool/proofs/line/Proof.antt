@@ -3,7 +3,7 @@ use borrow.Author.Needs.{needs}
 use native.Mathlib.Omega.{arith}
 use borrow.Author.Needs.{needs}
 use Rattle.tool.specs.LineLaws.{ending-over}
-use Rattle.tool.specs.Told.{said, printed, letter-L, letter-V, letter-S, letter-W, letter-none}
+use Rattle.tool.specs.Told.{said, printed, letter-L, letter-V, letter-S, letter-W, letter-Y, letter-none, ended-why}
 use Rattle.tool.proofs.line.Statement.{statement}
 use Rattle.tool.proofs.line.Tie as tie
 
@@ -51,13 +51,21 @@ returns-5 c =
 
 returns-6 : tie.Need-returns-6
 returns-6 c =
+    let told = c .before .before .before in
+    let read = told .before in
+    let bs = entry read .args .input .now in
+    printed bs (letter-Y bs (short read .if1 .left) (read .byte-at .ensures) (told .match .keys5)) (omega arith) (ended-why _ (c .why-line .ensures))
+
+returns-7 : tie.Need-returns-7
+returns-7 c =
     let told = c .before .before in
     let read = told .before in
     let bs = entry read .args .input .now in
     let other = told .match .rest in
-    printed bs (letter-none bs (short read .if1 .left) (read .byte-at .ensures) (other .0 .0 .0 .1) (other .0 .0 .1) (other .0 .1) (other .1)) (omega arith)
-    (said (c .refusal2 .ensures))
+    printed bs
+    (letter-none bs (short read .if1 .left) (read .byte-at .ensures) (other .0 .0 .0 .0 .1) (other .0 .0 .0 .1) (other .0 .0 .1) (other .0 .1) (other .1))
+    (omega arith) (said (c .refusal2 .ensures))
 
 pub line-spec : {M : Type 1} → statement M
 line-spec = tie.close (tie.spec (λ c κs. search needs) returns (λ c κs. search needs) (λ c κs. search needs) (λ c κs. search needs)
-    (λ c κs. search needs) (λ c κs. search needs) (λ c κs. search needs) returns-2 returns-3 returns-4 returns-5 returns-6)
+    (λ c κs. search needs) (λ c κs. search needs) (λ c κs. search needs) (λ c κs. search needs) returns-2 returns-3 returns-4 returns-5 returns-6 returns-7)

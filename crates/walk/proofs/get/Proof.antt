@@ -1,6 +1,6 @@
 -- `get` meets its contract.
 -- Assumes nothing.
-use mathlib.Core.Path.{sym}
+use mathlib.Core.Path.{sym, _∙_}
 use Prim.Native.Nat.{_≤_}
 use native.Mathlib.Omega.{arith}
 use denote.Ref.{now}
@@ -21,7 +21,10 @@ use Rattle.walk.specs.Entry.{
   planned,
   get-sheet-refused,
   get-plan-refused,
+  explain-sheet-refused,
+  explain-plan-refused,
 }
+use Rattle.walk.specs.Whys.{unread-walked, unread-met, unmet-2, unmet-3, unmet, explains-whole}
 use borrow.Author.Needs.{needs}
 use Rattle.walk.proofs.get.Statement.{statement}
 use Rattle.walk.proofs.get.Tie as tie
@@ -48,22 +51,38 @@ table c = table-read _ (c .before .before .read-sheet .ensures) (c .if3 .left)
 
 -- NEEDS
 returns : tie.Need-returns
-returns c = call-2 (c .if1 .taken)
+returns c = let e = c .unread .ensures in
+    (rw (unread-walked _ e) (call-2 (c .before .if1 .taken)), rw (unread-walked _ e, unread-met _ e) (unmet-2 (c .before .if1 .taken)))
 
 returns-2 : tie.Need-returns-2
-returns-2 c = call-3 (omega (arith, c .before .if1 .left)) (c .if2 .taken)
+returns-2 c =
+    let e = c .unread2 .ensures in (
+      rw (unread-walked _ e) (call-3 (omega (arith, c .before .before .if1 .left)) (c .before .if2 .taken)),
+      rw (unread-walked _ e, unread-met _ e)
+          (unmet-3 (c .before .if2 .taken)),
+    )
 
 returns-3 : tie.Need-returns-3
 returns-3 c =
-    let h = room (c .before .before .before) in
-    call-refused (h .0) (h .1) (get-sheet-refused _ _ _ (sheet-refusal _ (c .before .before .read-sheet .ensures) (c .if3 .taken)))
+    let f = c .before in
+    let h = room (f .before .before .before) in
+    let e = c .unread3 .ensures in
+    let no = sheet-refusal _ (f .before .before .read-sheet .ensures) (f .if3 .taken) in (
+      rw (unread-walked _ e) (call-refused (h .0) (h .1) (get-sheet-refused _ _ _ no)),
+      rw (unread-walked _ e, unread-met _ e) (unmet (explain-sheet-refused _ _ _ no)),
+    )
 
 returns-4 : tie.Need-returns-4
 returns-4 c =
-    let s = c .before .before .before in
+    let f = c .before in
+    let s = f .before .before .before in
     let h = room (lent s) in
     let t = table s in
-    call-refused (h .0) (h .1) (get-plan-refused _ _ _ (t .read) (plan-refusal _ t (c .before .before .read-plan .ensures) (c .if4 .taken)))
+    let e = c .unread4 .ensures in
+    let no = plan-refusal _ t (f .before .before .read-plan .ensures) (f .if4 .taken) in (
+      rw (unread-walked _ e) (call-refused (h .0) (h .1) (get-plan-refused _ _ _ (t .read) no)),
+      rw (unread-walked _ e, unread-met _ e) (unmet (explain-plan-refused _ _ _ (t .read) no)),
+    )
 
 of-spans-requires : tie.Need-of-spans-requires
 of-spans-requires c κs = table (of-sheet c) .few
@@ -84,8 +103,11 @@ returns-5 c =
     let t = table (of-sheet p) in
     let h = room (lent (of-sheet p)) in
     let read = all-read (t .read) (plan-values _ t (p .before .before .read-plan .ensures) (p .if4 .left) .1) in
-    call-done (h .0) (h .1) read (omega arith) (c .before .before .get-plan .ensures)
+    let g = c .before .before .get-plan .ensures in
+    let b = now (entry (lent (of-sheet p)) .args .arena) in
+    (call-done (h .0) (h .1) read (omega arith) (g .0), explains-whole (h .0) (g .0 .long ∙ length-take-le SCRATCH b (h .0)) (g .1))
 
 pub get-spec : {M : Type 1} → statement M
-get-spec = tie.close (tie.spec returns returns-2 (λ c κs. search needs) returns-3 (λ c κs. search needs) returns-4 of-spans-requires
+get-spec = tie.close (tie.spec (λ c κs. search needs) returns (λ c κs. search needs) returns-2 (λ c κs. search needs) (λ c κs. search needs) returns-3
+    (λ c κs. search needs) (λ c κs. search needs) returns-4 of-spans-requires
     (λ c. search needs) slice-aggregate-get-plan get-plan-requires (λ c. search needs) returns-5)

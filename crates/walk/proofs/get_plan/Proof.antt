@@ -2,7 +2,7 @@
 -- Assumes nothing.
 use mathlib.Core.Path.{sym, _∙_}
 use Rattle.walk.specs.GetAt.{movable}
-use Rattle.walk.specs.Entry.{plan-fits, plan-ready, get-refused, get-done}
+use Rattle.walk.specs.Entry.{plan-fits, plan-ready, few-met, get-met, get-unmet, get-refused, get-done}
 use borrow.Author.Needs.{needs}
 use Rattle.walk.proofs.get_plan.Statement.{statement}
 use Rattle.walk.proofs.get_plan.Tie as tie
@@ -30,22 +30,41 @@ bring-requires c κs =
     let p = copied g in
     movable (plan-ready (entry p .pre) (p .copy-in .ensures)) (g .get-node .ensures .0) (g .get-node .ensures .1)
 
-returns : tie.Need-returns
-returns c =
-    let b = c .before .before .before .before .before in
+met-at-requires : tie.Need-met-at-requires
+met-at-requires c κs =
+    let f = c .before in
+    let b = f .before .before .before .before in
     let g = got b in
     let p = copied g in
-    get-refused (entry p .pre) (p .copy-in .ensures) (g .get-node .ensures .0) (g .get-node .ensures .1) (b .bring .ensures)
-    (sym (c .before .before .is-refused .ensures) ∙ c .before .if1 .taken) (c .code-of .ensures)
+    few-met (entry p .pre) (p .copy-in .ensures) (g .get-node .ensures .0) (g .get-node .ensures .1) (b .bring .ensures)
+    (sym (f .before .is-refused .ensures) ∙ f .if1 .taken)
+
+returns : tie.Need-returns
+returns c =
+    let f = c .before .before in
+    let b = f .before .before .before .before in
+    let g = got b in
+    let p = copied g in
+    let e = sym (f .before .is-refused .ensures) ∙ f .if1 .taken in (
+      get-refused (entry p .pre) (p .copy-in .ensures) (g .get-node .ensures .0) (g .get-node .ensures .1) (b .bring .ensures) e (c .before .code-of .ensures),
+      get-met (entry p .pre) (p .copy-in .ensures) (g .get-node .ensures .0) (g .get-node .ensures .1) (b .bring .ensures) e (c .before .code-of .ensures)
+          (c .met-at .ensures),
+    )
 
 returns-2 : tie.Need-returns-2
 returns-2 c =
-    let b = c .before .before .before .before .before .before in
+    let f = c .before .before .before in
+    let b = f .before .before .before .before in
     let g = got b in
     let p = copied g in
-    get-done (entry p .pre) (p .copy-in .ensures) (g .get-node .ensures .0) (g .get-node .ensures .1) (b .bring .ensures)
-    (sym (c .before .before .before .is-refused .ensures) ∙ c .before .before .if1 .left) (c .before .len-of .ensures) (c .steps-of .ensures)
+    let e = sym (f .before .is-refused .ensures) ∙ f .if1 .left in (
+      get-done (entry p .pre) (p .copy-in .ensures) (g .get-node .ensures .0) (g .get-node .ensures .1) (b .bring .ensures) e
+          (c .before .before .len-of .ensures)
+          (c .before .steps-of .ensures),
+      get-unmet (entry p .pre) (p .copy-in .ensures) (g .get-node .ensures .0) (g .get-node .ensures .1) (b .bring .ensures) e (c .nowhere .ensures),
+    )
 
 pub get-plan-spec : {M : Type 1} → statement M
 get-plan-spec = tie.close (tie.spec copy-in-requires get-node-requires bring-requires (λ c κs. search needs) (λ c κs. search needs)
-    (λ c. search needs) returns (λ c κs. search needs) (λ c κs. search needs) (λ c. search needs) returns-2)
+    met-at-requires (λ c. returns c .0 .long) returns (λ c κs. search needs) (λ c κs. search needs) (λ c κs. search needs)
+    (λ c. returns-2 c .0 .long) returns-2)

@@ -8,9 +8,20 @@ use lib.ListN.{length}
 use lib.Seq.{length-take-le}
 use Rattle.rules.specs.Numbers.{ALLOWANCE, SCRATCH}
 use Rattle.walk.specs.Entry.{TableRead, table-read, call-2, call-3, call-refused, call-done, sheet-refusal, plan-refusal, plan-values, all-read, planned}
-use Rattle.walk.specs.NewStarts.{walked-is, none-with, starts-whole}
+use Rattle.walk.specs.NewStarts.{walked-is, met-is, none-with, starts-whole}
 use Rattle.walk.specs.Bits.{none-set}
-use Rattle.walk.specs.PutEntry.{put-all-read, viewed, view-refused, put-sheet-refused, put-plan-refused, put-view-refused}
+use Rattle.walk.specs.PutEntry.{
+  put-all-read,
+  viewed,
+  view-refused,
+  put-sheet-refused,
+  put-plan-refused,
+  put-view-refused,
+  explain-sheet-refused,
+  explain-plan-refused,
+  explain-view-refused,
+}
+use Rattle.walk.specs.Whys.{unmet-2, unmet-3, unmet, explains-whole}
 use borrow.Author.Needs.{needs}
 use Rattle.walk.proofs.put.Statement.{statement}
 use Rattle.walk.proofs.put.Tie as tie
@@ -42,41 +53,56 @@ table c = table-read _ (c .before .before .read-sheet .ensures) (c .if3 .left)
 returns : tie.Need-returns
 returns c =
     let e = c .refused .ensures in
-    (rw (walked-is _ e) (call-2 (c .before .if1 .taken)), (none-with _ e _ _, none-set _ e _ _ _ _))
+    let m = met-is _ _ e ∙ c .before .nowhere .ensures in
+    let small = c .before .before .if1 .taken in
+    (rw (walked-is _ _ e) (call-2 small), (none-with _ _ e _ _, (none-set _ _ e _ _ _ _, rw (walked-is _ _ e, m) (unmet-2 small))))
 
 returns-2 : tie.Need-returns-2
 returns-2 c =
     let e = c .refused2 .ensures in
-    (rw (walked-is _ e) (call-3 (omega (arith, c .before .before .if1 .left)) (c .before .if2 .taken)), (none-with _ e _ _, none-set _ e _ _ _ _))
+    let m = met-is _ _ e ∙ c .before .nowhere2 .ensures in
+    let f = c .before .before in (
+      rw (walked-is _ _ e) (call-3 (omega (arith, f .before .if1 .left)) (f .if2 .taken)),
+      (none-with _ _ e _ _, (none-set _ _ e _ _ _ _, rw (walked-is _ _ e, m) (unmet-3 (f .if2 .taken)))),
+    )
 
 returns-3 : tie.Need-returns-3
 returns-3 c =
-    let s = c .before in
+    let s = c .before .before in
     let h = room (s .before .before .before) in
     let e = c .refused3 .ensures in
-    let no = put-sheet-refused _ _ _ _ (sheet-refusal _ (s .before .before .read-sheet .ensures) (s .if3 .taken)) in
-    (rw (walked-is _ e) (call-refused (h .0) (h .1) no), (none-with _ e _ _, none-set _ e _ _ _ _))
+    let m = met-is _ _ e ∙ c .before .nowhere3 .ensures in
+    let no = sheet-refusal _ (s .before .before .read-sheet .ensures) (s .if3 .taken) in (
+      rw (walked-is _ _ e) (call-refused (h .0) (h .1) (put-sheet-refused _ _ _ _ no)),
+      (none-with _ _ e _ _, (none-set _ _ e _ _ _ _, rw (walked-is _ _ e, m) (unmet (explain-sheet-refused _ _ _ _ no)))),
+    )
 
 returns-4 : tie.Need-returns-4
 returns-4 c =
-    let p = c .before in
+    let p = c .before .before in
     let s = p .before .before .before in
     let h = room (lent s) in
     let t = table s in
     let e = c .refused4 .ensures in
-    let no = put-plan-refused _ _ _ _ (t .read) (plan-refusal _ t (p .before .before .read-plan .ensures) (p .if4 .taken)) in
-    (rw (walked-is _ e) (call-refused (h .0) (h .1) no), (none-with _ e _ _, none-set _ e _ _ _ _))
+    let m = met-is _ _ e ∙ c .before .nowhere4 .ensures in
+    let no = plan-refusal _ t (p .before .before .read-plan .ensures) (p .if4 .taken) in (
+      rw (walked-is _ _ e) (call-refused (h .0) (h .1) (put-plan-refused _ _ _ _ (t .read) no)),
+      (none-with _ _ e _ _, (none-set _ _ e _ _ _ _, rw (walked-is _ _ e, m) (unmet (explain-plan-refused _ _ _ _ (t .read) no)))),
+    )
 
 returns-5 : tie.Need-returns-5
 returns-5 c =
-    let v = c .before in
+    let v = c .before .before in
     let p = v .before .before in
     let h = room (lent (of-sheet p)) in
     let t = table (of-sheet p) in
     let e = c .refused5 .ensures in
+    let m = met-is _ _ e ∙ c .before .nowhere5 .ensures in
     let μ = plan-values _ t (p .before .before .read-plan .ensures) (p .if4 .left) .1 in
-    let no = put-view-refused _ _ _ _ (t .read) μ (view-refused _ (v .before .read-view .ensures) (v .if5 .taken)) in
-    (rw (walked-is _ e) (call-refused (h .0) (h .1) no), (none-with _ e _ _, none-set _ e _ _ _ _))
+    let no = view-refused _ (v .before .read-view .ensures) (v .if5 .taken) in (
+      rw (walked-is _ _ e) (call-refused (h .0) (h .1) (put-view-refused _ _ _ _ (t .read) μ no)),
+      (none-with _ _ e _ _, (none-set _ _ e _ _ _ _, rw (walked-is _ _ e, m) (unmet (explain-view-refused _ _ _ _ (t .read) μ no)))),
+    )
 
 of-spans-requires : tie.Need-of-spans-requires
 of-spans-requires c κs = table (of-sheet (of-plan c)) .few
@@ -107,10 +133,14 @@ returns-6 c =
     let read = all-read (t .read) (plan-values _ t (p .before .before .read-plan .ensures) (p .if4 .left) .1) in
     let b = now (entry (lent (of-sheet p)) .args .arena) in (
       call-done (h .0) (h .1) (put-all-read read (viewed _ (v .before .read-view .ensures) (v .if5 .left))) (omega arith) (g .0),
-      (g .1 .0 ∙ starts-whole _ _ (omega arith) (g .0 .long ∙ length-take-le SCRATCH b (h .0)) (g .0 .says), g .1 .1),
+      (
+        g .1 .0 ∙ starts-whole _ _ (omega arith) (g .0 .long ∙ length-take-le SCRATCH b (h .0)) (g .0 .says),
+        (g .1 .1 .0, explains-whole (h .0) (g .0 .long ∙ length-take-le SCRATCH b (h .0)) (g .1 .1 .1)),
+      ),
     )
 
 pub put-spec : {M : Type 1} → statement M
-put-spec = tie.close (tie.spec (λ c κs. search needs) returns (λ c κs. search needs) returns-2 (λ c κs. search needs) (λ c κs. search needs) returns-3
-    (λ c κs. search needs) (λ c κs. search needs) returns-4 (λ c κs. search needs) (λ c κs. search needs) returns-5 of-spans-requires
+put-spec = tie.close (tie.spec (λ c κs. search needs) (λ c κs. search needs) returns (λ c κs. search needs) (λ c κs. search needs) returns-2
+    (λ c κs. search needs) (λ c κs. search needs) (λ c κs. search needs) returns-3 (λ c κs. search needs) (λ c κs. search needs) (λ c κs. search needs)
+    returns-4 (λ c κs. search needs) (λ c κs. search needs) (λ c κs. search needs) returns-5 of-spans-requires
     (λ c. search needs) slice-aggregate-put-plan put-plan-requires (λ c. search needs) returns-6)

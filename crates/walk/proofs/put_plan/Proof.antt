@@ -4,9 +4,9 @@ use mathlib.Core.Bool.{false}
 use mathlib.Core.Path.{_≡_, refl, sym, _∙_}
 use Rattle.answer.specs.Answer.{isRefusal}
 use Rattle.walk.specs.Entry.{plan-fits}
-use Rattle.walk.specs.NewStarts.{walked-is, none-with}
+use Rattle.walk.specs.NewStarts.{walked-is, met-is, none-with}
 use Rattle.walk.specs.Bits.{none-set}
-use Rattle.walk.specs.PutEntry.{few-variables, put-ready, put-placed, put-refused, put-done, put-starts, put-written}
+use Rattle.walk.specs.PutEntry.{few-variables, put-ready, put-placed, put-refused, put-met, few-met, put-unmet, put-done, put-starts, put-written}
 use borrow.Author.Needs.{needs}
 use Rattle.walk.proofs.put_plan.Statement.{statement}
 use Rattle.walk.proofs.put_plan.Tie as tie
@@ -40,16 +40,31 @@ put-node-requires c κs =
     let p = copied n in
     put-ready (entry p .pre .0) (entry p .pre .1) (p .copy-in .ensures) (n .first-cells .ensures)
 
+met-at-requires : tie.Need-met-at-requires
+met-at-requires c κs =
+    let q = c .before .before .before .before in
+    let n = made q in
+    let p = copied n in
+    few-met (entry p .pre .0) (entry p .pre .1) (p .copy-in .ensures) (n .first-cells .ensures) (q .put-node .ensures .0)
+    (sym (c .before .is-refused .ensures) ∙ c .if1 .taken)
+
 returns : tie.Need-returns
 returns c =
-    let f = c .before .before in
+    let f = c .before .before .before in
     let q = f .before .before .before .before in
     let n = made q in
     let p = copied n in
     let e = c .refused .ensures in (
-      rw (walked-is _ e) (put-refused (entry p .pre .0) (entry p .pre .1) (p .copy-in .ensures) (n .first-cells .ensures) (q .put-node .ensures .0)
+      rw (walked-is _ _ e) (put-refused (entry p .pre .0) (entry p .pre .1) (p .copy-in .ensures) (n .first-cells .ensures) (q .put-node .ensures .0)
           (sym (f .before .is-refused .ensures) ∙ f .if1 .taken) (c .before .code-of .ensures)),
-      (none-with _ e _ _, none-set _ e _ _ _ _),
+      (
+        none-with _ _ e _ _,
+        (
+          none-set _ _ e _ _ _ _,
+          rw (walked-is _ _ e) (put-met (entry p .pre .0) (entry p .pre .1) (p .copy-in .ensures) (n .first-cells .ensures) (q .put-node .ensures .0)
+              (sym (f .before .is-refused .ensures) ∙ f .if1 .taken) (c .before .code-of .ensures) (met-is _ _ e ∙ c .before .before .met-at .ensures)),
+        ),
+      ),
     )
 
 gather-requires : tie.Need-gather-requires
@@ -67,7 +82,8 @@ bits-of-requires c κs =
 
 returns-2 : tie.Need-returns-2
 returns-2 c =
-    let t = c .before .before .before in
+    let s = c .before in
+    let t = s .before .before .before in
     let g = t .before .before .before in
     let f = g .before .before .before in
     let q = was-put f in
@@ -77,11 +93,14 @@ returns-2 c =
       put-done (e .0) (e .1) (p .copy-in .ensures) (n .first-cells .ensures) (q .put-node .ensures .0) (fine f) (g .gather .ensures) (t .steps-of .ensures),
       (
         put-starts (e .0) (e .1) (p .copy-in .ensures) (n .first-cells .ensures) (q .put-node .ensures .0) (fine f) (g .gather .ensures) _,
-        put-written (e .0) (e .1) (p .copy-in .ensures) (n .first-cells .ensures) (q .put-node .ensures .0) (fine f) (c .bits-of .ensures) refl _ _,
+        (
+          put-written (e .0) (e .1) (p .copy-in .ensures) (n .first-cells .ensures) (q .put-node .ensures .0) (fine f) (s .bits-of .ensures) refl _ _,
+          put-unmet (e .0) (e .1) (p .copy-in .ensures) (n .first-cells .ensures) (q .put-node .ensures .0) (fine f) (c .nowhere .ensures),
+        ),
       ),
     )
 
 pub put-plan-spec : {M : Type 1} → statement M
 put-plan-spec = tie.close (tie.spec copy-in-requires (λ c. search needs) first-cells-requires put-node-requires (λ c κs. search needs)
-    (λ c κs. search needs) (λ c κs. search needs) (λ c. returns c .0 .long) returns gather-requires (λ c κs. search needs) bits-of-requires
-    (λ c. returns-2 c .0 .long) returns-2)
+    met-at-requires (λ c κs. search needs) (λ c κs. search needs) (λ c. returns c .0 .long) returns gather-requires (λ c κs. search needs) bits-of-requires
+    (λ c κs. search needs) (λ c. returns-2 c .0 .long) returns-2)

@@ -8,7 +8,7 @@ use Rattle.walk.proofs.refused.Tie as tie
 
 returns : tie.Need-returns
 unfolding refusedPut
-returns c = ap (λ s. record { walked = Refused (c .before .args .number); starts = s; written = 0 }) (c .none .ensures)
+returns c = ap (λ s. record { walked = Refused (c .before .args .number); starts = s; written = 0; met = c .before .args .met }) (c .none .ensures)
 
 pub refused-spec : {M : Type 1} → statement M
 refused-spec = tie.close (tie.spec (λ c κs. search needs) returns)

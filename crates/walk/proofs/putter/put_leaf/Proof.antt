@@ -5,6 +5,7 @@ use native.Mathlib.Omega.{arith}
 use Prim.Native.Nat.{ℕ, _-_}
 use lib.ListN.{getD}
 use Rattle.walk.specs.PutLeaf.{constant-told, number-told, var-42, var-writable, var-told, Writable, writable-as, write-as}
+use Rattle.walk.specs.GetEnter.{node-few}
 use borrow.Author.Needs.{needs}
 use Rattle.walk.proofs.putter.put_leaf.Statement.{statement}
 use Rattle.walk.proofs.putter.put_leaf.Tie as tie
@@ -43,7 +44,9 @@ cast-c : tie.Need-cast-c
 cast-c c = record { fits = omega (arith, writable (c .before) .cell) }
 
 write-requires : tie.Need-write-requires
-write-requires c κs = writable (c .before .before .before)
+write-requires c κs =
+    let i = c .before .before .before in
+    (writable i, let w = start (variable i) .pre .0 in node-few (w .sheet) (w .known .0))
 
 returns-4 : tie.Need-returns-4
 returns-4 c =
