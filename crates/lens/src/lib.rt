@@ -15,8 +15,8 @@ mod buffers;
 mod exports;
 mod why;
 
-use crate::buffers::clear;
 use crate::buffers::copy_out;
+pub use buffers::clear;
 pub use exports::lens_find;
 pub use exports::lens_get;
 pub use exports::lens_load;

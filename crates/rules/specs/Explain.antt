@@ -78,6 +78,7 @@ explaining = record {
   give = λ a _. got a 0;
   bind = next;
   given = λ c. wanted (own c none);
+  seen = λ c v. wanted (own c none);
   choose = choice;
   enter = entered;
   deep = λ n _. met (barred 40 n) 0;

@@ -31,3 +31,4 @@ pub mod Explanation
 pub mod ExplainExamples
 pub mod ExplainChain
 pub mod ExplainNodes
+pub mod Embedding

@@ -38,25 +38,25 @@ unfolding count
 length-count from zero = refl
 length-count from (suc n) = ap suc (length-count (suc from) n)
 
-blank-is : (μ : Env) → replicate (length μ) none ≡ blank μ
+pub blank-is : (μ : Env) → replicate (length μ) none ≡ blank μ
 unfolding blank
 blank-is [] = refl
 blank-is (v ∷ μ) = ap (λ (X : Cells). none ∷ X) (blank-is μ)
 
-blank-later : {ω : Writes} {μ : Env} → Over ω μ → Later (blank μ) ω
+pub blank-later : {ω : Writes} {μ : Env} → Over ω μ → Later (blank μ) ω
 unfolding blank
 blank-later ends = ends
 blank-later (more _ h) = more (λ w e. absurd (Option·none-ne-some w e)) (blank-later h)
 
-blank-laid : (μ : Env) → Laid (blank μ) (count 0 (length μ)) μ
+pub blank-laid : (μ : Env) → Laid (blank μ) (count 0 (length μ)) μ
 blank-laid μ = all2-of _ _ (length-count 0 (length μ)) λ x c m ec em. let z : c ≡ x = first-at
     (length μ) x ec in record { cell = none; there = rw z (blank-at μ x em) }
 
-seen-self : {ω : Writes} {μ : Env} → Over ω μ → Seen ω (count 0 (length μ)) ω
+pub seen-self : {ω : Writes} {μ : Env} → Over ω μ → Seen ω (count 0 (length μ)) ω
 seen-self {ω} {μ} h = all2-of _ _ (all2-length h ∙ sym (length-count 0 (length μ))) λ x o c eo ec.
     let z : c ≡ x = first-at (length μ) x ec in record { has = λ v e. rw z (cc) }
 
-seen-below : {ω : Writes} {X : Cells} (n : ℕ) → length ω ≡ length X → Seen ω (count 0 n) X → Later ω X
+pub seen-below : {ω : Writes} {X : Cells} (n : ℕ) → length ω ≡ length X → Seen ω (count 0 n) X → Later ω X
 seen-below n e h = all2-of _ _ e λ x o q eo eq w ew.
     let (c, ec, f) = all2-at x h eo in let z : c ≡ x = first-at n x ec in let k = rw z at (f .has w ew) in cc
 

@@ -17,6 +17,7 @@ counting = record {
   give = λ a. done a 0;
   bind = _>>=_;
   given = given;
+  seen = λ c v. given c;
   choose = choose;
   enter = λ n. plus 1;
   deep = λ n. refused 40 0;

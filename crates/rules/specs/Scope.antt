@@ -54,10 +54,10 @@ putNarrow (suc l) sh n μ σ v W =
 -- OUTCOMES OF EQUAL PARTS ARE EQUAL
 
 module _ {A B : Type 0} where
-  bind-ext : {m m′ : Out A} {f f′ : A → Out B} → m ≡ m′ → ((a : A) → f a ≡ f′ a) → (m >>= f) ≡ (m′ >>= f′)
+  pub bind-ext : {m m′ : Out A} {f f′ : A → Out B} → m ≡ m′ → ((a : A) → f a ≡ f′ a) → (m >>= f) ≡ (m′ >>= f′)
   bind-ext {m} {m′} {f} {f′} e h = rw e (ap (λ (k : A → Out B). m′ >>= k) (fun-ext h))
 
-  given-ext : (c : ℕ) (o : Option A) {f f′ : A → Out B} → ((a : A) → f a ≡ f′ a) → given c o f ≡ given c o f′
+  pub given-ext : (c : ℕ) (o : Option A) {f f′ : A → Out B} → ((a : A) → f a ≡ f′ a) → given c o f ≡ given c o f′
   given-ext c o h = ap (given c o) (fun-ext h)
 
 list-ext : {B : Type 0} (l : Values) {x x′ : B} {f f′ : Value → Values → B} → x ≡ x′ → ((v : Value) (r : Values) → f v r ≡ f′ v r)

@@ -21,6 +21,8 @@ pub record Reading : Type 1 where
   pub bind : {A B : Type 0} → M A → (A → M B) → M B
   -- go on with what is there, or refuse with c
   pub given : {A B : Type 0} → ℕ → Option A → (A → M B) → M B
+  -- the same, of what the value v is seen as
+  pub seen : {A B : Type 0} → ℕ → (v : Value) → Option A → (A → M B) → M B
   -- the first choice where its test says yes, or else the second, or refusal 53
   pub choose : {A P Q : Type 0} → Dec P → Dec Q → M A → M A → M A
   -- enter the node of that number, or refuse to enter it for its depth (40)
@@ -59,7 +61,7 @@ restOf nil = nil
 restOf (cons x r) = r
 
 module _ (R : Reading) where
-  open Reading R using (M, give, bind as _>>=_, given, choose, enter, deep, Cell, mark, held, clash)
+  open Reading R using (M, give, bind as _>>=_, given, seen, choose, enter, deep, Cell, mark, held, clash)
 
   infixl 20 _>>=_
   -- for each cell, what was written to it. A plan variable is a cell, and a branch adds two
@@ -97,19 +99,19 @@ module _ (R : Reading) where
   getNode g sh Empty μ = give (list nil)
   getNode g sh (Number n) μ = give (number n)
   getNode g sh (Wide n) μ = give (wide n)
-  getNode g sh (Front a b) μ = g a μ >>= λ f. g b μ >>= λ r. given 43 (asList r) λ l. bounded (list (cons f (l .0)))
+  getNode g sh (Front a b) μ = g a μ >>= λ f. g b μ >>= λ r. seen 43 r (asList r) λ l. bounded (list (cons f (l .0)))
   getNode g sh (Pair a b) μ = g a μ >>= λ u. g b μ >>= λ v. bounded (pair u v)
   getNode g sh (ListCase s e te n tn df dr) μ =
-      g s μ >>= λ v. given 43 (asList v) λ l. onList (l .0) (tested te (g e μ)) λ f r. tested tn (g n (μ ++ two f (list r)))
+      g s μ >>= λ v. seen 43 v (asList v) λ l. onList (l .0) (tested te (g e μ)) λ f r. tested tn (g n (μ ++ two f (list r)))
   getNode g sh (TruthCase s f tf t tt) μ =
-      g s μ >>= λ v. given 43 (asTruth v) λ b. tested (pick (b .0) tf tt) (g (pick (b .0) f t) μ)
-  getNode g sh (Split s i) μ = g s μ >>= λ v. given 43 (asPair v) λ p. g i (μ ++ two (p .0) (p .1))
+      g s μ >>= λ v. seen 43 v (asTruth v) λ b. tested (pick (b .0) tf tt) (g (pick (b .0) f t) μ)
+  getNode g sh (Split s i) μ = g s μ >>= λ v. seen 43 v (asPair v) λ p. g i (μ ++ two (p .0) (p .1))
   getNode g sh (Call sec x y) μ =
       given 42 (getElem? μ x) λ a. given 42 (getElem? μ y) λ b. g (getD (sh .sections) sec 0) (two a b)
   getNode g sh (Add n k) μ =
-      g n μ >>= λ v. given 43 (asNumber v) λ m. given 45 (when (decLe (m .0 + k) 65535)) λ _. give (number (m .0 + k))
+      g n μ >>= λ v. seen 43 v (asNumber v) λ m. given 45 (when (decLe (m .0 + k) 65535)) λ _. give (number (m .0 + k))
   getNode g sh (Each s sec x d) μ =
-      g s μ >>= λ v. given 43 (asList v) λ l. given 42 (getElem? μ x) λ a.
+      g s μ >>= λ v. seen 43 v (asList v) λ l. given 42 (getElem? μ x) λ a.
       getEach g (getD (sh .sections) sec 0) a 1 (l .0) >>= λ ws. give (list ws)
 
   -- with l levels left: 48 at the root, and a node for which none is left is at depth 49. Entering costs one step
@@ -143,7 +145,7 @@ module _ (R : Reading) where
   under p μ σ W b v s mk f r =
       p b (μ ++ two f r) (σ ++ two (length W) (suc (length W))) v (W ++ two none none) >>= λ X.
       given 42 (getElem? X (length W)) λ x. given 42 (getElem? X (suc (length W))) λ y.
-      given 43 (mk (orOld x f) (orOld y r)) λ u. given 44 (when (decLe (size u) 256)) λ _. p s μ σ u (take (length W) X)
+      seen 43 (orOld y r) (mk (orOld x f) (orOld y r)) λ u. given 44 (when (decLe (size u) 256)) λ _. p s μ σ u (take (length W) X)
 
   -- what the next member stands for: the first of the old ones, or past their end the default d, got anew in an empty scope
   unfoldable pub stoodFor : Getter → (d : ℕ) → Values → M Value
@@ -167,27 +169,27 @@ module _ (R : Reading) where
   putNode new g p sh Empty μ σ v W = constant v (list nil) W
   putNode new g p sh (Number n) μ σ v W = constant v (number n) W
   putNode new g p sh (Wide n) μ σ v W = constant v (wide n) W
-  putNode new g p sh (Front a b) μ σ v W = given 51 (asFront v) λ c. both p μ σ W a (c .0) b (list (c .1))
-  putNode new g p sh (Pair a b) μ σ v W = given 51 (asPair v) λ c. both p μ σ W a (c .0) b (c .1)
+  putNode new g p sh (Front a b) μ σ v W = seen 51 v (asFront v) λ c. both p μ σ W a (c .0) b (list (c .1))
+  putNode new g p sh (Pair a b) μ σ v W = seen 51 v (asPair v) λ c. both p μ σ W a (c .0) b (c .1)
   putNode new g p sh (ListCase s e te n tn df dr) μ σ v W =
-      g s μ >>= λ o. given 43 (asList o) λ l.
+      g s μ >>= λ o. seen 43 o (asList o) λ l.
       onList (l .0)
       (choose (passes te v) (passes tn v) (both p μ σ W e v s (list nil))
-      (g df (v ∷ []) >>= λ f. g dr (v ∷ []) >>= λ r. given 43 (asList r) λ _. under p μ σ W n v s mkList f r))
+      (g df (v ∷ []) >>= λ f. g dr (v ∷ []) >>= λ r. seen 43 r (asList r) λ _. under p μ σ W n v s mkList f r))
       (λ f r. choose (passes tn v) (passes te v) (under p μ σ W n v s mkList f (list r)) (both p μ σ W e v s (list nil)))
   putNode new g p sh (TruthCase s f tf t tt) μ σ v W =
-      g s μ >>= λ o. given 43 (asTruth o) λ b.
+      g s μ >>= λ o. seen 43 o (asTruth o) λ b.
       choose (passes (pick (b .0) tf tt) v) (passes (pick (not (b .0)) tf tt) v)
       (both p μ σ W (pick (b .0) f t) v s (truth (b .0)))
       (both p μ σ W (pick (not (b .0)) f t) v s (truth (not (b .0))))
-  putNode new g p sh (Split s i) μ σ v W = g s μ >>= λ o. given 43 (asPair o) λ c. under p μ σ W i v s mkPair (c .0) (c .1)
+  putNode new g p sh (Split s i) μ σ v W = g s μ >>= λ o. seen 43 o (asPair o) λ c. under p μ σ W i v s mkPair (c .0) (c .1)
   putNode new g p sh (Call sec x y) μ σ v W =
       given 42 (getElem? μ x) λ a. given 42 (getElem? σ x) λ c. given 42 (getElem? μ y) λ b. given 42 (getElem? σ y) λ d.
       p (getD (sh .sections) sec 0) (two a b) (two c d) v W
   putNode new g p sh (Add n k) μ σ v W =
-      given 51 (asNumber v) λ m. given 52 (when (decLe k (m .0))) λ _. p n μ σ (number (m .0 - k)) W
+      seen 51 v (asNumber v) λ m. given 52 (when (decLe k (m .0))) λ _. p n μ σ (number (m .0 - k)) W
   putNode new g p sh (Each s sec x d) μ σ v W =
-      given 51 (asList v) λ l. g s μ >>= λ o. given 43 (asList o) λ old. given 42 (getElem? μ x) λ a. given 42 (getElem? σ x) λ c.
+      seen 51 v (asList v) λ l. g s μ >>= λ o. seen 43 o (asList o) λ old. given 42 (getElem? μ x) λ a. given 42 (getElem? σ x) λ c.
       putEach g p (getD (sh .sections) sec 0) d c a 1 (old .0) (l .0) W >>= λ q. p s μ σ (list (q .0)) (q .1)
 
   unfoldable pub put : ℕ → Sheet → Putter

@@ -8,3 +8,6 @@ pub mod Laws
 pub mod Records
 pub mod Rows
 pub mod Written
+pub mod Ranging
+pub mod Parts
+pub mod PartsLaws

@@ -69,7 +69,7 @@ module _ (g : ℕ → ℕ) (small : (i : ℕ) → g i < 256) where
       rw (a, b, c, d) refl
 
   -- the bytes of a field's value are those that it was read from
-  role-back : (r : Role) → bytesOf r (valueOf r g) ≡ listing (size r) g
+  pub role-back : (r : Role) → bytesOf r (valueOf r g) ≡ listing (size r) g
   role-back aNode = refl
   role-back aSection = refl
   role-back aVariable = refl

@@ -7,6 +7,7 @@ ghost use lib.Dec.{ltb, leb};
 ghost use lib.ListN.{length, getD, drop};
 ghost use Rattle.sheet.specs.Sheet.{readBody, readHeader, readSheet};
 ghost use Rattle.sheet.specs.Kinds.{nodeInRange};
+ghost use Rattle.sheet.specs.Parts.{partAt, withNode, childrenAt};
 ghost use Rattle.value.specs.Result.{refusal};
 ghost use Rattle.sheet.specs.Table.{nodeOf, nodeAt, kindWidth, sectionAt, tableOf, NodesTable, RootsJudged, NodesJudged, SheetJudged};
 
@@ -95,8 +96,8 @@ fn wide(b: u8) -> usize
 // The bytes of a node record, the kind byte with them: kinds 10 to 1D in order.
 const WIDTHS: [u8; 14] = [2, 1, 1, 1, 3, 3, 3, 8, 6, 3, 4, 4, 5, 5];
 
-// The bytes of a node record of this kind; 0 where no node has the kind.
-fn record_width(kind: u8) -> usize
+/// The bytes of a node record of this kind; 0 where no node has the kind.
+pub fn record_width(kind: u8) -> usize
     ensures { λ r. ⌜ r ≡ kindWidth kind ⌝ }
 {
     if kind < 0x10 {
@@ -202,6 +203,46 @@ fn decode(r: &[u8]) -> Node
     }
 }
 
+// What each byte of a node record is: kinds 10 to 1D in order, a hexadecimal digit a byte, the kind byte's digit last.
+const PARTS: [u32; 14] = [
+    0, // 10
+    0, // 11
+    0, // 12
+    0, // 13
+    0, // 14
+    0x110, // 15
+    0x110, // 16
+    0x11010110, // 17
+    0x10110, // 18
+    0x110, // 19
+    0x20, // 1A
+    0x10, // 1B
+    0x10210, // 1C
+    0, // 1D
+];
+
+/// What a byte of a record is: a node's number, a section's, or neither (0).
+pub const NODE: u8 = 1;
+
+pub const SECTION: u8 = 2;
+
+/// What byte i of a node record of this kind is.
+pub fn part(kind: u8, i: u16) -> u8
+    ensures { λ r. ⌜ r ≡ partAt kind i ⌝ }
+{
+    if kind < 0x10 {
+        return 0;
+    }
+    if 0x1E <= kind {
+        return 0;
+    }
+    if 8 <= i {
+        return 0;
+    }
+    let parts = PARTS[wide(kind) - 0x10];
+    ((parts >> (4 * (i as u32))) % 16) as u8
+}
+
 /// The node whose record starts at byte `at` of a sheet; `False` where no whole record of a known kind stands there.
 pub fn node_at(s: &[u8], at: usize) -> Node
     ensures { λ n. ⌜ n ≡ nodeAt (now (s .entry)) at ⌝ }
@@ -231,6 +272,49 @@ pub fn number_of(s: &[u8], at: u16, i: u16) -> usize
     ensures { λ r. ⌜ r ≡ getD (now (s .entry)) (at + i) 0 ⌝ }
 {
     wide(byte_of(s, at, i))
+}
+
+/// The nodes that a record names, in body order: `count` numbers, at the front of `nodes`, with zeros behind them.
+pub struct Children {
+    pub count: usize,
+    pub nodes: [u8; 8],
+}
+
+// With one byte more of a record, where that is a node's number.
+fn with_node(c: Children, part: u8, b: u8) -> Children
+    ensures { λ r. ⌜ r ≡ withNode c part b ⌝ }
+{
+    if part != NODE {
+        return c;
+    }
+    let count = c.count;
+    if 8 <= count {
+        return c;
+    }
+    let mut nodes = c.nodes;
+    nodes[count] = b;
+    Children {
+        count: count + 1,
+        nodes,
+    }
+}
+
+/// The nodes named by the record that starts at byte `at` of a sheet.
+pub fn children_at(s: &[u8], at: u16) -> Children
+    ensures { λ r. ⌜ r ≡ childrenAt (now (s .entry)) at ⌝ }
+{
+    let kind = byte_of(s, at, 0);
+    let width = record_width(kind);
+    let mut c = Children {
+        count: 0,
+        nodes: [0; 8],
+    };
+    let mut i: u16 = 0;
+    while (i as usize) < width {
+        c = with_node(c, part(kind, i), byte_of(s, at, i));
+        i += 1;
+    }
+    c
 }
 
 // Whether `n` is the number of a node behind node `own`.

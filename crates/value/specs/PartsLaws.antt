@@ -108,7 +108,7 @@ unfolding encode
 second-of-pair a b = second-of 5 a (encode b)
 
 -- equal values are equal bytes
-same-bytes : (a b : List ℕ) → sameBytes a b ≡ true → a ≡ b
+pub same-bytes : (a b : List ℕ) → sameBytes a b ≡ true → a ≡ b
 unfolding sameBytes both
 same-bytes [] [] e = refl
 same-bytes [] (y ∷ b) e = absurd (let z : _≡_ {A = ℕ} 0 1 = cc in omega arith)

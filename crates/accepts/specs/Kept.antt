@@ -1,0 +1,181 @@
+-- The comparison of two plans, as far as it has come.
+use mathlib.Core.Path.{_≡_, refl, sym, ap, ap₂, _∙_}
+use mathlib.Core.Bool.{Bool, true, false, _&&_, _||_}
+use mathlib.Core.List.{List}
+use Prim.Native.Nat.{ℕ, suc, _+_, _-_, _≤_, _<_}
+use native.Mathlib.Numerals.{add-one}
+use native.Mathlib.Omega.{arith}
+use lib.ListN.{length, getD, take, drop, drop-of-length-le}
+use lib.Seq.{drop-cons}
+use Rattle.value.specs.Result.{ok}
+use Rattle.value.specs.Value.{Value, vfalse, encode}
+use Rattle.value.specs.Parts.{sameBytes}
+use Rattle.value.specs.Reading.{readPlan}
+use Rattle.value.specs.Laws.{readValues-sound}
+use Rattle.value.specs.Spans.{spans}
+use Rattle.value.specs.SpansLaws.{span-is, span-inside}
+use Rattle.value.specs.declared.Spans.{Spans}
+use Rattle.sheet.specs.declared.Node.{Node}
+use Rattle.sheet.specs.declared.Node.the-variants.{False}
+use Rattle.sheet.specs.declared.Table.{Table}
+use Rattle.sheet.specs.Kinds.{variables}
+use Rattle.sheet.specs.Sheet.{Sheet, readSheet}
+use Rattle.sheet.specs.Table.{nodeAt}
+use Rattle.sheet.specs.Laws.{Reads}
+use Rattle.rules.specs.Rules.{Env}
+use Rattle.undo.specs.Alike.{stands, names}
+use Rattle.accepts.specs.Accepts.{spared, sparedFrom, kept}
+
+-- VARIABLES THAT A RECORD NAMES
+
+-- a sheet that was read, with its table
+pub record Readied (s : List ℕ) (t : Table) : Type 0 where
+  pub sh : Sheet
+  pub reads : Reads s t sh
+
+-- whether a record names variable x
+abbrev pub NamedAs : List ℕ → ℕ → Bool → Type 0
+NamedAs s x r = (sh : Sheet) → readSheet s ≡ ok sh → r ≡ names x (sh .nodes)
+
+same-sheet : (s : List ℕ) {sh sh′ : Sheet} → readSheet s ≡ ok sh → readSheet s ≡ ok sh′ → sh ≡ sh′
+same-sheet s e f = cc
+
+-- the first i nodes do not name it
+pub record Unnamed (s : List ℕ) (t : Table) (x i : ℕ) : Type 0 where
+  pub readied : Readied s t
+  pub few : i ≤ t .nodes
+  pub rest : names x (readied .sh .nodes) ≡ names x (drop i (readied .sh .nodes))
+
+pub none-named : {s : List ℕ} {t : Table} → Readied s t → (x : ℕ) → Unnamed s t x 0
+none-named q x = record { readied = q; few = omega arith; rest = refl }
+
+next-named : (x : ℕ) (ns : List Node) (i : ℕ) → i < length ns → names x (drop i ns) ≡ stands x (variables (getD ns i False)) || names x (drop (i + 1) ns)
+unfolding names
+next-named x ns i h = rw (add-one, drop-cons ns i False)
+
+module _ {s : List ℕ} {t : Table} {x i : ℕ} (to : Unnamed s t x i) where
+  as-told : {b : Bool} → names x (to .readied .sh .nodes) ≡ b → NamedAs s x b
+  as-told e sh f = sym (rw (same-sheet s (to .readied .reads .sheet) f) at e)
+
+  pub all-unnamed : t .nodes ≤ i → NamedAs s x false
+  unfolding names
+  all-unnamed h =
+      let l : length (to .readied .sh .nodes) ≤ i = omega (arith, to .readied .reads .nodes) in
+      as-told (to .rest ∙ rw (drop-of-length-le (to .readied .sh .nodes) l))
+
+  module _ (h : i < t .nodes) {n : Node} (e : n ≡ nodeAt s (getD (t .starts) i 0)) {b : Bool} (p : b ≡ stands x (variables n)) where
+    next-is : names x (to .readied .sh .nodes) ≡ b || names x (drop (i + 1) (to .readied .sh .nodes))
+    next-is =
+        let r = to .readied .reads in
+        let l : i < length (to .readied .sh .nodes) = omega (arith, r .nodes) in
+        let k : getD (to .readied .sh .nodes) i False ≡ n = sym (r .node i l) ∙ sym e in
+        to .rest ∙ next-named x (to .readied .sh .nodes) i l ∙ rw (k, ← p)
+
+    pub this-named : b ≡ true → NamedAs s x true
+    this-named o = as-told (rw o at next-is)
+
+    pub more-unnamed : b ≡ false → Unnamed s t x (i + 1)
+    more-unnamed o = record { readied = to .readied; few = omega (arith, to .few); rest = rw o at next-is }
+
+-- THE BYTES OF A VARIABLE
+
+abbrev pub spanOf : List ℕ → Spans → ℕ → List ℕ
+spanOf plan sp x = take (getD (sp .lens) x 0) (drop (getD (sp .starts) x 0) plan)
+
+pub record Within (plan : List ℕ) (sp : Spans) (x : ℕ) : Type 0 where
+  pub few : x < 16
+  pub inside : getD (sp .starts) x 0 + getD (sp .lens) x 0 ≤ length plan
+
+module _ (k : ℕ) (plan : List ℕ) {sp : Spans} {vs : List Value} (read : readPlan k plan ≡ ok vs) (is : sp ≡ spans (ok vs)) (x : ℕ) (h : x < k) where
+  there : x < length vs
+  there = omega (arith, readValues-sound 20 k plan read .count)
+
+  span-value : spanOf plan sp x ≡ encode (getD vs x vfalse)
+  span-value = rw (is, readValues-sound 20 k plan read .bytes) (span-is vs x there)
+
+  within : k ≤ 16 → Within plan sp x
+  within l = record {
+    few = omega arith;
+    inside = rw (is, readValues-sound 20 k plan read .bytes) (span-inside vs x there);
+  }
+
+-- BOTH PLANS
+
+-- the sheet and both plans are read, with where their values stand
+pub record Plans (sheet : List ℕ) (t : Table) (old : List ℕ) (before : Spans) (new : List ℕ) (after : Spans) : Type 0 where
+  pub sh : Sheet
+  pub reads : Reads sheet t sh
+  pub μ : Env
+  pub old-read : readPlan (sh .k) old ≡ ok μ
+  pub before-is : before ≡ spans (ok μ)
+  pub ν : Env
+  pub new-read : readPlan (sh .k) new ≡ ok ν
+  pub after-is : after ≡ spans (ok ν)
+
+abbrev pub KeptAs : (sheet old new : List ℕ) → Bool → Type 0
+KeptAs sheet old new r = (sh : Sheet) → readSheet sheet ≡ ok sh → (μ ν : Env) → readPlan (sh .k) old ≡ ok μ → readPlan (sh .k) new ≡ ok ν → r ≡ kept sh μ ν
+
+as-kept : (sheet old new : List ℕ) {sh : Sheet} {μ ν : Env} → readSheet sheet ≡ ok sh → readPlan (sh .k) old ≡ ok μ → readPlan (sh .k) new ≡ ok ν
+    → {b : Bool} → kept sh μ ν ≡ b → KeptAs sheet old new b
+as-kept sheet old new {sh} {μ} {ν} es eo en {b} e sh′ f μ′ ν′ g h =
+    let z : sh ≡ sh′ = same-sheet sheet es f in
+    let m : μ ≡ μ′ = let y = rw z at eo in cc in
+    let n : ν ≡ ν′ = let y = rw z at en in cc in
+    sym (rw (z, m, n) at e)
+
+-- variables below x are spared
+pub record Keeping (sheet : List ℕ) (t : Table) (old : List ℕ) (before : Spans) (new : List ℕ) (after : Spans) (x : ℕ) : Type 0 where
+  pub plans : Plans sheet t old before new after
+  pub few : x ≤ t .k
+  pub rest : kept (plans .sh) (plans .μ) (plans .ν) ≡ sparedFrom (plans .sh) (plans .μ) (plans .ν) x (t .k - x)
+
+module _ {sheet : List ℕ} {t : Table} {old : List ℕ} {before : Spans} {new : List ℕ} {after : Spans} where
+  pub none-kept : Plans sheet t old before new after → Keeping sheet t old before new after 0
+  unfolding kept
+  none-kept p = record { plans = p; few = omega arith; rest = ap (sparedFrom (p .sh) (p .μ) (p .ν) 0) (sym (p .reads .k) ∙ omega arith) }
+
+  module _ {x : ℕ} (to : Keeping sheet t old before new after x) where
+    abbrev p : Plans sheet t old before new after
+    p = to .plans
+
+    ends-kept : {b : Bool} → kept (p .sh) (p .μ) (p .ν) ≡ b → KeptAs sheet old new b
+    ends-kept = as-kept sheet old new (p .reads .sheet) (p .old-read) (p .new-read)
+
+    pub all-kept : t .k ≤ x → KeptAs sheet old new true
+    unfolding sparedFrom
+    all-kept h = let z : t .k - x ≡ 0 = omega arith in ends-kept (to .rest ∙ rw z)
+
+    module _ (h : x < t .k) where
+      few-variables : p .sh .k ≤ 16
+      few-variables = p .reads .ranges .few-variables
+
+      here : x < p .sh .k
+      here = omega (arith, p .reads .k)
+
+      pub both-within : Within old before x × Within new after x
+      both-within = (within (p .sh .k) old (p .old-read) (p .before-is) x here few-variables, within (p .sh .k) new (p .new-read) (p .after-is) x here few-variables)
+
+      pub its-sheet : Readied sheet t
+      its-sheet = record { sh = p .sh; reads = p .reads }
+
+      module _ {same : Bool} (s : same ≡ sameBytes (spanOf old before x) (spanOf new after x)) where
+        next-kept : kept (p .sh) (p .μ) (p .ν) ≡ (same || names x (p .sh .nodes)) && sparedFrom (p .sh) (p .μ) (p .ν) (x + 1) (t .k - (x + 1))
+        unfolding sparedFrom spared
+        next-kept =
+            let z : t .k - x ≡ suc (t .k - (x + 1)) = omega arith in
+            let q : same ≡ sameBytes (encode (getD (p .μ) x vfalse)) (encode (getD (p .ν) x vfalse)) = s
+            ∙ ap₂ sameBytes (span-value (p .sh .k) old (p .old-read) (p .before-is) x here) (span-value (p .sh .k) new (p .new-read) (p .after-is) x here) in
+            to .rest ∙ rw (z, q, add-one)
+
+        pub same-kept : same ≡ true → Keeping sheet t old before new after (x + 1)
+        same-kept e = record { plans = p; few = omega arith; rest = rw e at next-kept }
+
+        module _ (e : same ≡ false) {b : Bool} (n : NamedAs sheet x b) where
+          named-is : names x (p .sh .nodes) ≡ b
+          named-is = sym (n (p .sh) (p .reads .sheet))
+
+          pub named-kept : b ≡ true → Keeping sheet t old before new after (x + 1)
+          named-kept f = record { plans = p; few = omega arith; rest = rw (e, named-is, f) at next-kept }
+
+          pub not-kept : b ≡ false → KeptAs sheet old new false
+          not-kept f = ends-kept (rw (e, named-is, f) at next-kept)

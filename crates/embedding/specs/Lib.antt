@@ -1,0 +1,4 @@
+pub mod EmbeddingLaws
+pub mod EmbeddingAnswers
+pub mod Deeper
+pub mod Whole

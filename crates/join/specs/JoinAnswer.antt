@@ -1,0 +1,87 @@
+-- What joining answers: the definition that `join::join` is held to.
+use mathlib.Core.Path.{_≡_, refl, ap, sym, _∙_}
+use mathlib.Core.Bool.{Bool, true, false}
+use mathlib.Core.List.{List, [], _∷_, _++_}
+use Prim.Native.Nat.{ℕ, suc, _+_, _≤_, _<_}
+use lib.Dec.{leb, eqb}
+use lib.ListN.{length, drop}
+use borrow.Author.Tests.{le-leb, lt-leb, eq-eqb, ne-eqb}
+use Rattle.value.specs.Result.{Result, ok, refusal, andThen, unless}
+use Rattle.report.specs.Writing.{Wrote, Front, wrote-front}
+use Rattle.sheet.specs.Sheet.{Sheet, readSheet}
+use Rattle.sheet.specs.Rows.{sheetWritten}
+use Rattle.join.specs.Joined.{joined}
+use Rattle.join.specs.JoinedCalls.{joinedBytes}
+use Rattle.join.specs.declared.Joined.{Joined}
+use Rattle.join.specs.declared.Joined.the-variants.{Done, Refused}
+
+-- 1 an output under 2,048 bytes, judged first
+unfoldable pub joinAnswer : (s t : List ℕ) (output : ℕ) → Result (List ℕ)
+joinAnswer s t output = unless 1 (leb 2048 output) (joinedBytes s t)
+
+-- a success is its length; a refusal its number
+unfoldable pub replyOf : Result (List ℕ) → Joined
+replyOf (ok u) = Done (length u)
+replyOf (refusal c) = Refused c
+
+-- the output: the joined sheet at its front and what was there behind it; a refusal writes nothing
+unfoldable pub outputOf : Result (List ℕ) → List ℕ → List ℕ
+outputOf (ok u) b = u ++ drop (length u) b
+outputOf (refusal c) b = b
+
+unfoldable pub textOf : Result (List ℕ) → List ℕ
+textOf (ok u) = u
+textOf (refusal c) = []
+
+-- CASE BY CASE
+
+abbrev pub Answers : Result (List ℕ) → Joined → (b b′ : List ℕ) → Type 0
+Answers r j b b′ = (j ≡ replyOf r) × (b′ ≡ outputOf r b)
+
+pub answers-no : (r : Result (List ℕ)) (b : List ℕ) {c : ℕ} → r ≡ refusal c → Answers r (Refused c) b b
+unfolding replyOf outputOf
+answers-no r b e = rw e (refl, refl)
+
+pub answers-ok : (r : Result (List ℕ)) {u : List ℕ} {n : ℕ} {b b′ : List ℕ} → r ≡ ok u → Wrote u 0 b b′ n → length u ≤ length b → Answers r (Done n) b b′
+unfolding replyOf outputOf
+answers-ok r e w h =
+    let f = wrote-front w h in
+    rw e (ap Done (f .long), rw (← f .long) (f .made))
+
+module _ (s t : List ℕ) (n : ℕ) where
+  pub join-1 : n < 2048 → joinAnswer s t n ≡ refusal 1
+  unfolding joinAnswer unless
+  join-1 h = rw (lt-leb 2048 n h)
+
+  module _ (room : 2048 ≤ n) where
+    pub join-bytes : joinAnswer s t n ≡ joinedBytes s t
+    unfolding joinAnswer unless
+    join-bytes = rw (le-leb 2048 n room)
+
+    pub join-first : {c : ℕ} → readSheet s ≡ refusal c → joinAnswer s t n ≡ refusal c
+    unfolding joinedBytes andThen
+    join-first e = join-bytes ∙ rw e
+
+    module _ {x : Sheet} (ex : readSheet s ≡ ok x) where
+      pub join-second : {c : ℕ} → readSheet t ≡ refusal c → joinAnswer s t n ≡ refusal c
+      unfolding joinedBytes andThen
+      join-second e = join-bytes ∙ rw (ex, e)
+
+      module _ {y : Sheet} (ey : readSheet t ≡ ok y) where
+        pub join-83 : (x .k ≡ y .k → ⊥) → joinAnswer s t n ≡ refusal 83
+        unfolding joinedBytes andThen unless
+        join-83 f = join-bytes ∙ rw (ex, ey, ne-eqb (x .k) (y .k) f)
+
+        module _ (k : x .k ≡ y .k) where
+          pub join-nodes : 200 < suc (length (x .nodes) + length (y .nodes)) → joinAnswer s t n ≡ refusal 84
+          unfolding joinedBytes andThen unless
+          join-nodes h = join-bytes ∙ rw (ex, ey, eq-eqb (x .k) (y .k) k, lt-leb (suc (length (x .nodes) + length (y .nodes))) 200 h)
+
+          module _ (few : suc (length (x .nodes) + length (y .nodes)) ≤ 200) where
+            pub join-sections : 8 < length (x .sections) + length (y .sections) → joinAnswer s t n ≡ refusal 84
+            unfolding joinedBytes andThen unless
+            join-sections h = join-bytes ∙ rw (ex, ey, eq-eqb (x .k) (y .k) k, le-leb (suc (length (x .nodes) + length (y .nodes))) 200 few, lt-leb (length (x .sections) + length (y .sections)) 8 h)
+
+            pub join-ok : length (x .sections) + length (y .sections) ≤ 8 → joinAnswer s t n ≡ ok (sheetWritten (joined x y))
+            unfolding joinedBytes andThen unless
+            join-ok h = join-bytes ∙ rw (ex, ey, eq-eqb (x .k) (y .k) k, le-leb (suc (length (x .nodes) + length (y .nodes))) 200 few, le-leb (length (x .sections) + length (y .sections)) 8 h)

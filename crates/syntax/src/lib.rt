@@ -1,0 +1,1 @@
+//! Sheets as text: the crate is there for the definitions and laws of specs/.
