@@ -11,3 +11,4 @@ pub mod Written
 pub mod Ranging
 pub mod Parts
 pub mod PartsLaws
+pub mod Wide

@@ -8,6 +8,7 @@ ghost use lib.ListN.{length, getD, drop};
 ghost use Rattle.sheet.specs.Sheet.{readBody, readHeader, readSheet};
 ghost use Rattle.sheet.specs.Kinds.{nodeInRange};
 ghost use Rattle.sheet.specs.Parts.{partAt, withNode, childrenAt};
+ghost use Rattle.sheet.specs.Wide.{wideBytes};
 ghost use Rattle.value.specs.Result.{refusal};
 ghost use Rattle.sheet.specs.Table.{nodeOf, nodeAt, kindWidth, sectionAt, tableOf, NodesTable, RootsJudged, NodesJudged, SheetJudged};
 
@@ -272,6 +273,19 @@ pub fn number_of(s: &[u8], at: u16, i: u16) -> usize
     ensures { λ r. ⌜ r ≡ getD (now (s .entry)) (at + i) 0 ⌝ }
 {
     wide(byte_of(s, at, i))
+}
+
+/// The value of the constant of four bytes (1D) whose record starts at byte `at` of a sheet: the kind 06, and the record's four.
+pub fn wide_bytes(s: &[u8], at: u16) -> [u8; 5]
+    ensures { λ r. ⌜ r ≡ wideBytes (now (s .entry)) at ⌝ }
+{
+    [
+        6,
+        byte_of(s, at, 1),
+        byte_of(s, at, 2),
+        byte_of(s, at, 3),
+        byte_of(s, at, 4),
+    ]
 }
 
 /// The nodes that a record names, in body order: `count` numbers, at the front of `nodes`, with zeros behind them.

@@ -1,3 +1,4 @@
 pub mod Starts
 pub mod Lookup
 pub mod StartsLaws
+pub mod NewPlan

@@ -2,6 +2,7 @@
 ghost use mathlib.Core.Path.{_≡_};
 ghost use lib.ListN.{length};
 ghost use Rattle.starts.specs.Starts.{noStarts, loadOf, refusedLoad, proper, findOf, partOf};
+ghost use Rattle.starts.specs.NewPlan.{noPlan, grownBy};
 
 /// Where each value of a plan starts: `count` numbers, at the front of `at`. Those that this program gives have zeros behind them; those
 /// that a caller kept may be any numbers, and `find` judges them.
@@ -20,6 +21,12 @@ pub struct Loaded {
 pub enum Found {
     At { start: usize, end: usize },
     Refused(u8),
+}
+
+/// A plan that is put together value by value: how many bytes it has so far, and where its values start.
+pub struct NewPlan {
+    pub len: usize,
+    pub starts: Starts,
 }
 
 /// No start: what stands where a call is refused.
@@ -117,5 +124,41 @@ pub fn part(starts: Starts, plan: &[u8], variable: usize) -> &[u8]
     match find(starts, plan.len(), variable) {
         Found::At { start, end } => &plan[start..end],
         Found::Refused(_) => &plan[..0],
+    }
+}
+
+/// A plan of no value.
+pub fn no_plan() -> NewPlan
+    ensures { λ r. ⌜ r ≡ noPlan ⌝ }
+{
+    let starts = none();
+    NewPlan { len: 0, starts }
+}
+
+/// A plan with one value of n bytes more behind the others; as it was where it has 16 values, or would have over 65,535 bytes.
+pub fn grown(plan: NewPlan, n: usize) -> NewPlan
+    ensures { λ r. ⌜ r ≡ grownBy plan n ⌝ }
+{
+    let starts = plan.starts;
+    let count = starts.count as usize;
+    let start = plan.len;
+    if 16 <= count {
+        return plan;
+    }
+    if 65535 < start {
+        return plan;
+    }
+    if 65535 - start < n {
+        return plan;
+    }
+    let mut at = starts.at;
+    at[count] = start as u16;
+    let more = Starts {
+        count: starts.count + 1,
+        at,
+    };
+    NewPlan {
+        len: start + n,
+        starts: more,
     }
 }

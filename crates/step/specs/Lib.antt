@@ -1,3 +1,4 @@
 pub mod Step
 pub mod StepLaws
 pub mod Storing
+pub mod Writing

@@ -11,7 +11,7 @@ use Rattle.step.specs.declared.Branch.{Branch}
 use Rattle.step.specs.declared.Branch.the-variants.{Plain, Parts, Switch, Refused}
 use Rattle.step.specs.declared.Apart.{Apart}
 use Rattle.step.specs.declared.Apart.the-variants.{At, Other}
-use Rattle.answer.specs.Answer.{doneAs}
+use Rattle.answer.specs.Answer.{doneAs, isRefusal, lenOf, stepsOf}
 use Rattle.value.specs.Value.{Value}
 use Rattle.value.specs.Laws.{Readable}
 use Rattle.value.specs.Tests.{holds, Agrees}
@@ -135,3 +135,8 @@ judged c false = c
 -- the rest of a list (kind 3) is no list
 unfoldable pub unfitRest : ℕ → ℕ → Bool
 unfitRest kind rest = eqb kind 3 && (ltb rest 2 || ltb 3 rest)
+
+-- a member that was got, behind its 03 at `top`, in a list of `built` bytes so far, whose 02 is counted too; or refusal 44
+unfoldable pub frontedAs : (got built top : ℕ) → ℕ
+frontedAs got built top =
+    where-so (isRefusal got) got (where-so (ltb 256 (built + (1 + lenOf got) + 1)) 44 (doneAs top (1 + lenOf got) (stepsOf got)))

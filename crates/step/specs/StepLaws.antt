@@ -13,7 +13,7 @@ use Rattle.value.specs.declared.Shape.the-variants.{False, True, Empty, Front, 
 use Rattle.step.specs.declared.Branch.{Branch}
 use Rattle.step.specs.declared.Branch.the-variants.{Plain, Parts, Switch, Refused}
 use Rattle.step.specs.declared.Apart.the-variants.{At, Other}
-use Rattle.answer.specs.Answer.{doneAs}
+use Rattle.answer.specs.Answer.{doneAs, isRefusal, lenOf, stepsOf}
 use Rattle.step.specs.Step.{
   When,
   where-so,
@@ -33,6 +33,7 @@ use Rattle.step.specs.Step.{
   madeOf,
   judged,
   unfitRest,
+  frontedAs,
 }
 
 pub when-in : {A P : Type 0} {r x y : A} → P → r ≡ x → When P r x y
@@ -369,3 +370,18 @@ made-list n e = sym (where-not _ _ n ∙ where-is _ _ e)
 pub made-pair : {kind : ℕ} → (kind ≡ 0x15 → ⊥) → (kind ≡ 0x17 → ⊥) → 5 ≡ madeOf kind
 unfolding madeOf
 made-pair n m = sym (where-not _ _ n ∙ where-not _ _ m)
+
+-- A MEMBER BEHIND ITS 03: a refusal is handed on; the list is too long with it; or it fits
+module _ (got built top : ℕ) where
+  pub front-refused : isRefusal got ≡ true → got ≡ frontedAs got built top
+  unfolding frontedAs where-so
+  front-refused e = rw e
+
+  module _ {l : ℕ} (there : isRefusal got ≡ false) (len : l ≡ lenOf got) where
+    pub front-long : ltb 256 (built + (1 + l) + 1) ≡ true → 44 ≡ frontedAs got built top
+    unfolding frontedAs where-so
+    front-long e = rw (there, ← len, e)
+
+    pub front-done : {n : ℕ} → ltb 256 (built + (1 + l) + 1) ≡ false → n ≡ stepsOf got → doneAs top (1 + l) n ≡ frontedAs got built top
+    unfolding frontedAs where-so
+    front-done e steps = rw (there, ← len, e, steps)

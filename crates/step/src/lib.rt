@@ -4,15 +4,23 @@
 ghost use mathlib.Core.Path.{_≡_};
 ghost use mathlib.Core.List.{[], _∷_};
 ghost use Prim.Native.Nat.{_+_, _*_, _/_, _%_, _≤_, _<_};
+ghost use lib.Dec.{ltb};
 ghost use lib.ListN.{length, getD};
 ghost use lib.Seq.{paste};
 ghost use Rattle.value.specs.Parts.{shapeOf, passesBytes, sameBytes};
 ghost use Rattle.answer.specs.Answer.{doneAs, refusedBy};
-ghost use Rattle.step.specs.Step.{When, frontTwo, pickedTwo, addedTwo, nowhere, noteOf, notedLen, notedBy, placeOf, entryRefusal, fitsKind, fitOf, otherOf, choice, takeOf, TakenBy, apartOf, madeOf, judged, unfitRest};
+ghost use Rattle.step.specs.Step.{When, frontTwo, pickedTwo, addedTwo, picked, nowhere, noteOf, notedLen, notedBy, placeOf, entryRefusal, fitsKind, fitOf, otherOf, choice, takeOf, TakenBy, apartOf, madeOf, judged, unfitRest, frontedAs};
+
+mod writing;
+
 use answer::done;
+use answer::is_refused;
+use answer::len_of;
 use answer::refused;
 use answer::refused_by;
+use answer::steps_of;
 use value::Shape;
+pub use writing::write;
 
 /// The variables in scope, at most 110: where each one's bytes start, and how many they are less one.
 pub struct Scope {
@@ -198,6 +206,25 @@ pub fn made(kind: u8) -> u8
     5
 }
 
+/// The variables x and y alone, a section's; the scope as it is where it has no room for one of them.
+pub fn section(scope: Scope, x: usize, y: usize) -> Scope
+    ensures { λ r. ⌜ When ((x < 110) × (y < 110)) r (picked scope x y) scope ⌝ }
+{
+    if 110 <= x {
+        return scope;
+    }
+    if 110 <= y {
+        return scope;
+    }
+    let mut two = scope;
+    two.count = 2;
+    two.starts[0] = scope.starts[x];
+    two.starts[1] = scope.starts[y];
+    two.lens[0] = scope.lens[x];
+    two.lens[1] = scope.lens[y];
+    two
+}
+
 /// The cells of the two variables x and y alone: a section's variables are its caller's.
 pub fn pick_cells(cells: &[u8; 110], x: usize, y: usize) -> [u8; 110]
     ensures { λ r. ⌜ When ((x < 110) × (y < 110)) r (pickedTwo (now (cells .entry)) x y) (now (cells .entry)) ⌝ }
@@ -376,4 +403,31 @@ pub fn unfit(kind: u8, rest: u8) -> bool
         return true;
     }
     3 < rest
+}
+
+/// Whether a list of `built` bytes so far is too long with `size` bytes more and the 02 that would end it.
+pub fn overlong(built: usize, size: usize) -> bool
+    ensures { λ r. ⌜ r ≡ ltb 256 (built + size + 1) ⌝ }
+{
+    if 256 < built {
+        return true;
+    }
+    if 256 < size {
+        return true;
+    }
+    256 < built + size + 1
+}
+
+/// A member that was got, behind its 03 at `top`, in a list of `built` bytes so far; 44 where the list is then too long.
+pub fn fronted(got: usize, built: usize, top: usize) -> usize
+    ensures { λ r. ⌜ r ≡ frontedAs got built top ⌝ }
+{
+    if is_refused(got) {
+        return got;
+    }
+    let size = 1 + len_of(got);
+    if overlong(built, size) {
+        return refused(44);
+    }
+    done(top, size, steps_of(got))
 }

@@ -25,7 +25,8 @@ use Rattle.rules.specs.ExplainChain.{Chain, Meets, stop, get-chain}
 use Rattle.step.specs.declared.Scope.{Scope}
 use Rattle.step.specs.Step.{entryRefusal}
 use Rattle.step.specs.StepLaws.{no-level, no-step as out-of-steps, both-left}
-use Rattle.walk.specs.Said.{said, beneath, whyIn, bytesAt, chainAt, length-bytes, Left, up, on, barred-said, left-said, said-refused}
+use Rattle.arena.specs.Chain.{chainAt}
+use Rattle.walk.specs.Said.{said, beneath, whyIn, bytesAt, length-bytes, Left, up, on, barred-said, left-said, said-refused}
 use Rattle.walk.specs.declared.at.At.{At}
 use Rattle.walk.specs.Parts.{Kept, kept-refl, kept-then, kept-set}
 use Rattle.walk.specs.Answers.{Answers, refuse, as-refused, step, no-step, not-had}

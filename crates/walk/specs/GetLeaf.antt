@@ -11,6 +11,7 @@ use lib.Seq.{getD-set-same, getD-set-other, paste}
 use Rattle.answer.specs.Answer.{doneAs}
 use Rattle.value.specs.Value.{Value, vfalse, vtrue, list, nil, number, wide, encode, encodes, size, sizes}
 use Rattle.value.specs.Laws.{Readable}
+use Rattle.sheet.specs.Wide.{wideBytes}
 use Rattle.rules.specs.Text
 use Rattle.rules.specs.Text.{Env}
 use Rattle.rules.specs.Explain.{getNode, give}
@@ -169,25 +170,6 @@ number-told {h} {n} {a = a} num w e f =
     })
 
 -- WIDE NUMBERS
-
--- the constant of four bytes whose record starts at byte n of the sheet s, and its bytes
-abbrev pub wideAt : List ℕ → ℕ → ℕ
-wideAt s n = 256 * (256 * (256 * getD s (n + 1) 0 + getD s (n + 2) 0) + getD s (n + 3) 0) + getD s (n + 4) 0
-
-abbrev pub wideBytes : List ℕ → ℕ → List ℕ
-wideBytes s n = encode (wide (wideAt s n))
-
--- they are the record's, behind the kind
-pub wide-bytes : (s : List ℕ) (n : ℕ) {a b c d : ℕ} → a ≡ getD s (n + 1) 0 → b ≡ getD s (n + 2) 0 → c ≡ getD s (n + 3) 0 → d ≡ getD s (n + 4) 0
-    → b < 256 → c < 256 → d < 256 → 6 ∷ a ∷ b ∷ c ∷ d ∷ [] ≡ wideBytes s n
-unfolding encode
-wide-bytes s n {a} {b} {c} {d} ea eb ec ed hb hc hd =
-    let m = wideAt s n in
-    let i : m / 256 / 256 / 256 ≡ a = omega arith in
-    let j : m / 256 / 256 % 256 ≡ b = omega arith in
-    let k : m / 256 % 256 ≡ c = omega arith in
-    let l : m % 256 ≡ d = omega arith in
-    rw (i, j, k, l) refl
 
 pub wide-told : {h : Here} {n r kind : ℕ} {a : List ℕ} → kind ≡ 0x1D → Asked h kind n
     → a ≡ paste (h .arena) (h .top) (wideBytes (h .sheet) n) 5 → r ≡ doneAs (h .top) 5 0 → Tells h a r kind n

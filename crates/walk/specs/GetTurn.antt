@@ -1,11 +1,13 @@
 -- A turn of the loop over the members of a list (1C): what its call asks, a refusal in it, and the list with one member more.
 use mathlib.Core.Path.{_≡_, refl, sym, ap, _∙_}
-use mathlib.Core.Bool.{true, false}
+use mathlib.Core.Bool.{Bool, true, false}
 use mathlib.Core.List.{List, [], _∷_, _++_}
 use Prim.Native.Nat.{ℕ, suc, _+_, _-_, _≤_, _<_}
 use native.Mathlib.Nat.{le-refl}
 use native.Mathlib.Decide.{decLe}
 use native.Mathlib.Omega.{arith}
+use borrow.Author.Tests.{ltb-true, ltb-false}
+use lib.Dec.{ltb}
 use lib.ListN.{getD}
 use Rattle.answer.specs.Answer.{isRefusal, doneAs, lenOf, startOf, stepsOf, steps-small}
 use Rattle.value.specs.Result.{ok}
@@ -17,6 +19,8 @@ use Rattle.rules.specs.Text.{Env, two}
 use Rattle.rules.specs.Explain.{_>>=_, get, given}
 use Rattle.rules.specs.Numbers.{SCRATCH}
 use Rattle.step.specs.declared.Scope.{Scope}
+use Rattle.step.specs.Step.{frontedAs}
+use Rattle.step.specs.StepLaws.{front-refused, front-long, front-done as step-front-done}
 use Rattle.walk.specs.Said.{Own, after, done-said, refused-said, said, said-done, said-refused}
 use Rattle.walk.specs.declared.at.At.{At}
 use Rattle.walk.specs.Parts.{part, Kept, kept-then, part-kept, part-join, Marked, marked-kept, marked-part}
@@ -37,6 +41,15 @@ pub data Fronted (base top got r : ℕ) : Type 0 where
   passed-on : isRefusal got ≡ true → r ≡ got → Fronted base top got r
   long : isRefusal got ≡ false → 256 < top + 1 - base + (1 + lenOf got) → r ≡ 44 → Fronted base top got r
   fits : isRefusal got ≡ false → top + 1 - base + (1 + lenOf got) ≤ 256 → r ≡ doneAs top (1 + lenOf got) (stepsOf got) → Fronted base top got r
+
+-- as the code has it: the list has top - base bytes so far
+pub fronted-by : {base top got r : ℕ} → base ≤ top → r ≡ frontedAs got (top - base) top → Fronted base top got r
+fronted-by {base} {top} {got} {r} low is = go (isRefusal got) refl (ltb 256 (top - base + (1 + lenOf got) + 1)) refl
+  where
+    go : (p : Bool) → isRefusal got ≡ p → (o : Bool) → ltb 256 (top - base + (1 + lenOf got) + 1) ≡ o → Fronted base top got r
+    go true e o f = passed-on e (is ∙ sym (front-refused got _ _ e))
+    go false e true f = long e (omega (arith, ltb-true 256 (top - base + (1 + lenOf got) + 1) f)) (is ∙ sym (front-long got _ _ e refl f))
+    go false e false f = fits e (omega (arith, ltb-false 256 (top - base + (1 + lenOf got) + 1) f)) (is ∙ sym (step-front-done got _ _ e refl f refl))
 
 -- where it gives no refusal
 record FrontDone (base top got r : ℕ) : Type 0 where

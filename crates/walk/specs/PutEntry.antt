@@ -3,7 +3,7 @@ use mathlib.Core.Path.{_≡_, refl, sym, ap, ap₂, _∙_}
 use mathlib.Core.Bool.{true, false}
 use mathlib.Core.Option.{Option, none}
 use mathlib.Core.List.{List, [], _∷_, append-nil}
-use Prim.Native.Nat.{ℕ, zero, suc, _+_, _*_, _≤_, _<_}
+use Prim.Native.Nat.{ℕ, zero, suc, _+_, _*_, _≤_, _<_, min}
 use native.Mathlib.Nat.{le-refl}
 use native.Mathlib.Omega.{arith}
 use lib.ListN.{length, take, getD, replicate, length-replicate, getD-replicate}
@@ -41,7 +41,7 @@ use Rattle.step.specs.declared.Scope.{Scope}
 use Rattle.step.specs.Step.{placeOf}
 use Rattle.step.specs.StepLaws.{was-written}
 use Rattle.walk.specs.Said.{whyIn, said-done, said-refused}
-use Rattle.walk.specs.declared.NewPlan.{NewPlan}
+use Rattle.starts.specs.declared.NewPlan.{NewPlan}
 use Rattle.walk.specs.declared.Walked.the-variants.{Done, Refused}
 use Rattle.walk.specs.Parts.{part, part-length, CopiedIn}
 use Rattle.walk.specs.Arena.{Held, Scoped, below-ends}
@@ -51,7 +51,8 @@ use Rattle.walk.specs.Cells.{Slot, blank, full, Written, Named, Shown}
 use Rattle.walk.specs.Frames.{env-framed}
 use Rattle.walk.specs.Puts.{enter, run, Given, Wrote, PutHere, PutAsks, PutTold}
 use Rattle.walk.specs.NewStarts.{newStarts}
-use Rattle.walk.specs.Bits.{newWritten, filledFrom, slots-took}
+use Rattle.walk.specs.Bits.{newWritten, slots-took}
+use Rattle.arena.specs.Bits.{filledFrom}
 use Rattle.walk.specs.Gather.{Rests, Placed, SomePlaced, AllGathered, Counted}
 use Rattle.walk.specs.Entry.{Unread, says-done, says-refused, Planned, PlanWalked, plan-small, plan-env, root-is}
 
@@ -263,11 +264,12 @@ module _ {sheet plan view : List ℕ} {table : Table} {sc : Scope} {allowance : 
         put-unmet f = rw f (done-explains (wrote .is) explain-put)
 
         -- the bits of the slots are those of the cells
-        pub put-written : {bits k : ℕ} → bits ≡ bitsOf (filledFrom slots 0 k) → k ≡ sc .count → (len n : ℕ)
+        pub put-written : {bits k : ℕ} → bits ≡ bitsOf (filledFrom slots 0 (min k 16)) → k ≡ sc .count → (len n : ℕ)
             → bits ≡ newWritten sheet plan view allowance (Done len n)
         unfolding newWritten tookIn forget
-        put-written q e len n =
-            q ∙ ap (λ (k : ℕ). bitsOf (filledFrom slots 0 k)) e ∙ ap bitsOf (slots-took (wrote .that .written)) ∙ sym
+        put-written {k = k} q e len n =
+            let z : min k 16 ≡ sc .count = omega (arith, e, few-variables) in
+            q ∙ ap (λ (k : ℕ). bitsOf (filledFrom slots 0 k)) z ∙ ap bitsOf (slots-took (wrote .that .written)) ∙ sym
             (written-is ∙ ap (λ (t : Told Cells). tookIn (forget strip t)) (wrote .is))
 
         placed-new : Placed a slots sc (newPlan (strip (wrote .value)) (w .μ))

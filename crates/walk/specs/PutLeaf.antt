@@ -4,6 +4,7 @@ use mathlib.Core.Bool.{Bool, true, false}
 use mathlib.Core.Option.{Option, none, some}
 use mathlib.Core.List.{List, [], _∷_}
 use Prim.Native.Nat.{ℕ, zero, suc, _+_, _-_, _*_, _/_, _%_, _≤_, _<_}
+use native.Mathlib.Decide.{decLt}
 use native.Mathlib.Omega.{arith}
 use lib.ListN.{length, getD, set, length-set, getElem?}
 use lib.Seq.{paste}
@@ -20,6 +21,7 @@ use Rattle.rules.specs.Explain.{own as own-rule, Cell, Cells, constant, putNode
 use Rattle.rules.specs.Numbers.{SCRATCH}
 use Rattle.step.specs.declared.Scope.{Scope}
 use Rattle.step.specs.Step.{noteOf, notedLen, notedBy, judged}
+use Rattle.step.specs.Writing.{Takes, Writes, first-wrote, again-wrote}
 use Rattle.walk.specs.Said.{Done, Refused, said, done-said, refused-said, refused-by-said}
 use Rattle.walk.specs.Parts.{part}
 use Rattle.walk.specs.Seen.{elem-at, elem-none}
@@ -27,7 +29,8 @@ use Rattle.walk.specs.Answers.{Answers, answer-by, finish, give-some, gi
 use Rattle.walk.specs.Cells.{Holds, Slot, blank, full, Written, Shown}
 use Rattle.walk.specs.Frames.{frame-refl}
 use Rattle.walk.specs.CellLaws.{filled, filled-frame, written-set}
-use Rattle.walk.specs.GetLeaf.{Childless, wideBytes}
+use Rattle.sheet.specs.Wide.{wideBytes}
+use Rattle.walk.specs.GetLeaf.{Childless}
 use Rattle.walk.specs.Puts.{leaf, run, Given, Wrote, PutHere, LeafAsked, LeafTells}
 
 -- the bytes of the constant number whose record starts at byte n of the sheet s
@@ -100,6 +103,18 @@ pub data Write (c x : ℕ) (view b a slots slots′ : List ℕ) (r : ℕ) : Type
   again : (getD slots c 0 ≡ 0 → ⊥) → a ≡ b → slots′ ≡ slots
       → r ≡ judged (refusedBy 54 (notedBy (getD slots c 0))) (sameBytes (part b (4096 + 256 * c) (notedLen (getD slots c 0))) view)
       → Write c x view b a slots slots′ r
+
+-- as the code has it
+pub write-by : {view b a slots slots′ : List ℕ} {c x r : ℕ} → Writable b slots c view → x < 200 → Writes b slots c x view r a slots′
+    → Write c x view b a slots slots′ r
+write-by {view} {b} {a} {slots} {slots′} {c} {x} {r} w few p = go (decLt (getD slots c 0) 1)
+  where
+    takes : Takes b c x view
+    takes = (w .cell, omega (arith, w .cell, w .long), omega arith, w .some, w .view-short)
+
+    go : Dec (getD slots c 0 < 1) → Write c x view b a slots slots′ r
+    go (yes h) = let z : getD slots c 0 ≡ 0 = omega arith in let q = first-wrote b slots c x view takes z p in first z (q .1) (q .2) (q .0)
+    go (no h) = let q = again-wrote b slots c x view takes (λ z. h (omega (arith, z))) p in again (λ z. h (omega (arith, z))) (q .0) (q .1) (q .2)
 
 -- the same for a cell by another name
 pub writable-as : {a slots view : List ℕ} {c d : ℕ} → c ≡ d → Writable a slots d view → Writable a slots c view

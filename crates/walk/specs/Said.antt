@@ -1,5 +1,5 @@
 -- What an answer says: a value and where it stands, or a refusal and the nodes down to where it was met, which stand in the arena.
-use mathlib.Core.Path.{_≡_, refl, ap, _∙_}
+use mathlib.Core.Path.{_≡_, refl, sym, ap, _∙_}
 use mathlib.Core.Bool.{Bool, true, false}
 use mathlib.Core.Option.{Option, none, some}
 use mathlib.Core.List.{List, [], _∷_}
@@ -31,6 +31,7 @@ use Rattle.answer.specs.Answer.{
   later-refused,
   later-done,
 }
+use Rattle.arena.specs.Chain.{chainAt, inChain, chained, leftAs, in-place, chained-refused, chained-done, left-refused, left-done}
 use Rattle.rules.specs.Numbers.{LEVELS, SCRATCH, CHAIN}
 use Rattle.rules.specs.Explain.{Why, own, barred}
 
@@ -62,10 +63,6 @@ beneath x (Refused y) = Refused (record { code = y .code; chain = x ∷ y .chain
 unfoldable pub bytesAt : List ℕ → (i d : ℕ) → List ℕ
 bytesAt a i zero = []
 bytesAt a i (suc d) = getD a i 0 ∷ bytesAt a (suc i) d
-
--- where a node has its place in the chain that was entered with l levels left: the root is the first of 49
-abbrev pub chainAt : ℕ → ℕ
-chainAt l = CHAIN + LEVELS - l
 
 -- one less, where there is one
 unfoldable pub writer : ℕ → Option ℕ
@@ -143,6 +140,18 @@ module _ (a : List ℕ) (l : ℕ) where
 pub data Left (x levels g : ℕ) (b a : List ℕ) (r : ℕ) : Type 0 where
   up : isRefusal g ≡ true → a ≡ set b (chainAt levels) x → r ≡ deeperAs g → Left x levels g b a r
   on : isRefusal g ≡ false → a ≡ b → r ≡ laterAs g 1 → Left x levels g b a r
+
+-- as the code has it
+pub left-by : {x levels g r : ℕ} {b a : List ℕ} → x < 200 → levels ≤ CHAIN → (r ≡ leftAs g) × (a ≡ chained b g x levels) → Left x levels g b a r
+left-by {x} {levels} {g} {r} {b} {a} few deep p = go (isRefusal g) refl
+  where
+    small : x % 256 ≡ x
+    small = omega arith
+
+    go : (q : Bool) → isRefusal g ≡ q → Left x levels g b a r
+    go true e = up e (p .1 ∙ chained-refused b g x levels e ∙ sym (in-place b x levels (omega arith)) ∙ ap (set b (chainAt levels)) small)
+        (p .0 ∙ left-refused g e)
+    go false e = on e (p .1 ∙ chained-done b g x levels e) (p .0 ∙ left-done g e)
 
 -- of an answer by another name
 pub left-as : {x levels g g′ r : ℕ} {b a : List ℕ} → g ≡ g′ → Left x levels g b a r → Left x levels g′ b a r

@@ -1,11 +1,10 @@
-//! Bytes moved within the arena, and those of a constant.
+//! Bytes moved within the arena.
 ghost use Prim.Native.Nat.{_+_, _≤_, _<_};
 ghost use mathlib.Core.Path.{_≡_};
 ghost use lib.ListN.{length, drop};
 ghost use lib.Seq.{paste};
 ghost use Rattle.walk.specs.Parts.{Copied, CopiedIn};
 ghost use Rattle.walk.specs.Cells.{rebuiltIn};
-ghost use Rattle.walk.specs.GetLeaf.{wideBytes};
 
 // Copies n bytes of the arena down: from the first on.
 fn copy_down(arena: &mut [u8], from: usize, to: usize, n: usize)
@@ -87,17 +86,4 @@ pub fn rebuild(
     whole[0] = kind;
     fill(whole, 1, arena, first, flen);
     fill(whole, 1 + flen, arena, second, slen);
-}
-
-/// The bytes of the constant (1D) whose record starts at byte `n` of a sheet: the kind 06, and the record's four.
-pub fn wide_bytes(sheet: &[u8], n: u16) -> [u8; 5]
-    ensures { λ r. ⌜ r ≡ wideBytes (now (sheet .entry)) n ⌝ }
-{
-    [
-        6,
-        sheet::byte_of(sheet, n, 1),
-        sheet::byte_of(sheet, n, 2),
-        sheet::byte_of(sheet, n, 3),
-        sheet::byte_of(sheet, n, 4),
-    ]
 }

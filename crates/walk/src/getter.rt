@@ -5,24 +5,21 @@ ghost use Prim.Native.Nat.{suc, _+_, _*_, _≤_, _<_};
 ghost use lib.ListN.{length, getD};
 ghost use lib.Seq.{paste};
 ghost use Rattle.answer.specs.Answer.{doneAs};
+ghost use Rattle.sheet.specs.Wide.{wideBytes};
 ghost use Rattle.rules.specs.Numbers.{SCRATCH};
 ghost use Rattle.walk.specs.Gets.{Ready, Gives, enter, own};
 ghost use Rattle.walk.specs.GetReady.{Sized};
 ghost use Rattle.walk.specs.GetTwo.{Two};
 ghost use Rattle.walk.specs.GetCase.{Case, testOf};
-ghost use Rattle.walk.specs.GetLeaf.{Childless, numbered, wideBytes};
+ghost use Rattle.walk.specs.GetLeaf.{Childless, numbered};
 ghost use Rattle.walk.specs.GetMembers.{MembersAsked, MembersTold};
 use crate::at::At;
-use crate::bytes::wide_bytes;
-use crate::chain::leave;
 use crate::got::added;
 use crate::got::bring;
-use crate::got::fronted;
 use crate::got::joined;
 use crate::got::judge;
 use crate::got::middle_at;
 use crate::got::shape_at;
-use crate::scope::section;
 use crate::scope::with_two;
 use answer::done;
 use answer::is_refused;
@@ -31,6 +28,7 @@ use answer::len_of;
 use answer::refused;
 use answer::start_of;
 use answer::steps_of;
+use arena::leave;
 use step::Branch;
 use step::Scope;
 
@@ -51,7 +49,7 @@ fn get_wide(sheet: &[u8], arena: &mut [u8], n: u16, top: usize) -> usize
     requires { ⌜ (top + 5 ≤ length (now arena)) × (top < SCRATCH) ⌝ }
     ensures { λ r. ⌜ (now (arena .exit) ≡ paste (now (arena .entry)) top (wideBytes (now (sheet .entry)) n) 5) × (r ≡ doneAs top 5 0) ⌝ }
 {
-    let number = wide_bytes(sheet, n);
+    let number = sheet::wide_bytes(sheet, n);
     step::store(arena, top, &number);
     done(top, 5, 0)
 }
@@ -236,7 +234,7 @@ fn get_call(
         return refused(42);
     }
     let root = sheet::section_root(sheet, sheet::number_of(sheet, n, 1));
-    let inner = section(scope, x, y);
+    let inner = step::section(scope, x, y);
     get_node(sheet, table, arena, inner, root, at)
 }
 
@@ -294,7 +292,7 @@ fn get_members(
         let one = to.raised(1);
         let got = get_node(sheet, table, arena, inner, root, one);
         let a = bring(arena, got, one.top);
-        let front = fronted(a, base, top);
+        let front = step::fronted(a, top - base, top);
         if is_refused(front) {
             return front;
         }

@@ -5,13 +5,11 @@ ghost use Prim.Native.Nat.{_+_, _-_, _≤_, _<_};
 ghost use lib.ListN.{length};
 ghost use Rattle.answer.specs.Answer.{isRefusal, lenOf, startOf};
 ghost use Rattle.value.specs.Parts.{shapeOf, middleOf};
-ghost use Rattle.rules.specs.Numbers.{SCRATCH};
 ghost use Rattle.walk.specs.Parts.{part};
 ghost use Rattle.walk.specs.GetAt.{Movable, Brought};
 ghost use Rattle.walk.specs.GetBranch.{Judgeable, Judged};
 ghost use Rattle.walk.specs.GetTwo.{Joinable, Joined};
 ghost use Rattle.walk.specs.GetAdd.{Addable, Added};
-ghost use Rattle.walk.specs.GetTurn.{Fronted};
 use crate::bytes::copy;
 use answer::done;
 use answer::is_refused;
@@ -111,20 +109,4 @@ pub fn added(arena: &mut [u8], got: usize, amount: u16, top: usize) -> usize
     arena[top + 1] = value::high(sum);
     arena[top + 2] = value::low(sum);
     got
-}
-
-/// A member that was got and stands behind a 03 at `top`, in a list that is built from `base` on; with its 02 the list is then no longer than a
-/// value may be.
-pub fn fronted(got: usize, base: usize, top: usize) -> usize
-    requires { ⌜ (base ≤ top) × (top < SCRATCH) ⌝ }
-    ensures { λ r. ⌜ Fronted base top got r ⌝ }
-{
-    if is_refused(got) {
-        return got;
-    }
-    let len = 1 + len_of(got);
-    if 256 < top + 1 - base + len {
-        return refused(44);
-    }
-    done(top, len, steps_of(got))
 }

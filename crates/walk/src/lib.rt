@@ -25,7 +25,6 @@ mod scope;
 use crate::at::At;
 use crate::bytes::copy;
 use crate::bytes::copy_in;
-use crate::cells::bits_of;
 use crate::cells::first_cells;
 use crate::chain::met_at;
 use crate::chain::nowhere;
@@ -37,8 +36,10 @@ use answer::code_of;
 use answer::is_refused;
 use answer::len_of;
 use answer::steps_of;
+use arena::bits_of;
 pub use chain::Met;
 use sheet::Table;
+use starts::NewPlan;
 use starts::Starts;
 use step::Scope;
 
@@ -61,12 +62,6 @@ pub struct PutWalked {
     pub starts: Starts,
     pub written: u16,
     pub met: Met,
-}
-
-// The new plan: how many bytes it has, and where its values start.
-struct NewPlan {
-    len: usize,
-    starts: Starts,
 }
 
 // A refusal of a get from before the walk.
@@ -150,21 +145,18 @@ fn gather(arena: &mut [u8], slots: &[u16; 110], scope: Scope) -> NewPlan
     requires { ⌜ SomePlaced (now arena) (now slots) scope ⌝ }
     ensures { λ r. ⌜ AllGathered (now (slots .entry)) scope (now (arena .entry)) (now (arena .exit)) r ⌝ }
 {
-    let mut at = [0u16; 16];
-    let mut len = 0;
+    let mut new = starts::no_plan();
     let mut i = 0;
     while i < scope.count as usize {
         let stood = step::length_of(scope.lens[i]);
         let start = scope.starts[i] as usize;
         let from = step::place_of(slots[i], i, start, stood);
-        copy(arena, from.start, rules::STACK + len, from.len);
-        at[i] = len as u16;
-        len += from.len;
+        let to = rules::STACK + new.len;
+        copy(arena, from.start, to, from.len);
+        new = starts::grown(new, from.len);
         i += 1;
     }
-    let count = scope.count as u8;
-    let starts = Starts { count, at };
-    NewPlan { len, starts }
+    new
 }
 
 // A refusal of a put that was met there, with no start and no bit.

@@ -5,14 +5,15 @@ ghost use Prim.Native.Nat.{ℕ, suc, _+_, _*_, _≤_, _<_};
 ghost use lib.ListN.{length, getD};
 ghost use Rattle.value.specs.Value.{Value, vfalse};
 ghost use Rattle.value.specs.Parts.{sameBytes};
+ghost use Rattle.sheet.specs.Wide.{wideBytes};
 ghost use Rattle.rules.specs.Numbers.{SCRATCH, CHAIN};
 ghost use Rattle.step.specs.Step.{judged};
 ghost use Rattle.walk.specs.Cells.{Shown};
 ghost use Rattle.walk.specs.GetTwo.{Two};
 ghost use Rattle.walk.specs.GetCase.{Case};
-ghost use Rattle.walk.specs.GetLeaf.{Childless, wideBytes};
+ghost use Rattle.walk.specs.GetLeaf.{Childless};
 ghost use Rattle.walk.specs.Puts.{Ready, Inner, Gives, Few, Any, PartsAt, SomeParts, SomeView, enter, own, leaf, pair, inside, rebuilt, switchAt};
-ghost use Rattle.walk.specs.PutLeaf.{Writable, Write, numberBytes};
+ghost use Rattle.walk.specs.PutLeaf.{numberBytes};
 ghost use Rattle.walk.specs.PutSwitch.{BothAsked, Sees, DefaultsAsked, Defaults};
 ghost use Rattle.walk.specs.PutMember.{StoodAsked, Stood, MembersAsked, MemberTold};
 ghost use Rattle.walk.specs.PutMembers.{SomeList, MembersTold};
@@ -20,14 +21,11 @@ use crate::at::At;
 use crate::bytes::copy;
 use crate::bytes::fill;
 use crate::bytes::rebuild;
-use crate::bytes::wide_bytes;
-use crate::chain::leave;
 use crate::getter::get_node;
 use crate::got::bring;
 use crate::got::shape_at;
 use crate::scope::member;
 use crate::scope::none;
-use crate::scope::section;
 use crate::scope::single;
 use crate::scope::with_two;
 use answer::done;
@@ -37,6 +35,7 @@ use answer::len_of;
 use answer::refused;
 use answer::start_of;
 use answer::steps_of;
+use arena::leave;
 use step::Apart;
 use step::Branch;
 use step::Scope;
@@ -59,22 +58,6 @@ pub struct Members {
     pub old: usize,
 }
 
-// A view for the cell c: written by the node where nothing was, or else it must equal what was.
-fn write(arena: &mut [u8], slots: &mut [u16; 110], c: usize, node: usize, view: &[u8]) -> usize
-    requires { ⌜ Writable (now arena) (now slots) c (now view) × (node < 200) ⌝ }
-    ensures { λ r. ⌜ Write c node (now (view .entry)) (now (arena .entry)) (now (arena .exit)) (now (slots .entry)) (now (slots .exit)) r ⌝ }
-{
-    let slot = step::slot_of(c);
-    let note = slots[c];
-    if note == 0 {
-        step::store(arena, slot, view);
-        slots[c] = step::note_of(node as u8, view.len());
-        return done(0, 0, 0);
-    }
-    let end = slot + step::noted_len(note);
-    step::put_again(note, &arena[slot..end], view)
-}
-
 // A constant number (14) must equal the view.
 fn put_number(sheet: &[u8], n: u16, view: &[u8]) -> usize
     ensures { λ r. ⌜ r ≡ judged 50 (sameBytes (now (view .entry)) (numberBytes (now (sheet .entry)) n)) ⌝ }
@@ -87,7 +70,7 @@ fn put_number(sheet: &[u8], n: u16, view: &[u8]) -> usize
 fn put_wide(sheet: &[u8], n: u16, view: &[u8]) -> usize
     ensures { λ r. ⌜ r ≡ judged 50 (sameBytes (now (view .entry)) (wideBytes (now (sheet .entry)) n)) ⌝ }
 {
-    let number = wide_bytes(sheet, n);
+    let number = sheet::wide_bytes(sheet, n);
     step::put_bytes(&number, view)
 }
 
@@ -121,7 +104,7 @@ fn put_leaf(
         return refused(42);
     }
     let c = cells[x] as usize;
-    write(arena, slots, c, node, view)
+    step::write(arena, slots, c, node, view)
 }
 
 /// A view put back into a node: its depth is judged, then the allowance. The sheet's reader lets no kind over 1D through.
@@ -555,7 +538,7 @@ fn put_call(
         return refused(42);
     }
     let root = sheet::section_root(sheet, sheet::number_of(sheet, n, 1));
-    let inner = section(scope, x, y);
+    let inner = step::section(scope, x, y);
     let two = step::pick_cells(cells, x, y);
     put_node(sheet, table, arena, slots, inner, &two, root, view, at)
 }
@@ -649,7 +632,7 @@ fn put_one(
     }
     let now = step::place_of(slots[c], c, start, len);
     let size = 1 + now.len;
-    if 256 < built + size + 1 {
+    if step::overlong(built, size) {
         return refused(44);
     }
     whole[built] = 3;

@@ -1,8 +1,7 @@
-//! Scopes, each made whole: the empty one, one of one variable, a plan's, a section's, and a scope with two variables more.
+//! Scopes, each made whole: the empty one, one of one variable, a plan's, a member's, and a scope with two variables more.
 ghost use mathlib.Core.Path.{_≡_};
 ghost use Prim.Native.Nat.{_+_, _-_, _<_, _≤_};
 ghost use Rattle.rules.specs.Numbers.{SCRATCH};
-ghost use Rattle.step.specs.Step.{picked};
 ghost use Rattle.walk.specs.Scope.{noVariable, pushed, withMember, withTwo, Stored, Spanned};
 use step::Scope;
 use value::Spans;
@@ -32,20 +31,6 @@ pub fn single(start: usize, len: usize) -> Scope
         starts,
         lens,
     }
-}
-
-/// The variables x and y alone, a section's.
-pub fn section(scope: Scope, x: usize, y: usize) -> Scope
-    requires { ⌜ (x < 110) × (y < 110) ⌝ }
-    ensures { λ r. ⌜ r ≡ picked scope x y ⌝ }
-{
-    let mut two = scope;
-    two.count = 2;
-    two.starts[0] = scope.starts[x];
-    two.starts[1] = scope.starts[y];
-    two.lens[0] = scope.lens[x];
-    two.lens[1] = scope.lens[y];
-    two
 }
 
 /// A member, whose value has `len` bytes from `start` on, and the variable x alone.

@@ -1,22 +1,21 @@
--- `gather` meets its contract. The invariant: the values of i variables are gathered, and `at` has their starts.
+-- `gather` meets its contract. The invariant: the values of i variables are gathered in `new`.
 -- Assumes nothing.
-use mathlib.Core.Path.{refl}
 use Prim.Native.Nat.{_≤_, _<_, _-_}
 use native.Mathlib.Omega.{arith}
-use Rattle.walk.specs.Gather.{Gathered, gathered-none, gather-fits, gathered-more, gathered-all}
+use Rattle.walk.specs.Gather.{GatheredIn, gathered-none, gather-fits, grown-more, gathered-all}
 use borrow.Author.Needs.{needs}
 use Rattle.walk.proofs.gather.Statement.{statement}
 use Rattle.walk.proofs.gather.Tie as tie
 
 abbrev Inv-loop : tie.InvT-loop
-Inv-loop arena₀ slots scope at₀ len₀ i₀ arena at len i = (i ≤ scope .count) × Gathered i slots scope arena₀ arena len at
+Inv-loop arena₀ slots scope new₀ i₀ arena new i = (i ≤ scope .count) × GatheredIn i slots scope arena₀ arena new
 
 abbrev μ-loop : tie.MeasureT-loop
-μ-loop arena₀ slots scope at₀ len₀ i₀ arena at len i = scope .count - i
+μ-loop arena₀ slots scope new₀ i₀ arena new i = scope .count - i
 
--- PLACES: a turn of the loop; how long the next variable's old value is; where its value stands
+-- PLACES: a turn of the loop; how long the next variable's old value is; where its value stands; it is copied
 abbrev entry : tie.In-loop Inv-loop μ-loop → tie.Start Inv-loop μ-loop
-entry c = c .before .before .before
+entry c = c .before .before .before .before
 
 abbrev turn : tie.After-place-of Inv-loop μ-loop → tie.In-loop Inv-loop μ-loop
 turn c = c .before .before .before .before .before
@@ -24,13 +23,16 @@ turn c = c .before .before .before .before .before
 abbrev stood : tie.After-place-of Inv-loop μ-loop → tie.After-length-of Inv-loop μ-loop
 stood c = c .before .before .before
 
+abbrev copied : tie.After-grown Inv-loop μ-loop → tie.After-place-of Inv-loop μ-loop
+copied c = c .before .before .before .before .before .before
+
 -- there are no more than 16 variables
 few : (c : tie.In-loop Inv-loop μ-loop) → c .before .loop .i < 16
 few c = let p = entry c .pre .placed in omega (arith, p .few, p .count, c .loop-test .taken)
 
 -- NEEDS
 loop-holds : tie.Need-loop-holds Inv-loop μ-loop
-loop-holds c = (omega arith, gathered-none _)
+loop-holds c = (omega arith, gathered-none _ (c .no-plan .ensures))
 
 element-copy-out-length-of : tie.Need-element-copy-out-length-of Inv-loop μ-loop
 element-copy-out-length-of c = omega (arith, few c)
@@ -47,62 +49,33 @@ mul-place-of c = omega (arith, few (c .before .before .before))
 element-copy-out-place-of : tie.Need-element-copy-out-place-of Inv-loop μ-loop
 element-copy-out-place-of c = omega (arith, few (c .before .before .before))
 
-add-copy : tie.Need-add-copy Inv-loop μ-loop
-add-copy c = let t = turn (c .before) in omega (arith, few t, t .before .loop .inv .1 .short)
+add-to : tie.Need-add-to Inv-loop μ-loop
+add-to c = let t = turn (c .before) in omega (arith, few t, t .before .loop .inv .1 .so-far .short)
 
 copy-requires : tie.Need-copy-requires Inv-loop μ-loop
 copy-requires c κs =
-    let p = c .before in
+    let p = c .before .before in
     let t = turn p in
-    gather-fits (t .before .loop .inv .1) (entry t .pre) (t .loop-test .taken) (stood p .length-of .ensures) (p .place-of .ensures)
-
--- the value is copied: what its length and its place were, and that the turn goes on
-abbrev copied : tie.After-slice-known2 Inv-loop μ-loop → tie.After-place-of Inv-loop μ-loop
-copied c = c .before .before .before .before
-
-abbrev noted : tie.After-struct-known Inv-loop μ-loop → tie.After-slice-known2 Inv-loop μ-loop
-noted c = c .before
-
-cast-at : tie.Need-cast-at Inv-loop μ-loop
-cast-at c = let t = turn (copied c) in omega (arith, few t, t .before .loop .inv .1 .short)
-
-mul-at : tie.Need-mul-at Inv-loop μ-loop
-mul-at c = omega (arith, few (turn (copied c)))
-
-array-write-at : tie.Need-array-write-at Inv-loop μ-loop
-array-write-at c = omega (arith, few (turn (copied c)))
-
-add-len : tie.Need-add-len Inv-loop μ-loop
-add-len c =
-    let p = copied (noted c) in
-    let t = turn p in
-    let g = t .before .loop .inv .1 in
-    let f = gather-fits g (entry t .pre) (t .loop-test .taken) (stood p .length-of .ensures) (p .place-of .ensures) in
-    omega (arith, f .1, g .kept .long, entry t .pre .placed .long)
+    gather-fits (t .before .loop .inv .1 .so-far) (entry t .pre) (t .loop-test .taken) (stood p .length-of .ensures) (p .place-of .ensures)
 
 add-i : tie.Need-add-i Inv-loop μ-loop
-add-i c = omega (arith, few (turn (copied (noted c))))
+add-i c = omega (arith, few (turn (copied c)))
 
 loop-less : tie.Need-loop-less Inv-loop μ-loop
-loop-less c = omega (arith, turn (copied (noted c)) .loop-test .taken)
+loop-less c = omega (arith, turn (copied c) .loop-test .taken)
 
 loop-again : tie.Need-loop-again Inv-loop μ-loop
 loop-again c =
-    let p = copied (noted c) in
+    let p = copied c in
     let t = turn p in
     let h = t .loop-test .taken in
-    let g = t .before .loop .inv .1 in
-    (omega arith, gathered-more g (entry t .pre) h (stood p .length-of .ensures) (p .place-of .ensures) (noted c .before .before .copy .ensures))
-
-cast-count : tie.Need-cast-count Inv-loop μ-loop
-cast-count c = let p = c .before .before .before .pre .placed in omega (arith, p .few, p .count)
+    (omega arith, grown-more (t .before .loop .inv .1) (entry t .pre) h (stood p .length-of .ensures) (p .place-of .ensures)
+    (c .before .before .before .copy .ensures) (c .grown .ensures))
 
 returns : tie.Need-returns Inv-loop μ-loop
-returns c =
-    let v = c .before .loop .inv in
-    record { count = refl; all = gathered-all (v .1) (omega (arith, v .0, c .loop-test .left)) }
+returns c = let v = c .before .loop .inv in gathered-all (v .1) (omega (arith, v .0, c .loop-test .left))
 
 pub gather-spec : {M : Type 1} → statement M
-gather-spec = tie.close (tie.spec Inv-loop μ-loop loop-holds (λ c. search needs) element-copy-out-length-of (λ c κs. search needs)
+gather-spec = tie.close (tie.spec Inv-loop μ-loop (λ c κs. search needs) loop-holds (λ c. search needs) element-copy-out-length-of (λ c κs. search needs)
     mul-start element-copy-out-start (λ c. search needs) mul-place-of element-copy-out-place-of (λ c κs. search needs)
-    add-copy copy-requires cast-at mul-at array-write-at add-len add-i loop-less loop-again cast-count (λ c. returns c .all .kept .long) returns)
+    add-to copy-requires (λ c κs. search needs) add-i loop-less loop-again (λ c. returns c .all .kept .long) returns)

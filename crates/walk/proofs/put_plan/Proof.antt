@@ -75,11 +75,6 @@ gather-requires c κs =
     let p = copied n in
     put-placed (entry p .pre .0) (entry p .pre .1) (p .copy-in .ensures) (n .first-cells .ensures) (q .put-node .ensures .0) (fine f)
 
-bits-of-requires : tie.Need-bits-of-requires
-bits-of-requires c κs =
-    let p = copied (made (was-put (c .before .before .before .before .before .before .before .before))) in
-    few-variables (entry p .pre .0) (entry p .pre .1)
-
 returns-2 : tie.Need-returns-2
 returns-2 c =
     let s = c .before in
@@ -102,5 +97,5 @@ returns-2 c =
 
 pub put-plan-spec : {M : Type 1} → statement M
 put-plan-spec = tie.close (tie.spec copy-in-requires (λ c. search needs) first-cells-requires put-node-requires (λ c κs. search needs)
-    met-at-requires (λ c κs. search needs) (λ c κs. search needs) (λ c. returns c .0 .long) returns gather-requires (λ c κs. search needs) bits-of-requires
+    met-at-requires (λ c κs. search needs) (λ c κs. search needs) (λ c. returns c .0 .long) returns gather-requires (λ c κs. search needs) (λ c κs. search needs)
     (λ c κs. search needs) (λ c. returns-2 c .0 .long) returns-2)

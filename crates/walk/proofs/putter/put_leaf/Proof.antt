@@ -4,7 +4,7 @@ use mathlib.Core.Path.{_≡_, ap}
 use native.Mathlib.Omega.{arith}
 use Prim.Native.Nat.{ℕ, _-_}
 use lib.ListN.{getD}
-use Rattle.walk.specs.PutLeaf.{constant-told, number-told, var-42, var-writable, var-told, Writable, writable-as, write-as}
+use Rattle.walk.specs.PutLeaf.{constant-told, number-told, var-42, var-writable, var-told, Writable, writable-as, write-as, write-by}
 use Rattle.walk.specs.GetEnter.{node-few}
 use borrow.Author.Needs.{needs}
 use Rattle.walk.proofs.putter.put_leaf.Statement.{statement}
@@ -43,19 +43,14 @@ writable c =
 cast-c : tie.Need-cast-c
 cast-c c = record { fits = omega (arith, writable (c .before) .cell) }
 
-write-requires : tie.Need-write-requires
-write-requires c κs =
-    let i = c .before .before .before in
-    (writable i, let w = start (variable i) .pre .0 in node-few (w .sheet) (w .known .0))
-
 returns-4 : tie.Need-returns-4
 returns-4 c =
     let i = c .before .before .before .before .before .before in
     let v = variable i in
     var-told (start v .pre .0) (is-variable v) (omega (arith, v .number-of .ensures, i .if3 .left))
-    (write-as (ap (λ (i : ℕ). getD (start v .args .cells .now) i 0) (v .number-of .ensures)) (c .before .before .write .ensures))
+    (write-as (ap (λ (i : ℕ). getD (start v .args .cells .now) i 0) (v .number-of .ensures)) (write-by (writable i) (let w = start v .pre .0 in node-few (w .sheet) (w .known .0)) (c .before .before .write .ensures)))
 
 pub put-leaf-spec : {M : Type 1} → statement M
 put-leaf-spec = tie.close (tie.spec
     (λ c κs. search needs) returns (λ c. search needs) (λ c κs. search needs) returns-2 (λ c κs. search needs)
-    (λ c. search needs) (λ c κs. search needs) returns-3 (λ c. search needs) cast-c write-requires (λ c. search needs) returns-4)
+    (λ c. search needs) (λ c κs. search needs) returns-3 (λ c. search needs) cast-c (λ c κs. search needs) (λ c. search needs) returns-4)

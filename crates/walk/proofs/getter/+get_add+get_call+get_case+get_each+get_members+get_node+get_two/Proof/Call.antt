@@ -2,7 +2,7 @@
 -- Assumes nothing.
 use borrow.Author.Needs.{needs}
 use mathlib.Core.Path.{_≡_, ap, ap₂, _∙_}
-use Prim.Native.Nat.{ℕ, _+_, _-_}
+use Prim.Native.Nat.{ℕ, _+_, _-_, _<_}
 use native.Mathlib.Omega.{arith}
 use Rattle.walk.specs.Gets.{here, ready-scope, as-scope}
 use lib.ListN.{getD}
@@ -13,7 +13,7 @@ use Rattle.walk.proofs.getter.get_call.Reads as get-call
 use Rattle.walk.proofs.getter.get_node.Reads as get-node
 use Rattle.sheet.proofs.number_of.Reads as number-of
 use Rattle.answer.proofs.refused.Reads as refused
-use Rattle.walk.proofs.scope.section.Reads as section
+use Rattle.step.proofs.section.Reads as section
 use Rattle.sheet.proofs.section_root.Reads as section-root
 use Rattle.walk.proofs.getter.+get_add+get_call+get_case+get_each+get_members+get_node+get_two as cycle
 use cycle.Lts-get_call as lts
@@ -73,17 +73,14 @@ module _ (t : ℕ) where
       call-42₂ (w .1 .0) (w .1 .1) (omega (arith, c .before .before .before .before .before .number-of .ensures, c .before .before .if1 .left))
       (omega (arith, c .before .before .before .before .number-of2 .ensures, c .before .if2 .taken)) (c .refused2 .ensures)
 
-  section-requires : At lts.Need-section-requires
-  section-requires c κs =
-      let i = in-scope c in
-      let w = entry i .pre .1 .0 in
-      (omega (arith, w .variables, i .before .if1 .left), omega (arith, w .variables, i .if2 .left))
+  few : (c : At lts.Else2) → (c .before .before .before .before .number-of .result < 110) × (c .before .before .before .number-of2 .result < 110)
+  few c = let w = entry c .pre .1 .0 in (omega (arith, w .variables, c .before .if1 .left), omega (arith, w .variables, c .if2 .left))
 
   section-is : (c : At lts.After-section) → let i = in-scope (found c) in let e = entry i in
       c .section .result ≡ picked (e .args .scope) (getD (e .args .sheet .now) (e .args .n + 2) 0) (getD (e .args .sheet .now) (e .args .n + 3) 0)
   section-is c =
       let i = in-scope (found c) in
-      c .section .ensures ∙ ap₂ (picked (entry i .args .scope)) (i .before .before .before .before .number-of .ensures)
+      c .section .ensures .inside (few i) ∙ ap₂ (picked (entry i .args .scope)) (i .before .before .before .before .number-of .ensures)
       (i .before .before .before .number-of2 .ensures)
 
   get-node-requires : At lts.Need-get-node-requires
@@ -95,4 +92,4 @@ module _ (t : ℕ) where
 pub get-call-met : {M : Type 1} (t : ℕ) → lts.Closed (claims t) (AtMeasure (kind get-call.Pre) t) get-call.Post M
 get-call-met t = lts.spec (claims t) (AtMeasure (kind get-call.Pre) t) get-call.Post
     (λ c κs. search needs) (λ c κs. search needs) (λ c. search needs) (λ c κs. search needs) (returns t) (λ c κs. search needs) (returns-2 t)
-    (λ c κs. search needs) (λ c κs. search needs) (section-requires t) (get-node-requires t) (λ c. returns-3 t c .kept .long) (returns-3 t)
+    (λ c κs. search needs) (λ c κs. search needs) (λ c κs. search needs) (get-node-requires t) (λ c. returns-3 t c .kept .long) (returns-3 t)

@@ -15,11 +15,11 @@ use Rattle.walk.specs.Gets.{levels-as, ready-as, gives-as}
 use Rattle.walk.specs.GetReady.{sized-as}
 use Rattle.walk.specs.GetAt.{AtTop, movable, at-top, brought-as}
 use Rattle.walk.specs.GetMembers.{Building, members-here, building-none, rest-inside, members-end}
-use Rattle.walk.specs.GetTurn.{Turning, member-there, turn-here, turn-asks, turn-refused, turn-steps, turn-done}
+use Rattle.walk.specs.GetTurn.{Turning, Fronted, fronted-by, member-there, turn-here, turn-asks, turn-refused, turn-steps, turn-done}
 use Rattle.walk.proofs.at.At.behind.Reads as behind
 use Rattle.walk.proofs.got.bring.Reads as bring
 use Rattle.answer.proofs.done.Reads as done
-use Rattle.walk.proofs.got.fronted.Reads as fronted
+use Rattle.step.proofs.fronted.Reads as fronted
 use Rattle.walk.proofs.getter.get_members.Reads as get-members
 use Rattle.walk.proofs.getter.get_members.Kinds as kinds
 use Rattle.walk.proofs.getter.get_node.Reads as get-node
@@ -176,22 +176,27 @@ module _ (t : ℕ) where
       let g = c .before .before .before in
       movable (get-node-requires (g .before) (g .get-node .lifetimes) .1) (g .get-node .ensures .0) (g .get-node .ensures .1)
 
-  fronted-requires : At lts.Need-fronted-requires
-  fronted-requires c κs = let b = bounds (turn (measured (up (one (c .before .before))))) in (b .0, b .1)
+  sub-fronted : At lts.Need-sub-fronted
+  sub-fronted c = bounds (turn (measured (up (one (c .before .before))))) .0
+
+  -- what the member is answered as
+  front : (c : At lts.After-fronted) → let b = brought c in let l = turn (measured (up (one b))) in
+      Fronted (entry l .args .at .top) (l .loop .to .top) (b .bring .result) (c .fronted .result)
+  front c = fronted-by (bounds (turn (measured (up (one (brought c))))) .0) (c .fronted .ensures)
 
   returns : At lts.Need-returns
   returns c =
       let f = c .before .before in
       let b = brought f in
       let m = measured (up (one b)) in
-      turn-refused (turning m) (mark 3 (turn m)) (value b) (f .fronted .ensures) (sym (c .before .is-refused .ensures) ∙ c .if2 .taken)
+      turn-refused (turning m) (mark 3 (turn m)) (value b) (front f) (sym (c .before .is-refused .ensures) ∙ c .if2 .taken)
 
   behind-requires : At lts.Need-behind-requires
   behind-requires c κs =
       let f = judged c in
       let b = brought f in
       let m = measured (up (one b)) in
-      turn-steps (turning m) (mark 3 (turn m)) (value b) (f .fronted .ensures) (there c)
+      turn-steps (turning m) (mark 3 (turn m)) (value b) (front f) (there c)
 
   add-next : At lts.Need-add-next
   add-next c =
@@ -210,7 +215,7 @@ module _ (t : ℕ) where
       let f = judged (c .before) in
       let b = brought f in
       let m = measured (up (one b)) in
-      let d = turn-done (turning m) (mark 3 (turn m)) (value b) (f .fronted .ensures) (there (c .before)) in
+      let d = turn-done (turning m) (mark 3 (turn m)) (value b) (front f) (there (c .before)) in
       (rw (c .behind .ensures) d, two-again _ _ _ _ (turn m .loop .inv .1))
 
   slice-write-arena-2 : At lts.Need-slice-write-arena-2
@@ -236,7 +241,7 @@ get-members-met t = lts.spec (claims t) (AtMeasure members t) get-members.Post I
     (loop-holds t) (slice-read-if1 t) (middle-at-requires t) (add-inner t) (cast-inner t) (λ c. search needs) (mul-inner t)
     (element-copy-out-inner t) (λ c. search needs) (sub-inner t) (cast-inner-2 t) (λ c. search needs) (element-copy-out-inner-2 t)
     (λ c. search needs) (slice-write-arena t) (raised-requires t)
-    (get-node-requires t) (bring-requires t) (fronted-requires t) (λ c κs. search needs)
+    (get-node-requires t) (bring-requires t) (sub-fronted t) (λ c κs. search needs) (λ c κs. search needs)
     (λ c. let m = measured t (up t (one t (brought t (c .before .before)))) in returns t c .told (entry t (turn t m) .pre .1 .held) .kept .long)
     (returns t) (behind-requires t) (add-next t) (loop-less t) (loop-again t) (slice-write-arena-2 t) (add-done t) (sub-done t) (sub-done-2 t)
     (λ c κs. search needs)

@@ -7,7 +7,7 @@ use lib.ListN.{length, getD}
 use Rattle.rules.specs.Numbers.{SCRATCH, CHAIN}
 use native.Mathlib.Omega.{arith}
 use Rattle.step.specs.StepLaws.{entered as both-left}
-use Rattle.walk.specs.Said.{left-as}
+use Rattle.walk.specs.Said.{left-as, left-by}
 use Rattle.walk.specs.Gets.{own, Gives, levels-as}
 use Rattle.walk.specs.GetReady.{sized}
 use Rattle.walk.specs.GetLeaf.{wide-told}
@@ -26,7 +26,7 @@ use Rattle.walk.proofs.getter.get_node.Reads as get-node
 use Rattle.walk.proofs.getter.get_two.Reads as get-two
 use Rattle.walk.proofs.getter.get_wide.Reads as get-wide
 use Rattle.answer.proofs.refused.Reads as refused
-use Rattle.walk.proofs.chain.leave.Reads as leave
+use Rattle.arena.proofs.leave.Reads as leave
 use Rattle.walk.proofs.getter.+get_add+get_call+get_case+get_each+get_members+get_node+get_two as cycle
 use cycle.Lts-get_node as lts
 use cycle.Proof.Frame.{kind, node}
@@ -110,20 +110,17 @@ module _ (t : ℕ) where
       let l = levels-as (c .before .below .ensures) in
       omega (arith, d .0)
 
-  -- what is asked on the way out of the node
-  room : (c : At lts.Start) {long : ℕ} → long ≡ length (c .args .arena .now) → (long ≡ SCRATCH) × (c .args .node < 200) × (c .args .at .levels ≤ CHAIN)
-  room c e = let w = c .pre .1 in (e ∙ w .long, node-few (w .sheet) (w .known), omega (arith, w .room))
+  -- what the way out of the node tells
+  outside : (c : At lts.Start) → (c .args .node < 200) × (c .args .at .levels ≤ CHAIN)
+  outside c = let w = c .pre .1 in (node-few (w .sheet) (w .known), omega (arith, w .room))
 
   -- NEEDS
-  leave-requires : At lts.Need-leave-requires
-  leave-requires c κs = room (c .before .before .before .before .before .before) refl
-
   returns : At lts.Need-returns
   returns c =
       let e = c .before .before .before .before .before .before .before .before .before in
       let f = c .before .before .before in
       let g = enter-refused (e .pre .1) (entry-code _ _ (f .before .before .before .entry .ensures) (f .before .before .if1 .taken))
-      (left-as (f .refused .ensures) (c .before .before .leave .ensures)) in
+      (left-as (f .refused .ensures) (left-by (outside e .0) (outside e .1) (c .before .before .leave .ensures))) in
       (g, sized (e .pre .1) g)
 
   element-copy-out-n : At lts.Need-element-copy-out-n
@@ -140,14 +137,11 @@ module _ (t : ℕ) where
       let b = c .before .before in
       (own-as (b .before .below .ensures) (body-ready (entered b)), record { low = its-kind (entered b) .0; high = omega (arith, c .before .if2 .taken) })
 
-  leave-requires-2 : At lts.Need-leave-requires-2
-  leave-requires-2 c κs = let p = c .before .before .before in room (start (allowed (leaf-read p))) (p .get-leaf .ensures .kept .long)
-
   returns-2 : At lts.Need-returns-2
   returns-2 c =
       let p = c .before .before .before .before .before .before in
       let b = leaf-read p in
-      body-told (entered b) (told-as (b .before .below .ensures) (p .get-leaf .ensures)) (c .before .before .leave2 .ensures)
+      body-told (entered b) (told-as (b .before .below .ensures) (p .get-leaf .ensures)) (left-by (outside (start (allowed b)) .0) (outside (start (allowed b)) .1) (c .before .before .leave2 .ensures))
 
   get-two-requires : At lts.Need-get-two-requires
   get-two-requires c κs =
@@ -156,14 +150,11 @@ module _ (t : ℕ) where
       two-kind (omega (arith, c .before .before .before .if2 .left)) (omega (arith, c .before .if4 .taken)) in
       (omega (arith, start (allowed b) .pre .0, lower b), (own-as (b .before .below .ensures) (body-ready (entered b)), e))
 
-  leave-requires-3 : At lts.Need-leave-requires-3
-  leave-requires-3 c κs = let p = c .before .before .before in room (start (allowed (two-read p))) (p .get-two .ensures .kept .long)
-
   returns-3 : At lts.Need-returns-3
   returns-3 c =
       let p = c .before .before .before .before .before .before in
       let b = two-read p in
-      body-told (entered b) (told-as (b .before .below .ensures) (p .get-two .ensures)) (c .before .before .leave3 .ensures)
+      body-told (entered b) (told-as (b .before .below .ensures) (p .get-two .ensures)) (left-by (outside (start (allowed b)) .0) (outside (start (allowed b)) .1) (c .before .before .leave3 .ensures))
 
   get-case-requires : At lts.Need-get-case-requires
   get-case-requires c κs =
@@ -171,28 +162,22 @@ module _ (t : ℕ) where
       let e : Case (b .byte-of .result) = case-kind (omega (arith, c .before .if4 .left)) (omega (arith, c .before .before .if3 .taken)) in
       (omega (arith, start (allowed b) .pre .0, lower b), (own-as (b .before .below .ensures) (body-ready (entered b)), e))
 
-  leave-requires-4 : At lts.Need-leave-requires-4
-  leave-requires-4 c κs = let p = c .before .before .before in room (start (allowed (case-read p))) (p .get-case .ensures .kept .long)
-
   returns-4 : At lts.Need-returns-4
   returns-4 c =
       let p = c .before .before .before .before .before .before in
       let b = case-read p in
-      body-told (entered b) (told-as (b .before .below .ensures) (p .get-case .ensures)) (c .before .before .leave4 .ensures)
+      body-told (entered b) (told-as (b .before .below .ensures) (p .get-case .ensures)) (left-by (outside (start (allowed b)) .0) (outside (start (allowed b)) .1) (c .before .before .leave4 .ensures))
 
   get-call-requires : At lts.Need-get-call-requires
   get-call-requires c κs =
       let b = c .before .before .before .before .before in
       (omega (arith, start (allowed b) .pre .0, lower b), (own-as (b .before .below .ensures) (body-ready (entered b)), c .before .if6 .taken))
 
-  leave-requires-5 : At lts.Need-leave-requires-5
-  leave-requires-5 c κs = let p = c .before .before .before in room (start (allowed (call-read p))) (p .get-call .ensures .kept .long)
-
   returns-5 : At lts.Need-returns-5
   returns-5 c =
       let p = c .before .before .before .before .before .before in
       let b = call-read p in
-      body-told (entered b) (told-as (b .before .below .ensures) (p .get-call .ensures)) (c .before .before .leave5 .ensures)
+      body-told (entered b) (told-as (b .before .below .ensures) (p .get-call .ensures)) (left-by (outside (start (allowed b)) .0) (outside (start (allowed b)) .1) (c .before .before .leave5 .ensures))
 
   get-add-requires : At lts.Need-get-add-requires
   get-add-requires c κs =
@@ -201,28 +186,22 @@ module _ (t : ℕ) where
       let e : b .byte-of .result ≡ 0x1B = omega (arith, i .before .before .if3 .left, i .before .if5 .taken, i .if6 .left) in
       (omega (arith, start (allowed b) .pre .0, lower b), (own-as (b .before .below .ensures) (body-ready (entered b)), e))
 
-  leave-requires-6 : At lts.Need-leave-requires-6
-  leave-requires-6 c κs = let p = c .before .before .before in room (start (allowed (add-read p))) (p .get-add .ensures .kept .long)
-
   returns-6 : At lts.Need-returns-6
   returns-6 c =
       let p = c .before .before .before .before .before .before in
       let b = add-read p in
-      body-told (entered b) (told-as (b .before .below .ensures) (p .get-add .ensures)) (c .before .before .leave6 .ensures)
+      body-told (entered b) (told-as (b .before .below .ensures) (p .get-add .ensures)) (left-by (outside (start (allowed b)) .0) (outside (start (allowed b)) .1) (c .before .before .leave6 .ensures))
 
   get-each-requires : At lts.Need-get-each-requires
   get-each-requires c κs =
       let b = c .before .before .before .before .before in
       (omega (arith, start (allowed b) .pre .0, lower b), (own-as (b .before .below .ensures) (body-ready (entered b)), c .before .if7 .taken))
 
-  leave-requires-7 : At lts.Need-leave-requires-7
-  leave-requires-7 c κs = let p = c .before .before .before in room (start (allowed (each-read p))) (p .get-each .ensures .kept .long)
-
   returns-7 : At lts.Need-returns-7
   returns-7 c =
       let p = c .before .before .before .before .before .before in
       let b = each-read p in
-      body-told (entered b) (told-as (b .before .below .ensures) (p .get-each .ensures)) (c .before .before .leave7 .ensures)
+      body-told (entered b) (told-as (b .before .below .ensures) (p .get-each .ensures)) (left-by (outside (start (allowed b)) .0) (outside (start (allowed b)) .1) (c .before .before .leave7 .ensures))
 
   get-wide-requires : At lts.Need-get-wide-requires
   get-wide-requires c κs =
@@ -241,20 +220,20 @@ module _ (t : ℕ) where
       let g = c .get-wide .ensures in
       told-as (b .before .below .ensures) (wide-told k (own-as (b .before .below .ensures) (body-ready (entered b))) (g .0) (g .1))
 
-  leave-requires-8 : At lts.Need-leave-requires-8
-  leave-requires-8 c κs = let p = c .before .before .before in room (start (allowed (wide-read p))) (wide p .kept .long)
-
   returns-8 : At lts.Need-returns-8
-  returns-8 c = let p = c .before .before .before .before .before .before in body-told (entered (wide-read p)) (wide p) (c .before .before .leave8 .ensures)
+  returns-8 c =
+      let p = c .before .before .before .before .before .before in
+      let b = wide-read p in
+      body-told (entered b) (wide p) (left-by (outside (start (allowed b)) .0) (outside (start (allowed b)) .1) (c .before .before .leave8 .ensures))
 
 pub get-node-met : {M : Type 1} (t : ℕ) → lts.Closed (claims t) (AtMeasure node t) get-node.Post M
 get-node-met t = lts.spec (claims t) (AtMeasure node t) get-node.Post
-    (λ c κs. search needs) (λ c κs. search needs) (leave-requires t) (λ c. returns t c .0 .kept .long) (returns t) (mul-n t) (element-copy-out-n t)
+    (λ c κs. search needs) (λ c κs. search needs) (λ c κs. search needs) (λ c. returns t c .0 .kept .long) (returns t) (mul-n t) (element-copy-out-n t)
     (below-requires t) (λ c κs. search needs)
-    (get-leaf-requires t) (leave-requires-2 t) (λ c. returns-2 t c .0 .kept .long) (returns-2 t)
-    (get-two-requires t) (leave-requires-3 t) (λ c. returns-3 t c .0 .kept .long) (returns-3 t)
-    (get-case-requires t) (leave-requires-4 t) (λ c. returns-4 t c .0 .kept .long) (returns-4 t)
-    (get-call-requires t) (leave-requires-5 t) (λ c. returns-5 t c .0 .kept .long) (returns-5 t)
-    (get-add-requires t) (leave-requires-6 t) (λ c. returns-6 t c .0 .kept .long) (returns-6 t)
-    (get-each-requires t) (leave-requires-7 t) (λ c. returns-7 t c .0 .kept .long) (returns-7 t)
-    (get-wide-requires t) (leave-requires-8 t) (λ c. returns-8 t c .0 .kept .long) (returns-8 t)
+    (get-leaf-requires t) (λ c κs. search needs) (λ c. returns-2 t c .0 .kept .long) (returns-2 t)
+    (get-two-requires t) (λ c κs. search needs) (λ c. returns-3 t c .0 .kept .long) (returns-3 t)
+    (get-case-requires t) (λ c κs. search needs) (λ c. returns-4 t c .0 .kept .long) (returns-4 t)
+    (get-call-requires t) (λ c κs. search needs) (λ c. returns-5 t c .0 .kept .long) (returns-5 t)
+    (get-add-requires t) (λ c κs. search needs) (λ c. returns-6 t c .0 .kept .long) (returns-6 t)
+    (get-each-requires t) (λ c κs. search needs) (λ c. returns-7 t c .0 .kept .long) (returns-7 t)
+    (get-wide-requires t) (λ c κs. search needs) (λ c. returns-8 t c .0 .kept .long) (returns-8 t)

@@ -16,7 +16,7 @@ use Rattle.step.proofs.pick_cells.Reads as pick-cells
 use Rattle.walk.proofs.putter.put_call.Reads as put-call
 use Rattle.walk.proofs.putter.put_node.Reads as put-node
 use Rattle.answer.proofs.refused.Reads as refused
-use Rattle.walk.proofs.scope.section.Reads as section
+use Rattle.step.proofs.section.Reads as section
 use Rattle.sheet.proofs.section_root.Reads as section-root
 use Rattle.walk.proofs.putter.+put_add+put_all+put_both+put_call+put_case+put_each+put_node+put_one+put_rebuilt+put_switch+put_two+put_under as cycle
 use cycle.Lts-put_call as lts
@@ -77,7 +77,7 @@ module _ (t : ℕ) where
       c .section .result ≡ picked (e .args .scope) (getD (e .args .sheet .now) (e .args .n + 2) 0) (getD (e .args .sheet .now) (e .args .n + 3) 0)
   section-is c =
       let i = in-scope (found c) in
-      c .section .ensures ∙ ap₂ (picked (entry i .args .scope)) (i .before .before .before .before .number-of .ensures)
+      c .section .ensures .inside (few i) ∙ ap₂ (picked (entry i .args .scope)) (i .before .before .before .before .number-of .ensures)
       (i .before .before .before .number-of2 .ensures)
 
   cells-are : (c : At lts.After-pick-cells) → let i = in-scope (found (scoped c)) in let e = entry i in
@@ -99,9 +99,6 @@ module _ (t : ℕ) where
       call-42₂ (w .1 .0) (w .1 .1) (omega (arith, c .before .before .before .before .before .number-of .ensures, c .before .before .if1 .left))
       (omega (arith, c .before .before .before .before .number-of2 .ensures, c .before .if2 .taken)) (c .refused2 .ensures)
 
-  section-requires : At lts.Need-section-requires
-  section-requires c κs = few (in-scope c)
-
   put-node-requires : At lts.Need-put-node-requires
   put-node-requires c κs =
       let p = c .before .before .before in
@@ -119,5 +116,5 @@ module _ (t : ℕ) where
 pub put-call-met : {M : Type 1} (t : ℕ) → lts.Closed (claims t) (AtMeasure (kind put-call.Pre) t) put-call.Post M
 put-call-met t = lts.spec (claims t) (AtMeasure (kind put-call.Pre) t) put-call.Post
     (λ c κs. search needs) (λ c κs. search needs) (λ c. search needs) (λ c κs. search needs) (returns t) (λ c κs. search needs) (returns-2 t)
-    (λ c κs. search needs) (λ c κs. search needs) (section-requires t) (λ c κs. search needs) (put-node-requires t) (λ c. returns-3 t c .frame .long)
+    (λ c κs. search needs) (λ c κs. search needs) (λ c κs. search needs) (λ c κs. search needs) (put-node-requires t) (λ c. returns-3 t c .frame .long)
     (returns-3 t)

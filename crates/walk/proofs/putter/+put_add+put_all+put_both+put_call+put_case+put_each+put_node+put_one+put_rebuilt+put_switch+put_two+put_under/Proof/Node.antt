@@ -7,7 +7,7 @@ use lib.ListN.{length}
 use Rattle.rules.specs.Numbers.{SCRATCH, CHAIN}
 use native.Mathlib.Omega.{arith}
 use Rattle.step.specs.StepLaws.{entered as both-left}
-use Rattle.walk.specs.Said.{left-as}
+use Rattle.walk.specs.Said.{left-as, left-by}
 use Rattle.walk.specs.Gets.{levels-as}
 use Rattle.walk.specs.GetTwo.{Two, two-kind}
 use Rattle.walk.specs.GetCase.{Case, case-kind}
@@ -28,7 +28,7 @@ use Rattle.walk.proofs.putter.put_node.Reads as put-node
 use Rattle.walk.proofs.putter.put_two.Reads as put-two
 use Rattle.walk.proofs.putter.put_wide.Reads as put-wide
 use Rattle.answer.proofs.refused.Reads as refused
-use Rattle.walk.proofs.chain.leave.Reads as leave
+use Rattle.arena.proofs.leave.Reads as leave
 use Rattle.walk.proofs.putter.+put_add+put_all+put_both+put_call+put_case+put_each+put_node+put_one+put_rebuilt+put_switch+put_two+put_under as cycle
 use cycle.Lts-put_node as lts
 use cycle.Proof.Frame.{kind, node}
@@ -114,20 +114,17 @@ module _ (t : ℕ) where
       let l = levels-as (c .before .below .ensures) in
       omega (arith, d .0)
 
-  -- what is asked on the way out of the node
-  room : (c : At lts.Start) {long : ℕ} → long ≡ length (c .args .arena .now) → (long ≡ SCRATCH) × (c .args .node < 200) × (c .args .at .levels ≤ CHAIN)
-  room c e = let w = c .pre .1 in (e ∙ w .long, node-few (w .sheet) (w .known), omega (arith, w .room))
+  -- what the way out of the node tells
+  outside : (c : At lts.Start) → (c .args .node < 200) × (c .args .at .levels ≤ CHAIN)
+  outside c = let w = c .pre .1 in (node-few (w .sheet) (w .known), omega (arith, w .room))
 
   -- NEEDS
-  leave-requires : At lts.Need-leave-requires
-  leave-requires c κs = room (c .before .before .before .before .before .before .before) refl
-
   returns : At lts.Need-returns
   returns c =
       let e = c .before .before .before .before .before .before .before .before .before .before in
       let f = c .before .before .before in
       let g = enter-refused (e .pre .1) (entry-code _ _ (f .before .before .before .entry .ensures) (f .before .before .if1 .taken))
-      (left-as (f .refused .ensures) (c .before .before .leave .ensures)) in
+      (left-as (f .refused .ensures) (left-by (outside e .0) (outside e .1) (c .before .before .leave .ensures))) in
       (g, few (e .pre .1) g)
 
   element-copy-out-n : At lts.Need-element-copy-out-n
@@ -146,14 +143,11 @@ module _ (t : ℕ) where
         record { low = its-kind (entered b) .0; high = omega (arith, c .before .before .if2 .taken) },
       )
 
-  leave-requires-2 : At lts.Need-leave-requires-2
-  leave-requires-2 c κs = let p = c .before .before .before in room (start (allowed (leaf-read p))) (p .put-leaf .ensures .frame .long)
-
   returns-2 : At lts.Need-returns-2
   returns-2 c =
       let p = c .before .before .before .before .before .before in
       let b = leaf-read p in
-      leaf-told (entered b) (leaf-told-as (b .before .below .ensures) (p .put-leaf .ensures)) (c .before .before .leave2 .ensures)
+      leaf-told (entered b) (leaf-told-as (b .before .below .ensures) (p .put-leaf .ensures)) (left-by (outside (start (allowed b)) .0) (outside (start (allowed b)) .1) (c .before .before .leave2 .ensures))
 
   put-two-requires : At lts.Need-put-two-requires
   put-two-requires c κs =
@@ -161,9 +155,6 @@ module _ (t : ℕ) where
       let e : Two (b .byte-of .result) =
       two-kind (omega (arith, c .before .before .before .before .if2 .left)) (omega (arith, c .before .before .if4 .taken)) in
       (omega (arith, start (allowed b) .pre .0, lower b), (own-as (b .before .below .ensures) (body-ready (entered b)), e))
-
-  leave-requires-3 : At lts.Need-leave-requires-3
-  leave-requires-3 c κs = let p = c .before .before .before in room (start (allowed (two-read p))) (p .put-two .ensures .frame .long)
 
   two-range : (c : At lts.After-put-two) → let k = two-read c .byte-of .result in (0x15 ≤ k) × (k ≤ 0x1C)
   two-range c =
@@ -174,16 +165,13 @@ module _ (t : ℕ) where
   returns-3 c =
       let p = c .before .before .before .before .before .before in
       let b = two-read p in
-      body-told (entered b) (two-range p .0) (two-range p .1) (told-as (b .before .below .ensures) (p .put-two .ensures)) (c .before .before .leave3 .ensures)
+      body-told (entered b) (two-range p .0) (two-range p .1) (told-as (b .before .below .ensures) (p .put-two .ensures)) (left-by (outside (start (allowed b)) .0) (outside (start (allowed b)) .1) (c .before .before .leave3 .ensures))
 
   put-case-requires : At lts.Need-put-case-requires
   put-case-requires c κs =
       let b = c .before .before .before .before .before in
       let e : Case (b .byte-of .result) = case-kind (omega (arith, c .before .before .if4 .left)) (omega (arith, c .before .before .before .if3 .taken)) in
       (omega (arith, start (allowed b) .pre .0, lower b), (own-as (b .before .below .ensures) (body-ready (entered b)), e))
-
-  leave-requires-4 : At lts.Need-leave-requires-4
-  leave-requires-4 c κs = let p = c .before .before .before in room (start (allowed (case-read p))) (p .put-case .ensures .frame .long)
 
   case-range : (c : At lts.After-put-case) → let k = case-read c .byte-of .result in (0x15 ≤ k) × (k ≤ 0x1C)
   case-range c =
@@ -195,15 +183,12 @@ module _ (t : ℕ) where
       let p = c .before .before .before .before .before .before in
       let b = case-read p in
       body-told (entered b) (case-range p .0) (case-range p .1)
-      (told-as (b .before .below .ensures) (p .put-case .ensures)) (c .before .before .leave4 .ensures)
+      (told-as (b .before .below .ensures) (p .put-case .ensures)) (left-by (outside (start (allowed b)) .0) (outside (start (allowed b)) .1) (c .before .before .leave4 .ensures))
 
   put-call-requires : At lts.Need-put-call-requires
   put-call-requires c κs =
       let b = c .before .before .before .before .before .before in
       (omega (arith, start (allowed b) .pre .0, lower b), (own-as (b .before .below .ensures) (body-ready (entered b)), c .before .before .if6 .taken))
-
-  leave-requires-5 : At lts.Need-leave-requires-5
-  leave-requires-5 c κs = let p = c .before .before .before in room (start (allowed (call-read p))) (p .put-call .ensures .frame .long)
 
   call-range : (c : At lts.After-put-call) → let k = call-read c .byte-of .result in (0x15 ≤ k) × (k ≤ 0x1C)
   call-range c =
@@ -215,7 +200,7 @@ module _ (t : ℕ) where
       let p = c .before .before .before .before .before .before in
       let b = call-read p in
       body-told (entered b) (call-range p .0) (call-range p .1)
-      (told-as (b .before .below .ensures) (p .put-call .ensures)) (c .before .before .leave5 .ensures)
+      (told-as (b .before .below .ensures) (p .put-call .ensures)) (left-by (outside (start (allowed b)) .0) (outside (start (allowed b)) .1) (c .before .before .leave5 .ensures))
 
   put-add-requires : At lts.Need-put-add-requires
   put-add-requires c κs =
@@ -223,9 +208,6 @@ module _ (t : ℕ) where
       let i = c .before .before in
       let e : b .byte-of .result ≡ 0x1B = omega (arith, i .before .before .if3 .left, i .before .if5 .taken, i .if6 .left) in
       (omega (arith, start (allowed b) .pre .0, lower b), (own-as (b .before .below .ensures) (body-ready (entered b)), e))
-
-  leave-requires-6 : At lts.Need-leave-requires-6
-  leave-requires-6 c κs = let p = c .before .before .before in room (start (allowed (add-read p))) (p .put-add .ensures .frame .long)
 
   add-range : (c : At lts.After-put-add) → let k = add-read c .byte-of .result in (0x15 ≤ k) × (k ≤ 0x1C)
   add-range c =
@@ -236,15 +218,12 @@ module _ (t : ℕ) where
   returns-6 c =
       let p = c .before .before .before .before .before .before in
       let b = add-read p in
-      body-told (entered b) (add-range p .0) (add-range p .1) (told-as (b .before .below .ensures) (p .put-add .ensures)) (c .before .before .leave6 .ensures)
+      body-told (entered b) (add-range p .0) (add-range p .1) (told-as (b .before .below .ensures) (p .put-add .ensures)) (left-by (outside (start (allowed b)) .0) (outside (start (allowed b)) .1) (c .before .before .leave6 .ensures))
 
   put-each-requires : At lts.Need-put-each-requires
   put-each-requires c κs =
       let b = c .before .before .before .before .before .before in
       (omega (arith, start (allowed b) .pre .0, lower b), (own-as (b .before .below .ensures) (body-ready (entered b)), c .before .before .if7 .taken))
-
-  leave-requires-7 : At lts.Need-leave-requires-7
-  leave-requires-7 c κs = let p = c .before .before .before in room (start (allowed (each-read p))) (p .put-each .ensures .frame .long)
 
   each-range : (c : At lts.After-put-each) → let k = each-read c .byte-of .result in (0x15 ≤ k) × (k ≤ 0x1C)
   each-range c =
@@ -256,10 +235,7 @@ module _ (t : ℕ) where
       let p = c .before .before .before .before .before .before in
       let b = each-read p in
       body-told (entered b) (each-range p .0) (each-range p .1)
-      (told-as (b .before .below .ensures) (p .put-each .ensures)) (c .before .before .leave7 .ensures)
-
-  leave-requires-8 : At lts.Need-leave-requires-8
-  leave-requires-8 c κs = room (start (allowed (wide-read (c .before)))) refl
+      (told-as (b .before .below .ensures) (p .put-each .ensures)) (left-by (outside (start (allowed b)) .0) (outside (start (allowed b)) .1) (c .before .before .leave7 .ensures))
 
   returns-8 : At lts.Need-returns-8
   returns-8 c =
@@ -268,16 +244,16 @@ module _ (t : ℕ) where
       let i = p .before in
       let k : b .byte-of .result ≡ 0x1D = omega (arith, its-kind (entered b) .1, i .before .if5 .left, i .if7 .left) in
       let w = wide-told (leaf-as (b .before .below .ensures) (leaf-ready (entered b))) k (p .put-wide .ensures) in
-      leaf-told (entered b) (leaf-told-as (b .before .below .ensures) w) (c .before .before .leave8 .ensures)
+      leaf-told (entered b) (leaf-told-as (b .before .below .ensures) w) (left-by (outside (start (allowed b)) .0) (outside (start (allowed b)) .1) (c .before .before .leave8 .ensures))
 
 pub put-node-met : {M : Type 1} (t : ℕ) → lts.Closed (claims t) (AtMeasure node t) put-node.Post M
 put-node-met t = lts.spec (claims t) (AtMeasure node t) put-node.Post
-    (λ c κs. search needs) (λ c κs. search needs) (leave-requires t) (λ c. returns t c .0 .frame .long) (returns t) (mul-n t) (element-copy-out-n t)
+    (λ c κs. search needs) (λ c κs. search needs) (λ c κs. search needs) (λ c. returns t c .0 .frame .long) (returns t) (mul-n t) (element-copy-out-n t)
     (below-requires t) (λ c κs. search needs)
-    (put-leaf-requires t) (leave-requires-2 t) (λ c. returns-2 t c .0 .frame .long) (returns-2 t)
-    (put-two-requires t) (leave-requires-3 t) (λ c. returns-3 t c .0 .frame .long) (returns-3 t)
-    (put-case-requires t) (leave-requires-4 t) (λ c. returns-4 t c .0 .frame .long) (returns-4 t)
-    (put-call-requires t) (leave-requires-5 t) (λ c. returns-5 t c .0 .frame .long) (returns-5 t)
-    (put-add-requires t) (leave-requires-6 t) (λ c. returns-6 t c .0 .frame .long) (returns-6 t)
-    (put-each-requires t) (leave-requires-7 t) (λ c. returns-7 t c .0 .frame .long) (returns-7 t)
-    (λ c κs. search needs) (leave-requires-8 t) (λ c. returns-8 t c .0 .frame .long) (returns-8 t)
+    (put-leaf-requires t) (λ c κs. search needs) (λ c. returns-2 t c .0 .frame .long) (returns-2 t)
+    (put-two-requires t) (λ c κs. search needs) (λ c. returns-3 t c .0 .frame .long) (returns-3 t)
+    (put-case-requires t) (λ c κs. search needs) (λ c. returns-4 t c .0 .frame .long) (returns-4 t)
+    (put-call-requires t) (λ c κs. search needs) (λ c. returns-5 t c .0 .frame .long) (returns-5 t)
+    (put-add-requires t) (λ c κs. search needs) (λ c. returns-6 t c .0 .frame .long) (returns-6 t)
+    (put-each-requires t) (λ c κs. search needs) (λ c. returns-7 t c .0 .frame .long) (returns-7 t)
+    (λ c κs. search needs) (λ c κs. search needs) (λ c. returns-8 t c .0 .frame .long) (returns-8 t)

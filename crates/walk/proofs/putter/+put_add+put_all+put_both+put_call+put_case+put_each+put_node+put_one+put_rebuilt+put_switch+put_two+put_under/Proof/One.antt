@@ -8,6 +8,7 @@ use native.Mathlib.Omega.{arith}
 use mathlib.Core.List.{List}
 use lib.ListN.{getD, drop, length, length-drop, length-set}
 use lib.Seq.{take-all}
+use borrow.Author.Tests.{ltb-true, ltb-false}
 use Rattle.answer.specs.Answer.{isRefusal, doneAs, startOf, lenOf, stepsOf, steps-small}
 use Rattle.value.specs.Parts.{shapeOf, middleOf}
 use Rattle.step.specs.Step.{frontTwo, placeOf}
@@ -43,6 +44,7 @@ use Rattle.walk.proofs.at.At.with_cell.Reads as with-cell
 use Rattle.walk.proofs.putter.put_node.Reads as put-node
 use Rattle.step.proofs.place_of.Reads as place-of
 use Rattle.answer.proofs.refused.Reads as refused
+use Rattle.step.proofs.overlong.Reads as overlong
 use Rattle.walk.proofs.bytes.fill.Reads as fill
 use Rattle.answer.proofs.steps_of.Reads as steps-of
 use Rattle.answer.proofs.done.Reads as done
@@ -76,6 +78,8 @@ claims t = (
   put-node.Post,
   place-of.Asked,
   place-of.Learnt,
+  overlong.Asked,
+  overlong.Learnt,
   refused.Asked,
   refused.Learnt,
   fill.Asked,
@@ -120,7 +124,7 @@ module _ (t : ℕ) where
   kept c = c .before .before
 
   abbrev short : At lts.Else3 → At lts.After-place-of
-  short c = c .before .before
+  short c = c .before .before .before
 
   -- WHAT IS KNOWN THERE
   start : (c : At lts.After-stood-for) → At lts.Start
@@ -256,37 +260,36 @@ module _ (t : ℕ) where
   add-size : At lts.Need-add-size
   add-size c = let z = now-sizes (c .before) in record { fits = omega arith }
 
-  add-if3 : At lts.Need-add-if3
-  add-if3 c =
-      let z = now-sizes (c .before) in
-      let b = entry (begun (found (there (scoped (deeper (tried (was-put (kept (c .before))))) .before)))) .pre .1 .1 .1 .1 in
-      record { fits = omega arith }
-
-  add-if3-2 : At lts.Need-add-if3-2
-  add-if3-2 c =
-      let z = now-sizes (c .before) in
-      let b = entry (begun (found (there (scoped (deeper (tried (was-put (kept (c .before))))) .before)))) .pre .1 .1 .1 .1 in
-      record { fits = omega arith }
-
   returns-3 : At lts.Need-returns-3
   returns-3 c =
-      let n = c .before .before .before in
+      let o = c .before .before in
+      let n = o .before .before in
       let p = was-put (kept n) in
       let i = there (scoped (deeper (tried p)) .before) in
-      member-44 (stood (found i)) (is-there i) (told p) (put-done (kept n)) (few p) (now-is n) (omega (arith, c .before .if3 .taken)) (c .refused .ensures)
+      let b = entry (begun (found i)) .args .built in
+      let l = ltb-true 256 (b + (1 + n .place-of .result .len) + 1) (sym (o .overlong .ensures) ∙ c .before .if3 .taken) in
+      member-44 (stood (found i)) (is-there i) (told p) (put-done (kept n)) (few p) (now-is n) (omega (arith, l)) (c .refused .ensures)
+
+  -- the list has room for it
+  fits : (c : At lts.Else3) → let n = short c in let e = entry (begun (found (there (scoped (deeper (tried (was-put (kept n)))) .before)))) in
+      e .args .built + (1 + n .place-of .result .len) + 1 ≤ 256
+  fits c =
+      let n = short c in
+      let b = entry (begun (found (there (scoped (deeper (tried (was-put (kept n)))) .before)))) .args .built in
+      ltb-false 256 (b + (1 + n .place-of .result .len) + 1) (sym (c .before .overlong .ensures) ∙ c .if3 .left)
 
   element-write-whole : At lts.Need-element-write-whole
-  element-write-whole c = omega (arith, c .if3 .left)
+  element-write-whole c = omega (arith, fits c)
 
   add-fill : At lts.Need-add-fill
-  add-fill c = record { fits = omega (arith, c .before .if3 .left) }
+  add-fill c = record { fits = omega (arith, fits (c .before)) }
 
   fill-requires : At lts.Need-fill-requires
   fill-requires c κs =
       let s = c .before .before in
       let n = short s in
       let z = now-sizes n in
-      (simp length-set (entry (begun (found (there (scoped (deeper (tried (was-put (kept n)))) .before)))) .pre .1 .1 .1 .0), omega (arith, s .if3 .left), z .1)
+      (simp length-set (entry (begun (found (there (scoped (deeper (tried (was-put (kept n)))) .before)))) .pre .1 .1 .1 .0), omega (arith, fits s), z .1)
 
   add-done : At lts.Need-add-done
   add-done c =
@@ -303,7 +306,7 @@ module _ (t : ℕ) where
       let p = was-put (kept n) in
       let i = there (scoped (deeper (tried p)) .before) in
       let e = entry (begun (found i)) in
-      member-done (stood (found i)) (is-there i) (told p) (put-done (kept n)) (few p) (now-is n) (omega (arith, s .if3 .left)) (e .pre .1 .1 .1 .0)
+      member-done (stood (found i)) (is-there i) (told p) (put-done (kept n)) (few p) (now-is n) (omega (arith, fits s)) (e .pre .1 .1 .1 .0)
       (f .fill .ensures .0) (f .fill .ensures .1) (middle-is (begun (found i)))
       (c .done .ensures ∙ ap₂ (λ (x y : ℕ). doneAs (begun (found i) .middle .result) (1 + n .place-of .result .len) (x + y))
       (c .before .before .steps-of .ensures) (c .before .steps-of2 .ensures))
@@ -313,6 +316,6 @@ put-one-met t = lts.spec (claims t) (AtMeasure one t) put-one.Post
     (sub-middle t) (part-middle-start t) (part-middle-end t) (λ c κs. search needs) (stood-for-requires t) (λ c κs. search needs)
     (λ c. returns t c .frame .long) (returns t) (λ c κs. search needs) (λ c κs. search needs) (mul-slots t) (element-write-slots t) (member-requires t)
     (λ c κs. search needs) (behind-requires t) (with-cell-requires t) (put-node-requires t) (λ c κs. search needs) (λ c. returns-2 t c .frame .long)
-    (returns-2 t) (mul-place-of t) (element-copy-out-place-of t) (λ c κs. search needs) (add-size t) (add-if3 t) (add-if3-2 t) (λ c κs. search needs)
+    (returns-2 t) (mul-place-of t) (element-copy-out-place-of t) (λ c κs. search needs) (add-size t) (λ c κs. search needs) (λ c κs. search needs)
     (λ c. returns-3 t c .frame .long) (returns-3 t) (element-write-whole t) (add-fill t) (fill-requires t) (λ c κs. search needs) (λ c κs. search needs)
     (add-done t) (λ c κs. search needs) (λ c. returns-4 t c .frame .long) (returns-4 t)

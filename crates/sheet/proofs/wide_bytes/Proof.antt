@@ -2,17 +2,17 @@
 -- Assumes nothing.
 use native.Mathlib.Omega.{arith}
 use Prim.Native.Nat.{_+_}
-use Rattle.walk.specs.GetLeaf.{wide-bytes}
+use Rattle.sheet.specs.Wide.{wide-bytes}
 use borrow.Author.Needs.{needs}
-use Rattle.walk.proofs.bytes.wide_bytes.Statement.{statement}
-use Rattle.walk.proofs.bytes.wide_bytes.Tie as tie
+use Rattle.sheet.proofs.wide_bytes.Statement.{statement}
+use Rattle.sheet.proofs.wide_bytes.Tie as tie
 
 returns : tie.Need-returns
 returns c =
     let k = c .before .before .before .before in
     let e = k .before in
-    let n = e .args .n in
-    wide-bytes (e .args .sheet .now) n (c .before .before .before .byte-of .ensures) (c .before .before .byte-of2 .ensures) (c .before .byte-of3 .ensures)
+    let n = e .args .at in
+    wide-bytes (e .args .s .now) n (c .before .before .before .byte-of .ensures) (c .before .before .byte-of2 .ensures) (c .before .byte-of3 .ensures)
     (c .byte-of4 .ensures) (omega (arith, c .before .before .byte-of2 .ensures, k .shared-slice-known .given (n + 2)))
     (omega (arith, c .before .byte-of3 .ensures, k .shared-slice-known .given (n + 3)))
     (omega (arith, c .byte-of4 .ensures, k .shared-slice-known .given (n + 4)))

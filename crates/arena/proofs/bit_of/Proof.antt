@@ -1,7 +1,7 @@
 -- `bit_of` meets its contract. Assumes nothing.
-use Rattle.walk.specs.Bits.{filled-not, filled-so}
-use Rattle.walk.proofs.cells.bit_of.Statement.{statement}
-use Rattle.walk.proofs.cells.bit_of.Tie as tie
+use Rattle.arena.specs.Bits.{filled-not, filled-so}
+use Rattle.arena.proofs.bit_of.Statement.{statement}
+use Rattle.arena.proofs.bit_of.Tie as tie
 
 returns : tie.Need-returns
 returns c = filled-not (c .if1 .taken)
