@@ -1,2 +1,3 @@
-pub mod Chain
+pub mod Writing
 pub mod Bits
+pub mod Chain

@@ -1,14 +1,53 @@
-//! What a walk leaves at fixed places: the chain of a refusal, the nodes from the root down to the one that it was met at, each with its byte at the
-//! arena's end, written on the way out of it; and what the notes of the slots tell of which cells took a view.
+//! What a walk leaves at fixed places: a view in its cell's slot, stored by the first node that puts one and compared with ever after, and what the
+//! slots' notes tell of which cells took a view; and the chain of a refusal, the nodes from the root down to the one that it was met at, each with
+//! its byte at the arena's end, written on the way out of it.
 ghost use mathlib.Core.Bool.{cond};
 ghost use mathlib.Core.Path.{_≡_};
 ghost use Prim.Native.Nat.{min};
 ghost use Rattle.rules.specs.Written.{bitsOf};
+ghost use Rattle.step.specs.Step.{When};
+ghost use Rattle.arena.specs.Writing.{Takes, writeAnswer, writtenBytes, writtenNotes};
 ghost use Rattle.arena.specs.Chain.{inChain, chained, leftAs};
 ghost use Rattle.arena.specs.Bits.{filled, filledFrom};
 use answer::deeper;
+use answer::done;
 use answer::is_refused;
 use answer::later;
+use answer::refused;
+
+/// A view for the cell c: the node writes it where nothing was written, and it is noted; or else it must equal what was. Nothing changes, and
+/// the answer is 42, where there is no such cell or slot, no node has that number, or no value has that many bytes.
+pub fn write(arena: &mut [u8], slots: &mut [u16; 110], c: usize, node: usize, view: &[u8]) -> usize
+    ensures { λ r. ⌜ When (Takes (now (arena .entry)) c node (now (view .entry))) r (writeAnswer (now (arena .entry)) (now (slots .entry)) c (now (view .entry))) 42 ⌝ }
+    ensures { λ _. ⌜ When (Takes (now (arena .entry)) c node (now (view .entry))) (now (arena .exit)) (writtenBytes (now (arena .entry)) (now (slots .entry)) c (now (view .entry))) (now (arena .entry)) ⌝ }
+    ensures { λ _. ⌜ When (Takes (now (arena .entry)) c node (now (view .entry))) (now (slots .exit)) (writtenNotes (now (slots .entry)) c node (now (view .entry))) (now (slots .entry)) ⌝ }
+{
+    if 110 <= c {
+        return refused(42);
+    }
+    let slot = step::slot_of(c);
+    if arena.len() < slot + 256 {
+        return refused(42);
+    }
+    if 254 < node {
+        return refused(42);
+    }
+    let len = view.len();
+    if len == 0 {
+        return refused(42);
+    }
+    if 256 < len {
+        return refused(42);
+    }
+    let note = slots[c];
+    if note == 0 {
+        step::store(arena, slot, view);
+        slots[c] = step::note_of(node as u8, len);
+        return done(0, 0, 0);
+    }
+    let end = slot + step::noted_len(note);
+    step::put_again(note, &arena[slot..end], view)
+}
 
 // A node's byte in the chain, where it was entered with so many levels left; nothing changes where there is no such place.
 fn name(arena: &mut [u8], node: usize, levels: usize)

@@ -1,4 +1,3 @@
 pub mod Step
 pub mod StepLaws
 pub mod Storing
-pub mod Writing

@@ -10,9 +10,6 @@ ghost use lib.Seq.{paste};
 ghost use Rattle.value.specs.Parts.{shapeOf, passesBytes, sameBytes};
 ghost use Rattle.answer.specs.Answer.{doneAs, refusedBy};
 ghost use Rattle.step.specs.Step.{When, frontTwo, pickedTwo, addedTwo, picked, nowhere, noteOf, notedLen, notedBy, placeOf, entryRefusal, fitsKind, fitOf, otherOf, choice, takeOf, TakenBy, apartOf, madeOf, judged, unfitRest, frontedAs};
-
-mod writing;
-
 use answer::done;
 use answer::is_refused;
 use answer::len_of;
@@ -20,7 +17,6 @@ use answer::refused;
 use answer::refused_by;
 use answer::steps_of;
 use value::Shape;
-pub use writing::write;
 
 /// The variables in scope, at most 110: where each one's bytes start, and how many they are less one.
 pub struct Scope {

@@ -21,7 +21,7 @@ use Rattle.rules.specs.Explain.{own as own-rule, Cell, Cells, constant, putNode
 use Rattle.rules.specs.Numbers.{SCRATCH}
 use Rattle.step.specs.declared.Scope.{Scope}
 use Rattle.step.specs.Step.{noteOf, notedLen, notedBy, judged}
-use Rattle.step.specs.Writing.{Takes, Writes, first-wrote, again-wrote}
+use Rattle.arena.specs.Writing.{Takes, Writes, first-wrote, again-wrote}
 use Rattle.walk.specs.Said.{Done, Refused, said, done-said, refused-said, refused-by-said}
 use Rattle.walk.specs.Parts.{part}
 use Rattle.walk.specs.Seen.{elem-at, elem-none}

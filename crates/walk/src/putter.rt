@@ -36,6 +36,7 @@ use answer::refused;
 use answer::start_of;
 use answer::steps_of;
 use arena::leave;
+use arena::write;
 use step::Apart;
 use step::Branch;
 use step::Scope;
@@ -104,7 +105,7 @@ fn put_leaf(
         return refused(42);
     }
     let c = cells[x] as usize;
-    step::write(arena, slots, c, node, view)
+    write(arena, slots, c, node, view)
 }
 
 /// A view put back into a node: its depth is judged, then the allowance. The sheet's reader lets no kind over 1D through.

@@ -68,9 +68,11 @@ loop-again : tie.Need-loop-again Inv-loop μ-loop
 loop-again c =
     let p = copied c in
     let t = turn p in
-    let h = t .loop-test .taken in
-    (omega arith, grown-more (t .before .loop .inv .1) (entry t .pre) h (stood p .length-of .ensures) (p .place-of .ensures)
-    (c .before .before .before .copy .ensures) (c .grown .ensures))
+    let h = t .loop-test .taken in (
+      omega arith,
+      grown-more (t .before .loop .inv .1) (entry t .pre) h (stood p .length-of .ensures) (p .place-of .ensures)
+          (c .before .before .before .copy .ensures) (c .grown .ensures),
+    )
 
 returns : tie.Need-returns Inv-loop μ-loop
 returns c = let v = c .before .loop .inv in gathered-all (v .1) (omega (arith, v .0, c .loop-test .left))

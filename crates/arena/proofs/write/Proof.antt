@@ -7,11 +7,11 @@ use lib.ListN.{getD, length, set, take, drop}
 use lib.Seq.{paste}
 use Rattle.value.specs.Parts.{sameBytes}
 use Rattle.answer.specs.Answer.{refusedBy}
 use Rattle.step.specs.Step.{notedLen, notedBy, judged}
-use Rattle.step.specs.Writing.{slotOf, Takes, not-taken, taken-first, taken-again}
+use Rattle.arena.specs.Writing.{slotOf, Takes, not-taken, taken-first, taken-again}
 use borrow.Author.Needs.{needs}
-use Rattle.step.proofs.writing.write.Statement.{statement}
-use Rattle.step.proofs.writing.write.Tie as tie
+use Rattle.arena.proofs.write.Statement.{statement}
+use Rattle.arena.proofs.write.Tie as tie
 
 -- PLACES: the function's entry; the slot is found; the view is taken; what is noted is read
 abbrev start : tie.After-slot-of → tie.Start
