@@ -622,16 +622,16 @@ fn put_one(
     }
     let start = start_of(stood);
     let len = len_of(stood);
-    let c = at.cells;
-    slots[c] = 0;
+    let cell = at.cells;
+    slots[cell] = 0;
     let inner = member(scope, by.x, start, len);
-    let two = step::member_cells(cells, c, by.x);
+    let two = step::member_cells(cells, cell, by.x);
     let to = at.behind(stood).with_cell();
     let put = put_node(sheet, table, arena, slots, inner, &two, by.root, view, to);
     if is_refused(put) {
         return put;
     }
-    let now = step::place_of(slots[c], c, start, len);
+    let now = step::place_of(slots[cell], cell, start, len);
     let size = 1 + now.len;
     if step::overlong(built, size) {
         return refused(44);
