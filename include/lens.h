@@ -10,7 +10,7 @@
  *   lens_why_get      why lens_get refuses: the node, and the way to it from the root
  *   lens_why_put      why lens_put refuses
  *
- * Bytes of sheets, plans and lists, and what each refusal means, are in docs/SHEETS.md.
+ * Bytes of sheets, plans and lists, and what to do about each refusal, are in docs/SHEETS.md and docs/TOOLS.md.
  *
  * No function allocates, keeps a pointer, or touches anything but what it is lent to write to (output, scratch, starts, *written,
  * *start and *end, chain), so threads may call all of them at once with buffers of their own. Every pointer must be good for the length
@@ -117,7 +117,7 @@ uint64_t lens_why_put(const uint8_t *sheet, size_t sheet_len, const uint8_t *pla
  * bytes of its value as a reading from the front gives them. Starts may be kept beside a plan and lent again: other numbers than a plan's
  * own are refused, or give some part of the plan's bytes. */
 
-/* Refusal numbers: what each means; what to do is in docs/SHEETS.md. The first that is met ends the call. */
+/* Refusal numbers: what each means; docs/SHEETS.md and docs/TOOLS.md say what to do. The first that is met ends the call. */
 #define LENS_OK 0u
 
 /* make-tables: refusals */

@@ -3,7 +3,7 @@
 use std::error::Error;
 use std::fmt;
 
-/// Why a call gave nothing: one number of the table in `docs/SHEETS.md`.
+/// Why a call gave nothing: one number of the tables in `docs/SHEETS.md` and `docs/TOOLS.md`.
 ///
 /// Its [`name`](Refusal::name) is that of the constant here (and, behind `LENS_`, in `include/lens.h`); as text it is a sentence that
 /// says what to do.
