@@ -10,7 +10,7 @@
  *   lens_why_get      why lens_get refuses: the node, and the way to it from the root
  *   lens_why_put      why lens_put refuses
  *
- * Bytes of sheets, plans and lists, and what each refusal means, are in docs/SHEETS.md.
+ * Bytes of sheets, plans and lists, and what to do about each refusal, are in docs/SHEETS.md and docs/TOOLS.md.
  *
  * No function allocates, keeps a pointer, or touches anything but what it is lent to write to (output, scratch, starts, *written,
  * *start and *end, chain), so threads may call all of them at once with buffers of their own. Every pointer must be good for the length
@@ -117,50 +117,52 @@ uint64_t lens_why_put(const uint8_t *sheet, size_t sheet_len, const uint8_t *pla
  * bytes of its value as a reading from the front gives them. Starts may be kept beside a plan and lent again: other numbers than a plan's
  * own are refused, or give some part of the plan's bytes. */
 
-/* Refusal numbers. The first that is met ends the call. */
+/* Refusal numbers: what each means; docs/SHEETS.md and docs/TOOLS.md say what to do. The first that is met ends the call. */
 #define LENS_OK 0u
 
+/* make-tables: refusals */
 /* the call */
-#define LENS_OUTPUT_SMALL 1u      /* output under LENS_GET_OUT or LENS_PUT_OUT bytes */
-#define LENS_SCRATCH_SMALL 2u     /* scratch under LENS_SCRATCH bytes */
-#define LENS_ALLOWANCE_RANGE 3u   /* allowance 0 or over LENS_ALLOWANCE_MAX */
+#define LENS_OUTPUT_SMALL 1u      /* the output lent is under 256 bytes for a get, or 4,096 for a put */
+#define LENS_SCRATCH_SMALL 2u     /* the scratch lent is under 65,536 bytes */
+#define LENS_ALLOWANCE_RANGE 3u   /* the allowance is 0 or over 1,000,000 */
 
 /* the sheet */
-#define LENS_SHEET_KIND 10u       /* a record's kind is unknown or out of its place */
-#define LENS_SHEET_CUT 11u        /* a record is cut */
-#define LENS_SHEET_FULL 12u       /* a 9th section or 201st node */
-#define LENS_SHEET_RANGE 13u      /* k, a node, a section, a test or a number of four bytes is out of range */
-#define LENS_SHEET_EMPTY 14u      /* no byte or no node */
+#define LENS_SHEET_KIND 10u       /* a record of the sheet has an unknown kind or stands out of its place */
+#define LENS_SHEET_CUT 11u        /* the sheet ends within a record */
+#define LENS_SHEET_FULL 12u       /* the sheet has a 9th section or a 201st node */
+#define LENS_SHEET_RANGE 13u      /* k, a node, a section, a test or the number of a 1D is out of range */
+#define LENS_SHEET_EMPTY 14u      /* the sheet has no byte or no node */
 
 /* the plan */
-#define LENS_PLAN_MALFORMED 20u   /* a value is malformed: also a number of four bytes that is not over 65,535 */
-#define LENS_PLAN_LONG 21u        /* a value is over 256 bytes */
-#define LENS_PLAN_COUNT 22u       /* fewer than k values, or bytes behind them */
+#define LENS_PLAN_MALFORMED 20u   /* a value of the plan is cut or malformed */
+#define LENS_PLAN_LONG 21u        /* a value of the plan has over 256 bytes */
+#define LENS_PLAN_COUNT 22u       /* the plan has too few values, or bytes behind them */
 
 /* a value found by its number */
-#define LENS_VARIABLE 23u         /* the variable is not below the count of starts */
-#define LENS_STARTS 24u           /* the starts are not 1 to 16 numbers rising from 0, all below the plan's length; judged before 23 */
+#define LENS_VARIABLE 23u         /* the variable's number is not below the count of the starts */
+#define LENS_STARTS 24u           /* the starts are not 1 to 16 numbers that rise from 0, all below the plan's length */
 
 /* the list sent back */
-#define LENS_VIEW_MALFORMED 30u   /* malformed, as a value of the plan */
-#define LENS_VIEW_LONG 31u        /* over 256 bytes */
-#define LENS_VIEW_COUNT 32u       /* no value, or bytes behind it */
+#define LENS_VIEW_MALFORMED 30u   /* the list sent back is cut or malformed */
+#define LENS_VIEW_LONG 31u        /* the list sent back has over 256 bytes */
+#define LENS_VIEW_COUNT 32u       /* the list sent back is not exactly one value */
 
 /* walking the sheet */
-#define LENS_DEPTH 40u            /* deeper than 48 nodes */
-#define LENS_SPENT 41u            /* the allowance is spent */
-#define LENS_SCOPE 42u            /* a variable is not in scope */
-#define LENS_VALUE_KIND 43u       /* a subject, added-to value or rest is of the wrong kind: only a number of two bytes is added to */
-#define LENS_VALUE_LONG 44u       /* a built value is over 256 bytes */
+#define LENS_DEPTH 40u            /* the walk goes deeper than 48 nodes */
+#define LENS_SPENT 41u            /* the allowance is spent before the walk ends */
+#define LENS_SCOPE 42u            /* the sheet names a variable that is not in scope */
+#define LENS_VALUE_KIND 43u       /* a value that is taken apart, added to or used as a rest is of the wrong kind */
+#define LENS_VALUE_LONG 44u       /* a value made on the way has over 256 bytes */
 #define LENS_SUM 45u              /* a sum is over 65,535 */
-#define LENS_TEST 46u             /* a branch's test says no to what the branch gave */
+#define LENS_TEST 46u             /* a branch gives what its own test refuses */
 
 /* putting the list back */
-#define LENS_CONSTANT 50u         /* the list differs from a constant of the sheet */
-#define LENS_VIEW_KIND 51u        /* a part of the list is of the wrong kind */
-#define LENS_VIEW_BELOW 52u       /* a number of the list is below the amount that the sheet adds */
-#define LENS_NO_BRANCH 53u        /* neither test of a case says yes */
-#define LENS_CLASH 54u            /* a variable would be written with two values */
+#define LENS_CONSTANT 50u         /* the list sent back changes what the sheet fixes */
+#define LENS_VIEW_KIND 51u        /* a part of the list sent back is of another kind than the sheet gives */
+#define LENS_VIEW_BELOW 52u       /* a number of the list sent back is below the amount that the sheet adds */
+#define LENS_NO_BRANCH 53u        /* the list sent back passes the test of neither branch of a case */
+#define LENS_CLASH 54u            /* two places of the list sent back that come from one variable differ */
+/* make-tables: end */
 
 #ifdef __cplusplus
 }

@@ -3,7 +3,7 @@
 use std::error::Error;
 use std::fmt;
 
-/// Why a call gave nothing: one number of the table in `docs/SHEETS.md`.
+/// Why a call gave nothing: one number of the tables in `docs/SHEETS.md` and `docs/TOOLS.md`.
 ///
 /// Its [`name`](Refusal::name) is that of the constant here (and, behind `LENS_`, in `include/lens.h`); as text it is a sentence that
 /// says what to do.
@@ -50,34 +50,36 @@ macro_rules! refusals {
 }
 
 refusals! {
-    1 OUTPUT_SMALL "the output lent is too small: lend 256 bytes to a get and 4,096 to a put"
-    2 SCRATCH_SMALL "the scratch lent is too small: lend 65,536 bytes"
-    3 ALLOWANCE_RANGE "the allowance is out of range: allow 1 to 1,000,000 steps"
-    10 SHEET_KIND "a record of the sheet has an unknown kind or stands out of its place: a sheet is one 01, then records 20, then nodes"
+    // make-tables: refusals
+    1 OUTPUT_SMALL "the output lent is under 256 bytes for a get, or 4,096 for a put: lend a larger one"
+    2 SCRATCH_SMALL "the scratch lent is under 65,536 bytes: lend more"
+    3 ALLOWANCE_RANGE "the allowance is 0 or over 1,000,000: allow 1 to 1,000,000 steps"
+    10 SHEET_KIND "a record of the sheet has an unknown kind or stands out of its place: send one 01, then the 20s, then the nodes"
     11 SHEET_CUT "the sheet ends within a record: send it whole"
-    12 SHEET_FULL "the sheet has too much: at most 8 sections and 200 nodes"
-    13 SHEET_RANGE "a number in the sheet is out of range: k is 1 to 16, tests 0 to 6, a number of four bytes over 65,535, sections and nodes exist, and a node names only later ones"
-    14 SHEET_EMPTY "the sheet has no node: send at least one"
-    20 PLAN_MALFORMED "a value of the plan is malformed: correct its kinds, let every rest be a list, and every number of four bytes be over 65,535"
-    21 PLAN_LONG "a value of the plan is too long: at most 256 bytes each"
-    22 PLAN_COUNT "the plan has too few values or bytes behind them: send exactly as many values as the sheet's k"
-    23 VARIABLE "the variable's number is not below the count of starts: ask for one that the plan has"
+    12 SHEET_FULL "the sheet has a 9th section or a 201st node: make it smaller"
+    13 SHEET_RANGE "k, a node, a section, a test or the number of a 1D is out of range: k is 1 to 16, a test 0 to 6, a 1D over 65,535; a node names only later ones"
+    14 SHEET_EMPTY "the sheet has no byte or no node: send a sheet with a node"
+    20 PLAN_MALFORMED "a value of the plan is cut or malformed: send it whole, with known kinds, a list as every rest, and an 06 only over 65,535"
+    21 PLAN_LONG "a value of the plan has over 256 bytes: make it shorter"
+    22 PLAN_COUNT "the plan has too few values, or bytes behind them: send as many values as the sheet's k says, and nothing else"
+    23 VARIABLE "the variable's number is not below the count of the starts: ask for one that the plan has"
     24 STARTS "the starts are not 1 to 16 numbers that rise from 0, all below the plan's length: load the plan anew"
-    30 VIEW_MALFORMED "the list sent back is malformed: correct its kinds, let every rest be a list, and every number of four bytes be over 65,535"
-    31 VIEW_LONG "the list sent back is too long: at most 256 bytes"
-    32 VIEW_COUNT "the list sent back is no single value: send one, with nothing behind it"
+    30 VIEW_MALFORMED "the list sent back is cut or malformed: send it whole, with known kinds, a list as every rest, and an 06 only over 65,535"
+    31 VIEW_LONG "the list sent back has over 256 bytes: make it shorter"
+    32 VIEW_COUNT "the list sent back is not exactly one value: send one, with nothing behind it"
     40 DEPTH "the walk goes deeper than 48 nodes: shorten the list, or nest the sheet less"
     41 SPENT "the allowance is spent before the walk ends: allow more steps"
     42 SCOPE "the sheet names a variable that is not in scope: correct the sheet"
-    43 VALUE_KIND "the sheet takes apart, adds to or prolongs a value of another kind (it adds to a number up to 65,535 alone): check the plan's values against the sheet"
-    44 VALUE_LONG "a value made on the way is too long: shorten the plan's or the list's values, so that each stays within 256 bytes"
-    45 SUM "a sum is over 65,535: lower the number in the plan"
-    46 TEST "a branch gives what its own test refuses: correct the test in the sheet, or the plan"
-    50 CONSTANT "the list changes what the sheet fixes: put the fixed part back as it was"
-    51 VIEW_KIND "a part of the list is of another kind than the sheet gives: keep the kinds as they were read out"
-    52 VIEW_BELOW "a number of the list is below the amount that the sheet adds: raise it"
-    53 NO_BRANCH "no branch of the sheet gives such a list: undo the edit, or give the sheet a test that allows it"
-    54 CLASH "two places of the list that come from one variable now differ: edit both alike"
+    43 VALUE_KIND "a value that is taken apart, added to or used as a rest is of the wrong kind: correct the plan or the sheet, or undo an edit that a default is made of"
+    44 VALUE_LONG "a value made on the way has over 256 bytes: shorten the plan's values or the list"
+    45 SUM "a sum is over 65,535: lower the number that is added to"
+    46 TEST "a branch gives what its own test refuses: correct the test or the branch in the sheet"
+    50 CONSTANT "the list sent back changes what the sheet fixes: put the fixed part back as it was"
+    51 VIEW_KIND "a part of the list sent back is of another kind than the sheet gives: keep the kinds as they were read out"
+    52 VIEW_BELOW "a number of the list sent back is below the amount that the sheet adds: raise it to that amount or more"
+    53 NO_BRANCH "the list sent back passes the test of neither branch of a case: undo that edit, or give the sheet a test that allows it"
+    54 CLASH "two places of the list sent back that come from one variable differ: edit both alike"
+    // make-tables: end
 }
 
 impl Refusal {

@@ -6,9 +6,6 @@ use crate::vectors::hex;
 use crate::why::Explanation;
 use crate::{Refusal, PUT_OUT, SCRATCH, STARTS_MAX};
 
-/// The letters of the calls that are there: an input begins with one of them.
-pub const LETTERS: [u8; 5] = [0x4C, 0x56, 0x53, 0x57, 0x59];
-
 /// One call.
 #[derive(Clone, Debug, PartialEq, Eq)]
 pub enum Tool {

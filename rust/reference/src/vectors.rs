@@ -1,7 +1,6 @@
 //! Files of test vectors: inputs of a program in hexadecimal, and what it prints for them.
 
-use crate::tool::LETTERS;
-use std::path::{Path, PathBuf};
+use std::path::Path;
 
 /// Bytes in upper-case hexadecimal.
 pub fn hex(bytes: &[u8]) -> String {
@@ -38,41 +37,39 @@ pub fn wrong_lines(file: &str, printed: impl Fn(&[u8]) -> String) -> (usize, Vec
     (count, wrong)
 }
 
-/// Files that may stand beside the repository: jobs, and inputs of `tools`.
-const JOBS: &str = concat!(env!("CARGO_MANIFEST_DIR"), "/../../../shared/vectors/full.txt");
-const TOOLS: &str = concat!(env!("CARGO_MANIFEST_DIR"), "/../../../shared/vectors/tools-full.txt");
+/// The repository's own vectors, and the folder beside it that may have larger files.
+const OWN: &str = concat!(env!("CARGO_MANIFEST_DIR"), "/../../vectors");
+const BESIDE: &str = concat!(env!("CARGO_MANIFEST_DIR"), "/../../../shared/vectors");
 
-/// Runs the jobs of the file that `LENS_VECTORS` names, or else of `shared/vectors/full.txt` beside the repository, where it is there.
+/// Runs the jobs of the file that `LENS_VECTORS` names; or else those of `vectors/seats.txt`, and of `shared/vectors/full.txt` beside the
+/// repository where that folder is there.
 pub fn check_jobs(printed: impl Fn(&[u8]) -> String) {
-    if let Some(path) = named("LENS_VECTORS").or_else(|| there(JOBS)) {
-        check_file(&path, |_| true, printed);
-    }
+    check_files("LENS_VECTORS", "seats.txt", "full.txt", printed);
 }
 
-/// Runs the inputs of `tools` of the file that `LENS_TOOL_VECTORS` names, or else those of `shared/vectors/tools-full.txt` beside the
-/// repository, where it is there, whose letters are `LETTERS`.
+/// Runs the inputs of `tools` of the file that `LENS_TOOL_VECTORS` names; or else those of `vectors/tools.txt`, and of
+/// `shared/vectors/tools-full.txt` beside the repository where that folder is there.
 pub fn check_tools(printed: impl Fn(&[u8]) -> String) {
-    if let Some(path) = named("LENS_TOOL_VECTORS") {
-        check_file(&path, |_| true, printed);
-    } else if let Some(path) = there(TOOLS) {
-        check_file(&path, |line| LETTERS.iter().any(|&letter| line.starts_with(&hex(&[letter]))), printed);
+    check_files("LENS_TOOL_VECTORS", "tools.txt", "tools-full.txt", printed);
+}
+
+fn check_files(variable: &str, own: &str, whole: &str, printed: impl Fn(&[u8]) -> String) {
+    if let Some(named) = std::env::var_os(variable) {
+        return check_file(Path::new(&named), printed);
+    }
+    check_file(&Path::new(OWN).join(own), &printed);
+    if Path::new(BESIDE).exists() {
+        check_file(&Path::new(BESIDE).join(whole), printed);
+    } else {
+        println!("no {BESIDE}: only the repository's own vectors are run");
     }
 }
 
-fn named(variable: &str) -> Option<PathBuf> {
-    std::env::var_os(variable).map(PathBuf::from)
-}
-
-fn there(path: &str) -> Option<PathBuf> {
-    Some(PathBuf::from(path)).filter(|path| path.exists())
-}
-
-/// Panics where something else is printed for a wanted line of a file.
-fn check_file(path: &Path, wanted: impl Fn(&str) -> bool, printed: impl Fn(&[u8]) -> String) {
-    let file = std::fs::read_to_string(path).unwrap();
-    let lines: Vec<&str> = file.lines().filter(|line| wanted(line)).collect();
-    let (count, wrong) = wrong_lines(&lines.join("\n"), printed);
+/// Panics where something else is printed for a line of a file, or where it has none.
+fn check_file(path: &Path, printed: impl Fn(&[u8]) -> String) {
+    let file = std::fs::read_to_string(path).unwrap_or_else(|error| panic!("{}: {error}", path.display()));
+    let (count, wrong) = wrong_lines(&file, printed);
     assert!(count > 0, "no line of {}", path.display());
-    assert!(wrong.is_empty(), "{} of {count} lines wrong:\n{}", wrong.len(), wrong.join("\n"));
+    assert!(wrong.is_empty(), "{} of {count} lines of {} wrong:\n{}", wrong.len(), path.display(), wrong.join("\n"));
     println!("{count} lines of {}", path.display());
 }

@@ -2,6 +2,7 @@
 
 use crate::random::Random;
 use crate::values::{number, price, Type};
+use std::sync::LazyLock;
 
 /// A sheet's bytes, and what its plan and its list are meant to be.
 pub struct Built {
@@ -425,21 +426,26 @@ pub fn has(sheet: &[u8], kind: u8) -> bool {
     records(sheet).iter().any(|record| record[0] == kind)
 }
 
+/// The bytes of a record of this kind, by the repository's table; 1 where there is none.
+fn width(kind: u8) -> usize {
+    static WIDTHS: LazyLock<[usize; 256]> = LazyLock::new(|| {
+        let mut widths = [1; 256];
+        for line in include_str!("../../../tables/kinds.txt").lines().filter(|line| !line.starts_with('#') && !line.is_empty()) {
+            let mut cells = line.split('|').map(str::trim);
+            let kind = usize::from_str_radix(cells.next().unwrap(), 16).unwrap();
+            widths[kind] = cells.nth(1).unwrap().parse().unwrap();
+        }
+        widths
+    });
+    WIDTHS[usize::from(kind)]
+}
+
 /// The records of a sheet. One that is cut ends with it.
 pub fn records(sheet: &[u8]) -> Vec<&[u8]> {
     let mut left = sheet;
     let mut records = Vec::new();
     while let Some(kind) = left.first() {
-        let width = match kind {
-            0x10 | 0x20 => 1,
-            0x01 | 0x14..=0x16 | 0x19 => 2,
-            0x1A | 0x1B => 3,
-            0x1C | 0x1D => 4,
-            0x18 => 5,
-            0x17 => 7,
-            _ => 0,
-        };
-        let (record, rest) = left.split_at(left.len().min(1 + width));
+        let (record, rest) = left.split_at(left.len().min(width(*kind)));
         records.push(record);
         left = rest;
     }
