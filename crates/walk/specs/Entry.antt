@@ -169,7 +169,8 @@ module _ {sheet plan : List ℕ} {table : Table} {sc : Scope} {allowance : ℕ} 
       unfolding run
       get-met e f g =
           let d = not-had (top .gives .told (w .sh) (w .read) (w .μ) plan-env) (said-refused a₂ LEVELS r e) in
-          rw (f, g) (met-explains a₂ r (w .sh) (table .root) (get-chain LEVELS (w .sh) (table .root) (w .μ) allowance) (d .1) explain-is)
+          rw (f, g) (met-explains a₂ r (w .sh) (table .root) (get-chain LEVELS (w .sh) (table .root) (w .μ) allowance) (d .1) (omega (arith, w .long)) (w .few)
+          explain-is)
 
       pub few-met : isRefusal r ≡ true → lenOf r ≤ 49
       unfolding run

@@ -249,7 +249,7 @@ module _ {sheet plan view : List ℕ} {table : Table} {sc : Scope} {allowance : 
       unfolding run
       put-met e f h =
           let d = not-had (g .told put-given) (said-refused a LEVELS r e) in
-          rw (f, h) (met-explains a r (w .sh) (table .root) walk-chain (d .1) explain-put)
+          rw (f, h) (met-explains a r (w .sh) (table .root) walk-chain (d .1) (omega (arith, w .long)) (w .few) explain-put)
 
       pub few-met : isRefusal r ≡ true → lenOf r ≤ 49
       unfolding run

@@ -1,5 +1,6 @@
 -- Why a walk was refused: what an entry shows of where it was met.
-use mathlib.Core.Path.{_≡_, refl, sym, ap, subst, _∙_}
+use mathlib.Core.Path.{_≡_, refl, sym, ap, ap₂, subst, _∙_}
+use mathlib.Core.Option.{Option, none, some}
 use mathlib.Core.List.{List, _++_}
 use Prim.Native.Nat.{ℕ, zero, suc, _+_, _≤_, _<_}
 use native.Mathlib.Omega.{arith}
@@ -44,25 +45,38 @@ unfoldable pub whyOf : (a : List ℕ) → Walked → Met → Explanation
 whyOf a (Done len n) m = success
 whyOf a (Refused c) m = metAt a c (m .depth) (m .first)
 
--- a call with the arena b before and a behind it explains e, where the arena and the allowance will do
+-- one more than a node, or 0 where there is none
+unfoldable pub numbered : Option ℕ → ℕ
+numbered none = 0
+numbered (some n) = suc n
+
+-- where an explanation was met: how many nodes its chain has, and the node that wrote first
+unfoldable pub metBy : Explanation → Met
+metBy success = nowhere
+metBy (before c) = nowhere
+metBy (walked y) = record { depth = length (y .chain); first = numbered (y .first) }
+
+-- a call with the arena b before and a behind it explains e, where the arena and the allowance will do; it is met nowhere where they will not
 pub record Explains (e : Explanation) (allowance : ℕ) (b a : List ℕ) (w : Walked) (m : Met) : Type 0 where
   pub few : m .depth ≤ 49
   pub why : SCRATCH ≤ length b → allowance ≤ ALLOWANCE → whyOf a w m ≡ e
+  pub place : SCRATCH ≤ length b → allowance ≤ ALLOWANCE → m ≡ metBy e
+  pub idle : (SCRATCH ≤ length b → allowance ≤ ALLOWANCE → ⊥) → m ≡ nowhere
 
 -- A REFUSAL FROM BEFORE THE WALK
 
 module _ {e : Explanation} {allowance : ℕ} {b : List ℕ} {c : ℕ} where
   pub unmet-2 : length b < SCRATCH → Explains e allowance b b (Refused c) nowhere
   unfolding nowhere
-  unmet-2 h = record { few = omega arith; why = λ k _. absurd (omega arith) }
+  unmet-2 h = record { few = omega arith; why = λ k _. absurd (omega arith); place = λ k _. absurd (omega arith); idle = λ _. refl }
 
   pub unmet-3 : ALLOWANCE < allowance → Explains e allowance b b (Refused c) nowhere
   unfolding nowhere
-  unmet-3 h = record { few = omega arith; why = λ _ k. absurd (omega arith) }
+  unmet-3 h = record { few = omega arith; why = λ _ k. absurd (omega arith); place = λ _ k. absurd (omega arith); idle = λ _. refl }
 
   pub unmet : e ≡ before c → Explains e allowance b b (Refused c) nowhere
-  unfolding nowhere whyOf metAt
-  unmet f = record { few = omega arith; why = λ _ _. sym f }
+  unfolding nowhere whyOf metAt metBy
+  unmet f = record { few = omega arith; why = λ _ _. sym f; place = λ _ _. sym (ap metBy f); idle = λ _. refl }
 
 -- THE WALK FROM THE ROOT: its answer r, and what the rules give under the allowance
 
@@ -93,18 +107,35 @@ module _ {A : Type 0} (a : List ℕ) (r : ℕ) (sh : Sheet) (n : ℕ) {t : Told 
       go zero e = absurd (omega (arith, nodes, e))
       go (suc k) e = rw e refl
 
-  pub met-explains : {e : Explanation} {allowance : ℕ} {b : List ℕ} → e ≡ explained t
+  met-place : record { depth = lenOf r; first = startOf r } ≡ metBy (explained t)
+  unfolding metBy explained whyIn numbered writer
+  met-place = ap₂ (λ (d f : ℕ). at d f) (sym (length-bytes a CHAIN (lenOf r))) (first (startOf r)) ∙ sym (ap (λ (u : Told A). metBy (explained u)) d)
+    where
+      at : ℕ → ℕ → Met
+      at d f = record { depth = d; first = f }
+
+      first : (n : ℕ) → n ≡ numbered (writer n)
+      first zero = refl
+      first (suc n) = refl
+
+  pub met-explains : {e : Explanation} {allowance : ℕ} {b : List ℕ} → SCRATCH ≤ length b → allowance ≤ ALLOWANCE → e ≡ explained t
       → Explains e allowance b a (Refused (codeOf r)) (record { depth = lenOf r; first = startOf r })
-  met-explains f = record { few = few-nodes; why = λ _ _. met-why ∙ sym f }
+  met-explains room few f =
+      record { few = few-nodes; why = λ _ _. met-why ∙ sym f; place = λ _ _. met-place ∙ sym (ap metBy f); idle = λ n. absurd (n room few) }
 
 done-why : {A : Type 0} (a : List ℕ) (len n : ℕ) (m : Met) {s : ℕ} {t : Told A} {v : A} → t ≡ got v s → whyOf a (Done len n) m ≡ explained t
 unfolding whyOf explained
 done-why a len n m d = sym (ap explained d)
 
+done-place : {A : Type 0} {s : ℕ} {t : Told A} {v : A} → t ≡ got v s → nowhere ≡ metBy (explained t)
+unfolding metBy explained
+done-place d = sym (ap (λ (u : Told _). metBy (explained u)) d)
+
 pub done-explains : {A : Type 0} {a b : List ℕ} {len n s allowance : ℕ} {t : Told A} {v : A} {e : Explanation} → t ≡ got v s → e ≡ explained t
     → Explains e allowance b a (Done len n) nowhere
 unfolding nowhere
-done-explains d f = record { few = omega arith; why = λ _ _. done-why _ _ _ _ d ∙ sym f }
+done-explains d f =
+    record { few = omega arith; why = λ _ _. done-why _ _ _ _ d ∙ sym f; place = λ _ _. done-place d ∙ sym (ap metBy f); idle = λ _. refl }
 
 -- THE WHOLE ARENA, of which the walk has the front
 
@@ -123,10 +154,14 @@ pub explains-whole : {e : Explanation} {allowance : ℕ} {b a : List ℕ} {w : W
 unfolding whyOf
 explains-whole {e} {allowance} {b} {a} {w} {m} room l x = record {
   few = x .few;
-  why = λ _ k. go w
-      (x .why (rw (length-take-le SCRATCH b room) (omega arith)) k);
+  why = λ _ k. go w (x .why long k);
+  place = λ _ k. x .place long k;
+  idle = λ n. x .idle (λ _ k. n room k);
 }
   where
+    long : SCRATCH ≤ length (take SCRATCH b)
+    long = rw (length-take-le SCRATCH b room) (omega arith)
+
     go : (w : Walked) → whyOf a w m ≡ e → whyOf (a ++ drop SCRATCH b) w m ≡ e
     go (Done len n) h = h
     go (Refused c) h = met-front a (drop SCRATCH b) c (m .depth) (m .first) (x .few) l ∙ h
