@@ -18,13 +18,6 @@ pub mod Written
 pub mod WrittenLaws
 pub mod WrittenExamples
 pub mod Refusals
-pub mod Published
-pub mod PublishedCost
-pub mod UpTo
-pub mod PublishedGet
-pub mod PublishedCells
-pub mod PublishedPut
-pub mod PublishedWalks
 pub mod Explain
 pub mod ExplainLaws
 pub mod Explanation

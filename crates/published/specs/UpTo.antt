@@ -6,9 +6,9 @@ use Prim.Native.Nat.{ℕ, suc, _≤_, _<_}
 use native.Mathlib.Omega.{arith}
 use native.Mathlib.Decide.{decLe}
 use Rattle.value.specs.Value.{Value, size}
 use Rattle.rules.specs.Outcome.{Out, done, refused, plus, steps, when, _>>=_, given, choose}
 use Rattle.rules.specs.Allowance.{within, cap}
-use Rattle.rules.specs.PublishedCost.{Cost, free, built, _⊕_, entered}
+use Rattle.published.specs.PublishedCost.{Cost, free, built, _⊕_, entered}
 
 -- what each limit's refusal shows of c
 pub data Limit (l a : ℕ) (c : Cost) : ℕ → Type 0 where
