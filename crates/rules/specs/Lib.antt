@@ -2,10 +2,15 @@ pub mod Numbers
 pub mod Outcome
 pub mod Allowance
 pub mod Text
+pub mod Nodes
 pub mod Rules
 pub mod Answer
 pub mod Examples
 pub mod Related
+pub mod Explain
+pub mod Cells
+pub mod Invariant
+pub mod Counted
 pub mod OutcomeLaws
 pub mod AllowanceLaws
 pub mod AnswerLaws
@@ -18,7 +23,6 @@ pub mod Written
 pub mod WrittenLaws
 pub mod WrittenExamples
 pub mod Refusals
-pub mod Explain
 pub mod ExplainLaws
 pub mod Explanation
 pub mod ExplainExamples
