@@ -91,13 +91,6 @@ module _ {A : Type 0} {l a : ℕ} {c : Cost} {Q : A → Type 0} where
   up-plus d j (reached k q) = gives (omega arith) q
   up-plus d j (limited k h) = stops (omega arith) (limit-right d c h)
 
-  -- what it says, in plain words
-  pub up-refused : {n s : ℕ} → UpTo l a c Q (refused n s) → Limit l a c n
-  up-refused (limited k h) = h
-
-  pub up-done : {x : A} {s : ℕ} → UpTo l a c Q (done x s) → Q x
-  up-done (reached k q) = q
-
   pub up-costs : {x : A} {s : ℕ} → UpTo l a c Q (done x s) → Costs l s c
   up-costs (reached k q) = k
 

@@ -136,8 +136,8 @@ ownNumbers = 42 ∷ 43 ∷ 44 ∷ 45 ∷ 46 ∷ 50 ∷ 51 ∷ 52 ∷ 53 ∷ 54 �
 abbrev Own : List ℕ → Type 0
 Own xs = everywhere (λ c. among c ownNumbers) xs ≡ true
 
-every-row : (nd : Node) → Own (refusals nd .0 ++ refusals nd .1)
-unfolding everywhere among refusals ownNumbers
+every-row : (nd : Node) → Own (mayRefuse back nd)
+unfolding everywhere among mayRefuse refusals ownNumbers
 every-row (Var x) = refl
 every-row False = refl
 every-row True = refl
@@ -153,13 +153,12 @@ every-row (Call sec x y) = refl
 every-row (Add n k) = refl
 every-row (Each s sec x d) = refl
 
-as-back : (w : Way) (nd : Node) (c : ℕ) → MayRefuse w nd c → among c (refusals nd .0 ++ refusals nd .1) ≡ true
-unfolding mayRefuse
-as-back out nd c e = among-left c (refusals nd .0) (refusals nd .1) e
+as-back : (w : Way) (nd : Node) (c : ℕ) → MayRefuse w nd c → MayRefuse back nd c
+as-back out nd c e = out-back nd c e
 as-back back nd c e = e
 
 pub own-number : (w : Way) (nd : Node) (c : ℕ) (p : ℕ → Bool) → everywhere p ownNumbers ≡ true → MayRefuse w nd c → p c ≡ true
-own-number w nd c p h e = among-all p c ownNumbers h (among-all (λ x. among x ownNumbers) c _ (every-row nd) (as-back w nd c e))
+own-number w nd c p h e = among-all p c ownNumbers h (among-all (λ x. among x ownNumbers) c (mayRefuse back nd) (every-row nd) (as-back w nd c e))
 
 pub own-above : (w : Way) (nd : Node) (c : ℕ) → MayRefuse w nd c → 42 ≤ c
 unfolding everywhere ownNumbers
