@@ -17,12 +17,12 @@ use Rattle.rules.specs.Rules.{Env, Cells, put}
 use Rattle.rules.specs.Answer.{count, putWalk}
 use Rattle.rules.specs.Related.{ends, more, all2-length}
 use Rattle.rules.specs.Consistency.{Later}
-use Rattle.rules.specs.Published.{Writes, Over, blank, residual, Put, Merge1, neither, left, right, same, Merge, mEnds, mMore}
-use Rattle.rules.specs.PublishedCost.{Cost, putCost}
-use Rattle.rules.specs.PublishedCells.{Laid, Seen, Joined, seen-later, laid-later, merge-is, joined-one}
-use Rattle.rules.specs.PublishedPut.{put-over, put-exact, put-counted}
-use Rattle.rules.specs.PublishedWalks.{blank-is, blank-later, blank-laid, seen-self, seen-below, plan-counted}
-use Rattle.rules.specs.UpTo.{Costs, Exactly, exactly, too-long}
+use Rattle.published.specs.Published.{Writes, Over, blank, residual, Put, Merge1, neither, left, right, same, Merge, mEnds, mMore}
+use Rattle.published.specs.PublishedCost.{Cost, putCost}
+use Rattle.published.specs.PublishedCells.{Laid, Seen, Joined, seen-later, laid-later, merge-is, joined-one}
+use Rattle.published.specs.PublishedPut.{put-over, put-exact, put-counted}
+use Rattle.published.specs.PublishedWalks.{blank-is, blank-later, blank-laid, seen-self, seen-below, plan-counted}
+use Rattle.published.specs.UpTo.{Costs, Exactly, exactly, too-long}
 use Rattle.join.specs.Joined.{joined, put-walk-joined, put-walk-pair}
 
 -- CELLS MERGED: the least that have what both have

@@ -13,6 +13,9 @@ use Rattle.sheet.specs.declared.Node.{Node}
 use Rattle.sheet.specs.declared.Node.the-variants.{Var, False, True, Empty, Number, Front, Pair, ListCase, TruthCase, Split, Call, Add, Each, Wide}
 use Rattle.sheet.specs.Sheet.{Sheet}
 use Rattle.rules.specs.Outcome.{Out, done, _>>=_}
+-- the worked rows and the law of cells are checked before this, so that a wrong rule is refused by them first
+use Rattle.rules.specs.Examples
+use Rattle.rules.specs.Invariant
 use Rattle.rules.specs.Text
 use Rattle.rules.specs.Rules.{
   Env,

@@ -211,8 +211,9 @@ telling =
     ∷ (puts alone (0x03 ∷ 0x04 ∷ 0x00 ∷ 0x05 ∷ 0x02 ∷ []) (0x03 ∷ 0x00 ∷ 0x02 ∷ []) (success (0x03 ∷ 0x04 ∷ 0x00 ∷ 0x05 ∷ 0x02 ∷ []) 4))
     ∷ (puts alone (0x03 ∷ 0x04 ∷ 0x00 ∷ 0x05 ∷ 0x02 ∷ []) (0x03 ∷ 0x01 ∷ 0x03 ∷ 0x00 ∷ 0x02 ∷ []) (refusal 50))
     ∷ (puts alone (0x03 ∷ 0x04 ∷ 0x00 ∷ 0x05 ∷ 0x02 ∷ []) (0x03 ∷ 0x00 ∷ 0x03 ∷ 0x00 ∷ 0x02 ∷ []) (refusal 42))
-    -- the view is judged before the subject, the subject before the variable, and the variable whatever the list
+    -- the view is judged before the subject is got, the subject before the variable, and the variable whatever the list
     ∷ (puts unbound (0x00 ∷ []) (0x00 ∷ []) (refusal 51))
+    ∷ (record { sheet = unbound; plan = 0x02 ∷ []; view = some (0x00 ∷ []); allowance = 1; expected = refusal 51 })
     ∷ (puts unbound (0x00 ∷ []) (0x02 ∷ []) (refusal 43))
     ∷ (puts unbound (0x02 ∷ []) (0x02 ∷ []) (refusal 42))
     ∷ (gets unbound (0x00 ∷ []) (refusal 43))

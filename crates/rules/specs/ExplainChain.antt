@@ -1,19 +1,18 @@
--- Where a refusal is met: its chain begins with the node that was entered, leads from each node to one that it may enter, and is no longer
--- than the levels allow; for 40 it is as long.
-use mathlib.Core.Path.{_≡_, refl}
-use mathlib.Core.Bool.{Bool, true, false, not}
+-- What a refusal says, in the explaining reading: its chain begins with the node that was entered, leads from each node to one that it may
+-- enter, and is no longer than the levels allow; its last node is of a kind that refuses so; of 54, and 54 alone, a node wrote first.
+use mathlib.Core.Path.{_≡_, refl, subst}
 use mathlib.Core.Option.{Option, none, some}
-use mathlib.Core.List.{List, [], _∷_, _++_, map}
+use mathlib.Core.List.{List, [], _∷_}
 use Prim.Native.Nat.{ℕ, zero, suc, _+_, _-_, _≤_}
 use native.Mathlib.Omega.{arith}
-use lib.ListN.{length, getD}
-use Rattle.value.specs.Value.{Value, Values, nil, cons, size}
+use lib.ListN.{length, getD, getElem?}
+use Rattle.value.specs.Value.{Value}
 use Rattle.sheet.specs.declared.Node.{Node}
-use Rattle.sheet.specs.declared.Node.the-variants.{Var, False, True, Empty, Number, Front, Pair, ListCase, TruthCase, Split, Call, Add, Each, Wide}
-use Rattle.sheet.specs.Kinds.{children, calls}
+use Rattle.sheet.specs.declared.Node.the-variants.{False}
 use Rattle.sheet.specs.Sheet.{Sheet}
-use Rattle.rules.specs.Text
-use Rattle.rules.specs.Text.{Env, onList, pick}
+use Rattle.rules.specs.Text.{Env}
+pub use Rattle.rules.specs.Nodes.{_∈_, here, there}
+use Rattle.rules.specs.Nodes.{entries, Way, out, back, MayRefuse, MayAsk, ask-refuse, own-above, out-back}
 use Rattle.rules.specs.Explain.{
   Why,
   Told,
@@ -29,24 +28,15 @@ use Rattle.rules.specs.Explain.{
   wanted,
   Cell,
   Cells,
-  Getter,
-  Putter,
   explaining,
   own,
   barred,
   get,
   put,
 }
-
--- the nodes that a node may enter: its children, the defaults of 17 and of 1C among them, and the root of the section that it calls (1A, 1C)
-unfoldable pub entries : Sheet → Node → List ℕ
-entries sh nd = children nd ++ map (λ s. getD (sh .sections) s 0) (calls nd)
-
--- n is one of them
-infixl 20 _∈_
-pub data _∈_ (n : ℕ) : List ℕ → Type 0 where
-  here : {ns : List ℕ} → n ∈ (n ∷ ns)
-  there : {m : ℕ} {ns : List ℕ} → n ∈ ns → n ∈ (m ∷ ns)
+use Rattle.rules.specs.Related.{all2-at}
+use Rattle.rules.specs.Cells.{Grows, Written, empty, blank, held, grew-kept, grows-refl}
+use Rattle.rules.specs.Invariant.{Invariant, Any, get-holds, put-holds}
 
 -- each node of the list is one that the node before it may enter, and the first is one that m may
 abbrev pub Leads : Sheet → ℕ → List ℕ → Type 0
@@ -61,212 +51,250 @@ pub record Chain (sh : Sheet) (n l : ℕ) (y : Why) : Type 0 where
   pub short : length rest ≤ l
   pub deepest : y .code ≡ 40 → length rest ≡ l
 
--- what a refusal says below the node whose rule is followed: nothing where it is that node's own, and then it is not 40; or else a node that
--- this one may enter, with l levels left below
-pub data Below (sh : Sheet) (nd : Node) (l : ℕ) (y : Why) : Type 0 where
-  itself : y .chain ≡ [] → 42 ≤ y .code → Below sh nd l y
-  further : {n : ℕ} → n ∈ entries sh nd → Chain sh n l y → Below sh nd l y
+-- the last node of a chain
+abbrev pub lastOf : ℕ → List ℕ → ℕ
+lastOf n [] = n
+lastOf n (m ∷ ns) = lastOf m ns
+
+-- who wrote first: of 54 a node of P, and of no other refusal any
+pub data Wrote (P : ℕ → Type 0) (y : Why) : Type 0 where
+  nobody : y .first ≡ none → (y .code ≡ 54 → ⊥) → Wrote P y
+  somebody : {m : ℕ} → y .first ≡ some m → P m → y .code ≡ 54 → Wrote P y
+
+-- all that is said of a refusal of the node n or below it
+pub record Refuses (P : ℕ → Type 0) (w : Way) (sh : Sheet) (n l : ℕ) (y : Why) : Type 0 where
+  pub chain : Chain sh n l y
+  pub kind : 42 ≤ y .code → MayRefuse w (getD (sh .nodes) (lastOf n (chain .rest)) False) (y .code)
+  pub wrote : Wrote P y
+
+-- what a refusal says below the node whose rule is followed: nothing where it is that node's own, and then its kind has the number; or else a
+-- node that this one may enter, with l levels left below
+pub data Below (P : ℕ → Type 0) (w : Way) (sh : Sheet) (nd : Node) (l : ℕ) (y : Why) : Type 0 where
+  itself : y .chain ≡ [] → MayRefuse w nd (y .code) → Wrote P y → Below P w sh nd l y
+  further : {n : ℕ} → n ∈ entries sh nd → Refuses P w sh n l y → Below P w sh nd l y
 
 -- where it is a refusal, P holds of it
 pub data Meets {A : Type 0} (P : Why → Type 0) : Told A → Type 0 where
   came : {a : A} {s : ℕ} → Meets P (got a s)
   stop : {y : Why} {s : ℕ} → P y → Meets P (met y s)
 
+-- with `left` steps left: where it is done, it took no more and Q holds of what was done; where it is a refusal, P holds of it, and for 41 all
+-- steps are taken
+pub data Ends {A : Type 0} (P : Why → Type 0) (Q : A → Type 0) (left : ℕ) : Told A → Type 0 where
+  ended : {a : A} {s : ℕ} → s ≤ left → Q a → Ends P Q left (got a s)
+  stopped : {y : Why} {s : ℕ} → (y .code ≡ 41 → s ≡ left) → P y → Ends P Q left (met y s)
+
 -- the same under every allowance
-pub record Always {A : Type 0} (P : Why → Type 0) (m : Explained A) : Type 0 where
-  pub at : (left : ℕ) → Meets P (m left)
+pub record Always {A : Type 0} (P : Why → Type 0) (Q : A → Type 0) (m : Explained A) : Type 0 where
+  pub at : (left : ℕ) → Ends P Q left (m left)
 
-module _ {A : Type 0} {P : Why → Type 0} where
-  gives : (a : A) → Always P (λ _. got a 0)
-  gives a = record { at = λ left. came }
+-- THE READING KEEPS IT
 
-  meets-more : (s : ℕ) {t : Told A} → Meets P t → Meets P (more s t)
+module _ {A : Type 0} {P : Why → Type 0} {Q : A → Type 0} where
+  -- `ended` and `stopped` with their goal read first
+  ends : {a : A} {s left : ℕ} → s ≤ left → Q a → Ends P Q left (got a s)
+  ends h q = ended h q
+
+  stops : {y : Why} {s left : ℕ} → (y .code ≡ 41 → s ≡ left) → P y → Ends P Q left (met y s)
+  stops h p = stopped h p
+
+  always-gives : (a : A) → Q a → Always P Q (λ _. got a 0)
+  always-gives a q = record { at = λ left. ends (omega arith) q }
+
+  ends-more : (s left : ℕ) {t : Told A} → s ≤ left → Ends P Q (left - s) t → Ends P Q left (more s t)
   unfolding more
-  meets-more s came = came
-  meets-more s (stop h) = stop h
+  ends-more s left h (ended k q) = ends (omega arith) q
+  ends-more s left h (stopped {y} k p) = stops (λ (e : y .code ≡ 41). let z = k e in omega arith) p
 
-  meets-list : (l : Values) {x : Explained A} {f : Value → Values → Explained A} → Always P x → ((v : Value) (r : Values) → Always P (f v r))
-      → Always P (onList l x f)
-  unfolding onList
-  meets-list nil h j = h
-  meets-list (cons v r) h j = j v r
-
-module _ {A B : Type 0} {P : Why → Type 0} where
-  meets-follow : {t : Told A} {f : A → ℕ → Told B} → Meets P t → ((a : A) (s : ℕ) → Meets P (f a s)) → Meets P (follow t f)
+module _ {A B : Type 0} {P : Why → Type 0} {Q : A → Type 0} {S : B → Type 0} where
+  ends-follow : (left : ℕ) {t : Told A} {f : A → ℕ → Told B} → Ends P Q left t → ((a : A) (s : ℕ) → Q a → Ends P S (left - s) (f a s))
+      → Ends P S left (follow t f)
   unfolding follow
-  meets-follow came j = meets-more _ (j _ _)
-  meets-follow (stop h) j = stop h
+  ends-follow left (ended h q) j = ends-more _ left h (j _ _ q)
+  ends-follow left (stopped h p) j = stopped h p
 
-  meets-next : {m : Explained A} {f : A → Explained B} → Always P m → ((a : A) → Always P (f a)) → Always P (next m f)
+  always-binds : {m : Explained A} {f : A → Explained B} → Always P Q m → ((a : A) → Q a → Always P S (f a)) → Always P S (next m f)
   unfolding next
-  meets-next {m} {f} h j = record { at = λ left. meets-follow (h .at left) λ a s. j a .at (left - s) }
+  always-binds {m} {f} h j = record { at = λ left. ends-follow left (h .at left) λ a s q. j a q .at (left - s) }
 
--- a node's own refusals
-module _ {sh : Sheet} {nd : Node} {l : ℕ} where
-  asked : {A B : Type 0} (c : ℕ) (w : Option ℕ) (o : Option A) {f : A → Explained B} → 42 ≤ c → ((a : A) → Always (Below sh nd l) (f a))
-      → Always (Below sh nd l) (wanted (own c w) o f)
-  unfolding wanted
-  asked c w none j h = record { at = λ left. stop {y = own c w} (itself refl j) }
-  asked c w (some a) j h = h a
+module _ {P : ℕ → Type 0} {w : Way} {sh : Sheet} {nd : Node} {l : ℕ} where
+  module _ {B : Type 0} {S : B → Type 0} where
+    -- a refusal of the node's own
+    refusing : (c : ℕ) (f : Option ℕ) → MayRefuse w nd c → Wrote P (own c f) → Always {A = B} (Below P w sh nd l) S (λ _. met (own c f) 0)
+    refusing c f r q =
+        record { at = λ left. stopped {y = own c f} (λ (e : c ≡ 41). let z = own-above w nd c r in absurd (omega arith)) (itself refl r q) }
 
-  chosen : {A P Q : Type 0} (p : Dec P) (q : Dec Q) {x y : Explained A} → Always (Below sh nd l) x → Always (Below sh nd l) y
-      → Always (Below sh nd l) (choice p q x y)
-  unfolding choice
-  chosen (yes p) q h j = h
-  chosen (no p) (yes q) h j = j
-  chosen (no p) (no q) h j = record { at = λ left. stop {y = own 53 none} (itself refl (omega arith)) }
+    always-asks : {A : Type 0} (c : ℕ) (o : Option A) {k : A → Explained B} → (o ≡ none → MayAsk w nd c)
+        → ((a : A) → o ≡ some a → Always (Below P w sh nd l) S (k a)) → Always (Below P w sh nd l) S (wanted (own c none) o k)
+    unfolding wanted
+    always-asks c none r h = let z = ask-refuse w nd c (r refl) in refusing c _ (z .0) (nobody refl (z .1))
+    always-asks c (some a) r h = h a refl
+
+    always-chooses : {X Y : Type 0} (p : Dec X) (q : Dec Y) {x y : Explained B} → MayRefuse w nd 53 → Always (Below P w sh nd l) S x
+        → Always (Below P w sh nd l) S y → Always (Below P w sh nd l) S (choice p q x y)
+    unfolding choice
+    always-chooses (yes p) q r h j = h
+    always-chooses (no p) (yes q) r h j = j
+    always-chooses (no p) (no q) r h j = refusing 53 _ r (nobody refl λ (e : _≡_ {A = ℕ} 53 54). absurd (omega arith))
+
+    always-clashes : {A : Type 0} (n : ℕ) (o : Option A) {k : A → Explained B} → MayRefuse w nd 54 → P n → ((a : A) → Always (Below P w sh nd l) S (k a))
+        → Always (Below P w sh nd l) S (wanted (own 54 (some n)) o k)
+    unfolding wanted
+    always-clashes n none r i h = refusing 54 (some n) r (somebody refl i refl)
+    always-clashes n (some a) r i h = h a
 
 -- a node that is entered
-module _ {A : Type 0} {sh : Sheet} {l : ℕ} (n : ℕ) where
-  below-chain : {t : Told A} → Meets (Below sh (getD (sh .nodes) n False) l) t → Meets (Chain sh n (suc l)) (below n t)
+wrote-below : {P : ℕ → Type 0} {y : Why} (n : ℕ) → Wrote P y → Wrote P (record { code = y .code; chain = n ∷ y .chain; first = y .first })
+wrote-below n (nobody e c) = nobody e c
+wrote-below n (somebody e i c) = somebody e i c
+
+module _ {P : ℕ → Type 0} {w : Way} {sh : Sheet} where
+  refuses-below : {l : ℕ} {y : Why} (n : ℕ) → Below P w sh (getD (sh .nodes) n False) l y
+      → Refuses P w sh n (suc l) (record { code = y .code; chain = n ∷ y .chain; first = y .first })
+  refuses-below {l} {y} n (itself e r q) = record {
+    chain = record {
+      rest = [];
+      begins = rw e refl;
+      leads = tt;
+      short = omega arith;
+      deepest = λ (d : y .code ≡ 40). let z = own-above w _ (y .code) r in absurd (omega arith);
+    };
+    kind = λ _. r;
+    wrote = wrote-below n q;
+  }
+  refuses-below {l} {y} n (further {n = m} i h) = let c = h .chain in record {
+    chain = record {
+      rest = m ∷ c .rest;
+      begins = rw (c .begins) refl;
+      leads = (i, c .leads);
+      short = omega (arith, c .short);
+      deepest = λ (d : y .code ≡ 40). omega (arith, c .deepest d);
+    };
+    kind = h .kind;
+    wrote = wrote-below n (h .wrote);
+  }
+
+  -- one that could not be entered
+  refuses-barred : {l : ℕ} (c n : ℕ) → c ≤ 41 → (c ≡ 40 → l ≡ 0) → Refuses P w sh n l (barred c n)
+  refuses-barred {l} c n h d = record {
+    chain = record { rest = []; begins = refl; leads = tt; short = omega arith; deepest = λ (e : c ≡ 40). let z = d e in omega arith };
+    kind = λ (k : 42 ≤ c). absurd (omega arith);
+    wrote = nobody refl λ (e : c ≡ 54). absurd (omega arith);
+  }
+
+module _ {P : ℕ → Type 0} {w : Way} {sh : Sheet} {A : Type 0} {Q : A → Type 0} where
+  ends-below : {l : ℕ} (n left : ℕ) {t : Told A} → Ends (Below P w sh (getD (sh .nodes) n False) l) Q left t
+      → Ends (Refuses P w sh n (suc l)) Q (suc left) (below n t)
   unfolding below
-  below-chain came = came
-  below-chain (stop {y} (itself e c)) = stop (record {
-    rest = y .chain;
-    begins = refl;
-    leads = rw e tt;
-    short = rw e (omega arith);
-    deepest = λ (d : y .code ≡ 40). omega arith;
-  })
-  below-chain (stop {y} (further i h)) = stop (record {
-    rest = y .chain;
-    begins = refl;
-    leads = rw (h .begins) (i, h .leads);
-    short = rw (h .begins) (omega (arith, h .short));
-    deepest = λ (d : y .code ≡ 40). rw (h .begins) (omega (arith, h .deepest d));
-  })
+  ends-below n left (ended h q) = ends (omega arith) q
+  ends-below n left (stopped {y} h p) = stops (λ (e : y .code ≡ 41). let z = h e in omega arith) (refuses-below n p)
 
-  entered-chain : {m : Explained A} → Always (Below sh (getD (sh .nodes) n False) l) m → (left : ℕ)
-      → Meets (Chain sh n (suc l)) (entered n m left)
+  always-enters : {l : ℕ} {m : Explained A} (n : ℕ) → Always (Below P w sh (getD (sh .nodes) n False) l) Q m → Always (Refuses P w sh n (suc l)) Q (entered n m)
   unfolding entered
-  entered-chain h zero = stop (record { rest = []; begins = refl; leads = tt; short = omega arith; deepest = λ (d : barred 41 n .code ≡ 40). omega arith })
-  entered-chain h (suc left) = below-chain (h .at left)
+  always-enters {l} {m} n h = record { at = go }
+    where
+      go : (left : ℕ) → Ends (Refuses P w sh n (suc l)) Q left (entered n m left)
+      go zero = stopped {y = barred 41 n} (λ _. refl) (refuses-barred 41 n (omega arith) λ (e : _≡_ {A = ℕ} 41 40). absurd (omega arith))
+      go (suc left) = ends-below n left (h .at left)
 
--- GET
+  always-deeps : (n : ℕ) → Always (Refuses P w sh n 0) Q (λ _. met (barred 40 n) 0)
+  always-deeps n =
+      record { at = λ left. stopped {y = barred 40 n} (λ (e : _≡_ {A = ℕ} 40 41). absurd (omega arith)) (refuses-barred 40 n (omega arith) λ _. refl) }
 
--- of the nodes that a node may enter
-abbrev Gets : (sh : Sheet) (nd : Node) (l : ℕ) → Getter → Type 0
-Gets sh nd l g = (n : ℕ) (μ : Env) → n ∈ entries sh nd → Always (Below sh nd l) (g n μ)
+module _ {A : Type 0} {P S : Why → Type 0} {Q : A → Type 0} where
+  always-map : {m : Explained A} → ((y : Why) → P y → S y) → Always P Q m → Always S Q m
+  always-map f h = record { at = λ left. go (h .at left) }
+    where
+      go : {left : ℕ} {t : Told A} → Ends P Q left t → Ends S Q left t
+      go (ended k q) = ended k q
+      go (stopped k p) = stopped k (f _ p)
 
-picked : {f t : ℕ} {ns : List ℕ} (b : Bool) → f ∈ ns → t ∈ ns → pick b f t ∈ ns
-picked false h j = h
-picked true h j = j
+pub refuses-back : {P : ℕ → Type 0} {sh : Sheet} {n l : ℕ} {y : Why} → Refuses P out sh n l y → Refuses P back sh n l y
+refuses-back {y = y} h = record { chain = h .chain; kind = λ k. out-back _ (y .code) (h .kind k); wrote = h .wrote }
 
-module _ {sh : Sheet} {nd : Node} {l : ℕ} where
-  bounded-meets : (v : Value) → Always (Below sh nd l) (Text.bounded explaining v)
-  unfolding Text.bounded
-  bounded-meets v = asked 44 none _ (omega arith) λ _. gives v
+module _ (sh : Sheet) (P : ℕ → Type 0) where
+  abbrev RuleOf : Way → Node → ℕ → {A : Type 0} → (A → Type 0) → Explained A → Type 0
+  RuleOf w nd l Q m = Always (Below P w sh nd l) Q m
 
-  tested-meets : (t : ℕ) {m : Explained Value} → Always (Below sh nd l) m → Always (Below sh nd l) (Text.tested explaining t m)
-  unfolding Text.tested
-  tested-meets t h = meets-next h λ v. asked 46 none _ (omega arith) λ _. gives v
+  abbrev WalkOf : Way → ℕ → ℕ → {A : Type 0} → (A → Type 0) → Explained A → Type 0
+  WalkOf w l n Q m = Always (Refuses P w sh n l) Q m
 
-  get-each-meets : (g : Getter) (root : ℕ) → ((μ : Env) → Always (Below sh nd l) (g root μ)) → (a : Value) (n : ℕ) (m : Values)
-      → Always (Below sh nd l) (Text.getEach explaining g root a n m)
-  unfolding Text.getEach
-  get-each-meets g root h a n nil = gives _
-  get-each-meets g root h a n (cons m r) = meets-next (h _) λ w. asked 44 none _ (omega arith) λ _. meets-next (get-each-meets g root h a _ r) λ ws. gives _
+  abbrev kept : ((n m : ℕ) → P n → m ∈ entries sh (getD (sh .nodes) n False) → P m) → Invariant explaining sh
+  kept leads = record {
+    In = P;
+    By = λ c. P (c .by);
+    Rule = RuleOf;
+    Walk = WalkOf;
+    gives = always-gives;
+    binds = always-binds;
+    givens = always-asks;
+    sees = λ c v o r k. always-asks c o (λ _. r) λ a _. k a;
+    chooses = always-chooses;
+    clashes = λ c o r i k. always-clashes (c .by) o r i k;
+    enters = λ n i h. always-enters n h;
+    deeps = λ n i. always-deeps n;
+    goes = λ i h. always-map (λ y p. further i p) h;
+    looks = λ i h. always-map (λ y p. further i (refuses-back p)) h;
+    marks = λ n v i. i;
+    leads = λ i e. leads _ _ i e;
+  }
 
-module _ {sh : Sheet} {l : ℕ} (g : Getter) (μ : Env) where
-  get-node-meets : (nd : Node) → Gets sh nd l g → Always (Below sh nd l) (Text.getNode explaining g sh nd μ)
-  unfolding Text.getNode entries children calls
-  get-node-meets (Var x) h = asked 42 none _ (omega arith) λ v. gives v
-  get-node-meets False h = gives _
-  get-node-meets True h = gives _
-  get-node-meets Empty h = gives _
-  get-node-meets (Number n) h = gives _
-  get-node-meets (Wide n) h = gives _
-  get-node-meets (Front a b) h = meets-next (h a μ here) λ f. meets-next (h b μ (there here)) λ r. asked 43 none _ (omega arith) λ m. bounded-meets _
-  get-node-meets (Pair a b) h = meets-next (h a μ here) λ u. meets-next (h b μ (there here)) λ v. bounded-meets _
-  get-node-meets (ListCase s e te n tn df dr) h = meets-next (h s μ here) λ v. asked 43 none _ (omega arith) λ m. meets-list (m .0)
-      (tested-meets te (h e μ (there here))) λ f r. tested-meets tn (h n _ (there (there here)))
-  get-node-meets (TruthCase s f tf t t₁) h = meets-next (h s μ here) λ v. asked 43 none _ (omega arith) λ b.
-      tested-meets _ (h _ μ (picked (b .0) (there here) (there (there here))))
-  get-node-meets (Split s i) h = meets-next (h s μ here) λ v. asked 43 none _ (omega arith) λ p. h i _ (there here)
-  get-node-meets (Call sec x y) h = asked 42 none _ (omega arith) λ a. asked 42 none _ (omega arith) λ b. h _ _ here
-  get-node-meets (Add n k) h = meets-next (h n μ here) λ v. asked 43 none _ (omega arith) λ m. asked 45 none _ (omega arith) λ _. gives _
-  get-node-meets (Each s sec x d) h = meets-next (h s μ here) λ v. asked 43 none _ (omega arith) λ m. asked 42 none _ (omega arith) λ a.
-      meets-next (get-each-meets g _ (λ ν. h _ ν (there (there here))) a _ (m .0)) λ ws. gives _
+-- OF ANY NODE
 
--- what an entry says, below the node that enters
-further-always : {A : Type 0} {sh : Sheet} {nd : Node} {l n : ℕ} {m : Explained A} → n ∈ entries sh nd → ((left : ℕ) → Meets (Chain sh n l) (m left))
-    → Always (Below sh nd l) m
-further-always {A} {sh} {nd} {l} {n} i h = record { at = λ left. go (h left) }
+module _ {sh : Sheet} {P : ℕ → Type 0} (leads : (n m : ℕ) → P n → m ∈ entries sh (getD (sh .nodes) n False) → P m) where
+  pub get-ends : (l n : ℕ) (μ : Env) (left : ℕ) → P n → Ends (Refuses P out sh n l) Any left (get l sh n μ left)
+  get-ends l n μ left i = get-holds (kept sh P leads) l n μ i .at left
+
+  pub put-ends : (l n : ℕ) (μ : Env) (σ : List ℕ) (v : Value) (W : Cells) (left : ℕ) → P n → Written (λ (c : Cell). P (c .by)) W
+      → Ends (Refuses P back sh n l) (Grows (λ (c : Cell). P (c .by)) W) left (put l sh n μ σ v W left)
+  put-ends l n μ σ v W left i k = put-holds (kept sh P leads) l n μ σ v W W i k (grows-refl W) .at left
+
+abbrev pub Whoever : ℕ → Type 0
+Whoever n = Unit {0}
+
+anyhow : (W : Cells) → Written (λ (c : Cell). Whoever (c .by)) W
+anyhow [] = empty
+anyhow (none ∷ W) = blank (anyhow W)
+anyhow (some c ∷ W) = held tt (anyhow W)
+
+module _ (l : ℕ) (sh : Sheet) (n : ℕ) (μ : Env) (left : ℕ) where
+  pub get-refuses : Ends (Refuses Whoever out sh n l) Any left (get l sh n μ left)
+  get-refuses = get-ends (λ _ _ _ _. tt) l n μ left tt
+
+  module _ (σ : List ℕ) (v : Value) (W : Cells) where
+    pub put-refuses : Ends (Refuses Whoever back sh n l) (Grows (λ (c : Cell). Whoever (c .by)) W) left (put l sh n μ σ v W left)
+    put-refuses = put-ends (λ _ _ _ _. tt) l n μ σ v W left tt (anyhow W)
+
+    -- a cell once written keeps its writer and its value through every put
+    pub cell-kept : {X : Cells} {s : ℕ} → put l sh n μ σ v W left ≡ got X s → (c : ℕ) (w : Cell) → getElem? W c ≡ some (some w)
+        → getElem? X c ≡ some (some w)
+    cell-kept {X} {s} e c w h = go (subst (Ends (Refuses Whoever back sh n l) (Grows (λ (d : Cell). Whoever (d .by)) W) left) e put-refuses)
+      where
+        go : Ends {A = Cells} (Refuses Whoever back sh n l) (Grows (λ (d : Cell). Whoever (d .by)) W) left (got X s) → getElem? X c ≡ some (some w)
+        go (ended _ g) = let (o, eo, r) = all2-at c g h in let z = grew-kept r refl in cc
+
+-- for 41 the steps taken are those that were left
+ends-spent : {A : Type 0} {P : Why → Type 0} {Q : A → Type 0} {left : ℕ} {t : Told A} {y : Why} {s : ℕ} → Ends P Q left t → t ≡ met y s → y .code ≡ 41
+    → s ≡ left
+ends-spent {A} {P} {Q} {left} {t} {y} {s} h e c = go (subst (Ends P Q left) e h)
   where
-    go : {t : Told A} → Meets (Chain sh n l) t → Meets (Below sh nd l) t
-    go came = came
-    go (stop c) = stop (further i c)
+    go : Ends {A = A} P Q left (met y s) → s ≡ left
+    go (stopped k p) = k c
+
+module _ (l : ℕ) (sh : Sheet) (n : ℕ) (μ : Env) (left : ℕ) {y : Why} {s : ℕ} where
+  pub get-spent : get l sh n μ left ≡ met y s → y .code ≡ 41 → s ≡ left
+  get-spent e c = ends-spent (get-refuses l sh n μ left) e c
+
+  pub put-spent : (σ : List ℕ) (v : Value) (W : Cells) → put l sh n μ σ v W left ≡ met y s → y .code ≡ 41 → s ≡ left
+  put-spent σ v W e c = ends-spent (put-refuses l sh n μ left σ v W) e c
+
+chained : {A : Type 0} {P : ℕ → Type 0} {w : Way} {sh : Sheet} {n l left : ℕ} {Q : A → Type 0} {t : Told A} → Ends (Refuses P w sh n l) Q left t
+    → Meets (Chain sh n l) t
+chained (ended k q) = came
+chained (stopped k p) = stop (p .chain)
 
 pub get-chain : (l : ℕ) (sh : Sheet) (n : ℕ) (μ : Env) (left : ℕ) → Meets (Chain sh n l) (get l sh n μ left)
-unfolding Text.get
-get-chain zero sh n μ left = stop (record { rest = []; begins = refl; leads = tt; short = omega arith; deepest = λ d. refl })
-get-chain (suc l) sh n μ left = entered-chain n (get-node-meets (get l sh) μ _ λ m ν i. further-always i (get-chain l sh m ν)) left
-
--- PUT
-
-abbrev Puts : (sh : Sheet) (nd : Node) (l : ℕ) → Putter → Type 0
-Puts sh nd l p = (n : ℕ) (μ : Env) (σ : List ℕ) (v : Value) (W : Cells) → n ∈ entries sh nd → Always (Below sh nd l) (p n μ σ v W)
-
-module _ {sh : Sheet} {nd : Node} {l : ℕ} (p : Putter) (h : Puts sh nd l p) (μ : Env) (σ : List ℕ) (v : Value) (W : Cells) where
-  both-meets : (a : ℕ) (x : Value) (b : ℕ) (u : Value) → a ∈ entries sh nd → b ∈ entries sh nd → Always (Below sh nd l) (Text.both explaining p μ σ W a x b u)
-  unfolding Text.both
-  both-meets a x b u i j = meets-next (h a μ σ x W i) λ X. h b μ σ u X j
-
-  under-meets : (b s : ℕ) (mk : Value → Value → Option Value) (f r : Value) → b ∈ entries sh nd → s ∈ entries sh nd
-      → Always (Below sh nd l) (Text.under explaining p μ σ W b v s mk f r)
-  unfolding Text.under
-  under-meets b s mk f r i j = meets-next (h b _ _ v _ i) λ X. asked 42 none _ (omega arith) λ x. asked 42 none _ (omega arith) λ y.
-      asked 43 none _ (omega arith) λ u. asked 44 none _ (omega arith) λ _. h s μ σ u _ j
-
-  constant-meets : (u : Value) → Always (Below sh nd l) (Text.constant explaining v u W)
-  unfolding Text.constant
-  constant-meets u = asked 50 none _ (omega arith) λ _. gives W
-
-  write-meets : (n c : ℕ) (o : Option Cell) → Always (Below sh nd l) (Text.write explaining (explaining .mark n) c v W o)
-  unfolding Text.write
-  write-meets n c none = gives _
-  write-meets n c (some w) = asked 54 _ _ (omega arith) λ _. gives W
-
-module _ {sh : Sheet} {nd : Node} {l : ℕ} (g : Getter) (gets : Gets sh nd l g) (p : Putter) (h : Puts sh nd l p) where
-  put-each-meets : (root d c : ℕ) → root ∈ entries sh nd → d ∈ entries sh nd → (a : Value) (n : ℕ) (old m : Values) (W : Cells)
-      → Always (Below sh nd l) (Text.putEach explaining g p root d c a n old m W)
-  unfolding Text.putEach Text.stoodFor
-  put-each-meets root d c i j a n old nil W = gives _
-  put-each-meets root d c i j a n old (cons u r) W = meets-next (meets-list old (gets d [] j) λ m _. gives m) λ m. meets-next (h root _ _ u _ i) λ X.
-      asked 42 none _ (omega arith) λ o. asked 44 none _ (omega arith) λ _.
-      meets-next (put-each-meets root d c i j a (n + suc (size (Text.orOld explaining o m))) _ r _) λ q. gives _
-
-module _ {sh : Sheet} {l : ℕ} (g : Getter) (p : Putter) (μ : Env) (σ : List ℕ) (v : Value) (W : Cells) where
-  put-node-meets : (n : ℕ) (nd : Node) → Gets sh nd l g → Puts sh nd l p
-      → Always (Below sh nd l) (Text.putNode explaining (explaining .mark n) g p sh nd μ σ v W)
-  unfolding Text.putNode entries children calls
-  put-node-meets n (Var x) gets h = asked 42 none _ (omega arith) λ c. asked 42 none _ (omega arith) λ o. write-meets p h μ σ v W n c o
-  put-node-meets n False gets h = constant-meets p h μ σ v W _
-  put-node-meets n True gets h = constant-meets p h μ σ v W _
-  put-node-meets n Empty gets h = constant-meets p h μ σ v W _
-  put-node-meets n (Number m) gets h = constant-meets p h μ σ v W _
-  put-node-meets n (Wide m) gets h = constant-meets p h μ σ v W _
-  put-node-meets n (Front a b) gets h = asked 51 none _ (omega arith) λ c. both-meets p h μ σ v W _ _ _ _ here (there here)
-  put-node-meets n (Pair a b) gets h = asked 51 none _ (omega arith) λ c. both-meets p h μ σ v W _ _ _ _ here (there here)
-  put-node-meets n (ListCase s e te m tn df dr) gets h = meets-next (gets s μ here) λ o. asked 43 none _ (omega arith) λ k.
-      meets-list (k .0)
-      (chosen _ _ (both-meets p h μ σ v W _ _ _ _ (there here) here)
-      (meets-next (gets df _ (there (there (there here)))) λ f. meets-next (gets dr _ (there (there (there (there here))))) λ r.
-      asked 43 none _ (omega arith) λ _. under-meets p h μ σ v W _ _ _ _ _ (there (there here)) here))
-      (λ f r. chosen _ _ (under-meets p h μ σ v W _ _ _ _ _ (there (there here)) here) (both-meets p h μ σ v W _ _ _ _ (there here) here))
-  put-node-meets n (TruthCase s f tf t t₁) gets h = meets-next (gets s μ here) λ o. asked 43 none _ (omega arith) λ b. chosen _ _
-      (both-meets p h μ σ v W _ _ _ _ (picked (b .0) (there here) (there (there here))) here)
-      (both-meets p h μ σ v W _ _ _ _ (picked (not (b .0)) (there here) (there (there here))) here)
-  put-node-meets n (Split s i) gets h = meets-next (gets s μ here) λ o. asked 43 none _ (omega arith) λ c. under-meets p h μ σ v W _ _ _ _ _ (there here) here
-  put-node-meets n (Call sec x y) gets h = asked 42 none _ (omega arith) λ a. asked 42 none _ (omega arith) λ c. asked 42 none _ (omega arith) λ b.
-      asked 42 none _ (omega arith) λ d. h _ _ _ v W here
-  put-node-meets n (Add m j) gets h = asked 51 none _ (omega arith) λ a. asked 52 none _ (omega arith) λ _. h _ _ _ _ W here
-  put-node-meets n (Each s sec x d) gets h = asked 51 none _ (omega arith) λ k. meets-next (gets s μ here) λ o. asked 43 none _ (omega arith) λ old.
-      asked 42 none _ (omega arith) λ a. asked 42 none _ (omega arith) λ c.
-      meets-next (put-each-meets g gets p h _ d c (there (there here)) (there here) a _ (old .0) (k .0) W) λ q. h s μ σ _ _ here
+get-chain l sh n μ left = chained (get-refuses l sh n μ left)
 
 pub put-chain : (l : ℕ) (sh : Sheet) (n : ℕ) (μ : Env) (σ : List ℕ) (v : Value) (W : Cells) (left : ℕ) → Meets (Chain sh n l) (put l sh n μ σ v W left)
-unfolding Text.put
-put-chain zero sh n μ σ v W left = stop (record { rest = []; begins = refl; leads = tt; short = omega arith; deepest = λ d. refl })
-put-chain (suc l) sh n μ σ v W left = entered-chain n (put-node-meets (get l sh) (put l sh) μ σ v W n _ (λ m ν i. further-always i (get-chain l sh m ν))
-    λ m ν τ u X i. further-always i (put-chain l sh m ν τ u X)) left
+put-chain l sh n μ σ v W left = chained (put-refuses l sh n μ left σ v W)

@@ -2,23 +2,27 @@
 use mathlib.Core.Path.{_≡_, refl, sym, ap, _∙_}
 use mathlib.Core.Option.{Option, none, some}
 use mathlib.Core.List.{List, _∷_}
-use Prim.Native.Nat.{ℕ, zero, suc, _-_, _≤_}
+use Prim.Native.Nat.{ℕ, zero, suc, _-_, _≤_, _<_}
 use native.Mathlib.Omega.{arith}
 use native.Mathlib.Decide.{decLe}
 use lib.ListN.{length, getD, replicate}
 use Rattle.value.specs.Result.{Result, ok, refusal}
-use Rattle.value.specs.Value.{vfalse, encode, flat}
+use Rattle.value.specs.Value.{Value, vfalse, encode, flat}
 use Rattle.value.specs.Reading.{readPlan, readView}
 use Rattle.sheet.specs.Sheet.{Sheet, readSheet}
+use Rattle.sheet.specs.Laws.{sheet-ranges}
 use Rattle.rules.specs.Numbers.{LEVELS, ALLOWANCE, SCRATCH, GET-OUTPUT, PUT-OUTPUT}
 use Rattle.rules.specs.Outcome.{Out, done, refused, when, mapOut, given, reading}
 use Rattle.rules.specs.OutcomeLaws.{given-yes}
 use Rattle.rules.specs.Answer.{Answer, answer, door, count, newPlan, getWalk, getBytes, getAnswer, putWalk, putBytes, putAnswer}
 use Rattle.rules.specs.Answer as Answer
+use Rattle.rules.specs.Text.{Env}
 use Rattle.rules.specs.Explain.{Why, Told, got, met, get, put}
 use Rattle.rules.specs.Explain as Explain
 use Rattle.rules.specs.ExplainLaws.{forget, strip, get-erases, put-erases}
-use Rattle.rules.specs.ExplainChain.{Chain, Meets, came, stop, get-chain, put-chain}
+use Rattle.rules.specs.Cells.{written-blank}
+use Rattle.rules.specs.Nodes.{Way, out, back, entry-in}
+use Rattle.rules.specs.ExplainChain.{Chain, Refuses, Ends, ended, stopped, get-ends, put-ends, get-spent, put-spent}
 
 -- the node where it was met, and its depth
 abbrev pub node : Why → ℕ
@@ -146,15 +150,88 @@ pub why-put-number : (sheet plan view : List ℕ) (allowance output scratch : �
 unfolding whyPut putAnswer
 why-put-number sheet plan view allowance output scratch h = number-door PUT-OUTPUT output allowance scratch h _ _ (put-number sheet plan view allowance)
 
+-- and a walk that is refused with 41 has taken the whole allowance
+
+forget-spent : {A B : Type 0} (f : A → B) (left : ℕ) {s : ℕ} (t : Told A) → ((y : Why) → t ≡ met y s → y .code ≡ 41 → s ≡ left) → forget f t ≡ refused 41 s
+    → s ≡ left
+unfolding forget
+forget-spent f left (got a r) h e = let z : _≡_ {A = ℕ} 0 1 = cc in absurd (omega arith)
+forget-spent f left {s} (met y r) h e = let c : y .code ≡ 41 = cc in let z : r ≡ s = cc in h y (ap (met y) z) c
+
+module _ (allowance : ℕ) (sh : Sheet) (μ : Env) {s : ℕ} where
+  pub get-walk-spent : getWalk allowance sh μ ≡ refused 41 s → s ≡ allowance
+  unfolding getWalk
+  get-walk-spent e = forget-spent (λ v. v) allowance (get LEVELS sh (sh .root) μ allowance) (λ y. get-spent LEVELS sh (sh .root) μ allowance)
+      (get-erases LEVELS sh (sh .root) μ .same allowance ∙ e)
+
+  pub put-walk-spent : (v : Value) → putWalk allowance sh μ v ≡ refused 41 s → s ≡ allowance
+  unfolding putWalk
+  put-walk-spent v e =
+      let blank : Explain.Cells = replicate (length μ) none in
+      forget-spent strip allowance (put LEVELS sh (sh .root) μ (count 0 (length μ)) v blank allowance)
+      (λ y. put-spent LEVELS sh (sh .root) μ allowance (count 0 (length μ)) v blank)
+      ((rw (strip-blank (length μ)) at (put-erases LEVELS sh (sh .root) μ (count 0 (length μ)) v blank .same allowance)) ∙ e)
+
+-- WHAT IT SAYS of a refusal from the walk: P, of the sheet that was read
+
+pub data Says (sheet : List ℕ) (P : Sheet → Why → Type 0) : Explanation → Type 0 where
+  through : Says sheet P success
+  early : {c : ℕ} → Says sheet P (before c)
+  at : {y : Why} (sh : Sheet) → readSheet sheet ≡ ok sh → P sh y → Says sheet P (walked y)
+
+pub says-walked : {sheet : List ℕ} {P : Sheet → Why → Type 0} {y : Why} → Says sheet P (walked y) → (sh : Sheet) × (readSheet sheet ≡ ok sh) × P sh y
+says-walked (at sh e p) = (sh, e, p)
+
+says-map : {sheet : List ℕ} {P Q : Sheet → Why → Type 0} {e : Explanation} → ((sh : Sheet) (y : Why) → P sh y → Q sh y) → Says sheet P e → Says sheet Q e
+says-map f through = through
+says-map f early = early
+says-map f (at sh e p) = at sh e (f sh _ p)
+
+module _ {sheet : List ℕ} (P : Sheet → Why → Type 0) where
+  says-told : {A : Type 0} {sh : Sheet} {Q : A → Type 0} {left : ℕ} {t : Told A} → readSheet sheet ≡ ok sh → Ends (λ y. P sh y) Q left t
+      → Says sheet P (explained t)
+  unfolding explained
+  says-told e (ended k q) = through
+  says-told e (stopped k p) = at _ e p
+
+  says-after : {A : Type 0} (r : Result A) (f : A → Explanation) → ((a : A) → r ≡ ok a → Says sheet P (f a)) → Says sheet P (afterwards r f)
+  unfolding afterwards
+  says-after (ok a) f h = h a refl
+  says-after (refusal c) f h = early
+
+  says-unless : {S : Type 0} (c : ℕ) (d : Dec S) {e : Explanation} → Says sheet P e → Says sheet P (unlessBefore c d e)
+  unfolding unlessBefore
+  says-unless c (yes p) h = h
+  says-unless c (no p) h = early
+
+  says-door : (allowance scratch : ℕ) {e : Explanation} → Says sheet P e → Says sheet P (whyDoor allowance scratch e)
+  unfolding whyDoor
+  says-door allowance scratch h = says-unless 2 _ (says-unless 3 _ (says-unless 3 _ h))
+
+-- all that is said of a refusal at the root or below it, and the node that wrote first is one of the sheet's
+abbrev pub Said : Way → Sheet → Why → Type 0
+Said w sh y = Refuses (λ m. m < length (sh .nodes)) w sh (sh .root) LEVELS y
+
+pub why-get-says : (sheet plan : List ℕ) (allowance scratch : ℕ) → Says sheet (Said out) (whyGet sheet plan allowance scratch)
+unfolding whyGet explainGet
+why-get-says sheet plan allowance scratch = says-door (Said out) allowance scratch (
+    says-after (Said out) _ _ λ sh e. says-after (Said out) _ _ λ μ _. let r = sheet-ranges sheet e in
+    says-told (Said out) e (get-ends (entry-in r) LEVELS (sh .root) μ allowance (r .root)))
+
+pub why-put-says : (sheet plan view : List ℕ) (allowance scratch : ℕ) → Says sheet (Said back) (whyPut sheet plan view allowance scratch)
+unfolding whyPut explainPut
+why-put-says sheet plan view allowance scratch = says-door (Said back) allowance scratch (
+    says-after (Said back) _ _ λ sh e. says-after (Said back) _ _ λ μ _. says-after (Said back) _ _ λ vs _. let r = sheet-ranges sheet e in
+    says-told (Said back) e (put-ends (entry-in r) LEVELS (sh .root) μ (count 0 (length μ)) (getD vs 0 vfalse) (replicate (length μ) none) allowance (r .root)
+    (written-blank _ (length μ))))
+
 -- ITS CHAIN begins with the root of the sheet, and each node of it is one that the node before it may enter
 
-pub data Traced (sheet : List ℕ) : Explanation → Type 0 where
-  through : Traced sheet success
-  early : {c : ℕ} → Traced sheet (before c)
-  traced : {y : Why} (sh : Sheet) → readSheet sheet ≡ ok sh → Chain sh (sh .root) LEVELS y → Traced sheet (walked y)
+abbrev pub Traced : List ℕ → Explanation → Type 0
+Traced sheet e = Says sheet (λ sh y. Chain sh (sh .root) LEVELS y) e
 
 pub traced-chain : {sheet : List ℕ} {y : Why} → Traced sheet (walked y) → (sh : Sheet) × (readSheet sheet ≡ ok sh) × Chain sh (sh .root) LEVELS y
-traced-chain (traced sh e h) = (sh, e, h)
+traced-chain t = says-walked t
 
 -- it has 1 to 49 nodes, and 49 for 40
 pub chain-depth : {sh : Sheet} {n : ℕ} {y : Why} → Chain sh n LEVELS y → (1 ≤ depth y) × (depth y ≤ 49)
@@ -163,39 +240,8 @@ chain-depth h = (rw (h .begins) (omega arith), rw (h .begins) (omega (arith, h .
 pub chain-deepest : {sh : Sheet} {n : ℕ} {y : Why} → Chain sh n LEVELS y → y .code ≡ 40 → depth y ≡ 49
 chain-deepest h e = rw (h .begins) (omega (arith, h .deepest e))
 
-module _ {sheet : List ℕ} where
-  traced-told : {A : Type 0} {sh : Sheet} {t : Told A} → readSheet sheet ≡ ok sh → Meets (Chain sh (sh .root) LEVELS) t → Traced sheet (explained t)
-  unfolding explained
-  traced-told e came = through
-  traced-told e (stop h) = traced _ e h
-
-  traced-after : {A : Type 0} (r : Result A) (f : A → Explanation) → ((a : A) → r ≡ ok a → Traced sheet (f a)) → Traced sheet (afterwards r f)
-  unfolding afterwards
-  traced-after (ok a) f h = h a refl
-  traced-after (refusal c) f h = early
-
-  traced-unless : {P : Type 0} (c : ℕ) (d : Dec P) {e : Explanation} → Traced sheet e → Traced sheet (unlessBefore c d e)
-  unfolding unlessBefore
-  traced-unless c (yes p) h = h
-  traced-unless c (no p) h = early
-
-  traced-door : (allowance scratch : ℕ) {e : Explanation} → Traced sheet e → Traced sheet (whyDoor allowance scratch e)
-  unfolding whyDoor
-  traced-door allowance scratch h = traced-unless 2 _ (traced-unless 3 _ (traced-unless 3 _ h))
-
-pub get-traced : (sheet plan : List ℕ) (allowance : ℕ) → Traced sheet (explainGet sheet plan allowance)
-unfolding explainGet
-get-traced sheet plan allowance = traced-after _ _ λ sh e. traced-after _ _ λ μ _. traced-told e (get-chain LEVELS sh (sh .root) μ allowance)
-
-pub put-traced : (sheet plan view : List ℕ) (allowance : ℕ) → Traced sheet (explainPut sheet plan view allowance)
-unfolding explainPut
-put-traced sheet plan view allowance = traced-after _ _ λ sh e. traced-after _ _ λ μ _. traced-after _ _ λ vs _.
-    traced-told e (put-chain LEVELS sh (sh .root) μ (count 0 (length μ)) (getD vs 0 vfalse) (replicate (length μ) none) allowance)
-
 pub why-get-traced : (sheet plan : List ℕ) (allowance scratch : ℕ) → Traced sheet (whyGet sheet plan allowance scratch)
-unfolding whyGet
-why-get-traced sheet plan allowance scratch = traced-door allowance scratch (get-traced sheet plan allowance)
+why-get-traced sheet plan allowance scratch = says-map (λ sh y h. h .chain) (why-get-says sheet plan allowance scratch)
 
 pub why-put-traced : (sheet plan view : List ℕ) (allowance scratch : ℕ) → Traced sheet (whyPut sheet plan view allowance scratch)
-unfolding whyPut
-why-put-traced sheet plan view allowance scratch = traced-door allowance scratch (put-traced sheet plan view allowance)
+why-put-traced sheet plan view allowance scratch = says-map (λ sh y h. h .chain) (why-put-says sheet plan view allowance scratch)

@@ -312,11 +312,6 @@ pub took : {k : ℕ} {s : Shape} {d b : Branch} (p q : Bool) → d ≡ takeOf k 
 unfolding takeOf
 took {k} {s} p q e f = rw (← f, e) (took-from p q (fits-told k s))
 
-pub plain-near : {k i byte : ℕ} {q : Shape} → Took k q (Plain i byte) → i ≤ 4
-plain-near (emptied e) = omega arith
-plain-near (denied e) = omega arith
-plain-near (affirmed e) = omega arith
-
 -- A VIEW TAKEN APART
 
 module _ {kind : ℕ} {q : Shape} {mid : ℕ} where

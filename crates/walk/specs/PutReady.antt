@@ -13,11 +13,11 @@ use Rattle.rules.specs.Text.{Env}
 use Rattle.rules.specs.Explain.{Cells, Explained, choice, choose, put, under}
 use Rattle.rules.specs.Numbers.{STACK, CHAIN}
 use Rattle.step.specs.declared.Scope.{Scope}
-use Rattle.walk.specs.Said.{Own, Said, said-done}
+use Rattle.walk.specs.Said.{Said, said-done}
 use Rattle.walk.specs.declared.at.At.{At}
 use Rattle.walk.specs.Parts.{Kept}
 use Rattle.walk.specs.Arena.{env-later}
-use Rattle.walk.specs.Answers.{Answers, refuse, had}
+use Rattle.walk.specs.Answers.{Answers, had}
 use Rattle.walk.specs.Steps.{Frugal, frugal-next, frugal-given, get-frugal, put-frugal, put-node-frugal}
 use Rattle.walk.specs.Gets as gets
 use Rattle.walk.specs.Cells.{Frame, Written, Shown}
@@ -29,18 +29,6 @@ module _ {A : Type 0} {P : (start len : ℕ) → A → Type 0} {r : Said} {left 
   unfolding choice
   choose-first (yes p) q x y h t = t
   choose-first (no p) q x y h t = absurd (p h)
-
-  pub choose-second : (p : Dec X) (q : Dec Y) (x y : Explained A) → (X → ⊥) → Y → Answers P r left y → Answers P r left (choose p q x y)
-  unfolding choice
-  choose-second (yes p) q x y n h t = absurd (n p)
-  choose-second (no p) (yes q) x y n h t = t
-  choose-second (no p) (no q) x y n h t = absurd (q h)
-
-  pub choose-none : (p : Dec X) (q : Dec Y) (x y : Explained A) → (X → ⊥) → (Y → ⊥) → r ≡ Own 53 → Answers P r left (choose p q x y)
-  unfolding choice
-  choose-none (yes p) q x y n m d = absurd (n p)
-  choose-none (no p) (yes q) x y n m d = absurd (m q)
-  choose-none (no p) (no q) x y n m d = refuse d
 
 -- WHAT IS GIVEN AFTER A CALL
 

@@ -19,7 +19,6 @@ use Rattle.rules.specs.Explain.{
   follow,
   next,
   wanted,
-  choice,
   within,
   give,
   Cells,
@@ -41,12 +40,6 @@ module _ {A : Type 0} where
 
   pub frugal-met : (y : Why) → Frugal {A = A} (λ _. met y 0)
   frugal-met y = record { few = λ left e. absurd (let z : _≡_ {A = ℕ} 0 1 = cc in omega arith) }
-
-  pub frugal-choice : {P Q : Type 0} (p : Dec P) (q : Dec Q) {x y : Explained A} → Frugal x → Frugal y → Frugal (choice p q x y)
-  unfolding choice
-  frugal-choice (yes p) q h k = h
-  frugal-choice (no p) (yes q) h k = k
-  frugal-choice (no p) (no q) h k = frugal-met _
 
 module _ {B : Type 0} where
   more-few : (k left : ℕ) (t : Told B) {b : B} {s : ℕ} → k ≤ left → ((n : ℕ) → t ≡ got b n → n ≤ left - k) → more k t ≡ got b s → s ≤ left

@@ -6,9 +6,9 @@ use Prim.Native.Nat.{ℕ, suc, _≤_, _<_}
 use native.Mathlib.Omega.{arith}
 use native.Mathlib.Decide.{decLe}
 use Rattle.value.specs.Value.{Value, size}
 use Rattle.rules.specs.Outcome.{Out, done, refused, plus, steps, when, _>>=_, given, choose}
 use Rattle.rules.specs.Allowance.{within, cap}
-use Rattle.rules.specs.PublishedCost.{Cost, free, built, _⊕_, entered}
+use Rattle.published.specs.PublishedCost.{Cost, free, built, _⊕_, entered}
 
 -- what each limit's refusal shows of c
 pub data Limit (l a : ℕ) (c : Cost) : ℕ → Type 0 where
@@ -90,13 +90,6 @@ module _ {A : Type 0} {l a : ℕ} {c : Cost} {Q : A → Type 0} where
   unfolding plus
   up-plus d j (reached k q) = gives (omega arith) q
   up-plus d j (limited k h) = stops (omega arith) (limit-right d c h)
-
-  -- what it says, in plain words
-  pub up-refused : {n s : ℕ} → UpTo l a c Q (refused n s) → Limit l a c n
-  up-refused (limited k h) = h
-
-  pub up-done : {x : A} {s : ℕ} → UpTo l a c Q (done x s) → Q x
-  up-done (reached k q) = q
 
   pub up-costs : {x : A} {s : ℕ} → UpTo l a c Q (done x s) → Costs l s c
   up-costs (reached k q) = k

@@ -13,16 +13,16 @@ use Rattle.value.specs.Tests.{Passes, passes}
 use Rattle.sheet.specs.declared.Node.{Node}
 use Rattle.sheet.specs.declared.Node.the-variants.{Var, False, True, Empty, Number, Front, Pair, ListCase, TruthCase, Split, Call, Add, Each, Wide}
 use Rattle.sheet.specs.Sheet.{Sheet}
 use Rattle.rules.specs.Outcome.{Out, done, _>>=_, choose}
 use Rattle.rules.specs.Allowance.{within}
 use Rattle.rules.specs.Text
 use Rattle.rules.specs.Rules.{Env, Cells, Getter, Putter, two, pick, onList, restOf, get, orOld, constant, write, both, under, mkList, mkPair}
 use Rattle.rules.specs.Rules.{stoodFor, putEach, putNode, put}
 use Rattle.rules.specs.OutcomeLaws.{After, fine, stopped, after-map, after-at, as-number, after-plus, after-bind, after-given, after-list}
 use Rattle.rules.specs.AllowanceLaws.{within-done}
 use Rattle.rules.specs.Related.{All2, ends, more, all2-at, all2-flip, all2-set}
 use Rattle.rules.specs.Consistency.{Later}
-use Rattle.rules.specs.Published.{
+use Rattle.published.specs.Published.{
   Writes,
   Over,
   blank,
@@ -81,8 +81,8 @@ use Rattle.rules.specs.Published.{
   p-end,
   p-next,
 }
-use Rattle.rules.specs.PublishedGet.{GetsSoundly, gets-soundly, GetsAll, gets-all, match-env, match-value, Fair, fair, at-one, list-one, get-one}
-use Rattle.rules.specs.PublishedCells.{
+use Rattle.published.specs.PublishedGet.{GetsSoundly, gets-soundly, GetsAll, gets-all, match-env, match-value, Fair, fair, at-one, list-one, get-one}
+use Rattle.published.specs.PublishedCells.{
   Laid,
   Seen,
   Joined,
@@ -119,9 +119,9 @@ use Rattle.rules.specs.PublishedCells.{
   laid-member,
   joined-member,
 }
-use Rattle.rules.specs.PublishedCost.{Cost, free, built, _⊕_, getCost, defaultsCost, stoodCost, putBelow, putCost}
-use Rattle.rules.specs.UpTo.{deep, Costs, UpTo, Comes, Exactly, stops, reach, up-as, up-map, up-enter, up-within, up-costs, up-exactly}
-use Rattle.rules.specs.UpTo.{up-bind, comes-bind, up-last, up-given, up-when, up-bytes, up-size, up-first, up-second}
+use Rattle.published.specs.PublishedCost.{Cost, free, built, _⊕_, getCost, defaultsCost, stoodCost, putBelow, putCost}
+use Rattle.published.specs.UpTo.{deep, Costs, UpTo, Comes, Exactly, stops, reach, up-as, up-map, up-enter, up-within, up-costs, up-exactly}
+use Rattle.published.specs.UpTo.{up-bind, comes-bind, up-last, up-given, up-when, up-bytes, up-size, up-first, up-second}
 
 -- SOUND
 

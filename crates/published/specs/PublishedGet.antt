@@ -13,13 +13,13 @@ use Rattle.value.specs.Tests.{Passes}
 use Rattle.sheet.specs.declared.Node.{Node}
 use Rattle.sheet.specs.declared.Node.the-variants.{Var, False, True, Empty, Number, Front, Pair, ListCase, TruthCase, Split, Call, Add, Each, Wide}
 use Rattle.sheet.specs.Sheet.{Sheet}
 use Rattle.rules.specs.Outcome.{Out, done}
 use Rattle.rules.specs.Allowance.{within}
 use Rattle.rules.specs.Text
 use Rattle.rules.specs.Rules.{Env, Getter, two, pick, bounded, tested, getEach, onList, getNode, get}
 use Rattle.rules.specs.OutcomeLaws.{After, fine, stopped, after-map, after-at, as-number, after-plus, after-bind, after-given, after-list}
 use Rattle.rules.specs.AllowanceLaws.{within-done}
-use Rattle.rules.specs.Published.{
+use Rattle.published.specs.Published.{
   Pattern,
   pFalse,
   pTrue,
@@ -62,9 +62,9 @@ use Rattle.rules.specs.Published.{
   g-end,
   g-next,
 }
-use Rattle.rules.specs.PublishedCost.{Cost, built, _⊕_, getBelow, getCost}
-use Rattle.rules.specs.UpTo.{deep, Costs, Comes, Exactly, stops, reach, up-as, up-enter, up-within, up-costs, up-exactly}
-use Rattle.rules.specs.UpTo.{comes-bind, comes-last, up-given, up-when, up-bytes, up-size}
+use Rattle.published.specs.PublishedCost.{Cost, built, _⊕_, getBelow, getCost}
+use Rattle.published.specs.UpTo.{deep, Costs, Comes, Exactly, stops, reach, up-as, up-enter, up-within, up-costs, up-exactly}
+use Rattle.published.specs.UpTo.{comes-bind, comes-last, up-given, up-when, up-bytes, up-size}
 
 -- SOUND
 

@@ -8,19 +8,19 @@ use native.Mathlib.Omega.{arith}
 use lib.ListN.{length, getElem?, replicate}
 use Rattle.value.specs.Value.{Value}
 use Rattle.sheet.specs.Sheet.{Sheet}
 use Rattle.rules.specs.Numbers.{LEVELS}
 use Rattle.rules.specs.Outcome.{done}
 use Rattle.rules.specs.Allowance.{within}
 use Rattle.rules.specs.Rules.{Env, Cells, orOld, put}
 use Rattle.rules.specs.Answer.{getWalk, count, newPlan, putWalk}
 use Rattle.rules.specs.Related.{ends, more, all2-at, all2-of, all2-length}
 use Rattle.rules.specs.Consistency.{Later}
-use Rattle.rules.specs.Published.{Writes, Over, blank, _◁_, residual, Get, Put}
-use Rattle.rules.specs.PublishedCost.{getCost, putCost}
-use Rattle.rules.specs.PublishedCells.{Laid, Seen, Joined, later-same, blank-at, seen-over}
-use Rattle.rules.specs.PublishedGet.{get-sound, get-complete, get-counted}
-use Rattle.rules.specs.PublishedPut.{put-sound, puts-all, put-over}
-use Rattle.rules.specs.UpTo.{Costs, Comes, up-map, up-within, up-costs, Exactly, up-exactly}
+use Rattle.published.specs.Published.{Writes, Over, blank, _◁_, residual, Get, Put}
+use Rattle.published.specs.PublishedCost.{getCost, putCost}
+use Rattle.published.specs.PublishedCells.{Laid, Seen, Joined, later-same, blank-at, seen-over}
+use Rattle.published.specs.PublishedGet.{get-sound, get-complete, get-counted}
+use Rattle.published.specs.PublishedPut.{put-sound, puts-all, put-over}
+use Rattle.published.specs.UpTo.{Costs, Comes, up-map, up-within, up-costs, Exactly, up-exactly}
 
 -- VARIABLE i IS CELL i
 
