@@ -1,6 +1,6 @@
 -- What is written is a text of the value, of at most 2,048 bytes; what is read is a text of it.
 use mathlib.Core.Path.{_≡_, refl}
-use mathlib.Core.Bool.{Bool, true, false, cond}
+use mathlib.Core.Bool.{Bool, true, false, _&&_, cond}
 use mathlib.Core.List.{List, _∷_, _++_, append-assoc, append-nil}
 use Prim.Native.Nat.{ℕ, zero, suc, _+_, _-_, _*_, _/_, _%_, _≤_, _<_, zero-le}
 use native.Mathlib.Omega.{arith}
@@ -27,9 +27,12 @@ pub in-digits : (b : ℕ) → 48 ≤ b → b ≤ 57 → isDigit b ≡ true
 unfolding isDigit
 in-digits b h k = rw (le-leb 48 b h, le-leb b 57 k)
 
+both : {a b : Bool} → a ≡ true → b ≡ true → a && b ≡ true
+both e f = rw (e, f)
+
 pub may-follow : (n b : ℕ) → 1 ≤ n → 10 * n + (b - 48) ≤ MOST → follows n b ≡ true
 unfolding follows
-may-follow n b h k = rw (le-leb (10 * n + (b - 48)) MOST k, le-leb 1 n h)
+may-follow n b h k = both (le-leb _ n (omega arith)) (le-leb _ MOST k)
 
 -- a text that begins with the digits of m
 data Leads (m : ℕ) (r : List ℕ) : List ℕ → Type 0 where

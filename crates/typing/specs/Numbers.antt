@@ -1,4 +1,4 @@
--- The numbers of the check, by the names that the code has for them (src/lib.rt).
+-- The numbers of the check, by the names that the code has for them (types/src/lent.rt).
 use Prim.Native.Nat.{ℕ}
 
 -- the most bytes of one type

@@ -21,9 +21,9 @@ use Rattle.rules.specs.Answer.{count}
 use Rattle.rules.specs.ExplainChain.{_∈_, here, there}
 use Rattle.rules.specs.Embedding.{Holds, itself}
 use Rattle.sheet.specs.Ranging.{every-map, map-at, children-in, calls-in}
-use Rattle.numbering.specs.Numbering.{gathered, nodeOf, metFrom, roots, order, placeOf, newNumber, numbered, in-front, in-behind, in-either, in-gathered, of-gathered}
-use Rattle.numbering.specs.Numbering.{every-at, every-of, in-at, in-rest, place-first, place-later, place-at, met-self, met-in, roots-in, order-in, root-met}
-use Rattle.numbering.specs.Numbering.{children-met, numbered-holds}
+use Rattle.preorder.specs.Numbering.{gathered, nodeOf, metFrom, roots, order, placeOf, newNumber, numbered, in-front, in-behind, in-either, in-gathered, of-gathered}
+use Rattle.preorder.specs.Numbering.{every-at, every-of, in-at, in-rest, place-first, place-later, place-at, met-self, met-in, roots-in, order-in, root-met}
+use Rattle.preorder.specs.Numbering.{children-met, numbered-holds}
 
 -- EACH NUMBER ONCE
 

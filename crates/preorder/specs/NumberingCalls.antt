@@ -18,10 +18,10 @@ use Rattle.starts.specs.Starts.{loaded, loadOf}
 use Rattle.rules.specs.Explanation.{whyGet, whyPut}
 use Rattle.embedding.specs.EmbeddingAnswers.{explanationAnew, get-answer-same, put-answer-same, put-written-same, why-get-same, why-put-same}
 use Rattle.sheet.specs.Ranging.{read-back, written-short}
-use Rattle.numbering.specs.Numbering.{newNumber, numbered, main-met, root-numbered, numbered-holds}
-use Rattle.numbering.specs.NumberingLaws.{Once, uses, uses-in, same-k, numbered-ranges, numbered-twice, numbered-once}
-use Rattle.numbering.specs.Uses.{lowestTwice, all-once, once-all}
-use Rattle.numbering.specs.NumberAnswer.{Answer, done, refused, twice, sheetAnswer, numberAnswer, number-done}
+use Rattle.preorder.specs.Numbering.{newNumber, numbered, main-met, root-numbered, numbered-holds}
+use Rattle.preorder.specs.NumberingLaws.{Once, uses, uses-in, same-k, numbered-ranges, numbered-twice, numbered-once}
+use Rattle.preorder.specs.Uses.{lowestTwice, all-once, once-all}
+use Rattle.preorder.specs.NumberAnswer.{Answer, done, refused, twice, sheetAnswer, numberAnswer, number-done}
 
 -- what a success tells
 pub record Anew (s t : List ℕ) : Type 0 where

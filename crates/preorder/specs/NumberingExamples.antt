@@ -6,10 +6,10 @@ use Rattle.value.specs.Result.{andThen, mapResult, orRefuse, unless}
 use Rattle.sheet.specs.Sheet.{readNodes, oneSection, ifSection, readRecords, withNodes, readBody, nodesInRange, rootsInRange, inRange, readHeader, readSheet}
 use Rattle.sheet.specs.Kinds.{formOf, bodyWidth, make, nodeInRange, children, ofKind, renumber, written}
 use Rattle.sheet.specs.Rows.{sheetWritten}
-use Rattle.numbering.specs.Numbering.{metFrom, roots, order, placeOf, newNumber, numbered}
-use Rattle.numbering.specs.NumberingLaws.{uses}
-use Rattle.numbering.specs.Uses.{times, lowestFrom, lowestTwice}
-use Rattle.numbering.specs.NumberAnswer.{done, twice, sheetAnswer, numberAnswer}
+use Rattle.preorder.specs.Numbering.{metFrom, roots, order, placeOf, newNumber, numbered}
+use Rattle.preorder.specs.NumberingLaws.{uses}
+use Rattle.preorder.specs.Uses.{times, lowestFrom, lowestTwice}
+use Rattle.preorder.specs.NumberAnswer.{done, twice, sheetAnswer, numberAnswer}
 
 -- the second child is met behind all that is below the first, the section's root behind the main root's nodes; node 6 is never met
 pub numbers : numberAnswer (0x01 ∷ 0x02 ∷ 0x00 ∷ 0x20 ∷ 0x05 ∷ 0x16 ∷ 0x02 ∷ 0x01 ∷ 0x10 ∷ 0x00 ∷ 0x15 ∷ 0x03 ∷ 0x04 ∷ 0x10 ∷ 0x01 ∷ 0x13

@@ -16,11 +16,11 @@ use Rattle.sheet.specs.Written.{Bytes, sheet-written-back}
 use Rattle.rules.specs.Answer.{count}
 use Rattle.rules.specs.ExplainChain.{_∈_, here, there}
 use Rattle.rules.specs.Embedding.{Holds, itself}
-use Rattle.numbering.specs.Numbering.{gathered, nodeOf, metFrom, roots, order, placeOf, newNumber, numbered, every-of, in-rest, place-first, place-later, roots-in}
-use Rattle.numbering.specs.Numbering.{root-met, children-met, main-met}
-use Rattle.numbering.specs.NumberingLaws.{gathered-map, met-held, met-enough, numbered-still}
-use Rattle.numbering.specs.NumberAnswer.{done, numberAnswer}
-use Rattle.numbering.specs.NumberingCalls.{Anew, numbered-told}
+use Rattle.preorder.specs.Numbering.{gathered, nodeOf, metFrom, roots, order, placeOf, newNumber, numbered, every-of, in-rest, place-first, place-later, roots-in}
+use Rattle.preorder.specs.Numbering.{root-met, children-met, main-met}
+use Rattle.preorder.specs.NumberingLaws.{gathered-map, met-held, met-enough, numbered-still}
+use Rattle.preorder.specs.NumberAnswer.{done, numberAnswer}
+use Rattle.preorder.specs.NumberingCalls.{Anew, numbered-told}
 
 -- sh′ is sh under another numbering: node n is node f n, the sections are the same in their order, and no two nodes that are met are one
 pub record Redrawn (f : ℕ → ℕ) (sh sh′ : Sheet) : Type 0 where

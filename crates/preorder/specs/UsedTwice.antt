@@ -11,10 +11,10 @@ use borrow.Author.Tests.{ltb-true}
 use Rattle.value.specs.Result.{Result, ok, refusal}
 use Rattle.sheet.specs.Sheet.{Sheet, readSheet}
 use Rattle.sheet.specs.Rows.{sheetWritten}
-use Rattle.numbering.specs.Numbering.{numbered}
-use Rattle.numbering.specs.NumberingLaws.{uses}
-use Rattle.numbering.specs.Uses.{times, lowestFrom, lowestTwice, lowest-here, lowest-later}
-use Rattle.numbering.specs.NumberAnswer.{Answer, done, refused, twice, sheetAnswer, numberAnswer}
+use Rattle.preorder.specs.Numbering.{numbered}
+use Rattle.preorder.specs.NumberingLaws.{uses}
+use Rattle.preorder.specs.Uses.{times, lowestFrom, lowestTwice, lowest-here, lowest-later}
+use Rattle.preorder.specs.NumberAnswer.{Answer, done, refused, twice, sheetAnswer, numberAnswer}
 
 lowest-found : (n left : ℕ) (l : List ℕ) → lowestFrom n left l < n + left → 2 ≤ times (lowestFrom n left l) l
 unfolding lowestFrom

@@ -10,8 +10,8 @@ use lib.ListN.{length}
 use borrow.Author.Tests.{eq-eqb, ne-eqb, le-leb, lt-leb}
 use Rattle.sheet.specs.Sheet.{Sheet}
 use Rattle.rules.specs.ExplainChain.{_∈_, here, there}
-use Rattle.numbering.specs.Numbering.{in-rest}
-use Rattle.numbering.specs.NumberingLaws.{Once, uses}
+use Rattle.preorder.specs.Numbering.{in-rest}
+use Rattle.preorder.specs.NumberingLaws.{Once, uses}
 
 -- how often n stands in a list
 unfoldable pub times : ℕ → List ℕ → ℕ
