@@ -1,4 +1,5 @@
--- Texts and values, computed: `{"a": 7,"b":[true]}`, `65535`, `65536`, `01`, the 49th `[`, a `{` in its place, and a value written.
+-- Texts and values, computed: `{"a": 7,"b":[true]}`, `65535`, `65536`, `01`, white space, the 49th `[`, a `{` in its place,
+-- and a value written.
 use mathlib.Core.Path.{_≡_, refl}
 use mathlib.Core.List.{[], _∷_, _++_}
 use lib.ListN.{replicate}
@@ -49,6 +50,15 @@ reads-wide = refl
 leading-zero : readJson (0x30 ∷ 0x31 ∷ []) ≡ refusal 70
 unfolding readJson run ends judge take skip orDigit found begin startOf follows isDigit white numeral unless andThen
 leading-zero = refl
+
+-- all of the RFC's white space, and a vertical tab, which is none
+reads-white : fromJson (0x09 ∷ 0x0A ∷ 0x0D ∷ 0x20 ∷ 0x37 ∷ 0x09 ∷ []) 256 ≡ ok (4 ∷ 0 ∷ 7 ∷ [])
+unfolding fromJson readJson run ends judge take skip orDigit found begin startOf follows isDigit white numeral mapResult unless andThen encode encodes size sizes
+reads-white = refl
+
+vertical-tab : readJson (0x0B ∷ 0x37 ∷ []) ≡ refusal 70
+unfolding readJson run ends judge take skip found begin startOf isDigit white unless andThen
+vertical-tab = refl
 
 level-49 : readJson (replicate 49 0x5B) ≡ refusal 71
 unfolding readJson run ends judge take skip orMember found begin startOf isDigit white unless andThen
