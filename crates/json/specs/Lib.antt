@@ -1,15 +1,6 @@
-pub mod Text
-pub mod Grammar
-pub mod Texts
-pub mod Reads
-pub mod Written
-pub mod Derives
-pub mod Calls
-pub mod Laws
-pub mod Fronts
+pub mod Answered
 pub mod Reader
 pub mod Turns
 pub mod Reply
 pub mod Writer
 pub mod WriterTurns
-pub mod Examples

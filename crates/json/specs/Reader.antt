@@ -12,10 +12,10 @@ use lib.Seq.{drop-cons}
 use Rattle.value.specs.Value.{Value, LEAST-WIDE, encode}
 use Rattle.value.specs.Result.{Result, refusal}
 use Rattle.report.specs.Writing.{Wrote, wrote-long, wrote-text, wrote-then}
-use Rattle.json.specs.Grammar.{Awaits, more, token, exactly, digits, word, name, numeral, white, isDigit, follows, MOST, found, orDigit, take, ends, run}
-use Rattle.json.specs.Reads.{Spaced, sToken, black, run-white, run-take, run-byte, run-ended}
-use Rattle.json.specs.Written.{in-digits, may-follow}
-use Rattle.json.specs.Texts.{NoDigit, nEnd, nByte}
+use Rattle.notation.specs.Grammar.{Awaits, more, token, exactly, digits, word, name, numeral, white, isDigit, follows, MOST, found, orDigit, take, ends, run}
+use Rattle.notation.specs.Reads.{Spaced, sToken, black, run-white, run-take, run-byte, run-ended}
+use Rattle.notation.specs.Written.{in-digits, may-follow}
+use Rattle.notation.specs.Texts.{NoDigit, nEnd, nByte}
 use Rattle.json.specs.declared.Step.{Step}
 use Rattle.json.specs.declared.Step.the-variants.{Done, Refused}
 

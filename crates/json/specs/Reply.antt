@@ -17,13 +17,14 @@ use Rattle.value.specs.SpansLaws.{view-ok, view-refusal}
 use Rattle.value.specs.Encoding.{size-encode}
 use Rattle.value.specs.Result.{Result, ok, refusal, andThen, mapResult, unless}
 use Rattle.report.specs.Writing.{wrote-front, front-read}
-use Rattle.json.specs.Text.{jsonOf, depth, LEVELS, writeJson}
-use Rattle.json.specs.Laws.{json-short}
+use Rattle.notation.specs.Text.{jsonOf, depth, LEVELS, writeJson}
+use Rattle.notation.specs.Laws.{json-short}
 use Rattle.json.specs.Writer.{Puts, pDone, pDeep, Held, Holds, Writes}
-use Rattle.json.specs.Grammar.{value, finished, take as takes, ends, run, readJson}
-use Rattle.json.specs.Reads.{sFinished, run-take}
+use Rattle.notation.specs.Grammar.{value, finished, take as takes, ends, run, readJson}
+use Rattle.notation.specs.Reads.{sFinished, run-take}
 use Rattle.json.specs.Reader.{On, Skips, Gives, gDone, gRefused, at-byte}
-use Rattle.json.specs.Calls.{JSON-ROOM, VALUE-ROOM, toJson, fromJson, reply, written, Answered}
+use Rattle.notation.specs.Calls.{JSON-ROOM, VALUE-ROOM, toJson, fromJson}
+use Rattle.json.specs.Answered.{reply, written, Answered}
 use Rattle.json.specs.declared.Step.{Step}
 use Rattle.json.specs.declared.Step.the-variants.{Done, Refused}
 use Rattle.json.specs.declared.Reply.the-variants.{Done as Gave, Refused as Denied}

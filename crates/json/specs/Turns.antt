@@ -10,9 +10,9 @@ use lib.ListN.{length, getD, drop}
 use Rattle.value.specs.Value.{Value, Values, vfalse, vtrue, list, pair, nil, cons, encode, encodes}
 use Rattle.value.specs.Result.{Result}
 use Rattle.report.specs.Writing.{Wrote, wrote-long, wrote-text, wrote-then}
-use Rattle.json.specs.Grammar.{Awaits, value, members, more, token, digits, word, alse, rue, name, named, object, member, white, isDigit, noStart, startOf, begin, found, orMember, orComma, take, ends}
-use Rattle.json.specs.Reads.{sValue, sMembers, sMore, black, start-number, run-member}
-use Rattle.json.specs.Written.{in-digits}
+use Rattle.notation.specs.Grammar.{Awaits, value, members, more, token, digits, word, alse, rue, name, named, object, member, white, isDigit, noStart, startOf, begin, found, orMember, orComma, take, ends}
+use Rattle.notation.specs.Reads.{sValue, sMembers, sMore, black, start-number, run-member}
+use Rattle.notation.specs.Written.{in-digits}
 use Rattle.json.specs.Reader.{On, at-byte, on-first, Skips, on-skip, on-take, on-then, off-then, off-take, off-end, Passes, on-passed, off-passed, Gives, gDone, gRefused, handed, and-false}
 use Rattle.json.specs.declared.Step.{Step}
 use Rattle.json.specs.declared.Step.the-variants.{Done, Refused}

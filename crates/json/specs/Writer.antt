@@ -9,7 +9,7 @@ use Rattle.value.specs.Value.{Value, Values, vfalse, vtrue, list, number, wide,
 use Rattle.value.specs.Encoding.{size-encode, size-pos}
 use Rattle.report.specs.Text.{decimalOf}
 use Rattle.report.specs.Writing.{Wrote, wrote-long, wrote-text}
-use Rattle.json.specs.Text.{jsonOf, depth, depths}
+use Rattle.notation.specs.Text.{jsonOf, depth, depths}
 use Rattle.json.specs.declared.Step.{Step}
 use Rattle.json.specs.declared.Step.the-variants.{Done, Refused}
 

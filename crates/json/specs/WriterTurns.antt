@@ -8,7 +8,7 @@ use lib.Seq.{drop-drop, getD-drop}
 use Rattle.value.specs.Value.{Value, Values, list, pair, nil, cons, encode, encodes, size, sizes}
 use Rattle.value.specs.Encoding.{size-encodes, size-pos}
 use Rattle.report.specs.Writing.{Wrote, wrote-long, wrote-text, wrote-then}
-use Rattle.json.specs.Text.{jsonOf, membersOf, moreOf, depth, depths}
+use Rattle.notation.specs.Text.{jsonOf, membersOf, moreOf, depth, depths}
 use Rattle.json.specs.Writer.{
   Puts,
   pDone,

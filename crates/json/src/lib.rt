@@ -8,13 +8,14 @@ ghost use mathlib.Core.Path.{_≡_};
 ghost use mathlib.Core.List.{_++_};
 ghost use Prim.Native.Nat.{ℕ, _≤_, _<_};
 ghost use lib.ListN.{length, take, drop};
-ghost use Rattle.json.specs.Grammar.{MOST, white, token, name, word, numeral, digits, value, members, object};
+ghost use Rattle.notation.specs.Grammar.{MOST, white, token, name, word, numeral, digits, value, members, object};
 ghost use Rattle.value.specs.Value.{encode, encodes};
 ghost use Rattle.json.specs.Writer.{Holds, HoldsScalar, HoldsList, HoldsTwo, Writes, WritesList, WritesTwo};
 ghost use Rattle.report.specs.Writing.{Wrote};
 ghost use Rattle.json.specs.Reader.{Skips, Passes, Gives};
 ghost use Rattle.json.specs.Turns.{Scalar};
-ghost use Rattle.json.specs.Calls.{Answered, toJson, fromJson};
+ghost use Rattle.notation.specs.Calls.{toJson, fromJson};
+ghost use Rattle.json.specs.Answered.{Answered};
 
 /// What a call answers: how many bytes stand at the front of the output, or the number of a refusal.
 pub enum Reply {

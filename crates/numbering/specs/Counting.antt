@@ -28,9 +28,9 @@ use Rattle.sheet.specs.Parts.{childrenOf, childrenAt}
 use Rattle.sheet.specs.PartsLaws.{children-told}
 use Rattle.report.specs.Writing.{Wrote, wrote, wrote-then, wrote-text, wrote-front, front-read}
 use Rattle.records.specs.AnewLaws.{listing-long, wrote-listing, listing-same, listing-of, made-there}
-use Rattle.numbering.specs.Numbering.{nodeOf, roots}
-use Rattle.numbering.specs.NumberingLaws.{allChildren, uses}
-use Rattle.numbering.specs.Uses.{times, times-here, times-there, lowestFrom, lowest-here, lowest-later}
+use Rattle.preorder.specs.Numbering.{nodeOf, roots}
+use Rattle.preorder.specs.NumberingLaws.{allChildren, uses}
+use Rattle.preorder.specs.Uses.{times, times-here, times-there, lowestFrom, lowest-here, lowest-later}
 
 -- A TABLE OF USES
 

@@ -1,12 +1,5 @@
-pub mod Numbering
-pub mod NumberingLaws
-pub mod Uses
-pub mod NumberAnswer
-pub mod NumberingCalls
-pub mod NumberingExamples
+pub mod Replies
 pub mod Counting
 pub mod Meeting
 pub mod Places
 pub mod NumberStages
-pub mod OneNumbering
-pub mod UsedTwice

@@ -18,8 +18,8 @@ use Rattle.sheet.specs.Ranging.{every-map, children-in}
 use Rattle.report.specs.Writing.{Wrote}
 use Rattle.rules.specs.ExplainChain.{_∈_, here, there}
 use Rattle.numbering.specs.declared.Nodes.{Nodes}
-use Rattle.numbering.specs.Numbering.{gathered, metFrom, nodeOf, roots, order, every-of, roots-in}
-use Rattle.numbering.specs.NumberingLaws.{Once, uses, order-short, meet-next, meet-short}
+use Rattle.preorder.specs.Numbering.{gathered, metFrom, nodeOf, roots, order, every-of, roots-in}
+use Rattle.preorder.specs.NumberingLaws.{Once, uses, order-short, meet-next, meet-short}
 use Rattle.numbering.specs.Counting.{Fine, fine-read, fine-sizes, rootsAt, roots-are, roots-few, Named}
 
 -- a sheet that was read, of which no node is used twice

@@ -16,9 +16,10 @@ use Rattle.records.specs.declared.Anew.{Anew}
 use Rattle.numbering.specs.declared.Nodes.{Nodes}
 use Rattle.numbering.specs.declared.Numbered.{Numbered}
 use Rattle.numbering.specs.declared.Numbered.the-variants.{Done, Refused, Twice}
-use Rattle.numbering.specs.NumberingLaws.{uses, uses-in, numbered-ranges}
-use Rattle.numbering.specs.Uses.{lowestFrom, lowestTwice, all-once}
-use Rattle.numbering.specs.NumberAnswer.{twice, numberAnswer, Answers, answers-no, answers-twice, answers-done, number-1, number-refused, number-twice, number-done}
+use Rattle.preorder.specs.NumberingLaws.{uses, uses-in, numbered-ranges}
+use Rattle.preorder.specs.Uses.{lowestFrom, lowestTwice, all-once}
+use Rattle.preorder.specs.NumberAnswer.{twice, numberAnswer, number-1, number-refused, number-twice, number-done}
+use Rattle.numbering.specs.Replies.{Answers, answers-no, answers-twice, answers-done}
 use Rattle.numbering.specs.Counting.{usedAll, zeros, firstTwo, lowest-is, Fine, fine-read, Counts}
 use Rattle.numbering.specs.Meeting.{Single, Ordered}
 use Rattle.numbering.specs.Places.{Numbers, textAnew, anew-text}

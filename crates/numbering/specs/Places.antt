@@ -24,8 +24,8 @@ use Rattle.records.specs.AnewLaws.{listing-same, listing-map, listing-within, s
 use Rattle.rules.specs.ExplainChain.{_∈_, here, there}
 use Rattle.rules.specs.Embedding.{itself}
 use Rattle.numbering.specs.declared.Nodes.{Nodes}
-use Rattle.numbering.specs.Numbering.{nodeOf, roots, order, placeOf, newNumber, numbered, in-at, every-of, place-at, order-in, root-met, children-met, main-met}
-use Rattle.numbering.specs.NumberingLaws.{Once, uses, place-in, place-of, order-once}
+use Rattle.preorder.specs.Numbering.{nodeOf, roots, order, placeOf, newNumber, numbered, in-at, every-of, place-at, order-in, root-met, children-met, main-met}
+use Rattle.preorder.specs.NumberingLaws.{Once, uses, place-in, place-of, order-once}
 use Rattle.numbering.specs.Counting.{Fine, fine-read}
 use Rattle.numbering.specs.Meeting.{Single, Holds, Ordered, ordered-few}
 

@@ -5,10 +5,10 @@ use Prim.Native.Nat.{ℕ}
 use Rattle.value.specs.Result.{andThen, mapResult, orRefuse, unless}
 use Rattle.sheet.specs.Kinds.{formOf, bodyWidth, make, nodeInRange, children}
 use Rattle.sheet.specs.Sheet.{readNodes, oneSection, ifSection, readRecords, withNodes, readBody, nodesInRange, rootsInRange, inRange, readHeader, readSheet}
-use Rattle.numbering.specs.Numbering.{roots}
-use Rattle.numbering.specs.NumberingLaws.{uses}
-use Rattle.numbering.specs.Uses.{times, lowestFrom, lowestTwice}
-use Rattle.numbering.specs.NumberAnswer.{Answer, done}
+use Rattle.preorder.specs.Numbering.{roots}
+use Rattle.preorder.specs.NumberingLaws.{uses}
+use Rattle.preorder.specs.Uses.{times, lowestFrom, lowestTwice}
+use Rattle.preorder.specs.NumberAnswer.{Answer, done}
 use Rattle.syntax.specs.Quoted.{bytes}
 use Rattle.syntax.specs.Printer.{decBy, dec, decimal, suffix, nameOf, partName, called, variableSaid, testName, testSaid, tailOf, noCase, allPlain, plainFrom}
 use Rattle.syntax.specs.Printer.{spoken, tailed, said, planSaid, sectionsSaid, sheetSaid}

@@ -15,7 +15,7 @@ use Rattle.sheet.specs.Kinds.{row, children, renumber, ofKind, formOf}
 use Rattle.sheet.specs.Sheet.{Sheet}
 use Rattle.sheet.specs.Laws.{Ranged, Ranges, Child}
 use Rattle.sheet.specs.Rows.{Small, Every}
-use Rattle.numbering.specs.Numbering.{gathered, nodeOf, metFrom}
+use Rattle.preorder.specs.Numbering.{gathered, nodeOf, metFrom}
 use Rattle.syntax.specs.Quoted.{bytes}
 use Rattle.syntax.specs.Tokens.{Token, word, digits, hash, mark, arrow, first, rest, wordOf, markOf, same}
 use Rattle.syntax.specs.Reader.{Out, ok, fault, _>>=_, Name, Scope, scope, find, wild, sent, tests, isName, symbol, keyword, bind, sectionName, known, number}

@@ -12,7 +12,7 @@ use Rattle.sheet.specs.declared.Node.{Node}
 use Rattle.sheet.specs.declared.Node.the-variants.{Var, False, True, Empty, Number, Front, Pair, ListCase, TruthCase, Split, Call, Add, Each, Wide}
 use Rattle.sheet.specs.Sheet.{Sheet}
 use Rattle.sheet.specs.Rows.{Every}
-use Rattle.numbering.specs.Numbering.{nodeOf}
+use Rattle.preorder.specs.Numbering.{nodeOf}
 use Rattle.syntax.specs.Quoted.{bytes}
 use Rattle.syntax.specs.Tokens.{Token, word, digits, hash, mark, blank, letter, digit, dash, other, classOf, arrow, same}
 use Rattle.syntax.specs.Reader.{Name, sent}

@@ -18,10 +18,10 @@ use Rattle.sheet.specs.Rows.{Small, Every}
 use Rattle.value.specs.Result.{Result, ok, refusal}
 use Rattle.sheet.specs.Written.{Bytes}
 use Rattle.sheet.specs.Ranging.{children-in}
-use Rattle.numbering.specs.Numbering.{gathered, nodeOf, metFrom, roots, order}
-use Rattle.numbering.specs.NumberingLaws.{Once, uses, uses-in, order-short}
-use Rattle.numbering.specs.Uses.{lowestTwice, all-once}
-use Rattle.numbering.specs.NumberAnswer.{Answer, done, refused, twice}
+use Rattle.preorder.specs.Numbering.{gathered, nodeOf, metFrom, roots, order}
+use Rattle.preorder.specs.NumberingLaws.{Once, uses, uses-in, order-short}
+use Rattle.preorder.specs.Uses.{lowestTwice, all-once}
+use Rattle.preorder.specs.NumberAnswer.{Answer, done, refused, twice}
 use Rattle.syntax.specs.Quoted.{bytes}
 use Rattle.syntax.specs.Tokens.{Token, word, digits, hash, mark}
 use Rattle.syntax.specs.Printer.{Piece, tok, gap, the, sign, space, line, orLine, unlessPlain, dec, decimal, suffix, nameOf, partName, Reach, reach, called, wide}

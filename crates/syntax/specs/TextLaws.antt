@@ -15,8 +15,8 @@ use Rattle.sheet.specs.Rows.{Small, Every}
 use Rattle.rules.specs.Answer.{count}
 use Rattle.rules.specs.Embedding.{itself}
 use Rattle.sheet.specs.Ranging.{children-in}
-use Rattle.numbering.specs.Numbering.{gathered, nodeOf, metFrom, roots, order, newNumber, numbered, met-self}
-use Rattle.numbering.specs.NumberingLaws.{Once, uses, order-short, places-count}
+use Rattle.preorder.specs.Numbering.{gathered, nodeOf, metFrom, roots, order, newNumber, numbered, met-self}
+use Rattle.preorder.specs.NumberingLaws.{Once, uses, order-short, places-count}
 use Rattle.syntax.specs.Quoted.{bytes}
 use Rattle.syntax.specs.Tokens.{Token, word, mark, first, rest, wordOf, markOf, same}
 use Rattle.syntax.specs.Reader.{Out, ok, _>>=_, Name, scope, find, symbol, keyword, bind, sectionName, whole, more, read, back, plan, Sections, unknown, section}

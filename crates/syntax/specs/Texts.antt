@@ -13,12 +13,12 @@ use Rattle.sheet.specs.Sheet.{Sheet, readSheet}
 use Rattle.sheet.specs.Laws.{Ranges, sheet-ranges, node-made}
 use Rattle.sheet.specs.Rows.{Small, sheetWritten}
 use Rattle.sheet.specs.Written.{Bytes, read-small}
-use Rattle.numbering.specs.Numbering.{nodeOf, numbered}
-use Rattle.numbering.specs.NumberingLaws.{Once, uses}
-use Rattle.numbering.specs.Uses.{lowestTwice, once-all}
-use Rattle.numbering.specs.NumberAnswer.{Answer, done, twice, numberAnswer}
-use Rattle.numbering.specs.NumberAnswer.{refused as unread}
-use Rattle.numbering.specs.NumberingCalls.{Anew, numbered-told}
+use Rattle.preorder.specs.Numbering.{nodeOf, numbered}
+use Rattle.preorder.specs.NumberingLaws.{Once, uses}
+use Rattle.preorder.specs.Uses.{lowestTwice, once-all}
+use Rattle.preorder.specs.NumberAnswer.{Answer, done, twice, numberAnswer}
+use Rattle.preorder.specs.NumberAnswer.{refused as unread}
+use Rattle.preorder.specs.NumberingCalls.{Anew, numbered-told}
 use Rattle.syntax.specs.Tokens.{Token, between, tokens}
 use Rattle.syntax.specs.Reader.{Out, fault, sheetRead, Said, says, refused, placed, sheetOf}
 use Rattle.syntax.specs.Reader.{ok as read}

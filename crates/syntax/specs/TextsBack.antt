@@ -14,8 +14,8 @@ use Rattle.sheet.specs.Laws.{Fits, AllFit, Ranges}
 use Rattle.sheet.specs.Rows.{Every, limit, Small, allWritten, rootsWritten, sheetWritten, written-bytes}
 use Rattle.sheet.specs.Written.{Bytes}
 use Rattle.sheet.specs.Ranging.{read-back}
-use Rattle.numbering.specs.Uses.{once-all}
-use Rattle.numbering.specs.NumberAnswer.{done, numberAnswer, number-done}
+use Rattle.preorder.specs.Uses.{once-all}
+use Rattle.preorder.specs.NumberAnswer.{done, numberAnswer, number-done}
 use Rattle.syntax.specs.Tokens.{Token, between, tokens}
 use Rattle.syntax.specs.Reader.{Out, fault, _>>=_, Name, find, textRead, sheetRead, Said, says, refused, placed, sheetOf}
 use Rattle.syntax.specs.Reader.{ok as read}

@@ -18,8 +18,8 @@ use Rattle.sheet.specs.Laws.{Child, Fits, AllFit, Ranged, Ranges}
 use Rattle.sheet.specs.Rows.{Every}
 use Rattle.rules.specs.Answer.{count}
 use Rattle.rules.specs.ExplainChain.{_∈_, here, there}
-use Rattle.numbering.specs.Numbering.{gathered, nodeOf, metFrom, roots, order, numbered, in-front, in-behind, in-either, every-at, every-of}
-use Rattle.numbering.specs.NumberingLaws.{Once, allChildren, uses, once-both, numbered-still}
+use Rattle.preorder.specs.Numbering.{gathered, nodeOf, metFrom, roots, order, numbered, in-front, in-behind, in-either, every-at, every-of}
+use Rattle.preorder.specs.NumberingLaws.{Once, allChildren, uses, once-both, numbered-still}
 
 -- the numbers of a node that name no node
 module _ (sections : ℕ) where

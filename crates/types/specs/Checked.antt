@@ -13,12 +13,12 @@ use Rattle.sheet.specs.Sheet.{Sheet, readSheet}
 use Rattle.sheet.specs.Table.{tableOf}
 use Rattle.sheet.specs.Laws.{Reads, Ranges, table-refused}
 use Rattle.sheet.specs.declared.Table.{Table}
-use Rattle.types.specs.Numbers.{PAST}
-use Rattle.types.specs.Types.{Ty, truths}
-use Rattle.types.specs.Fits.{Section, sectionOf}
-use Rattle.types.specs.Check.{apart, readAll, threes, many, lentOf, twice, unfit, lowest, Verdict, passes, refused, refusedAt, unlessAt, checkSheet, onTypes, onSheet, check}
-use Rattle.types.specs.CheckLaws.{OnceBelow, Lowest, no-such, lowest-is}
-use Rattle.types.specs.Written.{types-read}
+use Rattle.typing.specs.Numbers.{PAST}
+use Rattle.typing.specs.Types.{Ty, truths}
+use Rattle.typing.specs.Fits.{Section, sectionOf}
+use Rattle.typing.specs.Check.{apart, readAll, threes, many, lentOf, twice, unfit, lowest, Verdict, passes, refused, refusedAt, unlessAt, checkSheet, onTypes, onSheet, check}
+use Rattle.typing.specs.CheckLaws.{OnceBelow, Lowest, no-such, lowest-is}
+use Rattle.typing.specs.Written.{types-read}
 use Rattle.types.specs.Slots.{At, Laid, lentBelow, Slotted}
 use Rattle.types.specs.SlotsLaws.{clamp-before, clamp-in, clamp-past}
 use Rattle.types.specs.Uses.{lowestIn}

@@ -13,10 +13,10 @@ use Rattle.value.specs.PartsLaws.{same-bytes, same-refl}
 use Rattle.sheet.specs.declared.Node.{Node}
 use Rattle.sheet.specs.declared.Node.the-variants.{Var, False, True, Empty, Number, Front, Pair, ListCase, TruthCase, Split, Call, Add, Each, Wide}
 use Rattle.sheet.specs.Laws.{Ranged}
-use Rattle.types.specs.Types.{Ty, truths, numbers, lists, pairs, Ty-discrete}
-use Rattle.types.specs.Fits.{Lent, Scope, typeOf, sectionOf}
-use Rattle.types.specs.Check.{apart, and?, and3?, and4?, some?, at?, lists?, pairs?, fits?}
-use Rattle.types.specs.Written.{bytesOf, bytes-same}
+use Rattle.typing.specs.Types.{Ty, truths, numbers, lists, pairs, Ty-discrete}
+use Rattle.typing.specs.Fits.{Lent, Scope, typeOf, sectionOf}
+use Rattle.typing.specs.Check.{apart, and?, and3?, and4?, some?, at?, lists?, pairs?, fits?}
+use Rattle.typing.specs.Written.{bytesOf, bytes-same}
 use Rattle.types.specs.Slots.{partAt, At, Laid}
 use Rattle.types.specs.SlotsLaws.{type-some}
 use Rattle.types.specs.Scopes.{Scoped, bytesOr}

@@ -12,10 +12,10 @@ use lib.Seq.{take-at, drop-at, drop-drop, getD-set-same, getD-set-other, getD-ap
 use lib.ListN.{length, getD, take, drop, set, replicate, length-append, length-drop, length-set, drop-of-length-le, List·getD-append}
 use borrow.Author.Tests.{eqb-true, eqb-false}
 use Rattle.sheet.specs.Places.{take-rest, rest-begins}
-use Rattle.types.specs.Numbers.{LONGEST, PAST}
-use Rattle.types.specs.Types.{Ty, truths}
-use Rattle.types.specs.Check.{apart, andThen, readTypes, onType, readAll}
-use Rattle.types.specs.Written.{bytesOf, flat, Short, Taken, nothing, taken, takes}
+use Rattle.typing.specs.Numbers.{LONGEST, PAST}
+use Rattle.typing.specs.Types.{Ty, truths}
+use Rattle.typing.specs.Check.{apart, andThen, readTypes, onType, readAll}
+use Rattle.typing.specs.Written.{bytesOf, flat, Short, Taken, nothing, taken, takes}
 use Rattle.types.specs.Slots.{behind, upTo, typeLen, partAt, At, TypesRead}
 use Rattle.types.specs.SlotsLaws.{type-some, part-in}
 

@@ -15,9 +15,9 @@ use Rattle.sheet.specs.declared.Node.{Node}
 use Rattle.sheet.specs.declared.Node.the-variants.{Var, False, True, Empty, Number, Front, Pair, ListCase, TruthCase, Split, Call, Add, Each, Wide}
 use Rattle.sheet.specs.Kinds.{children}
 use Rattle.sheet.specs.Table.{sectionAt}
-use Rattle.types.specs.Fits.{Scope}
-use Rattle.types.specs.Check.{apart, found}
-use Rattle.types.specs.CheckLaws.{either}
+use Rattle.typing.specs.Fits.{Scope}
+use Rattle.typing.specs.Check.{apart, found}
+use Rattle.typing.specs.CheckLaws.{either}
 use Rattle.types.specs.Uses.{Roots}
 use Rattle.types.specs.Scopes.{placeOf, placeAll, Put, PutAll, childScopes, sectionScopes, Scoped, base, inner, scope-some}
 

@@ -13,10 +13,10 @@ use Rattle.value.specs.Parts.{sameBytes}
 use Rattle.value.specs.PartsLaws.{same-bytes, same-refl}
 use Rattle.sheet.specs.Sheet.{Sheet}
 use Rattle.sheet.specs.Table.{sectionAt}
-use Rattle.types.specs.Types.{Ty}
-use Rattle.types.specs.Fits.{Lent, rootOf, typeOf, sectionOf, In, here, there, Root, sectionRoot, sectionRoots, mainRoot, roots, Placed, section-root}
-use Rattle.types.specs.Check.{apart, placed?}
-use Rattle.types.specs.Written.{bytesOf, bytes-same}
+use Rattle.typing.specs.Types.{Ty}
+use Rattle.typing.specs.Fits.{Lent, rootOf, typeOf, sectionOf, In, here, there, Root, sectionRoot, sectionRoots, mainRoot, roots, Placed, section-root}
+use Rattle.typing.specs.Check.{apart, placed?}
+use Rattle.typing.specs.Written.{bytesOf, bytes-same}
 use Rattle.types.specs.Slots.{partAt, At, Laid}
 use Rattle.types.specs.Uses.{Roots}
 use Rattle.types.specs.Decided.{holds, decided, in-result}

@@ -13,9 +13,9 @@ use Rattle.sheet.specs.declared.Node.{Node}
 use Rattle.sheet.specs.declared.Node.the-variants.{Var, False, True, Empty, Number, Front, Pair, ListCase, TruthCase, Split, Call, Add, Each, Wide}
 use Rattle.sheet.specs.Kinds.{children}
 use Rattle.rules.specs.Text.{two}
-use Rattle.types.specs.Types.{Ty, truths}
-use Rattle.types.specs.Fits.{Scope, added}
-use Rattle.types.specs.Written.{bytesOf, Short}
+use Rattle.typing.specs.Types.{Ty, truths}
+use Rattle.typing.specs.Fits.{Scope, added}
+use Rattle.typing.specs.Written.{bytesOf, Short}
 use Rattle.types.specs.Slots.{partAt, At}
 
 -- the scope, and two variables more, the parts of the type of node s; one variable alone, the view of node i

@@ -6,11 +6,11 @@ use mathlib.Core.List.{List, []}
 use Prim.Native.Nat.{ℕ, suc, _+_, _*_, _-_, _≤_, _<_}
 use lib.Dec.{leb, ltb}
 use lib.ListN.{length, getD, take, drop}
-use Rattle.types.specs.Numbers.{LONGEST, PAST}
-use Rattle.types.specs.Types.{Ty, truths}
-use Rattle.types.specs.Fits.{Lent, typeOf, sectionOf}
-use Rattle.types.specs.Check.{readTypes, readAll}
-use Rattle.types.specs.Written.{bytesOf, Short}
+use Rattle.typing.specs.Numbers.{LONGEST, PAST}
+use Rattle.typing.specs.Types.{Ty, truths}
+use Rattle.typing.specs.Fits.{Lent, typeOf, sectionOf}
+use Rattle.typing.specs.Check.{readTypes, readAll}
+use Rattle.typing.specs.Written.{bytesOf, Short}
 
 -- the length of the type that the bytes begin with; 0 where they begin with none of at most 256 bytes
 unfoldable pub behind : Option (List Ty × List ℕ) → Option ℕ

@@ -14,12 +14,12 @@ use borrow.Author.Tests.{lt-ltb, le-ltb, le-leb, lt-leb, eq-eqb}
 use Rattle.value.specs.Parts.{both, sameBytes}
 use Rattle.value.specs.PartsLaws.{same-bytes, same-refl}
 use Rattle.sheet.specs.Places.{take-rest, rest-begins}
-use Rattle.types.specs.Numbers.{LONGEST, PAST}
-use Rattle.types.specs.Types.{Ty, truths, numbers, lists, pairs}
-use Rattle.types.specs.Fits.{added}
+use Rattle.typing.specs.Numbers.{LONGEST, PAST}
+use Rattle.typing.specs.Types.{Ty, truths, numbers, lists, pairs}
+use Rattle.typing.specs.Fits.{added}
 use Rattle.rules.specs.Text.{two}
-use Rattle.types.specs.Check.{apart, makeList, makePair, also, andThen, Kind, unknown, kindOf, begin, readTypes}
-use Rattle.types.specs.Written.{bytesOf, Short, Taken, nothing, taken, takes, none-owed, one-back, Names, is-truth, is-number, is-list, is-pair, is-other, names}
+use Rattle.typing.specs.Check.{apart, makeList, makePair, also, andThen, Kind, unknown, kindOf, begin, readTypes}
+use Rattle.typing.specs.Written.{bytesOf, Short, Taken, nothing, taken, takes, none-owed, one-back, Names, is-truth, is-number, is-list, is-pair, is-other, names}
 use Rattle.types.specs.Slots.{behind, upTo, typeLen, partAt, clamp, lentBelow}
 
 -- THE LENGTH OF A TYPE

@@ -20,10 +20,10 @@ use Rattle.sheet.specs.Sheet.{Sheet}
 use Rattle.sheet.specs.Laws.{Child, Ranged, Ranges, Reads}
 use Rattle.sheet.specs.Table.{nodeAt}
 use Rattle.rules.specs.Text.{two}
-use Rattle.types.specs.Types.{Ty, truths, lists}
-use Rattle.types.specs.Fits.{Lent, Scope, nodeOf, typeOf, sectionOf, added, Fits, places, Root, sectionRoots, roots, Placed}
-use Rattle.types.specs.Check.{apart, found, count, used, refuted, fits?, placed?, rightly?, right?, below, standing, misfits, unfit, lowest}
-use Rattle.types.specs.CheckLaws.{either, all-ranged, OnceBelow, in-count, found-in, count-append, standing-count, used-then}
+use Rattle.typing.specs.Types.{Ty, truths, lists}
+use Rattle.typing.specs.Fits.{Lent, Scope, nodeOf, typeOf, sectionOf, added, Fits, places, Root, sectionRoots, roots, Placed}
+use Rattle.typing.specs.Check.{apart, found, count, used, refuted, fits?, placed?, rightly?, right?, below, standing, misfits, unfit, lowest}
+use Rattle.typing.specs.CheckLaws.{either, all-ranged, OnceBelow, in-count, found-in, count-append, standing-count, used-then}
 use Rattle.types.specs.declared.Lowest.the-variants.{At, Nothing}
 use Rattle.types.specs.Slots.{Laid}
 use Rattle.types.specs.Slots as Slots

@@ -16,8 +16,8 @@ use Rattle.sheet.specs.Laws.{Reads}
 use Rattle.sheet.specs.declared.Table.{Table}
 use Rattle.sheet.specs.Kinds.{children}
 use Rattle.sheet.specs.declared.Node.{Node}
-use Rattle.types.specs.Check.{count, used, twice, lowest}
-use Rattle.types.specs.CheckLaws.{count-append}
+use Rattle.typing.specs.Check.{count, used, twice, lowest}
+use Rattle.typing.specs.CheckLaws.{count-append}
 use Rattle.types.specs.declared.Lowest.{Lowest}
 use Rattle.types.specs.declared.Lowest.the-variants.{At, Nothing}
 

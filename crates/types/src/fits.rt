@@ -2,9 +2,9 @@
 ghost use mathlib.Core.Path.{_≡_};
 ghost use Prim.Native.Nat.{ℕ, _+_, _*_, _≤_, _<_};
 ghost use lib.ListN.{length, getD, getElem?};
-ghost use Rattle.types.specs.Types.{Ty};
-ghost use Rattle.types.specs.Fits.{Lent as Types, Scope};
-ghost use Rattle.types.specs.Check.{at?, placed?, unfit, lowest};
+ghost use Rattle.typing.specs.Types.{Ty};
+ghost use Rattle.typing.specs.Fits.{Lent as Types, Scope};
+ghost use Rattle.typing.specs.Check.{at?, placed?, unfit, lowest};
 ghost use Rattle.types.specs.Rooted.{Rooted, asked};
 ghost use Rattle.types.specs.Unfit.{Ready};
 ghost use Rattle.types.specs.Uses.{lowestIn};

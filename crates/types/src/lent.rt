@@ -8,9 +8,9 @@ ghost use mathlib.Core.Path.{_≡_};
 ghost use Prim.Native.Nat.{_+_, _≤_, _<_};
 ghost use lib.ListN.{getD};
 ghost use Rattle.types.specs.Slots.{typeLen, partAt, lentBelow, TypesRead};
-ghost use Rattle.types.specs.Types.{Ty};
-ghost use Rattle.types.specs.Fits.{added};
-ghost use Rattle.types.specs.Written.{bytesOf, Short};
+ghost use Rattle.typing.specs.Types.{Ty};
+ghost use Rattle.typing.specs.Fits.{added};
+ghost use Rattle.typing.specs.Written.{bytesOf, Short};
 ghost use Rattle.rules.specs.Text.{two};
 ghost use Rattle.value.specs.Parts.{sameBytes};
 

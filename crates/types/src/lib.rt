@@ -1,6 +1,6 @@
 //! The check of a sheet against types that are lent beside it (document 02, request 6).
 ghost use mathlib.Core.Path.{_≡_};
-ghost use Rattle.types.specs.Check as Checks;
+ghost use Rattle.typing.specs.Check as Checks;
 ghost use Rattle.types.specs.Checked.{checked};
 
 mod fits;

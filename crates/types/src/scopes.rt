@@ -4,7 +4,7 @@ ghost use mathlib.Core.Path.{_≡_};
 ghost use mathlib.Core.List.{List, [], _∷_};
 ghost use Prim.Native.Nat.{ℕ, _+_, _*_, _/_, _%_, _≤_, _<_};
 ghost use lib.ListN.{getElem?};
-ghost use Rattle.types.specs.Fits.{Scope};
+ghost use Rattle.typing.specs.Fits.{Scope};
 ghost use Rattle.types.specs.Scopes.{Scoped, bytesOr, widen, viewOf, Put, PutAll, childScopes, sectionScopes, subject};
 ghost use Rattle.types.specs.Uses.{Roots};
 use crate::lent::NODES;

@@ -7,7 +7,7 @@ ghost use lib.ListN.{length, getD};
 ghost use Rattle.sheet.specs.Kinds.{children};
 ghost use Rattle.sheet.specs.Laws.{Reads};
 ghost use Rattle.sheet.specs.Sheet.{Sheet};
-ghost use Rattle.types.specs.Check.{lowest, twice};
+ghost use Rattle.typing.specs.Check.{lowest, twice};
 ghost use Rattle.types.specs.Uses.{Counted, Roots, lowestIn};
 use crate::Lowest;
 use sheet::Node;

@@ -1,8 +1,8 @@
 -- `is_white` meets its contract: the four bytes are compared in turn. Assumes nothing.
 use mathlib.Core.Path.{sym}
 use borrow.Author.Tests.{ne-eqb}
-use Rattle.json.specs.Grammar.{white}
-use Rattle.json.specs.Reads.{black}
+use Rattle.notation.specs.Grammar.{white}
+use Rattle.notation.specs.Reads.{black}
 use Rattle.json.proofs.is_white.Statement.{statement}
 use Rattle.json.proofs.is_white.Tie as tie
 

@@ -1,7 +1,7 @@
 -- `scalar` meets its contract: a byte decides which it is. Assumes nothing.
 use mathlib.Core.Path.{refl}
 use native.Mathlib.Omega.{arith}
-use Rattle.json.specs.Grammar.{alse, rue}
+use Rattle.notation.specs.Grammar.{alse, rue}
 use Rattle.json.specs.Turns.{no-false, is-false, no-true, is-true, is-number, is-none, below-digits, above-digits}
 use borrow.Author.Needs.{needs}
 use Rattle.json.proofs.scalar.Statement.{statement}

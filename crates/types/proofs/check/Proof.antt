@@ -6,8 +6,8 @@ use borrow.Author.Tests.{not-true, not-false}
 use Rattle.sheet.specs.Sheet.{Sheet}
 use Rattle.sheet.specs.Laws.{Reads, table-reads}
 use mathlib.Core.List.{List}
-use Rattle.types.specs.Types.{Ty}
-use Rattle.types.specs.Check.{lowest, twice}
+use Rattle.typing.specs.Types.{Ty}
+use Rattle.typing.specs.Check.{lowest, twice}
 use Rattle.types.specs.Slots.{lentBelow, Slotted}
 use Rattle.types.specs.Checked.{check-refused, reads-few, reads-nodes, check-80, check-81, ready-of, none-twice, check-82, check-passes}
 use borrow.Author.Needs.{needs}

@@ -3,7 +3,7 @@ use Prim.Native.Nat.{_-_, _≤_}
 use native.Mathlib.Omega.{arith}
 use borrow.Author.Tests.{not-true, not-false}
 use Rattle.sheet.specs.Sheet.{Sheet}
-use Rattle.types.specs.Fits.{Lent}
+use Rattle.typing.specs.Fits.{Lent}
 use Rattle.types.specs.Rooted.{Rooted, PlacedTo, main-yes, main-no, section-yes, section-no, placed-done}
 use borrow.Author.Needs.{needs}
 use Rattle.types.proofs.fits.is_placed.Statement.{statement}

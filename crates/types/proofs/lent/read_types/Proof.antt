@@ -2,7 +2,7 @@
 use Prim.Native.Nat.{_+_, _-_}
 use native.Mathlib.Omega.{arith}
 use lib.ListN.{set}
-use Rattle.types.specs.Numbers.{PAST}
+use Rattle.typing.specs.Numbers.{PAST}
 use Rattle.types.specs.Slots.{lentBelow}
 use Rattle.types.specs.SlotsLaws.{lent-none, lent-up}
 use Rattle.types.specs.Laying.{Reading, reading-none, reading-next, reading-ends, reading-done}

@@ -1,6 +1,6 @@
 -- `type_in` meets its contract. Assumes nothing.
 use Prim.Native.Nat.{_<_}
-use Rattle.types.specs.Numbers.{PAST}
+use Rattle.typing.specs.Numbers.{PAST}
 use Rattle.types.specs.SlotsLaws.{part-past, part-back, part-out, part-in}
 use borrow.Author.Needs.{needs}
 use Rattle.types.proofs.lent.type_in.Statement.{statement}

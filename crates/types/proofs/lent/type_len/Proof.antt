@@ -2,7 +2,7 @@
 use mathlib.Core.Logic.{inl, inr}
 use Prim.Native.Nat.{_-_}
 use native.Mathlib.Omega.{arith}
-use Rattle.types.specs.Numbers.{LONGEST}
+use Rattle.typing.specs.Numbers.{LONGEST}
 use Rattle.types.specs.SlotsLaws.{Owing, owing-one, len-done, len-past, len-long, len-other, owing-less, owing-same, owing-more}
 use borrow.Author.Needs.{needs}
 use Rattle.types.proofs.lent.type_len.Statement.{statement}

@@ -1,7 +1,7 @@
 -- `variable` meets its contract: it climbs from scope to scope, and their numbers fall. Assumes nothing.
 use Prim.Native.Nat.{_<_}
 use native.Mathlib.Omega.{arith}
-use Rattle.types.specs.Fits.{Scope}
+use Rattle.typing.specs.Fits.{Scope}
 use Rattle.types.specs.Scopes.{Scoped, Around, Climbed, climb-none, climb-start, climb-base, climb-around, climb-up, climb-part}
 use borrow.Author.Needs.{needs}
 use Rattle.types.proofs.scopes.variable.Statement.{statement}

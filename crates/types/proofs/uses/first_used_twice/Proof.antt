@@ -3,7 +3,7 @@ use Prim.Native.Nat.{_-_, _≤_}
 use native.Mathlib.Omega.{arith}
 use Rattle.sheet.specs.Sheet.{Sheet}
 use Rattle.sheet.specs.Laws.{Reads}
-use Rattle.types.specs.Check.{used}
+use Rattle.typing.specs.Check.{used}
 use Rattle.types.specs.Uses.{Counted, counted-none, sheet-roots, used-none, used-next, used-told}
 use borrow.Author.Needs.{needs}
 use Rattle.types.proofs.uses.first_used_twice.Statement.{statement}

@@ -1,0 +1,10 @@
+pub mod Text
+pub mod Grammar
+pub mod Calls
+pub mod Examples
+pub mod Texts
+pub mod Reads
+pub mod Written
+pub mod Derives
+pub mod Laws
+pub mod Fronts
