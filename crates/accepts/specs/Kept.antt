@@ -24,7 +24,7 @@ use Rattle.sheet.specs.Table.{nodeAt}
 use Rattle.sheet.specs.Laws.{Reads}
 use Rattle.rules.specs.Rules.{Env}
 use Rattle.undo.specs.Alike.{stands, names}
-use Rattle.accepts.specs.Accepts.{spared, sparedFrom, kept}
+use Rattle.venue.specs.Accepts.{spared, sparedFrom, kept}
 
 -- VARIABLES THAT A RECORD NAMES
 
