@@ -1,3 +1,3 @@
 pub mod Accepts
-pub mod Examples
 pub mod Laws
+pub mod Examples
