@@ -153,7 +153,9 @@ module _ {sheet : List ℕ} {t : Table} {old : List ℕ} {before : Spans} {new :
       here = omega (arith, p .reads .k)
 
       pub both-within : Within old before x × Within new after x
-      both-within = (within (p .sh .k) old (p .old-read) (p .before-is) x here few-variables, within (p .sh .k) new (p .new-read) (p .after-is) x here few-variables)
+      both-within =
+          let k = p .sh .k in
+          (within k old (p .old-read) (p .before-is) x here few-variables, within k new (p .new-read) (p .after-is) x here few-variables)
 
       pub its-sheet : Readied sheet t
       its-sheet = record { sh = p .sh; reads = p .reads }
