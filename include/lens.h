@@ -33,7 +33,7 @@ extern "C" {
 #define LENS_SCRATCH 65536u       /* bytes of scratch for each of them */
 #define LENS_ALLOWANCE_MAX 1000000u /* the most steps that may be allowed; the least is 1 */
 #define LENS_STARTS_MAX 16u       /* the most values of a plan: starts are an array of so many numbers, always */
-#define LENS_CHAIN_MAX 49u        /* the most nodes of a chain: 48 entered, and one that is too deep; chain has so many bytes, always */
+#define LENS_CHAIN_MAX 49u        /* the most nodes of a chain: 48 entered, and one that is too deep; chain has room for so many */
 
 /* The most bytes of stack that a call takes: measured on the deepest jobs (rust/tests/stack), not proved, and rounded up to a page. A
  * thread needs this much free when it calls. */
@@ -103,8 +103,8 @@ uint64_t lens_why_put(const uint8_t *sheet, size_t sheet_len, const uint8_t *pla
  *   *written    the bits of the variables written         as before          as before
  *   *start,     where the value stands                                       as before
  *   *end
- *   chain       all 0                                     all 0              LENS_CHAIN_LENGTH nodes at its front,
- *                                                                            the bytes behind them 0
+ *   chain       as before                                 as before          LENS_CHAIN_LENGTH nodes at its front,
+ *                                                                            those behind as before
  *
  * After a put that succeeds, the get of the new plan under the same sheet and allowance succeeds, gives exactly the list, and
  * takes no more steps. After a get of n steps with 48 n <= LENS_ALLOWANCE_MAX, the put of its list under every allowance from 48 n

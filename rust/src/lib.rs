@@ -7,7 +7,9 @@
 //! - after a [`put`](Sheet::put) that succeeds, the [`get`](Sheet::get) of the new plan, under the same allowance, gives exactly the
 //!   list, in no more steps;
 //! - after a get of n steps, the put of its list under an allowance of 48 × n or more (up to 1,000,000) gives the old plan;
-//! - a value found by its number ([`Plan::value`], [`Put::value`]) is the one that a reading of the plan from the front gives;
+//! - a value found by its number in a plan that [`load`](Sheet::load) gave ([`Plan::value`]), or in the new plan of a put as it was given
+//!   ([`Put::value`]), is the one that a reading of the plan from the front gives; a plan made with other starts
+//!   ([`Plan::with_starts`]) has the part that these name;
 //! - a variable that a put did not write ([`Put::written`]) has its old bytes in the new plan.
 //!
 //! A sheet that joins two lists, the edit of a joined list, and the new plan:

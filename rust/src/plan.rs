@@ -59,7 +59,8 @@ pub struct Plan<'a> {
 }
 
 impl<'a> Plan<'a> {
-    /// A plan with starts that were kept beside it. Nothing is read.
+    /// A plan with starts that were kept beside it. Nothing is read: the values are right where the starts are those that
+    /// [`Sheet::load`](crate::Sheet::load), or the put that made the plan, gave of these bytes.
     ///
     /// ```
     /// use lens::{Plan, Sheet, Starts};

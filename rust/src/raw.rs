@@ -258,7 +258,7 @@ pub fn put_written(
     })
 }
 
-/// Tells why [`get`] refuses: the nodes down to the one where it was met are at the front of `chain`.
+/// Tells why [`get`] refuses: the nodes down to the one where it was met are at the front of `chain`. No other byte of it is written.
 pub fn why_get(sheet: &[u8], plan: &[u8], allowance: u32, scratch: &mut [u8], chain: &mut [u8; CHAIN_MAX]) -> WhyAnswer {
     // Safety: as in `get`; the chain is as many bytes as the archive may write.
     WhyAnswer(unsafe {

@@ -29,13 +29,15 @@ use Rattle.walk.specs.declared.Walked.{Walked}
 use Rattle.walk.specs.declared.Walked.the-variants.{Done as Walked·Done, Refused as Walked·Refused}
 use Rattle.walk.specs.Entry.{Says, says-done, says-refused, Free, get-sheet-refused, get-plan-refused}
 use Rattle.walk.specs.PutEntry.{put-view-refused}
-use Rattle.lens.specs.Buffers.{zeroed}
-use Rattle.lens.specs.Calls.{afterRefusal}
-use Rattle.lens.specs.CallLaws.{zeros-same}
-use Rattle.lens.specs.Door.{shut, shut-is, shut-open}
+use Rattle.calls.specs.Buffers.{zeroed}
+use Rattle.calls.specs.Calls.{afterRefusal}
+use Rattle.calls.specs.CallLaws.{zeros-same}
+use Rattle.calls.specs.Door.{shut, shut-is, shut-open}
 use Rattle.accepts.specs.declared.Verdict.{Verdict}
 use Rattle.accepts.specs.declared.Verdict.the-variants.{Yes, No, Refused}
-use Rattle.accepts.specs.Accepts.{kept, orCode, result, judgedOf, acceptsOf, yesNo, verdict, cleared, Accepted}
+use Rattle.venue.specs.Accepts.{kept, orCode, result, judgedOf, acceptsOf}
+use Rattle.venue.specs.Laws.{read-85}
+use Rattle.accepts.specs.Accepts.{yesNo, verdict, cleared, Accepted}
 use Rattle.accepts.specs.Kept.{Readied, Plans, KeptAs}
 
 -- WHAT THE READERS SAY
@@ -263,11 +265,6 @@ high-85 : {A : Type 0} (r : Result A) → High (orCode 85 r)
 unfolding orCode
 high-85 (ok a) c e = let z : _≡_ {A = ℕ} 0 1 = cc in absurd (omega arith)
 high-85 (refusal d) c e = let z : 85 ≡ c = cc in omega arith
-
-pub read-85 : {A : Type 0} (r : Result A) {a : A} → orCode 85 r ≡ ok a → r ≡ ok a
-unfolding orCode
-read-85 (ok b) e = e
-read-85 (refusal d) e = let z : _≡_ {A = ℕ} 0 1 = cc in absurd (omega arith)
 
 walk-refused : {A : Type 0} (o : Out A) {c : ℕ} → result o ≡ refusal c → (n : ℕ) × (o ≡ refused c n)
 unfolding result

@@ -24,7 +24,7 @@ use Rattle.sheet.specs.Table.{nodeAt}
 use Rattle.sheet.specs.Laws.{Reads}
 use Rattle.rules.specs.Rules.{Env}
 use Rattle.undo.specs.Alike.{stands, names}
-use Rattle.accepts.specs.Accepts.{spared, sparedFrom, kept}
+use Rattle.venue.specs.Accepts.{spared, sparedFrom, kept}
 
 -- VARIABLES THAT A RECORD NAMES
 
@@ -153,7 +153,9 @@ module _ {sheet : List ℕ} {t : Table} {old : List ℕ} {before : Spans} {new :
       here = omega (arith, p .reads .k)
 
       pub both-within : Within old before x × Within new after x
-      both-within = (within (p .sh .k) old (p .old-read) (p .before-is) x here few-variables, within (p .sh .k) new (p .new-read) (p .after-is) x here few-variables)
+      both-within =
+          let k = p .sh .k in
+          (within k old (p .old-read) (p .before-is) x here few-variables, within k new (p .new-read) (p .after-is) x here few-variables)
 
       pub its-sheet : Readied sheet t
       its-sheet = record { sh = p .sh; reads = p .reads }

@@ -1,5 +1,3 @@
 pub mod Accepts
 pub mod Kept
 pub mod Calls
-pub mod Laws
-pub mod Examples

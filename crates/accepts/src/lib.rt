@@ -7,7 +7,8 @@ ghost use Rattle.rules.specs.AnswerLaws.{Lent};
 ghost use Rattle.walk.specs.Entry.{Free};
 ghost use Rattle.rules.specs.Numbers.{SCRATCH};
 ghost use Rattle.undo.specs.Alike.{stands};
-ghost use Rattle.accepts.specs.Accepts.{judgedOf, yesNo, verdict, acceptsOf, Accepted};
+ghost use Rattle.venue.specs.Accepts.{judgedOf, acceptsOf};
+ghost use Rattle.accepts.specs.Accepts.{yesNo, verdict, Accepted};
 ghost use Rattle.accepts.specs.Calls.{Built, listedOf};
 ghost use Rattle.accepts.specs.Kept.{Readied, NamedAs, Within, spanOf, Plans, KeptAs};
 use sheet::Node;
@@ -162,11 +163,11 @@ pub fn accepts(
     ensures { λ r. ⌜ Accepted (acceptsOf (now (sheet .entry)) (now (old .entry)) (now (view .entry)) (now (new .entry)) allowance (length (now (scratch .entry)))) r (now (scratch .entry)) (now (scratch .exit)) ⌝ }
 {
     let steps_allowed = allowance as usize;
-    let refusal = lens::door(0, 0, scratch.len(), steps_allowed);
+    let refusal = calls::side_door(scratch.len(), steps_allowed);
     if refusal != 0 {
         return Verdict::Refused(refusal);
     }
     let verdict = judged(sheet, old, view, new, steps_allowed, scratch);
-    lens::clear(scratch);
+    calls::clear(scratch);
     verdict
 }

@@ -3,7 +3,7 @@ ghost use mathlib.Core.Path.{_≡_};
 ghost use lib.ListN.{length};
 ghost use Rattle.io.specs.Counts.{Counts};
 use crate::labelled;
-use lens::Reply;
+use calls::Reply;
 use libc::STDOUT_FILENO;
 
 // How many bytes of s are b.
@@ -41,7 +41,7 @@ fn get_line(reply: Reply, out: &[u8], scratch: &[u8], text: &mut [u8]) -> usize
 
 // A get of the sheet P, whose plan is its list, on buffers full of AA and 55, and its line printed.
 fn print_get(sheet: &[u8], plan: &[u8], allowance: u32, out: &mut [u8], scratch: &mut [u8]) {
-    let reply = lens::get(sheet, plan, allowance, out, scratch);
+    let reply = calls::get(sheet, plan, allowance, out, scratch);
     let mut text = [0u8; 100];
     let end = get_line(reply, out, scratch, &mut text);
     io::write_all(STDOUT_FILENO, &text[..end]);

@@ -1,39 +1,29 @@
 //! Both calls in turn on a job: a list put back and read out again, or a list read out and put back.
 ghost use Rattle.io.specs.Counts.{Counts};
-use job::Job;
 use trips::Trip;
+use words::Fields;
+use words::Job;
 
-// Both calls of a job with parts of these lengths: a put and then a get, or a get and then a put. What is no job is refusal 60.
-fn both(bytes: &[u8], put: bool, allowance: u32, sheet: usize, plan: usize) -> Trip {
-    if 8192 < sheet {
-        return Trip::Stopped(60);
-    }
-    if 8192 < plan {
-        return Trip::Stopped(60);
-    }
-    let start = 8 + sheet;
-    let end = start + plan;
-    if bytes.len() < end {
-        return Trip::Stopped(60);
-    }
+// Both calls of a job with these fields: a put and then a get, or a get and then a put.
+fn both(bytes: &[u8], put: bool, f: Fields) -> Trip {
     let mut first = io::buffer();
     let mut second = io::buffer();
     let mut scratch = io::large_buffer();
     if put {
         return trips::put_then_get(
-            &bytes[6..6 + sheet],
-            &bytes[start..end],
-            &bytes[end..],
-            allowance,
+            words::sheet_of(bytes, f),
+            words::plan_of(bytes, f),
+            words::view_of(bytes, f),
+            f.allowance,
             &mut first,
             &mut second,
             &mut scratch,
         );
     }
     trips::get_then_put(
-        &bytes[6..6 + sheet],
-        &bytes[start..end],
-        allowance,
+        words::sheet_of(bytes, f),
+        words::plan_of(bytes, f),
+        f.allowance,
         &mut first,
         &mut second,
         &mut scratch,
@@ -41,17 +31,9 @@ fn both(bytes: &[u8], put: bool, allowance: u32, sheet: usize, plan: usize) -> T
 }
 
 fn trip_of(bytes: &[u8]) -> Trip {
-    match job::parse(bytes) {
-        Job::Get {
-            allowance,
-            sheet,
-            plan,
-        } => both(bytes, false, allowance, sheet, plan),
-        Job::Put {
-            allowance,
-            sheet,
-            plan,
-        } => both(bytes, true, allowance, sheet, plan),
+    match words::parse(bytes) {
+        Job::Get(f) => both(bytes, false, f),
+        Job::Put(f) => both(bytes, true, f),
         Job::Other => Trip::Stopped(60),
     }
 }

@@ -1,3 +1,2 @@
-pub mod Format
 pub mod Line
 pub mod LineLaws

@@ -2,24 +2,24 @@
 use mathlib.Core.Path.{_≡_}
 use mathlib.Core.Bool.{cond}
 use mathlib.Core.List.{List}
-use Prim.Native.Nat.{ℕ, _+_, _≤_}
+use Prim.Native.Nat.{ℕ}
 use lib.Dec.{leb}
-use lib.ListN.{length, take, drop}
+use lib.ListN.{length, take}
 use Rattle.rules.specs.Numbers.{SCRATCH, GET-OUTPUT, PUT-OUTPUT}
 use Rattle.rules.specs.Answer.{Answer, refusal, success, getAnswer, putAnswer}
-use Rattle.lens.specs.declared.Reply.{Reply}
-use Rattle.lens.specs.declared.Reply.the-variants.{Done, Refused}
-use Rattle.lens.specs.Calls.{written, cleared}
+use Rattle.calls.specs.declared.Reply.{Reply}
+use Rattle.calls.specs.declared.Reply.the-variants.{Done, Refused}
+use Rattle.calls.specs.Calls.{written, cleared}
 use Rattle.report.specs.Text.{refusalLine, successLine}
 use Rattle.report.specs.Writing.{Front}
-use Rattle.job.specs.declared.Job.{Job}
-use Rattle.job.specs.declared.Job.the-variants.{Get, Put, Other}
-use Rattle.job.specs.Format.{part, jobOf, jobNumber}
+use Rattle.words.specs.declared.Job.{Job}
+use Rattle.words.specs.declared.Job.the-variants.{Get, Put, Other}
+use Rattle.words.specs.Format.{sheetOf, planOf, viewOf, jobOf, jobNumber}
 
 -- a job's answer: what the call answers on buffers of the sizes that document 01 asks for, or the number of what is no job
 unfoldable pub answerOf : List ℕ → Job → Answer
-answerOf bs (Get a n m) = getAnswer (part bs 6 n) (part bs (8 + n) m) a GET-OUTPUT SCRATCH
-answerOf bs (Put a n m) = putAnswer (part bs 6 n) (part bs (8 + n) m) (drop (8 + n + m) bs) a PUT-OUTPUT SCRATCH
+answerOf bs (Get f) = getAnswer (sheetOf bs f) (planOf bs f) (f .allowance) GET-OUTPUT SCRATCH
+answerOf bs (Put f) = putAnswer (sheetOf bs f) (planOf bs f) (viewOf bs f) (f .allowance) PUT-OUTPUT SCRATCH
 answerOf bs Other = refusal (jobNumber Other)
 
 -- over 8,192 bytes: 61, whatever they are
@@ -41,10 +41,6 @@ unfoldable pub replyLine : Reply → List ℕ → List ℕ
 replyLine (Refused c) o = refusalLine c
 replyLine (Done len n) o = successLine n (take len o)
 
-abbrev pub Within : Reply → List ℕ → Type 0
-Within (Refused c) o = Unit {0}
-Within (Done len n) o = len ≤ length o
-
 -- a call with the answer a: its line is at the front of the text t, which became t′, and r is the line's length; output and scratch are as
 -- the call leaves them
 pub record Said (a : Answer) (r : ℕ) (t t′ o o′ s s′ : List ℕ) : Type 0 where
@@ -54,8 +50,8 @@ pub record Said (a : Answer) (r : ℕ) (t t′ o o′ s s′ : List ℕ) : Type 
 
 -- the buffers of an input's calls: what makes no call leaves both as they were
 unfoldable pub clearedBy : List ℕ → Job → List ℕ → List ℕ
-clearedBy bs (Get a n m) s = cleared (answerOf bs (Get a n m)) s
-clearedBy bs (Put a n m) s = cleared (answerOf bs (Put a n m)) s
+clearedBy bs (Get f) s = cleared (answerOf bs (Get f)) s
+clearedBy bs (Put f) s = cleared (answerOf bs (Put f)) s
 clearedBy bs Other s = s
 
 pub record Lent (bs o o′ s s′ : List ℕ) : Type 0 where

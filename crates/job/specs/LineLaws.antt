@@ -2,7 +2,7 @@
 use mathlib.Core.Bool.{Bool, true, false, cond}
 use mathlib.Core.Path.{_≡_, refl, sym, ap}
 use mathlib.Core.List.{List, []}
-use Prim.Native.Nat.{ℕ, _+_, _≤_, _<_}
+use Prim.Native.Nat.{ℕ, _≤_, _<_}
 use native.Mathlib.Omega.{arith}
 use native.Mathlib.Decide.{decLe}
 use borrow.Author.Tests.{le-leb, lt-leb}
@@ -12,18 +12,18 @@ use lib.Seq.{length-take-le, take-all, take-append-seam}
 use Rattle.rules.specs.Outcome.{when, given}
 use Rattle.rules.specs.Numbers.{SCRATCH, GET-OUTPUT, PUT-OUTPUT}
 use Rattle.rules.specs.Answer.{Answer, refusal, success, door, getAnswer, putAnswer}
-use Rattle.lens.specs.declared.Reply.{Reply}
-use Rattle.lens.specs.declared.Reply.the-variants.{Done, Refused}
-use Rattle.lens.specs.Calls.{reply, written, cleared, Answered}
-use Rattle.lens.specs.CallLaws.{done-inside}
-use Rattle.lens.specs.Packing.{Small, small-get, small-put}
+use Rattle.calls.specs.declared.Reply.{Reply}
+use Rattle.calls.specs.declared.Reply.the-variants.{Done, Refused}
+use Rattle.calls.specs.Calls.{reply, written, cleared, Answered}
+use Rattle.calls.specs.Small.{Small, small-get, small-put}
 use Rattle.report.specs.Text.{refusalLine, successLine}
 use Rattle.report.specs.TextLaws.{refusal-length, success-length}
 use Rattle.report.specs.Writing.{Wrote, Front, wrote-front, wrote-text}
-use Rattle.job.specs.declared.Job.{Job}
-use Rattle.job.specs.declared.Job.the-variants.{Get, Put, Other}
-use Rattle.job.specs.Format.{part, jobOf}
-use Rattle.job.specs.Line.{answerOf, jobAnswer, answerLine, jobLine, replyLine, Within, Said, clearedBy, Lent}
+use Rattle.words.specs.declared.fields.Fields.{Fields}
+use Rattle.words.specs.declared.Job.{Job}
+use Rattle.words.specs.declared.Job.the-variants.{Get, Put, Other}
+use Rattle.words.specs.Format.{sheetOf, planOf, viewOf, jobOf}
+use Rattle.job.specs.Line.{answerOf, jobAnswer, answerLine, jobLine, replyLine, Said, clearedBy, Lent}
 
 -- HOW LONG A LINE IS
 
@@ -48,8 +48,8 @@ fits-refusal c h = omega (arith, refusal-length c h)
 
 fits-job : (bs : List ℕ) (j : Job) → length (answerLine (answerOf bs j)) ≤ 8204
 unfolding answerOf
-fits-job bs (Get a n m) = fits-get _ _ a GET-OUTPUT SCRATCH
-fits-job bs (Put a n m) = fits-put _ _ _ a PUT-OUTPUT SCRATCH
+fits-job bs (Get f) = fits-get _ _ (f .allowance) GET-OUTPUT SCRATCH
+fits-job bs (Put f) = fits-put _ _ _ (f .allowance) PUT-OUTPUT SCRATCH
 fits-job bs Other = fits-refusal 60 (omega arith)
 
 pub line-fits : (bs : List ℕ) → length (jobLine bs) ≤ 8204
@@ -72,13 +72,6 @@ line-front bs = go (decLe (length bs) 8193)
 -- WHAT SHOWS IT OF THE CODE
 
 module _ {a : Answer} {q : Reply} {o o′ s s′ : List ℕ} (w : Answered a q o o′ s s′) where
-  pub reply-within : Within q o′
-  reply-within = go q refl
-    where
-      go : (p : Reply) → q ≡ p → Within p o′
-      go (Refused c) e = tt
-      go (Done len n) e = done-inside w e
-
   reply-line : replyLine q o′ ≡ answerLine a
   unfolding replyLine answerLine reply written
   reply-line = go a (w .answer) (w .output)
@@ -91,9 +84,6 @@ module _ {a : Answer} {q : Reply} {o o′ s s′ : List ℕ} (w : Answered a q o
   said l h = record { text = wrote-front (wrote-text l reply-line) h; output = w .output; scratch = w .scratch }
 
 -- a reply, case by case
-pub within-done : (o : List ℕ) {q : Reply} {len n : ℕ} → Within q o → q ≡ Done len n → len ≤ length o
-within-done o h e = rw e at h
-
 pub line-refused : (o : List ℕ) {q : Reply} {c : ℕ} → q ≡ Refused c → refusalLine c ≡ replyLine q o
 unfolding replyLine
 line-refused o e = rw e
@@ -153,17 +143,17 @@ module _ (bs : List ℕ) where
       unfolding answerOf written clearedBy
       prints-none et q l = (line-wrote 60 et (answer-job h e q) l, lent-job h e q refl refl)
 
-      pub prints-get : {a n m : ℕ} {sheet plan o o′ s s′ : List ℕ} → j ≡ Get a n m → sheet ≡ part bs 6 n → plan ≡ part bs (8 + n) m
-          → Said (getAnswer sheet plan a GET-OUTPUT SCRATCH) r t t′ o o′ s s′ → Front (jobLine bs) t t′ r × Lent bs o o′ s s′
-      unfolding answerOf clearedBy
-      prints-get {a} {n} {m} {o = o} {o′ = o′} {s = s} {s′ = s′} q es ep w =
-          let v : Said (answerOf bs (Get a n m)) r t t′ o o′ s s′ = rw (es, ep) at w in
-          (line-said (answer-job h e q) (v .text), lent-job h e q (v .output) (v .scratch))
+      module _ {f : Fields} {sheet plan : List ℕ} (es : sheet ≡ sheetOf bs f) (ep : plan ≡ planOf bs f) {o o′ s s′ : List ℕ} where
+        pub prints-get : j ≡ Get f → Said (getAnswer sheet plan (f .allowance) GET-OUTPUT SCRATCH) r t t′ o o′ s s′
+            → Front (jobLine bs) t t′ r × Lent bs o o′ s s′
+        unfolding answerOf clearedBy
+        prints-get q w =
+            let v : Said (answerOf bs (Get f)) r t t′ o o′ s s′ = rw (es, ep) at w in
+            (line-said (answer-job h e q) (v .text), lent-job h e q (v .output) (v .scratch))
 
-      pub prints-put : {a n m : ℕ} {sheet plan view o o′ s s′ : List ℕ} → j ≡ Put a n m
-          → sheet ≡ part bs 6 n → plan ≡ part bs (8 + n) m → view ≡ drop (8 + n + m) bs
-          → Said (putAnswer sheet plan view a PUT-OUTPUT SCRATCH) r t t′ o o′ s s′ → Front (jobLine bs) t t′ r × Lent bs o o′ s s′
-      unfolding answerOf clearedBy
-      prints-put {a} {n} {m} {o = o} {o′ = o′} {s = s} {s′ = s′} q es ep ev w =
-          let v : Said (answerOf bs (Put a n m)) r t t′ o o′ s s′ = rw (es, ep, ev) at w in
-          (line-said (answer-job h e q) (v .text), lent-job h e q (v .output) (v .scratch))
+        pub prints-put : {view : List ℕ} → j ≡ Put f → view ≡ viewOf bs f
+            → Said (putAnswer sheet plan view (f .allowance) PUT-OUTPUT SCRATCH) r t t′ o o′ s s′ → Front (jobLine bs) t t′ r × Lent bs o o′ s s′
+        unfolding answerOf clearedBy
+        prints-put q ev w =
+            let v : Said (answerOf bs (Put f)) r t t′ o o′ s s′ = rw (es, ep, ev) at w in
+            (line-said (answer-job h e q) (v .text), lent-job h e q (v .output) (v .scratch))

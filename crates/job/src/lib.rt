@@ -1,71 +1,93 @@
-//! Jobs: what the program is handed, taken apart.
-ghost use mathlib.Core.Path.{_≡_};
-ghost use Rattle.job.specs.Format.{jobOf};
-
-mod fields;
-mod running;
-
-pub use fields::Fields;
-pub use fields::byte_at;
-pub use fields::fields_of;
-pub use fields::number_at;
-pub use fields::part_at;
-pub use fields::plan_of;
-pub use fields::rest_from;
-pub use fields::sheet_of;
-pub use fields::view_of;
-pub use running::line;
-
-/// The most bytes of an input; a longer one is refused with 61.
-pub const INPUT: usize = 8_192;
+//! What the program is handed, run as a job, and the line of its answer written.
+ghost use Rattle.rules.specs.Numbers.{SCRATCH, GET-OUTPUT, PUT-OUTPUT};
+ghost use Rattle.rules.specs.Answer.{getAnswer, putAnswer};
+ghost use Rattle.report.specs.Writing.{Wrote, Front};
+ghost use Rattle.job.specs.Line.{jobLine, replyLine, Said, Lent};
+ghost use Rattle.calls.specs.CallLaws.{Within};
+use calls::Reply;
+use words::INPUT;
+use words::Job;
+use words::plan_of;
+use words::sheet_of;
+use words::view_of;
 
 /// The most bytes of a line: `ok`, steps of 7 digits, 4,096 bytes in hexadecimal, spaces and a line feed.
 pub const LINE: usize = 8_204;
 
-/// A get or a put, with its allowance and the lengths of its sheet and of its plan; or no job.
-pub enum Job {
-    Get {
-        allowance: u32,
-        sheet: usize,
-        plan: usize,
-    },
-    Put {
-        allowance: u32,
-        sheet: usize,
-        plan: usize,
-    },
-    Other,
+// The line of a call's reply, whose bytes are at the front of `out`.
+fn reply_line(reply: Reply, out: &[u8], text: &mut [u8]) -> usize
+    requires { ⌜ Within reply (now out) ⌝ }
+    ensures { λ r. ⌜ Wrote (replyLine reply (now (out .entry))) 0 (now (text .entry)) (now (text .exit)) r ⌝ }
+{
+    match reply {
+        Reply::Refused(c) => report::refusal(text, 0, c as usize),
+        Reply::Done { len, steps } => report::success(text, 0, steps, &out[..len]),
+    }
 }
 
-/// The job that an input is: its lengths, or none where a part is cut, or a get has bytes behind its plan.
-pub fn parse(input: &[u8]) -> Job
-    ensures { λ r. ⌜ r ≡ jobOf (now (input .entry)) ⌝ }
+// A get, and the line of its answer.
+fn get_line(
+    sheet: &[u8],
+    plan: &[u8],
+    allowance: u32,
+    out: &mut [u8; rules::PUT_OUTPUT],
+    scratch: &mut [u8; rules::SCRATCH],
+    text: &mut [u8; LINE],
+) -> usize
+    ensures { λ r. ⌜ Said (getAnswer (now (sheet .entry)) (now (plan .entry)) allowance GET-OUTPUT SCRATCH) r (now (text .entry)) (now (text .exit)) (now (out .entry)) (now (out .exit)) (now (scratch .entry)) (now (scratch .exit)) ⌝ }
 {
-    let Fields::Whole {
-        allowance,
-        sheet,
-        plan,
-    } = fields_of(input)
-    else {
-        return Job::Other;
-    };
-    let kind = byte_at(input, 0);
-    if kind == 0x47 {
-        if input.len() == 8 + sheet + plan {
-            return Job::Get {
-                allowance,
-                sheet,
-                plan,
-            };
-        }
-        return Job::Other;
+    let reply = calls::get(sheet, plan, allowance, out, scratch);
+    reply_line(reply, out, text)
+}
+
+// A put, and the line of its answer.
+fn put_line(
+    sheet: &[u8],
+    plan: &[u8],
+    view: &[u8],
+    allowance: u32,
+    out: &mut [u8; rules::PUT_OUTPUT],
+    scratch: &mut [u8; rules::SCRATCH],
+    text: &mut [u8; LINE],
+) -> usize
+    ensures { λ r. ⌜ Said (putAnswer (now (sheet .entry)) (now (plan .entry)) (now (view .entry)) allowance PUT-OUTPUT SCRATCH) r (now (text .entry)) (now (text .exit)) (now (out .entry)) (now (out .exit)) (now (scratch .entry)) (now (scratch .exit)) ⌝ }
+{
+    let answer = calls::put(sheet, plan, view, allowance, out, scratch);
+    let reply = answer.reply;
+    reply_line(reply, out, text)
+}
+
+/// The line that the program prints for an input, at the front of `text`; and how long it is.
+pub fn line(
+    input: &[u8],
+    out: &mut [u8; rules::PUT_OUTPUT],
+    scratch: &mut [u8; rules::SCRATCH],
+    text: &mut [u8; LINE],
+) -> usize
+    ensures { λ r. ⌜ Front (jobLine (now (input .entry))) (now (text .entry)) (now (text .exit)) r ⌝ }
+    ensures { λ _. ⌜ Lent (now (input .entry)) (now (out .entry)) (now (out .exit)) (now (scratch .entry)) (now (scratch .exit)) ⌝ }
+{
+    if INPUT < input.len() {
+        return report::refusal(text, 0, 61);
     }
-    if kind == 0x50 {
-        return Job::Put {
-            allowance,
-            sheet,
-            plan,
-        };
+    match words::parse(input) {
+        Job::Get(f) => get_line(
+            sheet_of(input, f),
+            plan_of(input, f),
+            f.allowance,
+            out,
+            scratch,
+            text,
+        ),
+        Job::Put(f) => put_line(
+            sheet_of(input, f),
+            plan_of(input, f),
+            view_of(input, f),
+            f.allowance,
+            out,
+            scratch,
+            text,
+        ),
+        Job::Other => report::refusal(text, 0, 60),
     }
-    Job::Other
 }

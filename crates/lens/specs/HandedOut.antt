@@ -2,7 +2,7 @@
 use mathlib.Core.Path.{_≡_, refl, sym, ap, ap₂, _∙_}
 use mathlib.Core.Bool.{cond}
 use mathlib.Core.List.{List, _∷_, _++_}
-use Prim.Native.Nat.{ℕ, suc, _+_, _*_, _%_, _^_, _≤_, _<_}
+use Prim.Native.Nat.{ℕ, suc, _+_, _*_, _/_, _%_, _^_, _≤_, _<_}
 use native.Mathlib.Numerals.{add-one}
 use native.Mathlib.Omega.{arith}
 use borrow.Author.Tests.{eq-eqb, ne-eqb}
@@ -18,10 +18,11 @@ use Rattle.starts.specs.Lookup.{length-firsts, firsts-more}
 use Rattle.starts.specs.StartsLaws.{load-few}
 use Rattle.rules.specs.Answer.{Answer, refusal, success, putAnswer}
 use Rattle.rules.specs.Written.{putWritten}
-use Rattle.lens.specs.declared.PutReply.{PutReply}
-use Rattle.lens.specs.Calls.{reply, written, cleared, newStarts, newWritten, PutAnswered}
-use Rattle.lens.specs.StartsLaws.{put-few}
-use Rattle.lens.specs.Packing.{packed, packedReply, unpacked, Small, packed-with, pack-answered, small-put, packed-small}
+use Rattle.calls.specs.declared.PutReply.{PutReply}
+use Rattle.calls.specs.Calls.{reply, written, cleared, newStarts, newWritten, PutAnswered}
+use Rattle.calls.specs.StartsLaws.{put-few}
+use Rattle.calls.specs.Small.{Small, small-put}
+use Rattle.lens.specs.Packing.{packed, packedReply, unpacked, countOf, packed-with, pack-answered, packed-small}
 
 -- the starts at the front of the caller's numbers t; those behind them do not change, and where there is no start none does
 unfoldable pub handedOut : Starts → List ℕ → List ℕ
@@ -38,6 +39,7 @@ pub record PackedPut (sheet : List ℕ) (a : Answer) (r : ℕ) (o o′ s s′ t 
   pub output : o′ ≡ written a o
   pub scratch : s′ ≡ cleared a s
   pub starts : t′ ≡ handedOut (newStarts sheet a) t
+  pub count-back : countOf r ≡ newStarts sheet a .count
 
 -- the caller's number: the bits of a success; with a refusal it is what it was
 unfoldable pub writtenOr : (bits : ℕ) → Answer → ℕ → ℕ
@@ -48,6 +50,8 @@ writtenOr bits (success new n) old = bits
 pub record PackedLoad (l : Loaded) (r : ℕ) (t t′ : List ℕ) : Type 0 where
   pub answer : r ≡ counted (l .refusal) (l .starts)
   pub starts : t′ ≡ handedOut (l .starts) t
+  pub refusal-back : r % 256 ≡ l .refusal
+  pub count-back : countOf r ≡ l .starts .count
 
 -- a lookup found f: 0 and where the value starts and ends; or the refusal's number, and both numbers are what they were
 unfoldable pub foundNumber : Found → ℕ
@@ -69,28 +73,31 @@ pub record Lookup (f : Found) (r start start′ end end′ : ℕ) : Type 0 where
 
 -- WHAT SHOWS IT
 
--- i starts are handed out
-pub record Handing (s : Starts) (i : ℕ) (t t′ : List ℕ) : Type 0 where
-  pub made : t′ ≡ firsts i (s .at) ++ drop i t
+-- i of the numbers l are handed out
+pub record Handing (l : List ℕ) (i : ℕ) (t t′ : List ℕ) : Type 0 where
+  pub made : t′ ≡ firsts i l ++ drop i t
   pub long : length t′ ≡ length t
 
-pub handing-none : (s : Starts) (t : List ℕ) → Handing s 0 t t
-handing-none s t = record { made = refl; long = refl }
+pub handing-none : (l t : List ℕ) → Handing l 0 t t
+handing-none l t = record { made = refl; long = refl }
 
-pub handing-more : {s : Starts} {i : ℕ} {t t′ : List ℕ} → Handing s i t t′ → i < length t → Handing s (i + 1) t (set t′ i (getD (s .at) i 0))
-handing-more {s} {i} {t} {t′} h l = record {
+pub handing-more : {l : List ℕ} {i : ℕ} {t t′ : List ℕ} → Handing l i t t′ → i < length t → Handing l (i + 1) t (set t′ i (getD l i 0))
+handing-more {l} {i} {t} {t′} h k = record {
   made =
-      let x = getD (s .at) i 0 in
-      let e : set (firsts i (s .at) ++ drop i t) i x ≡ firsts i (s .at) ++ (x ∷ drop (suc i) t)
-      = rw (drop-cons t i 0 l) (ap (λ (j : ℕ). set (firsts i (s .at) ++ (getD t i 0 ∷ drop (suc i) t)) j x) (sym (length-firsts i (s .at)))
-      ∙ set-append-seam (firsts i (s .at)) (getD t i 0) (drop (suc i) t) x) in
-      ap (λ (m : List ℕ). set m i x) (h .made) ∙ e ∙ sym (rw (add-one, firsts-more i (s .at)) (append-snoc (firsts i (s .at)) x (drop (suc i) t)));
-  long = length-set t′ i (getD (s .at) i 0) ∙ h .long;
+      let x = getD l i 0 in
+      let e : set (firsts i l ++ drop i t) i x ≡ firsts i l ++ (x ∷ drop (suc i) t)
+      = rw (drop-cons t i 0 k) (ap (λ (j : ℕ). set (firsts i l ++ (getD t i 0 ∷ drop (suc i) t)) j x) (sym (length-firsts i l))
+      ∙ set-append-seam (firsts i l) (getD t i 0) (drop (suc i) t) x) in
+      ap (λ (m : List ℕ). set m i x) (h .made) ∙ e ∙ sym (rw (add-one, firsts-more i l) (append-snoc (firsts i l) x (drop (suc i) t)));
+  long = length-set t′ i (getD l i 0) ∙ h .long;
 }
 
-pub handing-all : {s : Starts} {i : ℕ} {t t′ : List ℕ} → Handing s i t t′ → i ≡ s .count → t′ ≡ handedOut s t
+pub handing-all : {l : List ℕ} {i : ℕ} {t t′ : List ℕ} → Handing l i t t′ → (n : ℕ) → i ≡ n → t′ ≡ firsts n l ++ drop n t
+handing-all {l} {t = t} h n e = h .made ∙ ap (λ (j : ℕ). firsts j l ++ drop j t) e
+
+pub starts-handed : (s : Starts) {i : ℕ} {t t′ : List ℕ} → Handing (s .at) i t t′ → i ≡ s .count → t′ ≡ handedOut s t
 unfolding handedOut
-handing-all {s} {t = t} h e = h .made ∙ ap (λ (j : ℕ). firsts j (s .at) ++ drop j t) e
+starts-handed s h e = handing-all h (s .count) e
 
 -- the returns of a lookup
 pub found-at : {f : Found} {a b : ℕ} → f ≡ At a b → (start end : ℕ) → Lookup f 0 start a end b
@@ -105,11 +112,14 @@ found-none e start end = rw e (record { number = refl; starts-at = refl; ends-at
 pub few-loaded : (sheet plan : List ℕ) {l : Loaded} → l ≡ loadOf sheet plan → l .starts .count ≤ 16
 few-loaded sheet plan e = rw e (load-few sheet plan)
 
-pub counted-load : {l m : Loaded} → m ≡ l → {r : ℕ} {t t′ : List ℕ} → r ≡ counted (m .refusal) (m .starts) → t′ ≡ handedOut (m .starts) t → PackedLoad l r t t′
-counted-load e {t = t} f h = record {
-  answer = f ∙ ap (λ (l : Loaded). counted (l .refusal) (l .starts)) e;
-  starts = h ∙ ap (λ (l : Loaded). handedOut (l .starts) t) e;
-}
+pub counted-load : {l m : Loaded} → m ≡ l → m .refusal < 256 → m .starts .count ≤ 16 → {r : ℕ} {t t′ : List ℕ} → r ≡ counted (m .refusal) (m .starts)
+    → t′ ≡ handedOut (m .starts) t → PackedLoad l r t t′
+counted-load {m = m} e small few {r} {t = t} f h = rw (← e) (record {
+  answer = f;
+  starts = h;
+  refusal-back = omega arith;
+  count-back = let d : r / 16777216 ≡ m .starts .count = omega arith in rw d (omega arith);
+})
 
 -- a put's answer with its count
 module _ (sheet plan view : List ℕ) (allowance output scratch : ℕ) {q : PutReply} {o o′ s s′ : List ℕ}
@@ -121,6 +131,9 @@ module _ (sheet plan view : List ℕ) (allowance output scratch : ℕ) {q : PutR
     pub count-fits : p + 16777216 * q .starts .count < 2 ^ 64
     count-fits = omega (arith, put-few w, packed-small (q .reply) small e)
 
+    packed-count : {r : ℕ} → r ≡ p + 16777216 * q .starts .count → (unpacked r ≡ q .reply) × (countOf r ≡ q .starts .count)
+    packed-count f = packed-with (q .reply) small (omega (arith, put-few w)) (f ∙ ap (λ (x : ℕ). x + 16777216 * q .starts .count) e)
+
     pub counted-put : {r : ℕ} {t t′ : List ℕ} → r ≡ p + 16777216 * q .starts .count → t′ ≡ handedOut (q .starts) t
         → PackedPut sheet (putAnswer sheet plan view allowance output scratch) r o o′ s s′ t t′
     counted-put {r} {t} f h = record {
@@ -128,10 +141,11 @@ module _ (sheet plan view : List ℕ) (allowance output scratch : ℕ) {q : PutR
       output = w .call .output;
       scratch = w .call .scratch;
       starts = h ∙ ap (λ (y : Starts). handedOut y t) (w .starts);
+      count-back = packed-count f .1 ∙ ap (λ (y : Starts). y .count) (w .starts);
     }
 
     pub counted-back : {r : ℕ} → r ≡ p + 16777216 * q .starts .count → unpacked r ≡ q .reply
-    counted-back f = packed-with (q .reply) small (omega (arith, put-few w)) (f ∙ ap (λ (x : ℕ). x + 16777216 * q .starts .count) e) .0
+    counted-back f = packed-count f .0
 
     -- the bits are handed out behind a success alone
     pub bits-put : (old : ℕ) {new : ℕ} → new ≡ cond (eqb (p % 256) 0) (q .written) old

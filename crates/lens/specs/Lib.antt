@@ -1,14 +1,3 @@
-pub mod Buffers
-pub mod Calls
-pub mod Door
-pub mod CallLaws
-pub mod Trips
-pub mod Told
-pub mod WalkCalls
 pub mod Packing
 pub mod HandedOut
-pub mod StartsLaws
-pub mod WrittenLaws
 pub mod Whys
-pub mod WhyCalls
-pub mod WhyLaws

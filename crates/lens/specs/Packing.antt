@@ -2,20 +2,16 @@
 use mathlib.Core.Path.{_≡_, refl, ap, ap₂, _∙_}
 use mathlib.Core.Bool.{Bool, true, false}
 use mathlib.Core.List.{List}
-use Prim.Native.Nat.{ℕ, _+_, _*_, _/_, _%_, _≤_, _<_}
+use Prim.Native.Nat.{ℕ, _+_, _*_, _/_, _%_, _<_}
 use native.Mathlib.Omega.{arith}
-use native.Mathlib.Nat.{le-trans}
 use lib.Dec.{eqb}
 use lib.ListN.{length}
 use borrow.Author.Tests.{eq-eqb, ne-eqb}
-use Rattle.rules.specs.Numbers.{ALLOWANCE, PUT-OUTPUT}
-use Rattle.rules.specs.Answer.{Answer, refusal, success, getAnswer, putAnswer}
-use Rattle.rules.specs.AnswerLaws.{get-shows, put-shows, get-steps, put-steps}
-use Rattle.rules.specs.Trips.{get-short, put-short}
-use Rattle.rules.specs.Refusals.{Stated, stated-small, get-refusals, put-refusals}
-use Rattle.lens.specs.declared.Reply.{Reply}
-use Rattle.lens.specs.declared.Reply.the-variants.{Done, Refused}
-use Rattle.lens.specs.Calls.{reply, written, cleared, Answered}
+use Rattle.rules.specs.Answer.{Answer, refusal, success}
+use Rattle.calls.specs.declared.Reply.{Reply}
+use Rattle.calls.specs.declared.Reply.the-variants.{Done, Refused}
+use Rattle.calls.specs.Calls.{reply, written, cleared, Answered}
+use Rattle.calls.specs.Small.{Small}
 
 unfoldable pub packed : Answer → ℕ
 packed (refusal c) = c
@@ -32,11 +28,6 @@ apart false r = Refused (r % 256)
 
 unfoldable pub unpacked : ℕ → Reply
 unpacked r = apart (eqb (r % 256) 0) r
-
--- a reply whose parts fit their bits
-abbrev pub Small : Reply → Type 0
-Small (Refused c) = (1 ≤ c) × (c < 256)
-Small (Done len n) = (len ≤ PUT-OUTPUT) × (n ≤ ALLOWANCE)
 
 -- the count of starts; 0 in an answer that tells of none
 abbrev pub countOf : ℕ → ℕ
@@ -72,34 +63,7 @@ reply-packed (success bs n) = refl
 pub pack-answered : {a : Answer} {q : Reply} {r : ℕ} {o o′ s s′ : List ℕ} → Answered a q o o′ s s′ → r ≡ packedReply q → Packed a r o o′ s s′
 pack-answered {a} w e = record { answer = e ∙ ap packedReply (w .answer) ∙ reply-packed a; output = w .output; scratch = w .scratch }
 
--- THE PARTS FIT
-
-small-reply : (a : Answer) → ((c : ℕ) → a ≡ refusal c → Stated c) → ((bs : List ℕ) (n : ℕ) → a ≡ success bs n → (length bs ≤ PUT-OUTPUT) × (n ≤ ALLOWANCE))
-    → Small (reply a)
-unfolding reply
-small-reply (refusal c) k h = stated-small c (k c refl)
-small-reply (success bs n) k h = h bs n refl
-
-pub small-get : (sheet plan : List ℕ) (allowance output scratch : ℕ) {q : Reply} {o o′ s s′ : List ℕ}
-    → Answered (getAnswer sheet plan allowance output scratch) q o o′ s s′ → Small q
-small-get sheet plan allowance output scratch w =
-    rw (w .answer) (small-reply (getAnswer sheet plan allowance output scratch) (get-refusals sheet plan allowance output scratch) λ bs n e. (
-      omega (arith, get-short sheet plan allowance output scratch bs n e),
-      le-trans (get-steps sheet plan allowance output scratch bs n e) (get-shows e .0 .few-steps),
-    ))
-
-pub small-put : (sheet plan view : List ℕ) (allowance output scratch : ℕ) {q : Reply} {o o′ s s′ : List ℕ}
-    → Answered (putAnswer sheet plan view allowance output scratch) q o o′ s s′ → Small q
-small-put sheet plan view allowance output scratch w =
-    rw (w .answer) (small-reply (putAnswer sheet plan view allowance output scratch) (put-refusals sheet plan view allowance output scratch) λ bs n e. (
-      put-short sheet plan view allowance output scratch bs n e,
-      le-trans (put-steps sheet plan allowance output scratch bs n view e) (put-shows e .0 .few-steps),
-    ))
-
 -- a reply, case by case
-pub small-done : {q : Reply} {len n : ℕ} → Small q → q ≡ Done len n → (len ≤ PUT-OUTPUT) × (n ≤ ALLOWANCE)
-small-done {q} h e = rw e at h
-
 pub packed-refused : {q : Reply} {c : ℕ} → q ≡ Refused c → c ≡ packedReply q
 unfolding packedReply
 packed-refused e = rw e refl

@@ -1,6 +1,5 @@
 pub mod Why
 pub mod Line
-pub mod StartLaws
 pub mod WhyLaws
 pub mod LineLaws
 pub mod Told

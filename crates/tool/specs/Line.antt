@@ -2,28 +2,27 @@
 use mathlib.Core.Path.{_≡_}
 use mathlib.Core.Bool.{Bool, true, false, cond}
 use mathlib.Core.List.{List, [], _∷_, map}
-use Prim.Native.Nat.{ℕ, zero, suc, _+_, _*_, _/_, _%_}
+use Prim.Native.Nat.{ℕ}
 use lib.Dec.{leb, eqb}
 use lib.ListN.{length, getD, take, drop}
 use Rattle.rules.specs.Numbers.{SCRATCH, PUT-OUTPUT}
 use Rattle.rules.specs.Answer.{Answer, refusal, success, putAnswer}
 use Rattle.rules.specs.Explanation.{Explanation, whyGet, whyPut}
-use Rattle.lens.specs.declared.Reply.{Reply}
-use Rattle.lens.specs.declared.Reply.the-variants.{Done, Refused as Reply·Refused}
-use Rattle.lens.specs.Calls.{written, cleared, newStarts, newWritten}
-use Rattle.lens.specs.Whys.{whyCleared}
+use Rattle.calls.specs.declared.Reply.{Reply}
+use Rattle.calls.specs.declared.Reply.the-variants.{Done, Refused}
+use Rattle.calls.specs.Calls.{written, cleared, newStarts, newWritten}
+use Rattle.calls.specs.Whys.{whyCleared}
 use Rattle.report.specs.Text.{hexOf, decimalOf, refusalLine, okLine}
 use Rattle.report.specs.Writing.{Wrote}
-use Rattle.job.specs.declared.fields.Fields.{Fields}
-use Rattle.job.specs.declared.fields.Fields.the-variants.{Whole, Cut}
-use Rattle.job.specs.declared.Job.{Job}
-use Rattle.job.specs.declared.Job.the-variants.{Get, Put, Other}
-use Rattle.job.specs.Format.{two, part, fieldsOf, jobOf, jobNumber}
 use Rattle.starts.specs.declared.Starts.{Starts}
-use Rattle.starts.specs.declared.Loaded.{Loaded}
-use Rattle.starts.specs.declared.Found.{Found}
-use Rattle.starts.specs.declared.Found.the-variants.{At, Refused}
-use Rattle.starts.specs.Starts.{loadOf, firsts, numbers, findOf, partOf}
+use Rattle.starts.specs.Starts.{numbers}
+use Rattle.words.specs.declared.fields.Taken.{Taken}
+use Rattle.words.specs.declared.fields.Taken.the-variants.{Whole, Cut}
+use Rattle.words.specs.declared.Job.{Job}
+use Rattle.words.specs.declared.Job.the-variants.{Get, Put, Other}
+use Rattle.words.specs.Format.{fieldsOf, sheetOf, planOf, viewOf, jobOf, jobNumber}
+use Rattle.words.specs.Answers.{bitsWord}
+use Rattle.letters.specs.Lookups.{loadLine, valueLine}
 use Rattle.tool.specs.Why.{whyLine}
 
 -- what an input comes to: the line, and the call on output and scratch that was made for it, or on scratch alone, where one was
@@ -39,41 +38,8 @@ pub record Ending : Type 0 where
 abbrev pub says : List ℕ → Ending
 says l = record { line = l; call = none }
 
--- L: a sheet behind its length in two bytes, then a plan: the starts of the plan's values
-
-unfoldable pub loadedLine : Loaded → List ℕ
-loadedLine l = cond (eqb (l .refusal) 0) (okLine (map decimalOf (numbers (l .starts)))) (refusalLine (l .refusal))
-
-unfoldable pub loadLine : List ℕ → List ℕ
-loadLine bs = let n = two bs 1 in cond (leb (3 + n) (length bs)) (loadedLine (loadOf (part bs 3 n) (drop (3 + n) bs))) (refusalLine 60)
-
--- V: a variable's number, a count, that many starts of two bytes, then a plan: the part of the plan that holds the variable's value
-
--- n numbers of two bytes, from place i on
-unfoldable pub numbersAt : List ℕ → (i n : ℕ) → List ℕ
-numbersAt bs i zero = []
-numbersAt bs i (suc n) = two bs i ∷ numbersAt bs (i + 2) n
-
--- `Starts` has room for 16 of the numbers; a count over 16 stays as it is, and a lookup refuses it
-unfoldable pub startsIn : List ℕ → Starts
-startsIn bs = record { count = getD bs 2 0; at = firsts 16 (numbersAt bs 3 (getD bs 2 0)) }
-
-unfoldable pub foundLine : Found → (plan : List ℕ) → List ℕ
-foundLine (At i j) plan = okLine (hexOf (partOf (At i j) plan) ∷ [])
-foundLine (Refused c) plan = refusalLine c
-
-unfoldable pub valueLine : List ℕ → List ℕ
-valueLine bs =
-    let k = 3 + 2 * getD bs 2 0 in
-    let plan = drop k bs in
-    cond (leb k (length bs)) (foundLine (findOf (startsIn bs) (length plan) (getD bs 1 0)) plan) (refusalLine 60)
-
 -- S and W: the fields of a put, as document 01's program has them behind another letter: the steps, the new plan, and behind it what else a put
 -- tells: S the starts of the new plan's values, W which variables took a view
-
--- 16 bits as four hexadecimal digits
-unfoldable pub bitsWord : ℕ → List ℕ
-bitsWord b = hexOf (b / 256 ∷ b % 256 ∷ [])
 
 unfoldable pub besides : (bits : Bool) → Starts → (written : ℕ) → List (List ℕ)
 besides false s b = map decimalOf (numbers s)
@@ -84,14 +50,14 @@ unfoldable pub putLine : (ws : List (List ℕ)) → Answer → List ℕ
 putLine ws (refusal c) = refusalLine c
 putLine ws (success new n) = okLine (decimalOf n ∷ hexOf new ∷ ws)
 
-unfoldable pub puts : (bits : Bool) → List ℕ → Fields → Ending
+unfoldable pub puts : (bits : Bool) → List ℕ → Taken → Ending
 puts bits bs Cut = says (refusalLine 60)
-puts bits bs (Whole a n m) =
-    let sheet = part bs 6 n in
-    let plan = part bs (8 + n) m in
-    let view = drop (8 + n + m) bs in
-    let answer = putAnswer sheet plan view a PUT-OUTPUT SCRATCH in
-    record { line = putLine (besides bits (newStarts sheet answer) (newWritten sheet plan view a answer)) answer; call = made answer }
+puts bits bs (Whole f) =
+    let sheet = sheetOf bs f in
+    let plan = planOf bs f in
+    let view = viewOf bs f in
+    let answer = putAnswer sheet plan view (f .allowance) PUT-OUTPUT SCRATCH in
+    record { line = putLine (besides bits (newStarts sheet answer) (newWritten sheet plan view (f .allowance) answer)) answer; call = made answer }
 
 -- Y: a job of document 01's program: why it is refused
 
@@ -99,8 +65,8 @@ abbrev pub explains : Explanation → Ending
 explains e = record { line = whyLine e; call = asked e }
 
 unfoldable pub whyBy : List ℕ → Job → Ending
-whyBy bs (Get a n m) = explains (whyGet (part bs 6 n) (part bs (8 + n) m) a SCRATCH)
-whyBy bs (Put a n m) = explains (whyPut (part bs 6 n) (part bs (8 + n) m) (drop (8 + n + m) bs) a SCRATCH)
+whyBy bs (Get f) = explains (whyGet (sheetOf bs f) (planOf bs f) (f .allowance) SCRATCH)
+whyBy bs (Put f) = explains (whyPut (sheetOf bs f) (planOf bs f) (viewOf bs f) (f .allowance) SCRATCH)
 whyBy bs Other = says (refusalLine (jobNumber Other))
 
 unfoldable pub whys : List ℕ → Ending
@@ -150,5 +116,5 @@ pub record Ended (e : Ending) (r : ℕ) (t t′ o o′ s s′ : List ℕ) : Type
 
 -- the line of a put's reply whose bytes are at the front of the output, with these words behind them
 unfoldable pub replyLine : Reply → (ws : List (List ℕ)) → List ℕ → List ℕ
-replyLine (Reply·Refused c) ws o = refusalLine c
+replyLine (Refused c) ws o = refusalLine c
 replyLine (Done len n) ws o = okLine (decimalOf n ∷ hexOf (take len o) ∷ ws)

@@ -1,37 +1,31 @@
 -- What shows the line of the code: each letter's returns, and the ending of a whole input.
-use mathlib.Core.Path.{_≡_, refl, sym, ap₂, _∙_}
+use mathlib.Core.Path.{_≡_, refl, sym, ap, ap₂, _∙_}
 use mathlib.Core.Bool.{Bool, true, false}
 use mathlib.Core.List.{List, [], _∷_, map}
-use Prim.Native.Nat.{ℕ, _+_, _*_, _≤_, _<_}
-use borrow.Author.Tests.{le-leb, lt-leb, eq-eqb, ne-eqb}
+use Prim.Native.Nat.{ℕ, _≤_}
+use borrow.Author.Tests.{le-leb, ne-eqb}
 use lib.ListN.{length, getD, take, drop}
 use lib.Seq.{take-append-seam}
 use Rattle.rules.specs.Numbers.{SCRATCH, PUT-OUTPUT}
 use Rattle.rules.specs.Answer.{Answer, refusal, success, putAnswer}
-use Rattle.lens.specs.declared.PutReply.{PutReply}
-use Rattle.lens.specs.declared.Reply.{Reply}
-use Rattle.lens.specs.declared.Reply.the-variants.{Done, Refused as Reply·Refused}
-use Rattle.lens.specs.Calls.{reply, written, newStarts, newWritten, PutAnswered}
+use Rattle.calls.specs.declared.PutReply.{PutReply}
+use Rattle.calls.specs.declared.Reply.{Reply}
+use Rattle.calls.specs.declared.Reply.the-variants.{Done, Refused}
+use Rattle.calls.specs.Calls.{reply, written, newStarts, newWritten, PutAnswered}
 use Rattle.report.specs.Text.{hexOf, decimalOf, refusalLine, okLine}
 use Rattle.report.specs.Writing.{Wrote, Front, wrote-front, wrote-text}
-use Rattle.job.specs.declared.fields.Fields.{Fields}
-use Rattle.job.specs.declared.fields.Fields.the-variants.{Whole, Cut}
-use Rattle.job.specs.Format.{two, part, fieldsOf}
 use Rattle.starts.specs.declared.Starts.{Starts}
-use Rattle.starts.specs.declared.Loaded.{Loaded}
-use Rattle.starts.specs.declared.Found.{Found}
-use Rattle.starts.specs.declared.Found.the-variants.{At, Refused}
-use Rattle.starts.specs.Starts.{loadOf, numbers, findOf, partOf}
+use Rattle.words.specs.declared.fields.Fields.{Fields}
+use Rattle.words.specs.declared.fields.Taken.{Taken}
+use Rattle.words.specs.declared.fields.Taken.the-variants.{Whole, Cut}
+use Rattle.words.specs.Format.{fieldsOf, sheetOf, planOf, viewOf}
+use Rattle.words.specs.Answers.{bitsWord}
+use Rattle.words.specs.Starts.{kept, kept-all}
+use Rattle.letters.specs.Lookups.{loadLine, valueLine}
 use Rattle.tool.specs.Line.{
   Ending,
   made,
   says,
-  loadedLine,
-  loadLine,
-  startsIn,
-  foundLine,
-  valueLine,
-  bitsWord,
   besides,
   putLine,
   puts,
@@ -48,49 +42,9 @@ use Rattle.tool.specs.Line.{
 use Rattle.tool.specs.WhyLaws.{Explained, whys-output}
 use Rattle.tool.specs.LineLaws.{line-fits}
 
--- letter L
-module _ (bs : List ℕ) {n : ℕ} (en : n ≡ two bs 1) where
-  pub load-cut : length bs < 3 + n → refusalLine 60 ≡ loadLine bs
-  unfolding loadLine
-  load-cut h = sym (rw (← en, lt-leb (3 + n) (length bs) h))
-
-  pub load-whole : 3 + n ≤ length bs → {sheet plan : List ℕ} → sheet ≡ part bs 3 n → plan ≡ drop (3 + n) bs
-      → {l : Loaded} → l ≡ loadOf sheet plan → loadLine bs ≡ loadedLine l
-  unfolding loadLine
-  load-whole h es ep el = rw (← en, le-leb (3 + n) (length bs) h, ← es, ← ep, el)
-
-module _ (l : Loaded) where
-  pub loaded-refused : (l .refusal ≡ 0 → ⊥) → refusalLine (l .refusal) ≡ loadedLine l
-  unfolding loadedLine
-  loaded-refused z = sym (rw (ne-eqb (l .refusal) 0 z))
-
-  pub loaded-starts : l .refusal ≡ 0 → okLine (map decimalOf (numbers (l .starts))) ≡ loadedLine l
-  unfolding loadedLine
-  loaded-starts z = sym (rw (eq-eqb (l .refusal) 0 z))
-
--- letter V
-module _ (bs : List ℕ) {count : ℕ} (ec : count ≡ getD bs 2 0) where
-  pub value-cut : length bs < 3 + 2 * count → refusalLine 60 ≡ valueLine bs
-  unfolding valueLine
-  value-cut h = sym (rw (← ec, lt-leb (3 + 2 * count) (length bs) h))
-
-  pub value-whole : 3 + 2 * count ≤ length bs → {plan : List ℕ} → plan ≡ drop (3 + 2 * count) bs → {s : Starts} → s ≡ startsIn bs
-      → {i : ℕ} → i ≡ getD bs 1 0 → {f : Found} → f ≡ findOf s (length plan) i → valueLine bs ≡ foundLine f plan
-  unfolding valueLine
-  value-whole h ep es ei ef = rw (← ec, le-leb (3 + 2 * count) (length bs) h, ← ep, ← es, ← ei, ← ef)
-
-module _ (plan : List ℕ) {f : Found} where
-  pub found-refused : {c : ℕ} → f ≡ Refused c → refusalLine c ≡ foundLine f plan
-  unfolding foundLine
-  found-refused e = sym (rw e)
-
-  pub found-part : {a b : ℕ} {p : List ℕ} → f ≡ At a b → p ≡ partOf f plan → okLine (hexOf p ∷ []) ≡ foundLine f plan
-  unfolding foundLine
-  found-part e q = sym (rw (q, e))
-
 -- letters S and W
 
-pub put-cut : (bits : Bool) (bs : List ℕ) {f : Fields} → f ≡ fieldsOf bs → f ≡ Cut → puts bits bs (fieldsOf bs) ≡ says (refusalLine 60)
+pub put-cut : (bits : Bool) (bs : List ℕ) {t : Taken} → t ≡ fieldsOf bs → t ≡ Cut → puts bits bs (fieldsOf bs) ≡ says (refusalLine 60)
 unfolding puts
 put-cut bits bs e q = rw (sym e ∙ q)
 
@@ -99,9 +53,9 @@ abbrev putEnding : (bits : Bool) (sheet plan view : List ℕ) (allowance : ℕ) 
 putEnding bits sheet plan view allowance a =
     record { line = putLine (besides bits (newStarts sheet a) (newWritten sheet plan view allowance a)) a; call = made a }
 
-pub put-whole : (bits : Bool) (bs : List ℕ) {f : Fields} → f ≡ fieldsOf bs → {a n m : ℕ} → f ≡ Whole a n m → {sheet plan view : List ℕ}
-    → sheet ≡ part bs 6 n → plan ≡ part bs (8 + n) m → view ≡ drop (8 + n + m) bs → {x y : ℕ} → x ≡ PUT-OUTPUT → y ≡ SCRATCH
-    → puts bits bs (fieldsOf bs) ≡ putEnding bits sheet plan view a (putAnswer sheet plan view a x y)
+pub put-whole : (bits : Bool) (bs : List ℕ) {t : Taken} → t ≡ fieldsOf bs → {f : Fields} → t ≡ Whole f → {sheet plan view : List ℕ}
+    → sheet ≡ sheetOf bs f → plan ≡ planOf bs f → view ≡ viewOf bs f → {x y : ℕ} → x ≡ PUT-OUTPUT → y ≡ SCRATCH
+    → puts bits bs (fieldsOf bs) ≡ putEnding bits sheet plan view (f .allowance) (putAnswer sheet plan view (f .allowance) x y)
 unfolding puts
 put-whole bits bs e q es ep ev ex ey = rw (sym e ∙ q, es, ep, ev, ex, ey)
 
@@ -110,12 +64,12 @@ pub besides-bits : {bits : Bool} → bits ≡ true → (s : Starts) (b : ℕ) �
 unfolding besides
 besides-bits e s b = rw e
 
-pub besides-starts : {bits : Bool} → bits ≡ false → (s : Starts) (b : ℕ) → map decimalOf (numbers s) ≡ besides bits s b
+pub besides-starts : {bits : Bool} → bits ≡ false → (s : Starts) (b : ℕ) → s .count ≤ 16 → map decimalOf (kept s) ≡ besides bits s b
 unfolding besides
-besides-starts e s b = rw e
+besides-starts e s b h = rw e (ap (map decimalOf) (kept-all s h))
 
 -- a reply, case by case
-pub line-refused : (ws : List (List ℕ)) (o : List ℕ) {q : Reply} {c : ℕ} → q ≡ Reply·Refused c → refusalLine c ≡ replyLine q ws o
+pub line-refused : (ws : List (List ℕ)) (o : List ℕ) {q : Reply} {c : ℕ} → q ≡ Refused c → refusalLine c ≡ replyLine q ws o
 unfolding replyLine
 line-refused ws o e = rw e
 

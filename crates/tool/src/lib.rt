@@ -2,12 +2,9 @@
 ghost use Rattle.report.specs.Writing.{Front};
 ghost use Rattle.tool.specs.Line.{toolLine, Lent};
 
-mod lookups;
 mod puts;
 mod whys;
 
-use crate::lookups::load_line;
-use crate::lookups::value_line;
 use crate::puts::put_line;
 use crate::whys::why_line;
 
@@ -24,13 +21,13 @@ pub fn line(
     ensures { λ r. ⌜ Front (toolLine (now (input .entry))) (now (text .entry)) (now (text .exit)) r ⌝ }
     ensures { λ _. ⌜ Lent (now (input .entry)) (now (out .entry)) (now (out .exit)) (now (scratch .entry)) (now (scratch .exit)) ⌝ }
 {
-    if job::INPUT < input.len() {
+    if words::INPUT < input.len() {
         return report::refusal(text, 0, 61);
     }
-    let letter = job::byte_at(input, 0);
+    let letter = words::byte_at(input, 0);
     match letter {
-        0x4C => load_line(input, text),
-        0x56 => value_line(input, text),
+        0x4C => letters::load_line(input, text),
+        0x56 => letters::value_line(input, text),
         0x53 => put_line(input, false, out, scratch, text),
         0x57 => put_line(input, true, out, scratch, text),
         0x59 => why_line(input, scratch, text),

@@ -1,23 +1,13 @@
 //! A put, with the starts of its new plan's values (letter S), or with which variables took a view (letter W).
-ghost use mathlib.Core.List.{[], _∷_};
 ghost use Prim.Native.Nat.{_≤_};
-ghost use Rattle.job.specs.Format.{fieldsOf};
-ghost use Rattle.job.specs.Line.{Within};
+ghost use Rattle.calls.specs.CallLaws.{Within};
+ghost use Rattle.words.specs.Format.{fieldsOf};
 ghost use Rattle.report.specs.Text.{words};
 ghost use Rattle.report.specs.Writing.{Wrote};
-ghost use Rattle.tool.specs.Line.{bitsWord, besides, puts, replyLine, Ended};
-use crate::lookups::start_words;
-use job::Fields;
-use lens::Reply;
+ghost use Rattle.tool.specs.Line.{besides, puts, replyLine, Ended};
+use calls::Reply;
 use starts::Starts;
-
-// 16 bits as four hexadecimal digits, behind a space.
-fn bits_word(text: &mut [u8], at: usize, written: u16) -> usize
-    ensures { λ r. ⌜ Wrote (words (bitsWord written ∷ [])) at (now (text .entry)) (now (text .exit)) r ⌝ }
-{
-    let bytes = [(written / 256) as u8, (written % 256) as u8];
-    report::hex_word(text, at, &bytes)
-}
+use words::Taken;
 
 // What stands behind a new plan: which variables took a view, or where its values start.
 fn besides_words(text: &mut [u8], at: usize, bits: bool, starts: Starts, written: u16) -> usize
@@ -25,9 +15,9 @@ fn besides_words(text: &mut [u8], at: usize, bits: bool, starts: Starts, written
     ensures { λ r. ⌜ Wrote (words (besides bits starts written)) at (now (text .entry)) (now (text .exit)) r ⌝ }
 {
     if bits {
-        return bits_word(text, at, written);
+        return words::bits_word(text, at, written);
     }
-    start_words(text, at, starts)
+    words::start_words(text, at, starts)
 }
 
 // The line of a put's reply, whose bytes are at the front of `out`, with what stands behind its new plan.
@@ -64,19 +54,14 @@ pub fn put_line(
 ) -> usize
     ensures { λ r. ⌜ Ended (puts bits (now (input .entry)) (fieldsOf (now (input .entry)))) r (now (text .entry)) (now (text .exit)) (now (out .entry)) (now (out .exit)) (now (scratch .entry)) (now (scratch .exit)) ⌝ }
 {
-    let Fields::Whole {
-        allowance,
-        sheet,
-        plan,
-    } = job::fields_of(input)
-    else {
+    let Taken::Whole(f) = words::take_fields(input) else {
         return report::refusal(text, 0, 60);
     };
-    let put = lens::put(
-        job::sheet_of(input, sheet),
-        job::plan_of(input, sheet, plan),
-        job::view_of(input, sheet, plan),
-        allowance,
+    let put = calls::put(
+        words::sheet_of(input, f),
+        words::plan_of(input, f),
+        words::view_of(input, f),
+        f.allowance,
         out,
         scratch,
     );

@@ -12,13 +12,13 @@ use Rattle.value.specs.Parts.{sameBytes}
 use Rattle.value.specs.PartsLaws.{same-refl}
 use Rattle.rules.specs.Numbers.{ALLOWANCE, FACTOR, SCRATCH, GET-OUTPUT, PUT-OUTPUT}
 use Rattle.rules.specs.Answer.{Answer, refusal, success, getAnswer, putAnswer}
-use Rattle.lens.specs.declared.Reply.{Reply}
-use Rattle.lens.specs.declared.Reply.the-variants.{Done, Refused}
+use Rattle.calls.specs.declared.Reply.{Reply}
+use Rattle.calls.specs.declared.Reply.the-variants.{Done, Refused}
 use Rattle.trips.specs.declared.Trip.{Trip}
 use Rattle.trips.specs.declared.Trip.the-variants.{Kept, Stopped, Broken}
-use Rattle.lens.specs.Buffers.{zeros, zeroed}
-use Rattle.lens.specs.Calls.{reply, written, cleared, afterRefusal, Answered}
-use Rattle.lens.specs.Trips.{success-of}
+use Rattle.calls.specs.Buffers.{zeros, zeroed}
+use Rattle.calls.specs.Calls.{reply, written, cleared, afterRefusal, Answered}
+use Rattle.calls.specs.Trips.{success-of}
 
 -- WHAT BOTH ANSWER
 

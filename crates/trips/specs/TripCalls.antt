@@ -9,14 +9,14 @@ use Rattle.rules.specs.Numbers.{ALLOWANCE, FACTOR, GET-OUTPUT, PUT-OUTPUT}
 use Rattle.rules.specs.Answer.{success, getAnswer, putAnswer}
 use Rattle.rules.specs.AnswerLaws.{get-shows, put-shows, get-steps, put-steps}
 use Rattle.rules.specs.Trips.{consistency, acceptability}
-use Rattle.lens.specs.declared.Reply.{Reply}
-use Rattle.lens.specs.declared.Reply.the-variants.{Done, Refused}
+use Rattle.calls.specs.declared.Reply.{Reply}
+use Rattle.calls.specs.declared.Reply.the-variants.{Done, Refused}
 use Rattle.trips.specs.declared.Trip.{Trip}
 use Rattle.trips.specs.declared.Trip.the-variants.{Stopped}
-use Rattle.lens.specs.Calls.{Answered}
-use Rattle.lens.specs.Door.{shut, door-lent}
-use Rattle.lens.specs.Trips.{success-of}
-use Rattle.lens.specs.WalkCalls.{get-behind, put-behind, call-shut}
+use Rattle.calls.specs.Calls.{Answered}
+use Rattle.calls.specs.Door.{shut, door-lent}
+use Rattle.calls.specs.Trips.{success-of}
+use Rattle.calls.specs.WalkCalls.{get-behind, put-behind, call-shut}
 use Rattle.trips.specs.RoundTrips.{Tripped, ListStands, PlanStays, backAndOut, outAndBack, verdict, refusal-of, first-refused, second-shut, second-judged}
 
 -- a front that is lent

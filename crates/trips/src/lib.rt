@@ -3,7 +3,7 @@ ghost use mathlib.Core.Path.{_≡_};
 ghost use lib.ListN.{length};
 ghost use Rattle.rules.specs.Answer.{getAnswer, putAnswer};
 ghost use Rattle.trips.specs.RoundTrips.{Tripped, ListStands, PlanStays, backAndOut, outAndBack, verdict, Inside};
-use lens::Reply;
+use calls::Reply;
 
 /// What two calls one after the other answer: the steps of both, or a refusal of one of them. The third case is there to be
 /// ruled out: a list that was taken back and does not stand, or an unedited list that moved something.
@@ -50,12 +50,12 @@ pub fn put_then_get(
     ensures { λ r. ⌜ Tripped (putAnswer (now (sheet .entry)) (now (plan .entry)) (now (view .entry)) allowance (length (now (new .entry))) (length (now (scratch .entry)))) (backAndOut (now (sheet .entry)) allowance (length (now (out .entry))) (length (now (scratch .entry)))) r (now (new .entry)) (now (new .exit)) (now (out .entry)) (now (out .exit)) (now (scratch .entry)) (now (scratch .exit)) ⌝ }
     ensures { λ r. ⌜ ListStands (now (sheet .entry)) (now (plan .entry)) (now (view .entry)) allowance (length (now (new .entry))) (length (now (out .entry))) (length (now (scratch .entry))) r (now (out .exit)) ⌝ }
 {
-    let answer = lens::put(sheet, plan, view, allowance, new, scratch);
+    let answer = calls::put(sheet, plan, view, allowance, new, scratch);
     let reply = answer.reply;
     match reply {
         Reply::Refused(c) => Trip::Stopped(c),
         Reply::Done { len, steps } => {
-            let refusal = lens::door(
+            let refusal = calls::door(
                 rules::GET_OUTPUT,
                 out.len(),
                 scratch.len(),
@@ -64,7 +64,7 @@ pub fn put_then_get(
             if refusal != 0 {
                 return Trip::Stopped(refusal);
             }
-            let again = lens::get(sheet, &new[..len], allowance, out, scratch);
+            let again = calls::get(sheet, &new[..len], allowance, out, scratch);
             judged(steps, again, steps, out, view)
         }
     }
@@ -84,15 +84,15 @@ pub fn get_then_put(
     ensures { λ r. ⌜ Tripped (getAnswer (now (sheet .entry)) (now (plan .entry)) allowance (length (now (view .entry))) (length (now (scratch .entry)))) (outAndBack (now (sheet .entry)) (now (plan .entry)) (length (now (out .entry))) (length (now (scratch .entry)))) r (now (view .entry)) (now (view .exit)) (now (out .entry)) (now (out .exit)) (now (scratch .entry)) (now (scratch .exit)) ⌝ }
     ensures { λ r. ⌜ PlanStays (now (sheet .entry)) (now (plan .entry)) allowance (length (now (view .entry))) (length (now (out .entry))) (length (now (scratch .entry))) r (now (out .exit)) ⌝ }
 {
-    match lens::get(sheet, plan, allowance, view, scratch) {
+    match calls::get(sheet, plan, allowance, view, scratch) {
         Reply::Refused(c) => Trip::Stopped(c),
         Reply::Done { len, steps } => {
             let most = rules::FACTOR * steps;
-            let refusal = lens::door(rules::PUT_OUTPUT, out.len(), scratch.len(), most);
+            let refusal = calls::door(rules::PUT_OUTPUT, out.len(), scratch.len(), most);
             if refusal != 0 {
                 return Trip::Stopped(refusal);
             }
-            let answer = lens::put(sheet, plan, &view[..len], most as u32, out, scratch);
+            let answer = calls::put(sheet, plan, &view[..len], most as u32, out, scratch);
             let again = answer.reply;
             judged(steps, again, most, out, plan)
         }

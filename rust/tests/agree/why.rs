@@ -34,9 +34,9 @@ pub fn check_why(case: &Case, noise: &[u8], scratch: &mut [u8]) -> Result<u8, St
     Ok(answer.number())
 }
 
-/// The archive's answer and chain for an explanation; all 0 for a success. Behind the chain's nodes stand zeros.
+/// The archive's answer and the lent chain for an explanation; 0 and as before for a success. Behind the chain's nodes it is as before.
 fn packed(explanation: Option<&Explanation>) -> (WhyAnswer, [u8; CHAIN_MAX]) {
-    let mut nodes = [0; CHAIN_MAX];
+    let mut nodes = BEFORE;
     let Some(Explanation { refusal, chain, first }) = explanation else { return (WhyAnswer(0), nodes) };
     nodes[..chain.len()].copy_from_slice(chain);
     let by = first.map_or(0, |first| 1 + u64::from(first));

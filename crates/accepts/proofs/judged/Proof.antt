@@ -78,7 +78,8 @@ abbrev got : tie.After-listed → tie.After-get
 got c = walked (c .before)
 
 beside : (c : tie.After-listed) → let a = entry (all (got c)) .args in
-    Beside (a .sheet .now) (a .old .now) (a .view .now) (a .new .now) (a .allowance) (got c .get .last .1 .1 .1 .0) (got c .get .result .walked) (c .listed .result)
+    Beside (a .sheet .now) (a .old .now) (a .view .now) (a .new .now) (a .allowance) (got c .get .last .1 .1 .1 .0) (got c .get .result .walked)
+    (c .listed .result)
 beside c =
     let e = all (got c) in
     let v = view-fine e in
@@ -105,7 +106,8 @@ returns : tie.Need-returns
 returns c =
     let s = c .before .before in
     let a = start s .args in (
-      no-sheet (a .sheet .now) (a .old .now) (a .view .now) (a .new .now) (a .allowance) (sheet-refusal (a .sheet .now) (s .read-sheet .ensures) (c .if1 .taken)),
+      no-sheet (a .sheet .now) (a .old .now) (a .view .now) (a .new .now) (a .allowance)
+          (sheet-refusal (a .sheet .now) (s .read-sheet .ensures) (c .if1 .taken)),
       nothing-moved _,
     )
 
@@ -114,7 +116,8 @@ returns-2 c =
     let o = c .before .before in
     let q = sheet-read (o .before) in
     let a = start (of-sheet (o .before)) .args in (
-      no-old (a .sheet .now) (a .old .now) (a .view .now) (a .new .now) (a .allowance) (q .reads .sheet) (values-not q (a .old .now) (o .read-plan .ensures) (c .if2 .taken)),
+      no-old (a .sheet .now) (a .old .now) (a .view .now) (a .new .now) (a .allowance) (q .reads .sheet)
+          (values-not q (a .old .now) (o .read-plan .ensures) (c .if2 .taken)),
       nothing-moved _,
     )
 
@@ -167,6 +170,6 @@ returns-7 : tie.Need-returns-7
 returns-7 c = let l = c .before .before .before in (on-refused (beside l) (c .before .code .given .1), moved l)
 
 pub judged-spec : {M : Type 1} → statement M
-judged-spec = tie.close (tie.spec (λ c κs. search needs) returns (λ c κs. search needs) returns-2 (λ c κs. search needs) returns-3 (λ c κs. search needs) returns-4
-    (λ c κs. search needs) listed-requires (λ c. search needs) is-kept-requires (λ c κs. search needs) (λ c. search needs) (λ c. search needs)
+judged-spec = tie.close (tie.spec (λ c κs. search needs) returns (λ c κs. search needs) returns-2 (λ c κs. search needs) returns-3 (λ c κs. search needs)
+    returns-4 (λ c κs. search needs) listed-requires (λ c. search needs) is-kept-requires (λ c κs. search needs) (λ c. search needs) (λ c. search needs)
     (λ c. search needs) returns-5 (λ c. search needs) returns-6 (λ c. search needs) returns-7)

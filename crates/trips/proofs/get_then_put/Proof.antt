@@ -1,6 +1,6 @@
 -- `get_then_put` meets its contract: an unedited list gives back the old plan. Assumes nothing.
 use native.Mathlib.Omega.{arith}
-use Rattle.lens.specs.CallLaws.{done-inside}
+use Rattle.calls.specs.CallLaws.{done-inside}
 use Rattle.trips.specs.TripCalls.{front-long, get-few, get-stopped, put-shut, put-judged}
 use borrow.Author.Needs.{needs}
 use Rattle.trips.proofs.get_then_put.Statement.{statement}

@@ -1,5 +1,5 @@
 -- `put_then_get` meets its contract: a list put back is the list read out. Assumes nothing.
-use Rattle.lens.specs.CallLaws.{done-inside}
+use Rattle.calls.specs.CallLaws.{done-inside}
 use Rattle.trips.specs.TripCalls.{front-long, put-stopped, get-shut, get-judged}
 use borrow.Author.Needs.{needs}
 use Rattle.trips.proofs.put_then_get.Statement.{statement}

@@ -1,9 +1,9 @@
 -- `put_line` meets its contract: what is no put, and a put with the line of its reply. Assumes nothing.
 use borrow.Author.Needs.{needs}
 use native.Mathlib.Omega.{arith}
-use Rattle.job.specs.LineLaws.{reply-within}
+use Rattle.calls.specs.CallLaws.{reply-within}
 use Rattle.tool.specs.Told.{said, ended-as, put-cut, put-whole, ended-put}
-use Rattle.lens.specs.StartsLaws.{put-few}
+use Rattle.calls.specs.StartsLaws.{put-few}
 use Rattle.tool.proofs.puts.put_line.Statement.{statement}
 use Rattle.tool.proofs.puts.put_line.Tie as tie
 
@@ -11,7 +11,7 @@ returns : tie.Need-returns
 returns c =
     let refused = c .before .before in
     let told = refused .before .before in
-    ended-as (put-cut _ _ (told .before .before .fields-of .ensures) (told .enum-told .given .1)) (said (refused .refusal .ensures))
+    ended-as (put-cut _ _ (told .before .before .take-fields .ensures) (told .enum-told .given .1)) (said (refused .refusal .ensures))
 
 reply-line-requires : tie.Need-reply-line-requires
 reply-line-requires c κs = let w = c .before .before .before .before .put .ensures .0 in (reply-within (w .call), put-few w)
@@ -25,7 +25,7 @@ returns-2 c =
     let sheet = plan .before in
     let told = sheet .before .before in
     ended-as
-    (put-whole _ _ (told .before .before .fields-of .ensures) (told .allowance .given .1) (sheet .sheet-of .ensures) (plan .plan-of .ensures)
+    (put-whole _ _ (told .before .before .take-fields .ensures) (told .f .given .1) (sheet .sheet-of .ensures) (plan .plan-of .ensures)
     (view .view-of .ensures) (omega (arith, called .before .before .put-arg .given)) (omega (arith, called .before .put-arg2 .given)))
     (ended-put _ (called .put .ensures .0) (line .reply-line .ensures))
 

@@ -7,7 +7,7 @@ use lib.Seq.{length-take-le}
 use Rattle.report.specs.Text.{decimalOf, hexOf}
 use Rattle.report.specs.TextLaws.{wrote-words, wrote-ok}
 use Rattle.report.specs.Writing.{wrote-text}
-use Rattle.job.specs.LineLaws.{within-done}
+use Rattle.calls.specs.CallLaws.{within-done}
 use Rattle.tool.specs.Line.{besides}
 use Rattle.tool.specs.Told.{line-refused, line-done}
 use Rattle.tool.proofs.puts.reply_line.Statement.{statement}

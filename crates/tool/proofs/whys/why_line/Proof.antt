@@ -2,15 +2,9 @@
 use mathlib.Core.Path.{refl}
 use borrow.Author.Needs.{needs}
 use native.Mathlib.Omega.{arith}
-use Rattle.tool.specs.WhyLaws.{whole-get, whole-put, explained-none, explained-get, explained-put}
+use Rattle.tool.specs.WhyLaws.{explained-none, explained-get, explained-put}
 use Rattle.tool.proofs.whys.why_line.Statement.{statement}
 use Rattle.tool.proofs.whys.why_line.Tie as tie
-
-told-line-requires : tie.Need-told-line-requires
-told-line-requires c κs = whole-get _ _ _ _ (c .before .why-get .ensures)
-
-told-line-requires-2 : tie.Need-told-line-requires-2
-told-line-requires-2 c κs = whole-put _ _ _ _ _ (c .before .why-put .ensures)
 
 returns : tie.Need-returns
 returns c =
@@ -21,7 +15,7 @@ returns c =
     let told = sheet .before .before in
     let read = told .before .before in
     explained-get (read .before .rest-from .ensures) (read .parse .ensures) (line .told-line .ensures) (sheet .sheet-of .ensures) (plan .plan-of .ensures)
-    (omega (arith, called .before .why-get-arg .given)) (told .allowance .given .1) (called .why-get .ensures)
+    (omega (arith, called .before .why-get-arg .given)) (told .f .given .1) (called .why-get .ensures)
 
 returns-2 : tie.Need-returns-2
 returns-2 c =
@@ -33,7 +27,7 @@ returns-2 c =
     let told = sheet .before .before in
     let read = told .before .before in
     explained-put (read .before .rest-from .ensures) (read .parse .ensures) (line .told-line2 .ensures) (sheet .sheet-of2 .ensures) (plan .plan-of2 .ensures)
-    (omega (arith, called .before .why-put-arg .given)) (told .allowance2 .given .1) (view .view-of .ensures) (called .why-put .ensures)
+    (omega (arith, called .before .why-put-arg .given)) (told .f2 .given .1) (view .view-of .ensures) (called .why-put .ensures)
 
 returns-3 : tie.Need-returns-3
 returns-3 c =
@@ -44,6 +38,6 @@ returns-3 c =
 
 pub why-line-spec : {M : Type 1} → statement M
 why-line-spec = tie.close (tie.spec (λ c κs. search needs) (λ c κs. search needs) (λ c. search needs) (λ c κs. search needs) (λ c κs. search needs)
-    (λ c κs. search needs) told-line-requires (λ c. search needs) (λ c κs. search needs) (λ c κs. search needs) (λ c κs. search needs)
-    (λ c κs. search needs) told-line-requires-2 (λ c. search needs) (λ c κs. search needs) (λ c. search needs) returns (λ c. search needs) returns-2
+    (λ c κs. search needs) (λ c κs. search needs) (λ c. search needs) (λ c κs. search needs) (λ c κs. search needs) (λ c κs. search needs)
+    (λ c κs. search needs) (λ c κs. search needs) (λ c. search needs) (λ c κs. search needs) (λ c. search needs) returns (λ c. search needs) returns-2
     (λ c. search needs) returns-3)

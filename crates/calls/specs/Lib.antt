@@ -1,0 +1,13 @@
+pub mod Buffers
+pub mod Calls
+pub mod Door
+pub mod CallLaws
+pub mod Trips
+pub mod Small
+pub mod Told
+pub mod WalkCalls
+pub mod StartsLaws
+pub mod WrittenLaws
+pub mod Whys
+pub mod WhyCalls
+pub mod WhyLaws

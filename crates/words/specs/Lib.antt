@@ -1,0 +1,4 @@
+pub mod Format
+pub mod Starts
+pub mod Answers
+pub mod AnswersLaws
