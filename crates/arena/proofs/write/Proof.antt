@@ -49,7 +49,8 @@ returns-2 : tie.Need-returns-2
 returns-2 c =
     let s = c .before .before in
     let a = start s .args in
-    not-taken (a .arena .now) (a .slots .now) (a .c) (a .node) (a .view .now) (λ p. omega (arith, p .1, c .before .if2 .taken, slot-is s)) (c .refused2 .ensures)
+    not-taken (a .arena .now) (a .slots .now) (a .c) (a .node) (a .view .now) (λ p. omega (arith, p .1, c .before .if2 .taken, slot-is s))
+    (c .refused2 .ensures)
 
 returns-3 : tie.Need-returns-3
 returns-3 c =

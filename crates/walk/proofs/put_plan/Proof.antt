@@ -97,5 +97,5 @@ returns-2 c =
 
 pub put-plan-spec : {M : Type 1} → statement M
 put-plan-spec = tie.close (tie.spec copy-in-requires (λ c. search needs) first-cells-requires put-node-requires (λ c κs. search needs)
-    met-at-requires (λ c κs. search needs) (λ c κs. search needs) (λ c. returns c .0 .long) returns gather-requires (λ c κs. search needs) (λ c κs. search needs)
-    (λ c κs. search needs) (λ c. returns-2 c .0 .long) returns-2)
+    met-at-requires (λ c κs. search needs) (λ c κs. search needs) (λ c. returns c .0 .long) returns gather-requires (λ c κs. search needs)
+    (λ c κs. search needs) (λ c κs. search needs) (λ c. returns-2 c .0 .long) returns-2)

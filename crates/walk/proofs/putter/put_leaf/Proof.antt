@@ -47,8 +47,10 @@ returns-4 : tie.Need-returns-4
 returns-4 c =
     let i = c .before .before .before .before .before .before in
     let v = variable i in
-    var-told (start v .pre .0) (is-variable v) (omega (arith, v .number-of .ensures, i .if3 .left))
-    (write-as (ap (λ (i : ℕ). getD (start v .args .cells .now) i 0) (v .number-of .ensures)) (write-by (writable i) (let w = start v .pre .0 in node-few (w .sheet) (w .known .0)) (c .before .before .write .ensures)))
+    let w = start v .pre .0 in
+    let g = write-by (writable i) (node-few (w .sheet) (w .known .0)) (c .before .before .write .ensures) in
+    var-told w (is-variable v) (omega (arith, v .number-of .ensures, i .if3 .left))
+    (write-as (ap (λ (i : ℕ). getD (start v .args .cells .now) i 0) (v .number-of .ensures)) g)
 
 pub put-leaf-spec : {M : Type 1} → statement M
 put-leaf-spec = tie.close (tie.spec

@@ -1,13 +1,15 @@
 -- `get_node` meets its contract.
 -- Assumes nothing.
 use borrow.Author.Needs.{needs}
+use mathlib.Core.List.{List}
 use mathlib.Core.Path.{_≡_, refl, _∙_}
 use Prim.Native.Nat.{ℕ, _+_, _-_, _≤_, _<_}
 use lib.ListN.{length, getD}
 use Rattle.rules.specs.Numbers.{SCRATCH, CHAIN}
 use native.Mathlib.Omega.{arith}
 use Rattle.step.specs.StepLaws.{entered as both-left}
-use Rattle.walk.specs.Said.{left-as, left-by}
+use Rattle.arena.specs.Chain.{leftAs, chained}
+use Rattle.walk.specs.Said.{Left, left-as, left-by}
 use Rattle.walk.specs.Gets.{own, Gives, levels-as}
 use Rattle.walk.specs.GetReady.{sized}
 use Rattle.walk.specs.GetLeaf.{wide-told}
@@ -114,6 +116,10 @@ module _ (t : ℕ) where
   outside : (c : At lts.Start) → (c .args .node < 200) × (c .args .at .levels ≤ CHAIN)
   outside c = let w = c .pre .1 in (node-few (w .sheet) (w .known), omega (arith, w .room))
 
+  out : (c : At lts.After-byte-of) {b a : List ℕ} {g r : ℕ} → let s = start (allowed c) .args in
+      (r ≡ leftAs g) × (a ≡ chained b g (s .node) (s .at .levels)) → Left (s .node) (s .at .levels) g b a r
+  out c = let o = outside (start (allowed c)) in left-by (o .0) (o .1)
+
   -- NEEDS
   returns : At lts.Need-returns
   returns c =
@@ -141,7 +147,7 @@ module _ (t : ℕ) where
   returns-2 c =
       let p = c .before .before .before .before .before .before in
       let b = leaf-read p in
-      body-told (entered b) (told-as (b .before .below .ensures) (p .get-leaf .ensures)) (left-by (outside (start (allowed b)) .0) (outside (start (allowed b)) .1) (c .before .before .leave2 .ensures))
+      body-told (entered b) (told-as (b .before .below .ensures) (p .get-leaf .ensures)) (out b (c .before .before .leave2 .ensures))
 
   get-two-requires : At lts.Need-get-two-requires
   get-two-requires c κs =
@@ -154,7 +160,7 @@ module _ (t : ℕ) where
   returns-3 c =
       let p = c .before .before .before .before .before .before in
       let b = two-read p in
-      body-told (entered b) (told-as (b .before .below .ensures) (p .get-two .ensures)) (left-by (outside (start (allowed b)) .0) (outside (start (allowed b)) .1) (c .before .before .leave3 .ensures))
+      body-told (entered b) (told-as (b .before .below .ensures) (p .get-two .ensures)) (out b (c .before .before .leave3 .ensures))
 
   get-case-requires : At lts.Need-get-case-requires
   get-case-requires c κs =
@@ -166,7 +172,7 @@ module _ (t : ℕ) where
   returns-4 c =
       let p = c .before .before .before .before .before .before in
       let b = case-read p in
-      body-told (entered b) (told-as (b .before .below .ensures) (p .get-case .ensures)) (left-by (outside (start (allowed b)) .0) (outside (start (allowed b)) .1) (c .before .before .leave4 .ensures))
+      body-told (entered b) (told-as (b .before .below .ensures) (p .get-case .ensures)) (out b (c .before .before .leave4 .ensures))
 
   get-call-requires : At lts.Need-get-call-requires
   get-call-requires c κs =
@@ -177,7 +183,7 @@ module _ (t : ℕ) where
   returns-5 c =
       let p = c .before .before .before .before .before .before in
       let b = call-read p in
-      body-told (entered b) (told-as (b .before .below .ensures) (p .get-call .ensures)) (left-by (outside (start (allowed b)) .0) (outside (start (allowed b)) .1) (c .before .before .leave5 .ensures))
+      body-told (entered b) (told-as (b .before .below .ensures) (p .get-call .ensures)) (out b (c .before .before .leave5 .ensures))
 
   get-add-requires : At lts.Need-get-add-requires
   get-add-requires c κs =
@@ -190,7 +196,7 @@ module _ (t : ℕ) where
   returns-6 c =
       let p = c .before .before .before .before .before .before in
       let b = add-read p in
-      body-told (entered b) (told-as (b .before .below .ensures) (p .get-add .ensures)) (left-by (outside (start (allowed b)) .0) (outside (start (allowed b)) .1) (c .before .before .leave6 .ensures))
+      body-told (entered b) (told-as (b .before .below .ensures) (p .get-add .ensures)) (out b (c .before .before .leave6 .ensures))
 
   get-each-requires : At lts.Need-get-each-requires
   get-each-requires c κs =
@@ -201,7 +207,7 @@ module _ (t : ℕ) where
   returns-7 c =
       let p = c .before .before .before .before .before .before in
       let b = each-read p in
-      body-told (entered b) (told-as (b .before .below .ensures) (p .get-each .ensures)) (left-by (outside (start (allowed b)) .0) (outside (start (allowed b)) .1) (c .before .before .leave7 .ensures))
+      body-told (entered b) (told-as (b .before .below .ensures) (p .get-each .ensures)) (out b (c .before .before .leave7 .ensures))
 
   get-wide-requires : At lts.Need-get-wide-requires
   get-wide-requires c κs =
@@ -224,7 +230,7 @@ module _ (t : ℕ) where
   returns-8 c =
       let p = c .before .before .before .before .before .before in
       let b = wide-read p in
-      body-told (entered b) (wide p) (left-by (outside (start (allowed b)) .0) (outside (start (allowed b)) .1) (c .before .before .leave8 .ensures))
+      body-told (entered b) (wide p) (out b (c .before .before .leave8 .ensures))
 
 pub get-node-met : {M : Type 1} (t : ℕ) → lts.Closed (claims t) (AtMeasure node t) get-node.Post M
 get-node-met t = lts.spec (claims t) (AtMeasure node t) get-node.Post

@@ -1,13 +1,15 @@
 -- `put_node` meets its contract.
 -- Assumes nothing.
 use borrow.Author.Needs.{needs}
+use mathlib.Core.List.{List}
 use mathlib.Core.Path.{_≡_, refl, _∙_}
 use Prim.Native.Nat.{ℕ, _+_, _-_, _≤_, _<_}
 use lib.ListN.{length}
 use Rattle.rules.specs.Numbers.{SCRATCH, CHAIN}
 use native.Mathlib.Omega.{arith}
 use Rattle.step.specs.StepLaws.{entered as both-left}
-use Rattle.walk.specs.Said.{left-as, left-by}
+use Rattle.arena.specs.Chain.{leftAs, chained}
+use Rattle.walk.specs.Said.{Left, left-as, left-by}
 use Rattle.walk.specs.Gets.{levels-as}
 use Rattle.walk.specs.GetTwo.{Two, two-kind}
 use Rattle.walk.specs.GetCase.{Case, case-kind}
@@ -118,6 +120,10 @@ module _ (t : ℕ) where
   outside : (c : At lts.Start) → (c .args .node < 200) × (c .args .at .levels ≤ CHAIN)
   outside c = let w = c .pre .1 in (node-few (w .sheet) (w .known), omega (arith, w .room))
 
+  out : (c : At lts.After-byte-of) {b a : List ℕ} {g r : ℕ} → let s = start (allowed c) .args in
+      (r ≡ leftAs g) × (a ≡ chained b g (s .node) (s .at .levels)) → Left (s .node) (s .at .levels) g b a r
+  out c = let o = outside (start (allowed c)) in left-by (o .0) (o .1)
+
   -- NEEDS
   returns : At lts.Need-returns
   returns c =
@@ -147,7 +153,7 @@ module _ (t : ℕ) where
   returns-2 c =
       let p = c .before .before .before .before .before .before in
       let b = leaf-read p in
-      leaf-told (entered b) (leaf-told-as (b .before .below .ensures) (p .put-leaf .ensures)) (left-by (outside (start (allowed b)) .0) (outside (start (allowed b)) .1) (c .before .before .leave2 .ensures))
+      leaf-told (entered b) (leaf-told-as (b .before .below .ensures) (p .put-leaf .ensures)) (out b (c .before .before .leave2 .ensures))
 
   put-two-requires : At lts.Need-put-two-requires
   put-two-requires c κs =
@@ -165,7 +171,7 @@ module _ (t : ℕ) where
   returns-3 c =
       let p = c .before .before .before .before .before .before in
       let b = two-read p in
-      body-told (entered b) (two-range p .0) (two-range p .1) (told-as (b .before .below .ensures) (p .put-two .ensures)) (left-by (outside (start (allowed b)) .0) (outside (start (allowed b)) .1) (c .before .before .leave3 .ensures))
+      body-told (entered b) (two-range p .0) (two-range p .1) (told-as (b .before .below .ensures) (p .put-two .ensures)) (out b (c .before .before .leave3 .ensures))
 
   put-case-requires : At lts.Need-put-case-requires
   put-case-requires c κs =
@@ -183,7 +189,7 @@ module _ (t : ℕ) where
       let p = c .before .before .before .before .before .before in
       let b = case-read p in
       body-told (entered b) (case-range p .0) (case-range p .1)
-      (told-as (b .before .below .ensures) (p .put-case .ensures)) (left-by (outside (start (allowed b)) .0) (outside (start (allowed b)) .1) (c .before .before .leave4 .ensures))
+      (told-as (b .before .below .ensures) (p .put-case .ensures)) (out b (c .before .before .leave4 .ensures))
 
   put-call-requires : At lts.Need-put-call-requires
   put-call-requires c κs =
@@ -200,7 +206,7 @@ module _ (t : ℕ) where
       let p = c .before .before .before .before .before .before in
       let b = call-read p in
       body-told (entered b) (call-range p .0) (call-range p .1)
-      (told-as (b .before .below .ensures) (p .put-call .ensures)) (left-by (outside (start (allowed b)) .0) (outside (start (allowed b)) .1) (c .before .before .leave5 .ensures))
+      (told-as (b .before .below .ensures) (p .put-call .ensures)) (out b (c .before .before .leave5 .ensures))
 
   put-add-requires : At lts.Need-put-add-requires
   put-add-requires c κs =
@@ -218,7 +224,7 @@ module _ (t : ℕ) where
   returns-6 c =
       let p = c .before .before .before .before .before .before in
       let b = add-read p in
-      body-told (entered b) (add-range p .0) (add-range p .1) (told-as (b .before .below .ensures) (p .put-add .ensures)) (left-by (outside (start (allowed b)) .0) (outside (start (allowed b)) .1) (c .before .before .leave6 .ensures))
+      body-told (entered b) (add-range p .0) (add-range p .1) (told-as (b .before .below .ensures) (p .put-add .ensures)) (out b (c .before .before .leave6 .ensures))
 
   put-each-requires : At lts.Need-put-each-requires
   put-each-requires c κs =
@@ -235,7 +241,7 @@ module _ (t : ℕ) where
       let p = c .before .before .before .before .before .before in
       let b = each-read p in
       body-told (entered b) (each-range p .0) (each-range p .1)
-      (told-as (b .before .below .ensures) (p .put-each .ensures)) (left-by (outside (start (allowed b)) .0) (outside (start (allowed b)) .1) (c .before .before .leave7 .ensures))
+      (told-as (b .before .below .ensures) (p .put-each .ensures)) (out b (c .before .before .leave7 .ensures))
 
   returns-8 : At lts.Need-returns-8
   returns-8 c =
@@ -244,7 +250,7 @@ module _ (t : ℕ) where
       let i = p .before in
       let k : b .byte-of .result ≡ 0x1D = omega (arith, its-kind (entered b) .1, i .before .if5 .left, i .if7 .left) in
       let w = wide-told (leaf-as (b .before .below .ensures) (leaf-ready (entered b))) k (p .put-wide .ensures) in
-      leaf-told (entered b) (leaf-told-as (b .before .below .ensures) w) (left-by (outside (start (allowed b)) .0) (outside (start (allowed b)) .1) (c .before .before .leave8 .ensures))
+      leaf-told (entered b) (leaf-told-as (b .before .below .ensures) w) (out b (c .before .before .leave8 .ensures))
 
 pub put-node-met : {M : Type 1} (t : ℕ) → lts.Closed (claims t) (AtMeasure node t) put-node.Post M
 put-node-met t = lts.spec (claims t) (AtMeasure node t) put-node.Post
