@@ -113,9 +113,9 @@ uint64_t lens_why_put(const uint8_t *sheet, size_t sheet_len, const uint8_t *pla
  * A variable whose bit in *written is clear has its old bytes in the new plan. Of two puts in a row, the second into the new plan of the
  * first, that holds of the variables whose bit is clear in both: a screen that shows the plan is drawn anew where a bit of either is set.
  *
- * With the starts that lens_load gives of a plan, or lens_put_starts and lens_put_written of their new plan, lens_find gives for each of LENS_COUNT variables the
- * bytes of its value as a reading from the front gives them. Starts may be kept beside a plan and lent again: other numbers than a plan's
- * own are refused, or give some part of the plan's bytes. */
+ * With the starts that lens_load gives of a plan, or lens_put_starts and lens_put_written of their new plan, lens_find gives for each of
+ * LENS_COUNT variables the bytes of its value as a reading from the front gives them. Starts may be kept beside a plan and lent again: other
+ * numbers than a plan's own are refused, or give some part of the plan's bytes. */
 
 /* Refusal numbers: what each means; docs/SHEETS.md and docs/TOOLS.md say what to do. The first that is met ends the call. */
 #define LENS_OK 0u
@@ -130,7 +130,7 @@ uint64_t lens_why_put(const uint8_t *sheet, size_t sheet_len, const uint8_t *pla
 #define LENS_SHEET_KIND 10u       /* a record of the sheet has an unknown kind or stands out of its place */
 #define LENS_SHEET_CUT 11u        /* the sheet ends within a record */
 #define LENS_SHEET_FULL 12u       /* the sheet has a 9th section or a 201st node */
-#define LENS_SHEET_RANGE 13u      /* k, a node, a section, a test or the number of a 1D is out of range */
+#define LENS_SHEET_RANGE 13u      /* k, a node, section, test or the number of a 1D is out of range */
 #define LENS_SHEET_EMPTY 14u      /* the sheet has no byte or no node */
 
 /* the plan */
@@ -151,7 +151,7 @@ uint64_t lens_why_put(const uint8_t *sheet, size_t sheet_len, const uint8_t *pla
 #define LENS_DEPTH 40u            /* the walk goes deeper than 48 nodes */
 #define LENS_SPENT 41u            /* the allowance is spent before the walk ends */
 #define LENS_SCOPE 42u            /* the sheet names a variable that is not in scope */
-#define LENS_VALUE_KIND 43u       /* a value that is taken apart, added to or used as a rest is of the wrong kind */
+#define LENS_VALUE_KIND 43u       /* a value taken apart, added to or used as a rest is of the wrong kind */
 #define LENS_VALUE_LONG 44u       /* a value made on the way has over 256 bytes */
 #define LENS_SUM 45u              /* a sum is over 65,535 */
 #define LENS_TEST 46u             /* a branch gives what its own test refuses */
