@@ -25,8 +25,8 @@ use Rattle.rules.specs.Rules.{Env}
 use Rattle.rules.specs.Answer.{getWalk, getBytes}
 use Rattle.rules.specs.AnswerLaws.{Lent, door-scratch, door-none, door-over}
 use Rattle.rules.specs.Refusals.{Lists, lDone, lRefused, listed-above, lists-get-bytes, lists-put-bytes}
-use Rattle.walk.specs.declared.Walked.{Walked}
-use Rattle.walk.specs.declared.Walked.the-variants.{Done as Walked·Done, Refused as Walked·Refused}
+use Rattle.walk.specs.declared.Reply.{Reply}
+use Rattle.walk.specs.declared.Reply.the-variants.{Done as Reply·Done, Refused as Reply·Refused}
 use Rattle.walk.specs.Entry.{Says, says-done, says-refused, Free, get-sheet-refused, get-plan-refused}
 use Rattle.walk.specs.PutEntry.{put-view-refused}
 use Rattle.calls.specs.Buffers.{zeroed}
@@ -81,28 +81,28 @@ both-read q o n = record {
 
 -- WHAT A WALK BUILT, beside the list
 
-abbrev pub Built : Walked → List ℕ → Type 0
-Built (Walked·Refused c) a = Unit {0}
-Built (Walked·Done len n) a = STACK + len ≤ length a
+abbrev pub Built : Reply → List ℕ → Type 0
+Built (Reply·Refused c) a = Unit {0}
+Built (Reply·Done len n) a = STACK + len ≤ length a
 
-unfoldable pub listedOf : Walked → (view a : List ℕ) → Verdict
-listedOf (Walked·Refused c) view a = Refused c
-listedOf (Walked·Done len n) view a = yesNo (sameBytes (take len (drop STACK a)) view)
+unfoldable pub listedOf : Reply → (view a : List ℕ) → Verdict
+listedOf (Reply·Refused c) view a = Refused c
+listedOf (Reply·Done len n) view a = yesNo (sameBytes (take len (drop STACK a)) view)
 
-module _ {w : Walked} where
-  pub built-done : {len n : ℕ} → w ≡ Walked·Done len n → (a : List ℕ) → Built w a → STACK + len ≤ length a
+module _ {w : Reply} where
+  pub built-done : {len n : ℕ} → w ≡ Reply·Done len n → (a : List ℕ) → Built w a → STACK + len ≤ length a
   built-done e a h = rw e at h
 
-  pub listed-refused : {c : ℕ} → w ≡ Walked·Refused c → (view a : List ℕ) → Refused c ≡ listedOf w view a
+  pub listed-refused : {c : ℕ} → w ≡ Reply·Refused c → (view a : List ℕ) → Refused c ≡ listedOf w view a
   unfolding listedOf
   listed-refused e view a = rw e
 
-  pub listed-done : {len n : ℕ} → w ≡ Walked·Done len n → (view a : List ℕ)
+  pub listed-done : {len n : ℕ} → w ≡ Reply·Done len n → (view a : List ℕ)
       → yesNo (sameBytes (take (STACK + len - STACK) (drop STACK a)) view) ≡ listedOf w view a
   unfolding listedOf
   listed-done {len} e view a = let z : STACK + len - STACK ≡ len = omega arith in rw (e, z)
 
-pub built : {a : List ℕ} {w : Walked} {x : Out (List ℕ)} → Says GET-OUTPUT a w x → SCRATCH ≤ length a → Built w a
+pub built : {a : List ℕ} {w : Reply} {x : Out (List ℕ)} → Says GET-OUTPUT a w x → SCRATCH ≤ length a → Built w a
 built {a} (says-done len e l h p) long = rw e (omega arith)
 built (says-refused e) long = rw e tt
 
@@ -110,7 +110,7 @@ built (says-refused e) long = rw e tt
 abbrev onList : Out Value → List ℕ → Verdict
 onList o view = verdict (andThen (result o) λ v. ok (sameBytes (encode v) view))
 
-walk-listed : (view : List ℕ) {a : List ℕ} {w : Walked} {x : Out (List ℕ)} → Says GET-OUTPUT a w x → (o : Out Value) → mapOut encode o ≡ x
+walk-listed : (view : List ℕ) {a : List ℕ} {w : Reply} {x : Out (List ℕ)} → Says GET-OUTPUT a w x → (o : Out Value) → mapOut encode o ≡ x
     → listedOf w view a ≡ onList o view
 unfolding listedOf verdict andThen result mapOut
 walk-listed view (says-done {bs = bs} len e l h p) (done v n) q =
@@ -177,7 +177,7 @@ module _ (sheet old view new : List ℕ) (allowance : ℕ) where
         no-new e = sym (rw (es, eo, ev, e))
 
 -- all is read, the new plan is read out, and `l` says whether that is the list
-pub record Beside (sheet old view new : List ℕ) (allowance : ℕ) (a : List ℕ) (w : Walked) (l : Verdict) : Type 0 where
+pub record Beside (sheet old view new : List ℕ) (allowance : ℕ) (a : List ℕ) (w : Reply) (l : Verdict) : Type 0 where
   pub sh : Sheet
   pub sheet-read : readSheet sheet ≡ ok sh
   pub μ : Env
@@ -189,7 +189,7 @@ pub record Beside (sheet old view new : List ℕ) (allowance : ℕ) (a : List �
   pub says : Says GET-OUTPUT a w (getBytes sheet new allowance)
   pub told : l ≡ listedOf w view a
 
-module _ {sheet old view new : List ℕ} {allowance : ℕ} {a : List ℕ} {w : Walked} {l : Verdict} (b : Beside sheet old view new allowance a w l) where
+module _ {sheet old view new : List ℕ} {allowance : ℕ} {a : List ℕ} {w : Reply} {l : Verdict} (b : Beside sheet old view new allowance a w l) where
   abbrev got : Out Value
   got = getWalk allowance (b .sh) (b .ν)
 

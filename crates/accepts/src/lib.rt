@@ -14,7 +14,7 @@ ghost use Rattle.accepts.specs.Kept.{Readied, NamedAs, Within, spanOf, P
 use sheet::Node;
 use sheet::Table;
 use value::Spans;
-use walk::Walked;
+use walk::Reply;
 
 /// Whether a new plan stands: it reads out to the list, and keeps what no record names; or a refusal's number.
 pub enum Verdict {
@@ -97,13 +97,13 @@ fn yes_no(yes: bool) -> Verdict
 }
 
 // Whether what a walk built is the list; or the walk's refusal.
-fn listed(walked: Walked, view: &[u8], scratch: &[u8]) -> Verdict
+fn listed(walked: Reply, view: &[u8], scratch: &[u8]) -> Verdict
     requires { ⌜ Built walked (now scratch) ⌝ }
     ensures { λ r. ⌜ r ≡ listedOf walked (now (view .entry)) (now (scratch .entry)) ⌝ }
 {
     match walked {
-        Walked::Refused(code) => Verdict::Refused(code),
-        Walked::Done { len, steps: _ } => {
+        Reply::Refused(code) => Verdict::Refused(code),
+        Reply::Done { len, steps: _ } => {
             let start = rules::STACK;
             let end = start + len;
             yes_no(value::same(&scratch[start..end], view))

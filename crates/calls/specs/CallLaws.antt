@@ -13,8 +13,7 @@ use Rattle.rules.specs.Outcome.{Out, done, refused}
 use Rattle.rules.specs.Answer.{Answer, refusal, success, answer, door}
 use Rattle.rules.specs.AnswerLaws.{Lent, door-open}
 use Rattle.rules.specs.Refusals.{Lists, lRefused, listed-above}
-use Rattle.calls.specs.declared.Reply.{Reply}
-use Rattle.calls.specs.declared.Reply.the-variants.{Done, Refused}
+use Rattle.calls.specs.Reply.{Reply, Done, Refused}
 use Rattle.calls.specs.Buffers.{zeros, zeroed}
 use Rattle.calls.specs.Door.{shut, Door, opens, shuts, door-cases}
 use Rattle.calls.specs.Calls.{reply, written, cleared, afterRefusal, Answered}

@@ -10,8 +10,7 @@ use Rattle.rules.specs.Written.{putWritten}
 use Rattle.starts.specs.declared.Starts.{Starts}
 use Rattle.starts.specs.Starts.{noStarts, loadOf}
 use Rattle.calls.specs.declared.PutReply.{PutReply}
-use Rattle.calls.specs.declared.Reply.{Reply}
-use Rattle.calls.specs.declared.Reply.the-variants.{Done, Refused}
+use Rattle.calls.specs.Reply.{Reply, Done, Refused}
 use Rattle.calls.specs.Buffers.{zeroed}
 
 -- a refusal is its number; a success is how many bytes and how many steps

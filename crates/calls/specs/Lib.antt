@@ -1,3 +1,4 @@
+pub mod Reply
 pub mod Buffers
 pub mod Calls
 pub mod Door

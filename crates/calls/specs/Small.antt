@@ -10,8 +10,7 @@ use Rattle.rules.specs.Answer.{Answer, refusal, success, getAnswer, putAnswer}
 use Rattle.rules.specs.AnswerLaws.{get-shows, put-shows, get-steps, put-steps}
 use Rattle.rules.specs.Trips.{get-short, put-short}
 use Rattle.rules.specs.Refusals.{Stated, stated-small, get-refusals, put-refusals}
-use Rattle.calls.specs.declared.Reply.{Reply}
-use Rattle.calls.specs.declared.Reply.the-variants.{Done, Refused}
+use Rattle.calls.specs.Reply.{Reply, Done, Refused}
 use Rattle.calls.specs.Calls.{reply, Answered}
 
 -- a refusal's number is a byte and not 0; a length is at most 4,096, and the steps are at most 1,000,000

@@ -9,8 +9,7 @@ use Rattle.rules.specs.Numbers.{ALLOWANCE, FACTOR, SCRATCH, GET-OUTPUT, PUT-OUT
 use Rattle.rules.specs.Answer.{Answer, refusal, success, getAnswer, putAnswer}
 use Rattle.rules.specs.Trips.{consistency, acceptability}
 use Rattle.calls.specs.declared.PutReply.{PutReply}
-use Rattle.calls.specs.declared.Reply.{Reply}
-use Rattle.calls.specs.declared.Reply.the-variants.{Done}
+use Rattle.calls.specs.Reply.{Reply, Done}
 use Rattle.calls.specs.Calls.{reply, written, Answered, newStarts, newWritten, PutAnswered}
 
 -- a list that was taken back stands: the get of the new plan, the bytes at the front of the output, under the same sheet and allowance

@@ -11,17 +11,14 @@ use Rattle.rules.specs.Answer.{Answer, refusal, success, answer, door, getBytes
 use Rattle.rules.specs.AnswerLaws.{Lent, door-open}
 use Rattle.rules.specs.Refusals.{Lists, lists-get-bytes, lists-put-bytes}
 use Rattle.starts.specs.Starts.{noStarts, loadOf}
-use Rattle.walk.specs.declared.Walked.{Walked}
-use Rattle.walk.specs.declared.Walked.the-variants.{Done as Walked·Done, Refused as Walked·Refused}
 use Rattle.walk.specs.Entry.{Says, says-done, says-refused, WalkCall}
-use Rattle.calls.specs.declared.Reply.{Reply}
-use Rattle.calls.specs.declared.Reply.the-variants.{Done, Refused}
+use Rattle.calls.specs.Reply.{Reply, Done, Refused}
 use Rattle.calls.specs.Buffers.{zeroed}
 use Rattle.calls.specs.Door.{shut}
 use Rattle.walk.specs.NewStarts.{newStarts as Walk·newStarts}
 use Rattle.walk.specs.Bits.{newWritten as Walk·newWritten}
 use Rattle.calls.specs.Calls.{reply, Answered, newStarts, newWritten}
-use Rattle.calls.specs.Told.{Fits, replyOf, outputOf}
+use Rattle.calls.specs.Told.{Fits, outputOf}
 use Rattle.calls.specs.CallLaws.{zeros-same, shut-call, refused-behind, done-behind, at-front}
 
 -- what a walk that is done says
@@ -32,14 +29,14 @@ pub record SaysDone (most : ℕ) (a : List ℕ) (len n : ℕ) (o : Out (List ℕ
   pub short : len ≤ most
   pub stands : take len (drop STACK a) ≡ bytes
 
-pub said-done : {most : ℕ} {a : List ℕ} {r : Walked} {o : Out (List ℕ)} {len n : ℕ} → Says most a r o → r ≡ Walked·Done len n → SaysDone most a len n o
+pub said-done : {most : ℕ} {a : List ℕ} {r : Reply} {o : Out (List ℕ)} {len n : ℕ} → Says most a r o → r ≡ Done len n → SaysDone most a len n o
 said-done {a = a} {len = len} {n = n} (says-done {bs = bs} {n = m} k e l h p) d =
     let q : k ≡ len = cc in
     let z : m ≡ n = cc in
     record { bytes = bs; is = ap (done bs) z; long = sym q ∙ l; short = rw q at h; stands = ap (λ (i : ℕ). take i (drop STACK a)) (sym q) ∙ p }
 said-done (says-refused e) d = let z : _≡_ {A = ℕ} 0 1 = cc in absurd (omega arith)
 
-pub said-refused : {most : ℕ} {a : List ℕ} {r : Walked} {o : Out (List ℕ)} {c : ℕ} → Says most a r o → r ≡ Walked·Refused c → (n : ℕ) × (o ≡ refused c n)
+pub said-refused : {most : ℕ} {a : List ℕ} {r : Reply} {o : Out (List ℕ)} {c : ℕ} → Says most a r o → r ≡ Refused c → (n : ℕ) × (o ≡ refused c n)
 said-refused (says-done k e l h p) d = let z : _≡_ {A = ℕ} 0 1 = cc in absurd (omega arith)
 said-refused {c = c} (says-refused {c = k} {n = n} e) d = let q : k ≡ c = cc in (n, ap (λ x. refused x n) q)
 
@@ -76,14 +73,14 @@ module _ {need : ℕ} {w : Out (List ℕ)} {allowance : ℕ} {o s : List ℕ} {x
   pub call-shut : {c : ℕ} → c ≡ shut need (length o) (length s) allowance → (c ≡ 0 → ⊥) → Answered x (Refused c) o o s s
   call-shut e n = rw (b .is) (shut-call need o s allowance w e n)
 
-  module _ (l : Lent need (length o) (length s) allowance) {U : Type 0} {a : List ℕ} {r : Walked} (g : WalkCall U need w allowance s a r) where
+  module _ (l : Lent need (length o) (length s) allowance) {U : Type 0} {a : List ℕ} {r : Reply} (g : WalkCall U need w allowance s a r) where
     says : Says need a r w
     says = g .says (l .scratch-long) (l .few-steps)
 
-    call-refused : {c : ℕ} {s′ : List ℕ} → r ≡ Walked·Refused c → s′ ≡ zeroed a → Answered x (Refused c) o o s s′
+    call-refused : {c : ℕ} {s′ : List ℕ} → r ≡ Refused c → s′ ≡ zeroed a → Answered x (Refused c) o o s s′
     call-refused e z = rw (b .is) (refused-behind need o s allowance w l (b .listed) (said-refused says e .1) (z ∙ zeros-same SCRATCH s a (g .free .behind)))
 
-    call-done : {len n : ℕ} {o′ s′ : List ℕ} → r ≡ Walked·Done len n → o′ ≡ paste o 0 (drop STACK a) len → s′ ≡ zeroed a
+    call-done : {len n : ℕ} {o′ s′ : List ℕ} → r ≡ Done len n → o′ ≡ paste o 0 (drop STACK a) len → s′ ≡ zeroed a
         → Answered x (Done len n) o o′ s s′
     call-done {len} e p z =
         let d = said-done says e in
@@ -94,28 +91,28 @@ module _ {need : ℕ} {w : Out (List ℕ)} {allowance : ℕ} {o s : List ℕ} {x
     pub call-fits : (SCRATCH ≤ length a) × Fits r o a
     call-fits = (omega (arith, g .free .long, l .scratch-long), go r refl)
       where
-        go : (t : Walked) → r ≡ t → Fits t o a
-        go (Walked·Refused c) e = tt
-        go (Walked·Done len n) e =
+        go : (t : Reply) → r ≡ t → Fits t o a
+        go (Refused c) e = tt
+        go (Done len n) e =
             let d = said-done says e in
             (omega (arith, d .short, b .small, g .free .long, l .scratch-long), omega (arith, d .short, l .output-long))
 
-    pub call-told : {q : Reply} {o′ s′ : List ℕ} → q ≡ replyOf r → o′ ≡ outputOf r o a → s′ ≡ zeroed a → Answered x q o o′ s s′
-    unfolding replyOf outputOf
+    pub call-told : {q : Reply} {o′ s′ : List ℕ} → q ≡ r → o′ ≡ outputOf r o a → s′ ≡ zeroed a → Answered x q o o′ s s′
+    unfolding outputOf
     call-told {q} {o′} {s′} e p z = go r refl
       where
-        go : (t : Walked) → r ≡ t → Answered x q o o′ s s′
-        go (Walked·Refused c) h = rw (e ∙ ap replyOf h, p ∙ ap (λ (t : Walked). outputOf t o a) h) (call-refused h z)
-        go (Walked·Done len n) h = rw (e ∙ ap replyOf h) (call-done h (p ∙ ap (λ (t : Walked). outputOf t o a) h) z)
+        go : (t : Reply) → r ≡ t → Answered x q o o′ s s′
+        go (Refused c) h = rw (e ∙ h, p ∙ ap (λ (t : Reply). outputOf t o a) h) (call-refused h z)
+        go (Done len n) h = rw (e ∙ h) (call-done h (p ∙ ap (λ (t : Reply). outputOf t o a) h) z)
 
     -- the starts that a walk gives beside its answer are those of the call
     pub call-starts : (sheet : List ℕ) → Walk·newStarts sheet a r ≡ newStarts sheet x
     unfolding answer newStarts Walk·newStarts
     call-starts sheet = go r refl
       where
-        go : (t : Walked) → r ≡ t → Walk·newStarts sheet a r ≡ newStarts sheet x
-        go (Walked·Refused c) h = rw (h, b .is, door-open {o = w} l, said-refused says h .1)
-        go (Walked·Done len n) h =
+        go : (t : Reply) → r ≡ t → Walk·newStarts sheet a r ≡ newStarts sheet x
+        go (Refused c) h = rw (h, b .is, door-open {o = w} l, said-refused says h .1)
+        go (Done len n) h =
             let d = said-done says h in
             rw (h, b .is, door-open {o = w} l, d .is) (ap (λ (new : List ℕ). loadOf sheet new .starts) (d .stands))
 
@@ -124,6 +121,6 @@ module _ {need : ℕ} {w : Out (List ℕ)} {allowance : ℕ} {o s : List ℕ} {x
     unfolding answer newWritten Walk·newWritten
     call-written sheet plan view k = go r refl
       where
-        go : (t : Walked) → r ≡ t → Walk·newWritten sheet plan view k r ≡ newWritten sheet plan view k x
-        go (Walked·Refused c) h = rw (h, b .is, door-open {o = w} l, said-refused says h .1)
-        go (Walked·Done len n) h = rw (h, b .is, door-open {o = w} l, said-done says h .is)
+        go : (t : Reply) → r ≡ t → Walk·newWritten sheet plan view k r ≡ newWritten sheet plan view k x
+        go (Refused c) h = rw (h, b .is, door-open {o = w} l, said-refused says h .1)
+        go (Done len n) h = rw (h, b .is, door-open {o = w} l, said-done says h .is)

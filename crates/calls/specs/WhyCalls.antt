@@ -32,13 +32,12 @@ use Rattle.rules.specs.Explanation.{
 }
 use Rattle.starts.specs.Starts.{firsts}
 use Rattle.starts.specs.Lookup.{length-firsts}
-use Rattle.walk.specs.declared.Walked.{Walked}
-use Rattle.walk.specs.declared.Walked.the-variants.{Done as Walked·Done, Refused as Walked·Refused}
 use Rattle.walk.specs.declared.chain.Met.{Met}
 use Rattle.walk.specs.Entry.{WalkCall}
 use Rattle.walk.specs.Said.{bytesAt, writer, length-bytes}
 use Rattle.walk.specs.Whys.{metAt, whyOf, Explains}
 use Rattle.calls.specs.declared.why.Explanation.{Explanation as Told}
+use Rattle.calls.specs.Reply.{Reply, Done, Refused}
 use Rattle.calls.specs.Buffers.{zeroed}
 use Rattle.calls.specs.Calls.{afterRefusal}
 use Rattle.calls.specs.CallLaws.{zeros-same, at-front}
@@ -47,12 +46,12 @@ use Rattle.calls.specs.Whys.{unmet, firstNumber, toldAs, whyCleared, Why
 
 -- A WALK'S ANSWER, CASE BY CASE
 
-module _ (a : List ℕ) {w : Walked} (m : Met) where
-  pub told-done : {len n : ℕ} → w ≡ Walked·Done len n → unmet 0 ≡ toldAs (whyOf a w m)
+module _ (a : List ℕ) {w : Reply} (m : Met) where
+  pub told-done : {len n : ℕ} → w ≡ Done len n → unmet 0 ≡ toldAs (whyOf a w m)
   unfolding toldAs whyOf
   told-done e = rw e
 
-  pub told-refused : {c : ℕ} → w ≡ Walked·Refused c → toldAs (metAt a c (m .depth) (m .first)) ≡ toldAs (whyOf a w m)
+  pub told-refused : {c : ℕ} → w ≡ Refused c → toldAs (metAt a c (m .depth) (m .first)) ≡ toldAs (whyOf a w m)
   unfolding whyOf
   told-refused e = rw e
 
@@ -183,7 +182,7 @@ cleared-high success s h = refl
 cleared-high (before c) s h = rw (lt-leb c 3 (h c refl))
 cleared-high (walked y) s h = refl
 
-module _ {allowance : ℕ} {s a : List ℕ} (l : Lent 0 0 (length s) allowance) {U : Type 0} {need : ℕ} {o : Out (List ℕ)} {w : Walked}
+module _ {allowance : ℕ} {s a : List ℕ} (l : Lent 0 0 (length s) allowance) {U : Type 0} {need : ℕ} {o : Out (List ℕ)} {w : Reply}
     (g : WalkCall U need o allowance s a w) where
   pub why-long : SCRATCH ≤ length a
   why-long = omega (arith, g .free .long, l .scratch-long)
@@ -195,7 +194,7 @@ module _ {allowance : ℕ} {s a : List ℕ} (l : Lent 0 0 (length s) allowance) 
       scratch = z ∙ zeros-same SCRATCH s a (g .free .behind) ∙ cleared-high e s h;
     })
 
-module _ {allowance : ℕ} {s a : List ℕ} (l : Lent 0 0 (length s) allowance) {U : Type 0} {need : ℕ} {o : Out (List ℕ)} {w : Walked}
+module _ {allowance : ℕ} {s a : List ℕ} (l : Lent 0 0 (length s) allowance) {U : Type 0} {need : ℕ} {o : Out (List ℕ)} {w : Reply}
     (g : WalkCall U need o allowance s a w) {m : Met} {r : Told} {s′ : List ℕ} (t : r ≡ toldAs (whyOf a w m)) (z : s′ ≡ zeroed a) where
   pub get-explained : (sheet plan : List ℕ) → Explains (explainGet sheet plan allowance) allowance s a w m
       → WhyAnswered (whyGet sheet plan allowance (length s)) r s s′

@@ -8,7 +8,8 @@ ghost use Rattle.rules.specs.Answer.{getAnswer, putAnswer};
 ghost use Rattle.calls.specs.Buffers.{zeros, zeroed};
 ghost use Rattle.calls.specs.Calls.{Answered, PutAnswered};
 ghost use Rattle.calls.specs.Door.{shut};
-ghost use Rattle.calls.specs.Told.{Fits, replyOf, outputOf};
+ghost use Rattle.calls.specs.Reply.{Done, Refused};
+ghost use Rattle.calls.specs.Told.{Fits, outputOf};
 ghost use Rattle.calls.specs.Trips.{Stands, Unmoved};
 
 mod buffers;
@@ -17,16 +18,10 @@ mod why;
 use crate::buffers::copy_out;
 pub use buffers::clear;
 use starts::Starts;
-use walk::Walked;
+pub use walk::Reply;
 pub use why::Explanation;
 pub use why::why_get;
 pub use why::why_put;
-
-/// What a call answers: the length of the output and the steps taken, or a refusal's number in document 01's table.
-pub enum Reply {
-    Done { len: usize, steps: usize },
-    Refused(u8),
-}
 
 /// What a put answers: the reply, where the values of its new plan start, and which plan variables took a view, bit i for
 /// variable i, also where its value is the old one. With a refusal there is no start, and no bit is set.
@@ -65,7 +60,7 @@ pub fn side_door(scratch: usize, allowance: usize) -> u8
 
 // A refusal behind the door: scratch is cleared.
 fn refused(code: u8, scratch: &mut [u8]) -> Reply
-    ensures { λ r. ⌜ (r ≡ Reply.Refused code) × (now (scratch .exit) ≡ zeros (min SCRATCH (length (now (scratch .entry)))) (now (scratch .entry))) ⌝ }
+    ensures { λ r. ⌜ (r ≡ Refused code) × (now (scratch .exit) ≡ zeros (min SCRATCH (length (now (scratch .entry)))) (now (scratch .entry))) ⌝ }
 {
     clear(scratch);
     Reply::Refused(code)
@@ -75,7 +70,7 @@ fn refused(code: u8, scratch: &mut [u8]) -> Reply
 fn given(len: usize, steps: usize, out: &mut [u8], scratch: &mut [u8]) -> Reply
     requires { ⌜ SCRATCH ≤ length (now scratch) ⌝ }
     requires { ⌜ (STACK + len ≤ length (now scratch)) × (len ≤ length (now out)) ⌝ }
-    ensures { λ r. ⌜ (r ≡ Reply.Done len steps) × (now (out .exit) ≡ paste (now (out .entry)) 0 (drop STACK (now (scratch .entry))) len) × (now (scratch .exit) ≡ zeroed (now (scratch .entry))) ⌝ }
+    ensures { λ r. ⌜ (r ≡ Done len steps) × (now (out .exit) ≡ paste (now (out .entry)) 0 (drop STACK (now (scratch .entry))) len) × (now (scratch .exit) ≡ zeroed (now (scratch .entry))) ⌝ }
 {
     copy_out(scratch, rules::STACK, len, out, 0);
     clear(scratch);
@@ -83,14 +78,14 @@ fn given(len: usize, steps: usize, out: &mut [u8], scratch: &mut [u8]) -> Reply
 }
 
 // A walk's answer, told to the caller: what a walk that is done built goes to the output, and scratch is cleared.
-fn answered(walked: Walked, out: &mut [u8], scratch: &mut [u8]) -> Reply
+fn answered(walked: Reply, out: &mut [u8], scratch: &mut [u8]) -> Reply
     requires { ⌜ SCRATCH ≤ length (now scratch) ⌝ }
     requires { ⌜ Fits walked (now out) (now scratch) ⌝ }
-    ensures { λ r. ⌜ (r ≡ replyOf walked) × (now (out .exit) ≡ outputOf walked (now (out .entry)) (now (scratch .entry))) × (now (scratch .exit) ≡ zeroed (now (scratch .entry))) ⌝ }
+    ensures { λ r. ⌜ (r ≡ walked) × (now (out .exit) ≡ outputOf walked (now (out .entry)) (now (scratch .entry))) × (now (scratch .exit) ≡ zeroed (now (scratch .entry))) ⌝ }
 {
     match walked {
-        Walked::Refused(code) => refused(code, scratch),
-        Walked::Done { len, steps } => given(len, steps, out, scratch),
+        Reply::Refused(code) => refused(code, scratch),
+        Reply::Done { len, steps } => given(len, steps, out, scratch),
     }
 }
 

@@ -10,7 +10,7 @@ use crate::buffers::clear;
 use crate::buffers::copy_out;
 use crate::side_door;
 use walk::Met;
-use walk::Walked;
+use walk::Reply;
 
 /// Why a call is refused: the refusal's number, 0 for a success; how many nodes its chain has, 0 for a success and for a refusal from before
 /// the walk; the chain's nodes, the root first, and zeros behind them; and of 54 one more than the node that wrote first, 0 otherwise.
@@ -55,13 +55,13 @@ fn refused(refusal: u8, met: Met, scratch: &[u8]) -> Explanation
 }
 
 // A walk's answer, explained.
-fn explained(walked: Walked, met: Met, scratch: &[u8]) -> Explanation
+fn explained(walked: Reply, met: Met, scratch: &[u8]) -> Explanation
     requires { ⌜ (met .depth ≤ 49) × (SCRATCH ≤ length (now scratch)) ⌝ }
     ensures { λ r. ⌜ r ≡ toldAs (whyOf (now (scratch .entry)) walked met) ⌝ }
 {
     match walked {
-        Walked::Done { len: _, steps: _ } => unmet(0),
-        Walked::Refused(code) => refused(code, met, scratch),
+        Reply::Done { len: _, steps: _ } => unmet(0),
+        Reply::Refused(code) => refused(code, met, scratch),
     }
 }
 

@@ -7,8 +7,7 @@ use lib.Dec.{leb}
 use lib.ListN.{length, take}
 use Rattle.rules.specs.Numbers.{SCRATCH, GET-OUTPUT, PUT-OUTPUT}
 use Rattle.rules.specs.Answer.{Answer, refusal, success, getAnswer, putAnswer}
-use Rattle.calls.specs.declared.Reply.{Reply}
-use Rattle.calls.specs.declared.Reply.the-variants.{Done, Refused}
+use Rattle.calls.specs.Reply.{Reply, Done, Refused}
 use Rattle.calls.specs.Calls.{written, cleared}
 use Rattle.report.specs.Text.{refusalLine, successLine}
 use Rattle.report.specs.Writing.{Front}

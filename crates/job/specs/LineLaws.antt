@@ -12,8 +12,7 @@ use lib.Seq.{length-take-le, take-all, take-append-seam}
 use Rattle.rules.specs.Outcome.{when, given}
 use Rattle.rules.specs.Numbers.{SCRATCH, GET-OUTPUT, PUT-OUTPUT}
 use Rattle.rules.specs.Answer.{Answer, refusal, success, door, getAnswer, putAnswer}
-use Rattle.calls.specs.declared.Reply.{Reply}
-use Rattle.calls.specs.declared.Reply.the-variants.{Done, Refused}
+use Rattle.calls.specs.Reply.{Reply, Done, Refused}
 use Rattle.calls.specs.Calls.{reply, written, cleared, Answered}
 use Rattle.calls.specs.Small.{Small, small-get, small-put}
 use Rattle.report.specs.Text.{refusalLine, successLine}

@@ -8,8 +8,7 @@ use lib.ListN.{length, getD, take, drop}
 use Rattle.rules.specs.Numbers.{SCRATCH, PUT-OUTPUT}
 use Rattle.rules.specs.Answer.{Answer, refusal, success, putAnswer}
 use Rattle.rules.specs.Explanation.{Explanation, whyGet, whyPut}
-use Rattle.calls.specs.declared.Reply.{Reply}
-use Rattle.calls.specs.declared.Reply.the-variants.{Done, Refused}
+use Rattle.calls.specs.Reply.{Reply, Done, Refused}
 use Rattle.calls.specs.Calls.{written, cleared, newStarts, newWritten}
 use Rattle.calls.specs.Whys.{whyCleared}
 use Rattle.report.specs.Text.{hexOf, decimalOf, refusalLine, okLine}

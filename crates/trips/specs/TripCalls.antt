@@ -9,8 +9,7 @@ use Rattle.rules.specs.Numbers.{ALLOWANCE, FACTOR, GET-OUTPUT, PUT-OUTPUT}
 use Rattle.rules.specs.Answer.{success, getAnswer, putAnswer}
 use Rattle.rules.specs.AnswerLaws.{get-shows, put-shows, get-steps, put-steps}
 use Rattle.rules.specs.Trips.{consistency, acceptability}
-use Rattle.calls.specs.declared.Reply.{Reply}
-use Rattle.calls.specs.declared.Reply.the-variants.{Done, Refused}
+use Rattle.calls.specs.Reply.{Reply, Done, Refused}
 use Rattle.trips.specs.declared.Trip.{Trip}
 use Rattle.trips.specs.declared.Trip.the-variants.{Stopped}
 use Rattle.calls.specs.Calls.{Answered}

@@ -14,13 +14,13 @@ use Rattle.rules.specs.Written.{bitsOf, took, putWritten}
 use Rattle.arena.specs.Bits.{filled, filledFrom}
 use Rattle.walk.specs.declared.PutWalked.{PutWalked}
 use Rattle.walk.specs.declared.chain.Met.{Met}
-use Rattle.walk.specs.declared.Walked.{Walked}
-use Rattle.walk.specs.declared.Walked.the-variants.{Done, Refused}
+use Rattle.walk.specs.declared.Reply.{Reply}
+use Rattle.walk.specs.declared.Reply.the-variants.{Done, Refused}
 use Rattle.walk.specs.Cells.{Slot, blank, full, Written}
 use Rattle.walk.specs.NewStarts.{refusedPut}
 
 -- the bits of a walk that is done; none with a refusal
-unfoldable pub newWritten : (sheet plan view : List ℕ) (allowance : ℕ) → Walked → ℕ
+unfoldable pub newWritten : (sheet plan view : List ℕ) (allowance : ℕ) → Reply → ℕ
 newWritten sheet plan view allowance (Done len n) = putWritten sheet plan view allowance
 newWritten sheet plan view allowance (Refused c) = 0
 

@@ -28,8 +28,8 @@ use Rattle.rules.specs.Answer.{getWalk, getBytes}
 use Rattle.rules.specs.Numbers.{ALLOWANCE, LEVELS, SCRATCH, STACK}
 use Rattle.step.specs.declared.Scope.{Scope}
 use Rattle.walk.specs.Said.{whyIn, said-done, said-refused}
-use Rattle.walk.specs.declared.Walked.{Walked}
-use Rattle.walk.specs.declared.Walked.the-variants.{Done, Refused}
+use Rattle.walk.specs.declared.Reply.{Reply}
+use Rattle.walk.specs.declared.Reply.the-variants.{Done, Refused}
 use Rattle.walk.specs.Parts.{part, CopiedIn}
 use Rattle.walk.specs.Plan.{standing, flat-short, sizes-at, sizes-length, placed, spans-refused, spread}
 use Rattle.walk.specs.Scope.{Spanned}
@@ -43,7 +43,7 @@ use Rattle.walk.specs.GetReady.{Sized}
 use Rattle.walk.specs.GetAt.{Brought, AtTop, at-top}
 
 -- the result r and the arena a say the outcome: its bytes, at most `most`, stand at 32,256
-pub data Says (most : ℕ) (a : List ℕ) (r : Walked) : Out (List ℕ) → Type 0 where
+pub data Says (most : ℕ) (a : List ℕ) (r : Reply) : Out (List ℕ) → Type 0 where
   says-done : {bs : List ℕ} {n : ℕ} (len : ℕ) → r ≡ Done len n → len ≡ length bs → len ≤ most → part a STACK len ≡ bs → Says most a r (done bs n)
   says-refused : {c n : ℕ} → r ≡ Refused c → Says most a r (refused c n)
 
@@ -58,7 +58,7 @@ pub data Unread (sheet plan : List ℕ) : Type 0 where
   no-plan : {sh : Sheet} {c : ℕ} → readSheet sheet ≡ ok sh → readPlan (sh .k) plan ≡ refusal c → Unread sheet plan
 
 -- a call whose outcome is w, with the arena b before and a behind it: what the arena holds, and the answer r. U: a reader refuses
-pub record WalkCall (U : Type 0) (most : ℕ) (w : Out (List ℕ)) (allowance : ℕ) (b a : List ℕ) (r : Walked) : Type 0 where
+pub record WalkCall (U : Type 0) (most : ℕ) (w : Out (List ℕ)) (allowance : ℕ) (b a : List ℕ) (r : Reply) : Type 0 where
   pub free : Free SCRATCH b a
   pub unread : U → a ≡ b
   pub short : length b < SCRATCH → (r ≡ Refused 2) × (a ≡ b)
@@ -76,7 +76,7 @@ pub record Planned (sheet plan : List ℕ) (table : Table) (sc : Scope) (allowan
   pub few : allowance ≤ ALLOWANCE
   pub long : length b ≡ SCRATCH
 
-pub record PlanWalked (most : ℕ) (w : Out (List ℕ)) (b a : List ℕ) (r : Walked) : Type 0 where
+pub record PlanWalked (most : ℕ) (w : Out (List ℕ)) (b a : List ℕ) (r : Reply) : Type 0 where
   pub long : length a ≡ length b
   pub says : Says most a r w
 
@@ -236,7 +236,7 @@ planned {plan = plan} {table = table} b room few t read z s =
 pub front-part : (a x : List ℕ) (len : ℕ) → length a ≡ SCRATCH → len ≤ 4096 → part (a ++ x) STACK len ≡ part a STACK len
 front-part a x len l h = rw (drop-append-le STACK a x (omega arith)) (take-append-le len (drop STACK a) x (rw length-drop (omega arith)))
 
-says-whole : (x : List ℕ) {most : ℕ} {a : List ℕ} {r : Walked} {o : Out (List ℕ)} → most ≤ 4096 → length a ≡ SCRATCH → Says most a r o → Says most (a ++ x) r o
+says-whole : (x : List ℕ) {most : ℕ} {a : List ℕ} {r : Reply} {o : Out (List ℕ)} → most ≤ 4096 → length a ≡ SCRATCH → Says most a r o → Says most (a ++ x) r o
 says-whole x {a = a} t l (says-done len e q h p) = says-done len e q h (front-part a x len l (omega arith) ∙ p)
 says-whole x t l (says-refused e) = says-refused e
 
@@ -264,13 +264,13 @@ module _ {U : Type 0} {most : ℕ} {w : Out (List ℕ)} {allowance : ℕ} {b : L
     }
 
     module _ (few : allowance ≤ ALLOWANCE) where
-      answered : {a : List ℕ} {r : Walked} → Free SCRATCH b a → (U → a ≡ b) → Says most a r w → WalkCall U most w allowance b a r
+      answered : {a : List ℕ} {r : Reply} → Free SCRATCH b a → (U → a ≡ b) → Says most a r w → WalkCall U most w allowance b a r
       answered f u s = record { free = f; unread = u; short = λ k. absurd (omega arith); too-many = λ _ k. absurd (omega arith); says = λ _ _. s }
 
       pub call-refused : {c n : ℕ} → w ≡ refused c n → WalkCall U most w allowance b b (Refused c)
       call-refused e = answered (nothing-moved b) (λ _. refl) (rw e (says-refused refl))
 
-      pub call-done : {a : List ℕ} {r : Walked} → (U → ⊥) → most ≤ 4096 → PlanWalked most w (take SCRATCH b) a r
+      pub call-done : {a : List ℕ} {r : Reply} → (U → ⊥) → most ≤ 4096 → PlanWalked most w (take SCRATCH b) a r
           → WalkCall U most w allowance b (a ++ drop SCRATCH b) r
       call-done {a} {r} read t g =
           let l : length a ≡ SCRATCH = g .long ∙ length-take-le SCRATCH b room in

@@ -10,13 +10,13 @@ use Rattle.rules.specs.Numbers.{SCRATCH, STACK}
 use Rattle.rules.specs.Outcome.{Out}
 use Rattle.walk.specs.declared.PutWalked.{PutWalked}
 use Rattle.walk.specs.declared.chain.Met.{Met}
-use Rattle.walk.specs.declared.Walked.{Walked}
-use Rattle.walk.specs.declared.Walked.the-variants.{Done, Refused}
+use Rattle.walk.specs.declared.Reply.{Reply}
+use Rattle.walk.specs.declared.Reply.the-variants.{Done, Refused}
 use Rattle.walk.specs.Parts.{part}
 use Rattle.walk.specs.Entry.{Says, says-done, says-refused, front-part}
 
 -- the starts that loading the new plan gives, which stands in the arena a at 32,256; no start with a refusal
-unfoldable pub newStarts : (sheet a : List ℕ) → Walked → Starts
+unfoldable pub newStarts : (sheet a : List ℕ) → Reply → Starts
 newStarts sheet a (Done len n) = loadOf sheet (part a STACK len) .starts
 newStarts sheet a (Refused c) = noStarts
 
@@ -39,7 +39,7 @@ module _ {r : PutWalked} (c : ℕ) (m : Met) (e : r ≡ refusedPut c m) where
   none-with sheet a = rw e
 
 -- what stands in the front of the arena stands in the whole
-pub starts-whole : (sheet x : List ℕ) {most : ℕ} {a : List ℕ} {r : Walked} {o : Out (List ℕ)} → most ≤ 4096 → length a ≡ SCRATCH → Says most a r o
+pub starts-whole : (sheet x : List ℕ) {most : ℕ} {a : List ℕ} {r : Reply} {o : Out (List ℕ)} → most ≤ 4096 → length a ≡ SCRATCH → Says most a r o
     → newStarts sheet a r ≡ newStarts sheet (a ++ x) r
 unfolding newStarts
 starts-whole sheet x {a = a} t l (says-done len e q h p) =

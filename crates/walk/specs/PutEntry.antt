@@ -42,7 +42,7 @@ use Rattle.step.specs.Step.{placeOf}
 use Rattle.step.specs.StepLaws.{was-written}
 use Rattle.walk.specs.Said.{whyIn, said-done, said-refused}
 use Rattle.starts.specs.declared.NewPlan.{NewPlan}
-use Rattle.walk.specs.declared.Walked.the-variants.{Done, Refused}
+use Rattle.walk.specs.declared.Reply.the-variants.{Done, Refused}
 use Rattle.walk.specs.Parts.{part, part-length, CopiedIn}
 use Rattle.walk.specs.Arena.{Held, Scoped, below-ends}
 use Rattle.walk.specs.Seen.{held-short}

@@ -12,8 +12,8 @@ use Rattle.rules.specs.Explain.{Why, Told, got, met}
 use Rattle.rules.specs.ExplainChain.{Chain, Meets, stop}
 use Rattle.rules.specs.Explanation.{Explanation, success, before, walked, explained}
 use Rattle.sheet.specs.Sheet.{Sheet}
-use Rattle.walk.specs.declared.Walked.{Walked}
-use Rattle.walk.specs.declared.Walked.the-variants.{Done, Refused}
+use Rattle.walk.specs.declared.Reply.{Reply}
+use Rattle.walk.specs.declared.Reply.the-variants.{Done, Refused}
 use Rattle.walk.specs.declared.GetWalked.{GetWalked}
 use Rattle.walk.specs.declared.chain.Met.{Met}
 use Rattle.walk.specs.Said.{bytesAt, writer, whyIn, length-bytes}
@@ -41,7 +41,7 @@ metAt a c zero first = before c
 metAt a c (suc d) first = walked (record { code = c; chain = bytesAt a CHAIN (suc d); first = writer first })
 
 -- what an entry's answer and the arena explain
-unfoldable pub whyOf : (a : List ℕ) → Walked → Met → Explanation
+unfoldable pub whyOf : (a : List ℕ) → Reply → Met → Explanation
 whyOf a (Done len n) m = success
 whyOf a (Refused c) m = metAt a c (m .depth) (m .first)
 
@@ -57,7 +57,7 @@ metBy (before c) = nowhere
 metBy (walked y) = record { depth = length (y .chain); first = numbered (y .first) }
 
 -- a call with the arena b before and a behind it explains e, where the arena and the allowance will do; it is met nowhere where they will not
-pub record Explains (e : Explanation) (allowance : ℕ) (b a : List ℕ) (w : Walked) (m : Met) : Type 0 where
+pub record Explains (e : Explanation) (allowance : ℕ) (b a : List ℕ) (w : Reply) (m : Met) : Type 0 where
   pub few : m .depth ≤ 49
   pub why : SCRATCH ≤ length b → allowance ≤ ALLOWANCE → whyOf a w m ≡ e
   pub place : SCRATCH ≤ length b → allowance ≤ ALLOWANCE → m ≡ metBy e
@@ -149,7 +149,7 @@ unfolding metAt
 met-front a x c zero first h l = refl
 met-front a x c (suc d) first h l = rw (bytes-front a x CHAIN (suc d) (omega arith)) refl
 
-pub explains-whole : {e : Explanation} {allowance : ℕ} {b a : List ℕ} {w : Walked} {m : Met} → SCRATCH ≤ length b → length a ≡ SCRATCH
+pub explains-whole : {e : Explanation} {allowance : ℕ} {b a : List ℕ} {w : Reply} {m : Met} → SCRATCH ≤ length b → length a ≡ SCRATCH
     → Explains e allowance (take SCRATCH b) a w m → Explains e allowance b (a ++ drop SCRATCH b) w m
 unfolding whyOf
 explains-whole {e} {allowance} {b} {a} {w} {m} room l x = record {
@@ -162,6 +162,6 @@ explains-whole {e} {allowance} {b} {a} {w} {m} room l x = record {
     long : SCRATCH ≤ length (take SCRATCH b)
     long = rw (length-take-le SCRATCH b room) (omega arith)
 
-    go : (w : Walked) → whyOf a w m ≡ e → whyOf (a ++ drop SCRATCH b) w m ≡ e
+    go : (w : Reply) → whyOf a w m ≡ e → whyOf (a ++ drop SCRATCH b) w m ≡ e
     go (Done len n) h = h
     go (Refused c) h = met-front a (drop SCRATCH b) c (m .depth) (m .first) (x .few) l ∙ h

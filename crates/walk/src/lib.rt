@@ -43,22 +43,23 @@ use starts::NewPlan;
 use starts::Starts;
 use step::Scope;
 
-/// What a walk gives: `len` bytes at the top of the stack and the steps taken, or a refusal.
-pub enum Walked {
+/// What a walk gives, and what a call answers: the length of the output and the steps taken, or a refusal's number in document 01's table. A
+/// walk leaves the output at the top of its stack, and a call moves it to its caller's buffer.
+pub enum Reply {
     Done { len: usize, steps: usize },
     Refused(u8),
 }
 
 /// What a get gives: the walk's answer, and where a refusal was met.
 pub struct GetWalked {
-    pub walked: Walked,
+    pub walked: Reply,
     pub met: Met,
 }
 
 /// What a put gives: the walk's answer, where the values of the new plan start, which variables took a view, bit i for
 /// variable i, and where a refusal was met. With a refusal there is no start, and no bit is set.
 pub struct PutWalked {
-    pub walked: Walked,
+    pub walked: Reply,
     pub starts: Starts,
     pub written: u16,
     pub met: Met,
@@ -68,7 +69,7 @@ pub struct PutWalked {
 fn unread(number: u8) -> GetWalked
     ensures { λ r. ⌜ r ≡ refusedGet number ⌝ }
 {
-    let walked = Walked::Refused(number);
+    let walked = Reply::Refused(number);
     let met = nowhere();
     GetWalked { walked, met }
 }
@@ -96,11 +97,11 @@ fn get_plan(
     let got = get_node(sheet, &table.starts, arena, scope, table.root, at);
     let got = bring(arena, got, rules::STACK);
     if is_refused(got) {
-        let walked = Walked::Refused(code_of(got));
+        let walked = Reply::Refused(code_of(got));
         let met = met_at(got);
         return GetWalked { walked, met };
     }
-    let walked = Walked::Done {
+    let walked = Reply::Done {
         len: len_of(got),
         steps: steps_of(got),
     };
@@ -163,7 +164,7 @@ fn gather(arena: &mut [u8], slots: &[u16; 110], scope: Scope) -> NewPlan
 fn refused(number: u8, met: Met) -> PutWalked
     ensures { λ r. ⌜ r ≡ refusedPut number met ⌝ }
 {
-    let walked = Walked::Refused(number);
+    let walked = Reply::Refused(number);
     let starts = starts::none();
     let written = 0;
     PutWalked {
@@ -217,7 +218,7 @@ fn put_plan(
         return refused(code_of(put), met);
     }
     let new = gather(arena, &slots, scope);
-    let walked = Walked::Done {
+    let walked = Reply::Done {
         len: new.len,
         steps: steps_of(put),
     };

@@ -1,7 +1,7 @@
 -- `answered` meets its contract: a walk that refused, or one that is done. Assumes nothing.
-use mathlib.Core.Path.{_∙_}
+use mathlib.Core.Path.{sym, _∙_}
 use Rattle.calls.specs.Buffers.{cleared-whole}
-use Rattle.calls.specs.Told.{told-refused, kept-refused, fits-done, told-done, copied-done}
+use Rattle.calls.specs.Told.{kept-refused, fits-done, copied-done}
 use borrow.Author.Needs.{needs}
 use Rattle.calls.proofs.answered.Statement.{statement}
 use Rattle.calls.proofs.answered.Tie as tie
@@ -19,14 +19,14 @@ returns c =
     let r = c .before .before .refused .ensures in
     let told = c .before .before .before .before .before in
     let e = told .walked .given .1 in
-    (r .0 ∙ told-refused e, kept-refused e _ _, cleared-whole _ (r .1) (told .before .before .before .before .pre .0))
+    (r .0 ∙ sym e, kept-refused e _ _, cleared-whole _ (r .1) (told .before .before .before .before .pre .0))
 
 returns-2 : tie.Need-returns-2
 returns-2 c =
     let g = c .before .before .before .before in
     let r = g .given .ensures in
     let e = g .before .before .before .before .walked2 .given .1 in
-    (r .0 ∙ told-done e, r .1 ∙ copied-done e _ _, r .2)
+    (r .0 ∙ sym e, r .1 ∙ copied-done e _ _, r .2)
 
 pub answered-spec : {M : Type 1} → statement M
 answered-spec = tie.close (tie.spec (λ c. search needs) (λ c κs. search needs) (λ c. search needs) given-requires (λ c. search needs) returns

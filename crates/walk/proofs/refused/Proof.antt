@@ -1,6 +1,6 @@
 -- `refused` meets its contract. Assumes nothing.
 use mathlib.Core.Path.{ap}
-use Rattle.walk.specs.declared.Walked.the-variants.{Refused}
+use Rattle.walk.specs.declared.Reply.the-variants.{Refused}
 use Rattle.walk.specs.NewStarts.{refusedPut}
 use borrow.Author.Needs.{needs}
 use Rattle.walk.proofs.refused.Statement.{statement}

@@ -1,6 +1,6 @@
 -- `unread` meets its contract. Assumes nothing.
 use mathlib.Core.Path.{ap}
-use Rattle.walk.specs.declared.Walked.the-variants.{Refused}
+use Rattle.walk.specs.declared.Reply.the-variants.{Refused}
 use Rattle.walk.specs.Whys.{refusedGet}
 use borrow.Author.Needs.{needs}
 use Rattle.walk.proofs.unread.Statement.{statement}
