@@ -32,7 +32,7 @@ use Rattle.walk.specs.PutEntry.{put-view-refused}
 use Rattle.calls.specs.Buffers.{zeroed}
 use Rattle.calls.specs.Calls.{afterRefusal}
 use Rattle.calls.specs.CallLaws.{zeros-same}
-use Rattle.calls.specs.Door.{shut, shut-is, shut-open}
+use Rattle.arena.specs.Door.{shut, shut-is, shut-open}
 use Rattle.accepts.specs.declared.Verdict.{Verdict}
 use Rattle.accepts.specs.declared.Verdict.the-variants.{Yes, No, Refused}
 use Rattle.venue.specs.Accepts.{kept, orCode, result, judgedOf, acceptsOf}

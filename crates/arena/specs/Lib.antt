@@ -1,3 +1,4 @@
 pub mod Writing
 pub mod Bits
 pub mod Chain
+pub mod Door

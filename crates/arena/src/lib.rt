@@ -1,6 +1,6 @@
 //! What a walk leaves at fixed places: a view in its cell's slot, stored by the first node that puts one and compared with ever after, and what the
 //! slots' notes tell of which cells took a view; and the chain of a refusal, the nodes from the root down to the one that it was met at, each with
-//! its byte at the arena's end, written on the way out of it.
+//! its byte at the arena's end, written on the way out of it. And the door, which judges whether an arena and an allowance will do for a walk.
 ghost use mathlib.Core.Bool.{cond};
 ghost use mathlib.Core.Path.{_≡_};
 ghost use Prim.Native.Nat.{min};
@@ -9,11 +9,28 @@ ghost use Rattle.step.specs.Step.{When};
 ghost use Rattle.arena.specs.Writing.{Takes, writeAnswer, writtenBytes, writtenNotes};
 ghost use Rattle.arena.specs.Chain.{inChain, chained, leftAs};
 ghost use Rattle.arena.specs.Bits.{filled, filledFrom};
+ghost use Rattle.arena.specs.Door.{shut};
 use answer::deeper;
 use answer::done;
 use answer::is_refused;
 use answer::later;
 use answer::refused;
+
+/// What a walk refuses before it reads anything, 0 for nothing: 2 too little scratch, 3 an allowance of 0 or one that is too large.
+pub fn door(scratch: usize, allowance: usize) -> u8
+    ensures { λ r. ⌜ r ≡ shut 0 0 scratch allowance ⌝ }
+{
+    if scratch < rules::SCRATCH {
+        return 2;
+    }
+    if allowance == 0 {
+        return 3;
+    }
+    if rules::ALLOWANCE < allowance {
+        return 3;
+    }
+    0
+}
 
 /// A view for the cell c: the node writes it where nothing was written, and it is noted; or else it must equal what was. Nothing changes, and
 /// the answer is 42, where there is no such cell or slot, no node has that number, or no value has that many bytes.

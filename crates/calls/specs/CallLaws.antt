@@ -15,7 +15,7 @@ use Rattle.rules.specs.AnswerLaws.{Lent, door-open}
 use Rattle.rules.specs.Refusals.{Lists, lRefused, listed-above}
 use Rattle.calls.specs.Reply.{Reply, Done, Refused}
 use Rattle.calls.specs.Buffers.{zeros, zeroed}
-use Rattle.calls.specs.Door.{shut, Door, opens, shuts, door-cases}
+use Rattle.arena.specs.Door.{shut, Door, opens, shuts, door-cases}
 use Rattle.calls.specs.Calls.{reply, written, cleared, afterRefusal, Answered}
 
 -- scratch that was only changed within its first n bytes is cleared to the same bytes

@@ -1,7 +1,6 @@
 pub mod Reply
 pub mod Buffers
 pub mod Calls
-pub mod Door
 pub mod CallLaws
 pub mod Trips
 pub mod Small

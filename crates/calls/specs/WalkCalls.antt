@@ -14,7 +14,7 @@ use Rattle.starts.specs.Starts.{noStarts, loadOf}
 use Rattle.walk.specs.Entry.{Says, says-done, says-refused, WalkCall}
 use Rattle.calls.specs.Reply.{Reply, Done, Refused}
 use Rattle.calls.specs.Buffers.{zeroed}
-use Rattle.calls.specs.Door.{shut}
+use Rattle.arena.specs.Door.{shut}
 use Rattle.walk.specs.NewStarts.{newStarts as Walk·newStarts}
 use Rattle.walk.specs.Bits.{newWritten as Walk·newWritten}
 use Rattle.calls.specs.Calls.{reply, Answered, newStarts, newWritten}
@@ -68,6 +68,10 @@ unfolding reply newWritten
 clear-refused sheet plan view allowance (refusal c) e = refl
 clear-refused sheet plan view allowance (success bs n) e = let z : _≡_ {A = ℕ} 0 1 = cc in absurd (omega arith)
 
+-- what is lent to a call is lent to its walk
+pub inside : {need output scratch allowance : ℕ} → Lent need output scratch allowance → Lent 0 0 scratch allowance
+inside l = record { output-long = omega arith; scratch-long = l .scratch-long; some-steps = l .some-steps; few-steps = l .few-steps }
+
 -- THE RETURNS OF A CALL
 module _ {need : ℕ} {w : Out (List ℕ)} {allowance : ℕ} {o s : List ℕ} {x : Answer} (b : Behind need w allowance o s x) where
   pub call-shut : {c : ℕ} → c ≡ shut need (length o) (length s) allowance → (c ≡ 0 → ⊥) → Answered x (Refused c) o o s s
@@ -75,7 +79,7 @@ module _ {need : ℕ} {w : Out (List ℕ)} {allowance : ℕ} {o s : List ℕ} {x
 
   module _ (l : Lent need (length o) (length s) allowance) {U : Type 0} {a : List ℕ} {r : Reply} (g : WalkCall U need w allowance s a r) where
     says : Says need a r w
-    says = g .says (l .scratch-long) (l .few-steps)
+    says = g .says (inside l)
 
     call-refused : {c : ℕ} {s′ : List ℕ} → r ≡ Refused c → s′ ≡ zeroed a → Answered x (Refused c) o o s s′
     call-refused e z = rw (b .is) (refused-behind need o s allowance w l (b .listed) (said-refused says e .1) (z ∙ zeros-same SCRATCH s a (g .free .behind)))

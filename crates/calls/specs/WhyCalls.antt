@@ -41,7 +41,7 @@ use Rattle.calls.specs.Reply.{Reply, Done, Refused}
 use Rattle.calls.specs.Buffers.{zeroed}
 use Rattle.calls.specs.Calls.{afterRefusal}
 use Rattle.calls.specs.CallLaws.{zeros-same, at-front}
-use Rattle.calls.specs.Door.{shut, shut-is, shut-open}
+use Rattle.arena.specs.Door.{shut, shut-is, shut-open}
 use Rattle.calls.specs.Whys.{unmet, firstNumber, toldAs, whyCleared, WhyAnswered}
 
 -- A WALK'S ANSWER, CASE BY CASE
@@ -190,7 +190,7 @@ module _ {allowance : ℕ} {s a : List ℕ} (l : Lent 0 0 (length s) allowance) 
   module _ {e : Explanation} {m : Met} (x : Explains e allowance s a w m) {r : Told} {s′ : List ℕ} (t : r ≡ toldAs (whyOf a w m)) (z : s′ ≡ zeroed a) where
     behind : High e → WhyAnswered (whyDoor allowance (length s) e) r s s′
     behind h = rw (why-open allowance e l) (record {
-      answer = t ∙ ap toldAs (x .why (l .scratch-long) (l .few-steps));
+      answer = t ∙ ap toldAs (x .why l);
       scratch = z ∙ zeros-same SCRATCH s a (g .free .behind) ∙ cleared-high e s h;
     })
 

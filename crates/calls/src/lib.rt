@@ -7,7 +7,7 @@ ghost use Rattle.rules.specs.Numbers.{SCRATCH, STACK};
 ghost use Rattle.rules.specs.Answer.{getAnswer, putAnswer};
 ghost use Rattle.calls.specs.Buffers.{zeros, zeroed};
 ghost use Rattle.calls.specs.Calls.{Answered, PutAnswered};
-ghost use Rattle.calls.specs.Door.{shut};
+ghost use Rattle.arena.specs.Door.{shut};
 ghost use Rattle.calls.specs.Reply.{Done, Refused};
 ghost use Rattle.calls.specs.Told.{Fits, outputOf};
 ghost use Rattle.calls.specs.Trips.{Stands, Unmoved};
@@ -39,16 +39,7 @@ pub fn door(need: usize, output: usize, scratch: usize, allowance: usize) -> u8
     if output < need {
         return 1;
     }
-    if scratch < rules::SCRATCH {
-        return 2;
-    }
-    if allowance == 0 {
-        return 3;
-    }
-    if rules::ALLOWANCE < allowance {
-        return 3;
-    }
-    0
+    arena::door(scratch, allowance)
 }
 
 /// The same for a call that takes no output: 2 or 3.

@@ -13,7 +13,7 @@ use Rattle.calls.specs.Reply.{Reply, Done, Refused}
 use Rattle.trips.specs.declared.Trip.{Trip}
 use Rattle.trips.specs.declared.Trip.the-variants.{Stopped}
 use Rattle.calls.specs.Calls.{Answered}
-use Rattle.calls.specs.Door.{shut, door-lent}
+use Rattle.arena.specs.Door.{shut, door-lent}
 use Rattle.calls.specs.Trips.{success-of}
 use Rattle.calls.specs.WalkCalls.{get-behind, put-behind, call-shut}
 use Rattle.trips.specs.RoundTrips.{Tripped, ListStands, PlanStays, backAndOut, outAndBack, verdict, refusal-of, first-refused, second-shut, second-judged}

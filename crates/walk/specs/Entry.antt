@@ -25,8 +25,10 @@ use Rattle.rules.specs.ExplainLaws.{forget, get-erases}
 use Rattle.rules.specs.ExplainChain.{get-chain}
 use Rattle.rules.specs.Explanation.{before, afterwards, explained, explainGet}
 use Rattle.rules.specs.Answer.{getWalk, getBytes}
-use Rattle.rules.specs.Numbers.{ALLOWANCE, LEVELS, SCRATCH, STACK}
+use Rattle.rules.specs.AnswerLaws.{Lent}
+use Rattle.rules.specs.Numbers.{LEVELS, SCRATCH, STACK}
 use Rattle.step.specs.declared.Scope.{Scope}
+use Rattle.arena.specs.Door.{shut, door-shut}
 use Rattle.walk.specs.Said.{whyIn, said-done, said-refused}
 use Rattle.walk.specs.declared.Reply.{Reply}
 use Rattle.walk.specs.declared.Reply.the-variants.{Done, Refused}
@@ -36,7 +38,7 @@ use Rattle.walk.specs.Scope.{Spanned}
 use Rattle.walk.specs.Arena.{Held, inPlan, Scoped}
 use Rattle.walk.specs.Seen.{held-short}
 use Rattle.walk.specs.declared.chain.Met.{Met}
-use Rattle.walk.specs.Whys.{Explains, nowhere, few-nodes, met-explains, done-explains}
+use Rattle.walk.specs.Whys.{lent-front, Explains, nowhere, few-nodes, met-explains, done-explains}
 use Rattle.walk.specs.Answers.{had, not-had}
 use Rattle.walk.specs.Gets.{run, Here, Asks, ToldOf}
 use Rattle.walk.specs.GetReady.{Sized}
@@ -57,13 +59,13 @@ pub data Unread (sheet plan : List ℕ) : Type 0 where
   no-sheet : {c : ℕ} → readSheet sheet ≡ refusal c → Unread sheet plan
   no-plan : {sh : Sheet} {c : ℕ} → readSheet sheet ≡ ok sh → readPlan (sh .k) plan ≡ refusal c → Unread sheet plan
 
--- a call whose outcome is w, with the arena b before and a behind it: what the arena holds, and the answer r. U: a reader refuses
+-- a call whose outcome is w, with the arena b before and a behind it: what the arena holds, and the answer r, at the door and behind it. U: a
+-- reader refuses
 pub record WalkCall (U : Type 0) (most : ℕ) (w : Out (List ℕ)) (allowance : ℕ) (b a : List ℕ) (r : Reply) : Type 0 where
   pub free : Free SCRATCH b a
   pub unread : U → a ≡ b
-  pub short : length b < SCRATCH → (r ≡ Refused 2) × (a ≡ b)
-  pub too-many : SCRATCH ≤ length b → ALLOWANCE < allowance → (r ≡ Refused 3) × (a ≡ b)
-  pub says : SCRATCH ≤ length b → allowance ≤ ALLOWANCE → Says most a r w
+  pub shuts : {c : ℕ} → c ≡ shut 0 0 (length b) allowance → (c ≡ 0 → ⊥) → (r ≡ Refused c) × (a ≡ b)
+  pub says : Lent 0 0 (length b) allowance → Says most a r w
 
 -- the sheet and the plan are read, and the scope has the plan's variables
 pub record Planned (sheet plan : List ℕ) (table : Table) (sc : Scope) (allowance : ℕ) (b : List ℕ) : Type 0 where
@@ -73,7 +75,7 @@ pub record Planned (sheet plan : List ℕ) (table : Table) (sc : Scope) (allowan
   pub is : table ≡ tableOf (ok sh)
   pub values : readPlan (sh .k) plan ≡ ok μ
   pub spanned : Spanned (sh .k) (places (starts 0 μ)) (places (map size μ)) sc
-  pub few : allowance ≤ ALLOWANCE
+  pub lent : Lent 0 0 (length b) allowance
   pub long : length b ≡ SCRATCH
 
 pub record PlanWalked (most : ℕ) (w : Out (List ℕ)) (b a : List ℕ) (r : Reply) : Type 0 where
@@ -141,7 +143,7 @@ module _ {sheet plan : List ℕ} {table : Table} {sc : Scope} {allowance : ℕ} 
     unfolding tableOf
     plan-ready = record {
       long = c .long ∙ w .long;
-      few = w .few;
+      few = w .lent .few-steps;
       base = omega arith;
       room = omega arith;
       variables = omega (arith, w .spanned .count, sheet-ranges sheet (w .read) .few-variables);
@@ -169,7 +171,7 @@ module _ {sheet plan : List ℕ} {table : Table} {sc : Scope} {allowance : ℕ} 
       unfolding run
       get-met e f g =
           let d = not-had (top .gives .told (w .sh) (w .read) (w .μ) plan-env) (said-refused a₂ LEVELS r e) in
-          rw (f, g) (met-explains a₂ r (w .sh) (table .root) (get-chain LEVELS (w .sh) (table .root) (w .μ) allowance) (d .1) (omega (arith, w .long)) (w .few)
+          rw (f, g) (met-explains a₂ r (w .sh) (table .root) (get-chain LEVELS (w .sh) (table .root) (w .μ) allowance) (d .1) (w .lent)
           explain-is)
 
       pub few-met : isRefusal r ≡ true → lenOf r ≤ 49
@@ -217,9 +219,9 @@ spanned-as : {k k′ : ℕ} {ss ss′ ls ls′ : List ℕ} {sc : Scope} → k �
 spanned-as e f g s = rw (e, f, g) at s
 
 pub planned : {sheet plan : List ℕ} {allowance : ℕ} {table : Table} {sc : Scope} {sp : Spans} (b : List ℕ)
-    → SCRATCH ≤ length b → allowance ≤ ALLOWANCE → TableRead sheet table
+    → Lent 0 0 (length b) allowance → TableRead sheet table
     → sp ≡ spansOf (table .k) plan → sp .refusal ≡ 0 → Spanned (table .k) (sp .starts) (sp .lens) sc → Planned sheet plan table sc allowance (take SCRATCH b)
-planned {plan = plan} {table = table} b room few t read z s =
+planned {plan = plan} {table = table} b l t read z s =
     let w = spread (table .k) plan (t .few) read z in
     record {
       sh = t .sh;
@@ -228,8 +230,8 @@ planned {plan = plan} {table = table} b room few t read z s =
       is = t .is;
       values = ap (λ (k : ℕ). readPlan k plan) (sym (t .k-is)) ∙ w .values;
       spanned = spanned-as (t .k-is) (w .starts-are) (w .lens-are) s;
-      few = few;
-      long = length-take-le SCRATCH b room;
+      lent = lent-front b l;
+      long = length-take-le SCRATCH b (l .scratch-long);
     }
 
 -- what stands in the front stands in the whole
@@ -244,39 +246,29 @@ nothing-moved : (b : List ℕ) → Free SCRATCH b b
 nothing-moved b = record { long = refl; behind = refl }
 
 module _ {U : Type 0} {most : ℕ} {w : Out (List ℕ)} {allowance : ℕ} {b : List ℕ} where
-  pub call-2 : length b < SCRATCH → WalkCall U most w allowance b b (Refused 2)
-  call-2 h = record {
+  pub call-shut : {c : ℕ} → c ≡ shut 0 0 (length b) allowance → (c ≡ 0 → ⊥) → WalkCall U most w allowance b b (Refused c)
+  call-shut e n = record {
     free = nothing-moved b;
     unread = λ _. refl;
-    short = λ _. (refl, refl);
-    too-many = λ k _. absurd (omega arith);
-    says = λ k _. absurd (omega arith);
+    shuts = λ f _. (ap Refused (e ∙ sym f), refl);
+    says = λ l. absurd (door-shut e n l);
   }
 
-  module _ (room : SCRATCH ≤ length b) where
-    pub call-3 : ALLOWANCE < allowance → WalkCall U most w allowance b b (Refused 3)
-    call-3 h = record {
-      free = nothing-moved b;
-      unread = λ _. refl;
-      short = λ k. absurd (omega arith);
-      too-many = λ _ _. (refl, refl);
-      says = λ _ k. absurd (omega arith);
-    }
+  module _ (l : Lent 0 0 (length b) allowance) where
+    answered : {a : List ℕ} {r : Reply} → Free SCRATCH b a → (U → a ≡ b) → Says most a r w → WalkCall U most w allowance b a r
+    answered f u s = record { free = f; unread = u; shuts = λ e n. absurd (door-shut e n l); says = λ _. s }
 
-    module _ (few : allowance ≤ ALLOWANCE) where
-      answered : {a : List ℕ} {r : Reply} → Free SCRATCH b a → (U → a ≡ b) → Says most a r w → WalkCall U most w allowance b a r
-      answered f u s = record { free = f; unread = u; short = λ k. absurd (omega arith); too-many = λ _ k. absurd (omega arith); says = λ _ _. s }
+    pub call-refused : {c n : ℕ} → w ≡ refused c n → WalkCall U most w allowance b b (Refused c)
+    call-refused e = answered (nothing-moved b) (λ _. refl) (rw e (says-refused refl))
 
-      pub call-refused : {c n : ℕ} → w ≡ refused c n → WalkCall U most w allowance b b (Refused c)
-      call-refused e = answered (nothing-moved b) (λ _. refl) (rw e (says-refused refl))
-
-      pub call-done : {a : List ℕ} {r : Reply} → (U → ⊥) → most ≤ 4096 → PlanWalked most w (take SCRATCH b) a r
-          → WalkCall U most w allowance b (a ++ drop SCRATCH b) r
-      call-done {a} {r} read t g =
-          let l : length a ≡ SCRATCH = g .long ∙ length-take-le SCRATCH b room in
-          let f : Free SCRATCH b (a ++ drop SCRATCH b) =
-          record { long = rw (length-append, length-drop) (omega arith); behind = drop-at a (drop SCRATCH b) SCRATCH l } in
-          answered f (λ u. absurd (read u)) (says-whole (drop SCRATCH b) t l (g .says))
+    pub call-done : {a : List ℕ} {r : Reply} → (U → ⊥) → most ≤ 4096 → PlanWalked most w (take SCRATCH b) a r
+        → WalkCall U most w allowance b (a ++ drop SCRATCH b) r
+    call-done {a} {r} read t g =
+        let room = l .scratch-long in
+        let long : length a ≡ SCRATCH = g .long ∙ length-take-le SCRATCH b room in
+        let f : Free SCRATCH b (a ++ drop SCRATCH b) =
+        record { long = rw (length-append, length-drop) (omega arith); behind = drop-at a (drop SCRATCH b) SCRATCH long } in
+        answered f (λ u. absurd (read u)) (says-whole (drop SCRATCH b) t long (g .says))
 
 -- what was read is not refused
 pub all-read : {sheet plan : List ℕ} {sh : Sheet} {μ : List Value} → readSheet sheet ≡ ok sh → readPlan (sh .k) plan ≡ ok μ → Unread sheet plan → ⊥

@@ -221,7 +221,7 @@ module _ {sheet plan view : List ℕ} {table : Table} {sc : Scope} {allowance : 
     unfolding tableOf
     put-ready = record {
       long = c .long ∙ w .long;
-      few = w .few;
+      few = w .lent .few-steps;
       base = omega arith;
       room = omega arith;
       variables = omega (arith, few-variables);
@@ -249,7 +249,7 @@ module _ {sheet plan view : List ℕ} {table : Table} {sc : Scope} {allowance : 
       unfolding run
       put-met e f h =
           let d = not-had (g .told put-given) (said-refused a LEVELS r e) in
-          rw (f, h) (met-explains a r (w .sh) (table .root) walk-chain (d .1) (omega (arith, w .long)) (w .few) explain-put)
+          rw (f, h) (met-explains a r (w .sh) (table .root) walk-chain (d .1) (w .lent) explain-put)
 
       pub few-met : isRefusal r ≡ true → lenOf r ≤ 49
       unfolding run

@@ -7,7 +7,8 @@ use native.Mathlib.Omega.{arith}
 use lib.ListN.{length, take, drop, List·getD-append}
 use lib.Seq.{length-take-le}
 use Rattle.answer.specs.Answer.{codeOf, lenOf, startOf}
-use Rattle.rules.specs.Numbers.{ALLOWANCE, LEVELS, SCRATCH, CHAIN}
+use Rattle.rules.specs.Numbers.{LEVELS, SCRATCH, CHAIN}
+use Rattle.rules.specs.AnswerLaws.{Lent}
 use Rattle.rules.specs.Explain.{Why, Told, got, met}
 use Rattle.rules.specs.ExplainChain.{Chain, Meets, stop}
 use Rattle.rules.specs.Explanation.{Explanation, success, before, walked, explained}
@@ -59,24 +60,20 @@ metBy (walked y) = record { depth = length (y .chain); first = numbered (y .firs
 -- a call with the arena b before and a behind it explains e, where the arena and the allowance will do; it is met nowhere where they will not
 pub record Explains (e : Explanation) (allowance : ℕ) (b a : List ℕ) (w : Reply) (m : Met) : Type 0 where
   pub few : m .depth ≤ 49
-  pub why : SCRATCH ≤ length b → allowance ≤ ALLOWANCE → whyOf a w m ≡ e
-  pub place : SCRATCH ≤ length b → allowance ≤ ALLOWANCE → m ≡ metBy e
-  pub idle : (SCRATCH ≤ length b → allowance ≤ ALLOWANCE → ⊥) → m ≡ nowhere
+  pub why : Lent 0 0 (length b) allowance → whyOf a w m ≡ e
+  pub place : Lent 0 0 (length b) allowance → m ≡ metBy e
+  pub idle : (Lent 0 0 (length b) allowance → ⊥) → m ≡ nowhere
 
 -- A REFUSAL FROM BEFORE THE WALK
 
 module _ {e : Explanation} {allowance : ℕ} {b : List ℕ} {c : ℕ} where
-  pub unmet-2 : length b < SCRATCH → Explains e allowance b b (Refused c) nowhere
+  pub unmet-shut : (Lent 0 0 (length b) allowance → ⊥) → Explains e allowance b b (Refused c) nowhere
   unfolding nowhere
-  unmet-2 h = record { few = omega arith; why = λ k _. absurd (omega arith); place = λ k _. absurd (omega arith); idle = λ _. refl }
-
-  pub unmet-3 : ALLOWANCE < allowance → Explains e allowance b b (Refused c) nowhere
-  unfolding nowhere
-  unmet-3 h = record { few = omega arith; why = λ _ k. absurd (omega arith); place = λ _ k. absurd (omega arith); idle = λ _. refl }
+  unmet-shut n = record { few = omega arith; why = λ l. absurd (n l); place = λ l. absurd (n l); idle = λ _. refl }
 
   pub unmet : e ≡ before c → Explains e allowance b b (Refused c) nowhere
   unfolding nowhere whyOf metAt metBy
-  unmet f = record { few = omega arith; why = λ _ _. sym f; place = λ _ _. sym (ap metBy f); idle = λ _. refl }
+  unmet f = record { few = omega arith; why = λ _. sym f; place = λ _. sym (ap metBy f); idle = λ _. refl }
 
 -- THE WALK FROM THE ROOT: its answer r, and what the rules give under the allowance
 
@@ -118,10 +115,9 @@ module _ {A : Type 0} (a : List ℕ) (r : ℕ) (sh : Sheet) (n : ℕ) {t : Told 
       first zero = refl
       first (suc n) = refl
 
-  pub met-explains : {e : Explanation} {allowance : ℕ} {b : List ℕ} → SCRATCH ≤ length b → allowance ≤ ALLOWANCE → e ≡ explained t
+  pub met-explains : {e : Explanation} {allowance : ℕ} {b : List ℕ} → Lent 0 0 (length b) allowance → e ≡ explained t
       → Explains e allowance b a (Refused (codeOf r)) (record { depth = lenOf r; first = startOf r })
-  met-explains room few f =
-      record { few = few-nodes; why = λ _ _. met-why ∙ sym f; place = λ _ _. met-place ∙ sym (ap metBy f); idle = λ n. absurd (n room few) }
+  met-explains l f = record { few = few-nodes; why = λ _. met-why ∙ sym f; place = λ _. met-place ∙ sym (ap metBy f); idle = λ n. absurd (n l) }
 
 done-why : {A : Type 0} (a : List ℕ) (len n : ℕ) (m : Met) {s : ℕ} {t : Told A} {v : A} → t ≡ got v s → whyOf a (Done len n) m ≡ explained t
 unfolding whyOf explained
@@ -135,7 +131,7 @@ pub done-explains : {A : Type 0} {a b : List ℕ} {len n s allowance : ℕ} {t :
     → Explains e allowance b a (Done len n) nowhere
 unfolding nowhere
 done-explains d f =
-    record { few = omega arith; why = λ _ _. done-why _ _ _ _ d ∙ sym f; place = λ _ _. done-place d ∙ sym (ap metBy f); idle = λ _. refl }
+    record { few = omega arith; why = λ _. done-why _ _ _ _ d ∙ sym f; place = λ _. done-place d ∙ sym (ap metBy f); idle = λ _. refl }
 
 -- THE WHOLE ARENA, of which the walk has the front
 
@@ -149,19 +145,25 @@ unfolding metAt
 met-front a x c zero first h l = refl
 met-front a x c (suc d) first h l = rw (bytes-front a x CHAIN (suc d) (omega arith)) refl
 
-pub explains-whole : {e : Explanation} {allowance : ℕ} {b a : List ℕ} {w : Reply} {m : Met} → SCRATCH ≤ length b → length a ≡ SCRATCH
+-- a front of 65,536 bytes will do where the whole does
+pub lent-front : {allowance : ℕ} (b : List ℕ) → Lent 0 0 (length b) allowance → Lent 0 0 (length (take SCRATCH b)) allowance
+lent-front b l = record {
+  output-long = l .output-long;
+  scratch-long = rw (length-take-le SCRATCH b (l .scratch-long)) (omega arith);
+  some-steps = l .some-steps;
+  few-steps = l .few-steps;
+}
+
+pub explains-whole : {e : Explanation} {allowance : ℕ} {b a : List ℕ} {w : Reply} {m : Met} → Lent 0 0 (length b) allowance → length a ≡ SCRATCH
     → Explains e allowance (take SCRATCH b) a w m → Explains e allowance b (a ++ drop SCRATCH b) w m
 unfolding whyOf
-explains-whole {e} {allowance} {b} {a} {w} {m} room l x = record {
+explains-whole {e} {allowance} {b} {a} {w} {m} lent l x = record {
   few = x .few;
-  why = λ _ k. go w (x .why long k);
-  place = λ _ k. x .place long k;
-  idle = λ n. x .idle (λ _ k. n room k);
+  why = λ _. go w (x .why (lent-front b lent));
+  place = λ _. x .place (lent-front b lent);
+  idle = λ n. absurd (n lent);
 }
   where
-    long : SCRATCH ≤ length (take SCRATCH b)
-    long = rw (length-take-le SCRATCH b room) (omega arith)
-
     go : (w : Reply) → whyOf a w m ≡ e → whyOf (a ++ drop SCRATCH b) w m ≡ e
     go (Done len n) h = h
     go (Refused c) h = met-front a (drop SCRATCH b) c (m .depth) (m .first) (x .few) l ∙ h

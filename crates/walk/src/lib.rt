@@ -37,6 +37,7 @@ use answer::is_refused;
 use answer::len_of;
 use answer::steps_of;
 use arena::bits_of;
+use arena::door;
 pub use chain::Met;
 use sheet::Table;
 use starts::NewPlan;
@@ -110,17 +111,15 @@ fn get_plan(
 }
 
 /// Get: the value of a sheet's root for a plan, at byte 32,256 of the arena, of which the first 65,536 bytes are
-/// used; and where a refusal was met. Where the sheet or the plan is refused the arena is as it was; otherwise those bytes are free, and may hold
-/// anything, but for a refusal's chain.
+/// used; and where a refusal was met. Where the door stays shut, and where the sheet or the plan is refused, the arena is as it was; otherwise those
+/// bytes are free, and may hold anything, but for a refusal's chain.
 pub fn get(sheet: &[u8], plan: &[u8], allowance: usize, arena: &mut [u8]) -> GetWalked
     ensures { λ r. ⌜ WalkCall (Unread (now (sheet .entry)) (now (plan .entry))) GET-OUTPUT (getBytes (now (sheet .entry)) (now (plan .entry)) allowance) allowance (now (arena .entry)) (now (arena .exit)) (r .walked) ⌝ }
     ensures { λ r. ⌜ Explains (explainGet (now (sheet .entry)) (now (plan .entry)) allowance) allowance (now (arena .entry)) (now (arena .exit)) (r .walked) (r .met) ⌝ }
 {
-    if arena.len() < rules::SCRATCH {
-        return unread(2);
-    }
-    if rules::ALLOWANCE < allowance {
-        return unread(3);
+    let shut = door(arena.len(), allowance);
+    if shut != 0 {
+        return unread(shut);
     }
     let table = sheet::read_sheet(sheet);
     if table.refusal != 0 {
@@ -234,19 +233,17 @@ fn put_plan(
 }
 
 /// Put: the plan for which a sheet's root is the view, at byte 32,256 of the arena, of which the first 65,536 bytes are
-/// used, where its values start, which variables took a view, and where a refusal was met. Where the sheet, the plan or the view is refused the
-/// arena is as it was; otherwise those bytes are free, and may hold anything, but for a refusal's chain.
+/// used, where its values start, which variables took a view, and where a refusal was met. Where the door stays shut, and where the sheet, the plan
+/// or the view is refused, the arena is as it was; otherwise those bytes are free, and may hold anything, but for a refusal's chain.
 pub fn put(sheet: &[u8], plan: &[u8], view: &[u8], allowance: usize, arena: &mut [u8]) -> PutWalked
     ensures { λ r. ⌜ WalkCall (PutUnread (now (sheet .entry)) (now (plan .entry)) (now (view .entry))) PUT-OUTPUT (putBytes (now (sheet .entry)) (now (plan .entry)) (now (view .entry)) allowance) allowance (now (arena .entry)) (now (arena .exit)) (r .walked) ⌝ }
     ensures { λ r. ⌜ r .starts ≡ newStarts (now (sheet .entry)) (now (arena .exit)) (r .walked) ⌝ }
     ensures { λ r. ⌜ r .written ≡ newWritten (now (sheet .entry)) (now (plan .entry)) (now (view .entry)) allowance (r .walked) ⌝ }
     ensures { λ r. ⌜ Explains (explainPut (now (sheet .entry)) (now (plan .entry)) (now (view .entry)) allowance) allowance (now (arena .entry)) (now (arena .exit)) (r .walked) (r .met) ⌝ }
 {
-    if arena.len() < rules::SCRATCH {
-        return refused(2, nowhere());
-    }
-    if rules::ALLOWANCE < allowance {
-        return refused(3, nowhere());
+    let shut = door(arena.len(), allowance);
+    if shut != 0 {
+        return refused(shut, nowhere());
     }
     let table = sheet::read_sheet(sheet);
     if table.refusal != 0 {

@@ -3,7 +3,7 @@ use native.Mathlib.Omega.{arith}
 use lib.ListN.{length}
 use Rattle.rules.specs.AnswerLaws.{Lent}
 use Rattle.calls.specs.Buffers.{cleared-whole}
-use Rattle.calls.specs.Door.{door-lent}
+use Rattle.arena.specs.Door.{door-lent}
 use Rattle.accepts.specs.Calls.{shut-told, behind}
 use borrow.Author.Needs.{needs}
 use Rattle.accepts.proofs.accepts.Statement.{statement}

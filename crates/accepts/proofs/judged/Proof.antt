@@ -94,7 +94,7 @@ beside c =
       view-read = view-read v .read;
       ν = new-read e .vs;
       new-read = new-read e .read;
-      says = got c .get .ensures .0 .says (l .scratch-long) (l .few-steps);
+      says = got c .get .ensures .0 .says l;
       told = c .listed .ensures;
     }
 
@@ -149,7 +149,7 @@ listed-requires c κs =
     let g = walked c in
     let l = entry (all g) .pre in
     let w = g .get .ensures .0 in
-    built (w .says (l .scratch-long) (l .few-steps)) (omega (arith, w .free .long, l .scratch-long))
+    built (w .says l) (omega (arith, w .free .long, l .scratch-long))
 
 is-kept-requires : tie.Need-is-kept-requires
 is-kept-requires c κs =

@@ -1,7 +1,9 @@
--- `door` meets its contract: a return for each refusal, and one where it opens. Assumes nothing.
+-- `door` meets its contract: refused for the output, or else what the walk's door says. Assumes nothing.
+use mathlib.Core.Path.{_∙_}
 use native.Mathlib.Omega.{arith}
-use Rattle.rules.specs.AnswerLaws.{door-output, door-scratch, door-none, door-over}
-use Rattle.calls.specs.Door.{shut-is, shut-open}
+use Rattle.rules.specs.AnswerLaws.{door-output}
+use Rattle.arena.specs.Door.{shut-is, past-output}
+use borrow.Author.Needs.{needs}
 use Rattle.calls.proofs.door.Statement.{statement}
 use Rattle.calls.proofs.door.Tie as tie
 
@@ -9,16 +11,7 @@ returns : tie.Need-returns
 returns c = shut-is _ _ _ _ (door-output _ _ _ _ _ (omega arith))
 
 returns-2 : tie.Need-returns-2
-returns-2 c = shut-is _ _ _ _ (door-scratch _ _ _ _ _ (omega arith) (omega arith))
-
-returns-3 : tie.Need-returns-3
-returns-3 c = shut-is _ _ _ _ (door-none _ _ _ _ _ (omega arith) (omega arith) (omega arith))
-
-returns-4 : tie.Need-returns-4
-returns-4 c = shut-is _ _ _ _ (door-over _ _ _ _ _ (omega arith) (omega arith) (omega arith))
-
-returns-5 : tie.Need-returns-5
-returns-5 c = shut-open (record { output-long = omega arith; scratch-long = omega arith; some-steps = omega arith; few-steps = omega arith })
+returns-2 c = c .door .ensures ∙ past-output (omega arith) _ _
 
 pub door-spec : {M : Type 1} → statement M
-door-spec = tie.close (tie.spec returns returns-2 returns-3 returns-4 returns-5)
+door-spec = tie.close (tie.spec returns (λ c κs. search needs) returns-2)

@@ -2,7 +2,7 @@
 use lib.ListN.{length}
 use Rattle.rules.specs.Numbers.{GET-OUTPUT}
 use Rattle.rules.specs.AnswerLaws.{Lent}
-use Rattle.calls.specs.Door.{door-lent}
+use Rattle.arena.specs.Door.{door-lent}
 use Rattle.calls.specs.Trips.{with-unmoved}
 use Rattle.calls.specs.WalkCalls.{get-behind, call-shut, call-fits, call-told}
 use borrow.Author.Needs.{needs}

@@ -3,7 +3,7 @@ use mathlib.Core.Path.{_∙_}
 use lib.ListN.{length}
 use Rattle.rules.specs.Numbers.{PUT-OUTPUT}
 use Rattle.rules.specs.AnswerLaws.{Lent}
-use Rattle.calls.specs.Door.{door-lent}
+use Rattle.arena.specs.Door.{door-lent}
 use Rattle.calls.specs.Trips.{with-stands}
 use Rattle.calls.specs.WalkCalls.{put-behind, none-refused, clear-refused, call-shut, call-fits, call-told, call-starts, call-written}
 use borrow.Author.Needs.{needs}

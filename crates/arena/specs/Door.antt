@@ -1,4 +1,4 @@
--- The door of a call: what it refuses before anything is read.
+-- The door of a walk and of a call: what it refuses before anything is read. A walk asks for no output.
 use mathlib.Core.Path.{_≡_, refl, sym, ap, _∙_}
 use mathlib.Core.Bool.{true}
 use mathlib.Core.List.{List, []}
@@ -8,6 +8,7 @@ use native.Mathlib.Decide.{decLe}
 use lib.Dec.{leb}
 use Rattle.rules.specs.Numbers.{ALLOWANCE, SCRATCH}
 use Rattle.rules.specs.Outcome.{Out, done, refused}
+use Rattle.rules.specs.OutcomeLaws.{given-yes}
 use Rattle.rules.specs.Answer.{door}
 use Rattle.rules.specs.AnswerLaws.{Lent, door-open, door-output, door-scratch, door-none, door-over}
 
@@ -30,6 +31,12 @@ pub shut-is : (need output scratch allowance : ℕ) {c : ℕ} → door need outp
     → c ≡ shut need output scratch allowance
 unfolding shut number
 shut-is need output scratch allowance e = sym (ap number e)
+
+-- where the output will do, the door of a call is that of the walk
+pub past-output : {need output : ℕ} → need ≤ output → (scratch allowance : ℕ) → shut 0 0 scratch allowance ≡ shut need output scratch allowance
+unfolding shut door
+past-output {need} {output} h scratch allowance =
+    ap number (given-yes 1 (decLe 0 0) (omega arith) ∙ sym (given-yes 1 (decLe need output) h))
 
 module _ {need output scratch allowance : ℕ} where
   pub shut-open : Lent need output scratch allowance → 0 ≡ shut need output scratch allowance
@@ -60,3 +67,7 @@ module _ {need output scratch allowance : ℕ} where
       go : {k : ℕ} → Door need output scratch allowance k → k ≡ 0 → Lent need output scratch allowance
       go (opens l) y = l
       go (shuts h l f) y = absurd (omega arith)
+
+  -- it stays shut, so that not all is lent
+  pub door-shut : {c : ℕ} → c ≡ shut need output scratch allowance → (c ≡ 0 → ⊥) → Lent need output scratch allowance → ⊥
+  door-shut e n l = n (e ∙ sym (shut-open l))
