@@ -7,16 +7,13 @@ use lib.Seq.{paste}
 use lib.Dec.{eqb}
 use Rattle.value.specs.Parts.{sameBytes}
 use Rattle.answer.specs.Answer.{doneAs, refusedBy}
-use Rattle.step.specs.Step.{When, where-so, noteOf, notedLen, notedBy, judged}
+use Rattle.rules.specs.Numbers.{VARIABLES, SLOT}
+use Rattle.step.specs.Step.{When, where-so, noteOf, notedLen, notedBy, slotOf, judged}
 use Rattle.step.specs.StepLaws.{where-is, where-not, when-in, when-out}
-
--- where the slot of a cell starts in the arena
-abbrev pub slotOf : ℕ → ℕ
-slotOf c = 4096 + 256 * c
 
 -- there is such a cell, whose slot is in the arena, such a node, and a value of so many bytes
 abbrev pub Takes : (arena : List ℕ) (c node : ℕ) (view : List ℕ) → Type 0
-Takes a c x v = (c < 110) × (slotOf c + 256 ≤ length a) × (x < 255) × (1 ≤ length v) × (length v ≤ 256)
+Takes a c x v = (c < VARIABLES) × (slotOf c + SLOT ≤ length a) × (x < 255) × (1 ≤ length v) × (length v ≤ SLOT)
 
 -- one thing where nothing was written to the cell, another where something was
 abbrev pub unwritten : {A : Type 0} (slots : List ℕ) (c : ℕ) → A → A → A

@@ -34,16 +34,22 @@ pub fn door(scratch: usize, allowance: usize) -> u8
 
 /// A view for the cell c: the node writes it where nothing was written, and it is noted; or else it must equal what was. Nothing changes, and
 /// the answer is 42, where there is no such cell or slot, no node has that number, or no value has that many bytes.
-pub fn write(arena: &mut [u8], slots: &mut [u16; 110], c: usize, node: usize, view: &[u8]) -> usize
+pub fn write(
+    arena: &mut [u8],
+    slots: &mut [u16; rules::VARIABLES],
+    c: usize,
+    node: usize,
+    view: &[u8],
+) -> usize
     ensures { λ r. ⌜ When (Takes (now (arena .entry)) c node (now (view .entry))) r (writeAnswer (now (arena .entry)) (now (slots .entry)) c (now (view .entry))) 42 ⌝ }
     ensures { λ _. ⌜ When (Takes (now (arena .entry)) c node (now (view .entry))) (now (arena .exit)) (writtenBytes (now (arena .entry)) (now (slots .entry)) c (now (view .entry))) (now (arena .entry)) ⌝ }
     ensures { λ _. ⌜ When (Takes (now (arena .entry)) c node (now (view .entry))) (now (slots .exit)) (writtenNotes (now (slots .entry)) c node (now (view .entry))) (now (slots .entry)) ⌝ }
 {
-    if 110 <= c {
+    if rules::VARIABLES <= c {
         return refused(42);
     }
     let slot = step::slot_of(c);
-    if arena.len() < slot + 256 {
+    if arena.len() < slot + rules::SLOT {
         return refused(42);
     }
     if 254 < node {
@@ -53,7 +59,7 @@ pub fn write(arena: &mut [u8], slots: &mut [u16; 110], c: usize, node: usize, vi
     if len == 0 {
         return refused(42);
     }
-    if 256 < len {
+    if rules::SLOT < len {
         return refused(42);
     }
     let note = slots[c];
@@ -110,7 +116,7 @@ fn counted(k: usize) -> usize
 }
 
 /// Which of the first k cells took a view: bit i for cell i. A plan has at most 16 variables, and no cell behind them has a bit.
-pub fn bits_of(slots: &[u16; 110], k: usize) -> u16
+pub fn bits_of(slots: &[u16; rules::VARIABLES], k: usize) -> u16
     ensures { λ r. ⌜ r ≡ bitsOf (filledFrom (now (slots .entry)) 0 (min k 16)) ⌝ }
 {
     let mut bits = 0;

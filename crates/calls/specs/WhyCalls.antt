@@ -9,7 +9,7 @@ use borrow.Author.Tests.{lt-leb}
 use lib.Dec.{leb}
 use lib.ListN.{length, take, drop, replicate}
 use lib.Seq.{paste, drop-cons}
-use Rattle.rules.specs.Numbers.{ALLOWANCE, SCRATCH, CHAIN}
+use Rattle.rules.specs.Numbers.{ALLOWANCE, SCRATCH, CHAIN, CHAIN-MAX}
 use Rattle.rules.specs.Outcome.{Out, done, refused}
 use Rattle.rules.specs.Answer.{getBytes, putBytes}
 use Rattle.rules.specs.AnswerLaws.{Lent, door-scratch, door-none, door-over}
@@ -84,18 +84,18 @@ module _ (a : List ℕ) (c d f : ℕ) where
   unfolding toldAs metAt
   met-none e = rw e
 
-  pub met-some : (d ≡ 0 → ⊥) → d ≤ 49 → SCRATCH ≤ length a → {nodes : List ℕ} → nodes ≡ paste (replicate 49 0) 0 (drop CHAIN a) d
+  pub met-some : (d ≡ 0 → ⊥) → d ≤ CHAIN-MAX → SCRATCH ≤ length a → {nodes : List ℕ} → nodes ≡ paste (replicate CHAIN-MAX 0) 0 (drop CHAIN a) d
       → record { refusal = c; depth = d; chain = nodes; first = f } ≡ toldAs (metAt a c d f)
   unfolding toldAs metAt
   met-some z h l {nodes} e = go d z h (bytes-taken a CHAIN d (omega arith)) e
     where
-      go : (k : ℕ) → (k ≡ 0 → ⊥) → k ≤ 49 → bytesAt a CHAIN k ≡ take k (drop CHAIN a) → nodes ≡ paste (replicate 49 0) 0 (drop CHAIN a) k
+      go : (k : ℕ) → (k ≡ 0 → ⊥) → k ≤ CHAIN-MAX → bytesAt a CHAIN k ≡ take k (drop CHAIN a) → nodes ≡ paste (replicate CHAIN-MAX 0) 0 (drop CHAIN a) k
           → record { refusal = c; depth = k; chain = nodes; first = f } ≡ toldAs (metAt a c k f)
       go zero z h t e = absurd (z refl)
       go (suc k) z h t e =
           let b = bytesAt a CHAIN (suc k) in
           let n : length b ≡ suc k = length-bytes a CHAIN (suc k) in
-          told-parts (sym n) (e ∙ at-front (replicate 49 0) a b CHAIN (suc k) (sym t) ∙ firsts-zeros 49 b (suc k) n h) (sym (first-back f))
+          told-parts (sym n) (e ∙ at-front (replicate CHAIN-MAX 0) a b CHAIN (suc k) (sym t) ∙ firsts-zeros CHAIN-MAX b (suc k) n h) (sym (first-back f))
 
 -- THE DOOR
 
@@ -208,12 +208,12 @@ module _ {allowance : ℕ} {s a : List ℕ} (l : Lent 0 0 (length s) allowance) 
 
 -- ITS NODES
 
-told-long : (e : Explanation) → length (toldAs e .chain) ≡ 49
+told-long : (e : Explanation) → length (toldAs e .chain) ≡ CHAIN-MAX
 unfolding toldAs unmet
-told-long success = length-firsts 49 []
-told-long (before c) = length-firsts 49 []
-told-long (walked y) = length-firsts 49 (y .chain)
+told-long success = length-firsts CHAIN-MAX []
+told-long (before c) = length-firsts CHAIN-MAX []
+told-long (walked y) = length-firsts CHAIN-MAX (y .chain)
 
 module _ {e : Explanation} {w : Told} {s s′ : List ℕ} (h : WhyAnswered e w s s′) where
-  pub nodes-long : length (w .chain) ≡ 49
+  pub nodes-long : length (w .chain) ≡ CHAIN-MAX
   nodes-long = ap (λ (x : Told). length (x .chain)) (h .answer) ∙ told-long e

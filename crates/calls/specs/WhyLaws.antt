@@ -7,7 +7,7 @@ use native.Mathlib.Omega.{arith}
 use lib.ListN.{length}
 use Rattle.value.specs.Result.{ok}
 use Rattle.sheet.specs.Sheet.{Sheet, readSheet}
-use Rattle.rules.specs.Numbers.{GET-OUTPUT, PUT-OUTPUT}
+use Rattle.rules.specs.Numbers.{GET-OUTPUT, PUT-OUTPUT, CHAIN-MAX}
 use Rattle.rules.specs.Answer.{Answer, refusal, getAnswer, putAnswer}
 use Rattle.rules.specs.Answer as Answer
 use Rattle.rules.specs.Refusals.{Stated, stated-small, get-refusals, put-refusals}
@@ -85,8 +85,8 @@ pub record Way (sheet : List ℕ) (w : Told) : Type 0 where
   pub rest : List ℕ
   pub begins : nodes w ≡ sh .root ∷ rest
   pub leads : Leads sh (sh .root) rest
-  pub few : w .depth ≤ 49
-  pub deepest : w .refusal ≡ 40 → w .depth ≡ 49
+  pub few : w .depth ≤ CHAIN-MAX
+  pub deepest : w .refusal ≡ 40 → w .depth ≡ CHAIN-MAX
 
 pub firsts-back : (n : ℕ) (l : List ℕ) → length l ≤ n → firsts (length l) (firsts n l) ≡ l
 firsts-back n [] h = refl
@@ -104,7 +104,7 @@ told-way (walked y) t z =
       sh = c .0;
       read = c .1;
       rest = c .2 .rest;
-      begins = firsts-back 49 (y .chain) (d .1) ∙ c .2 .begins;
+      begins = firsts-back CHAIN-MAX (y .chain) (d .1) ∙ c .2 .begins;
       leads = c .2 .leads;
       few = d .1;
       deepest = chain-deepest (c .2);
@@ -122,7 +122,7 @@ why-put-way sheet plan view allowance scratch = told-way _ (why-put-traced sheet
 abbrev pub Proper : Explanation → Type 0
 Proper success = Unit
 Proper (before c) = (1 ≤ c) × (c < 256)
-Proper (walked y) = ((1 ≤ y .code) × (y .code < 256)) × ((1 ≤ depth y) × (depth y ≤ 49)) × Named y
+Proper (walked y) = ((1 ≤ y .code) × (y .code < 256)) × ((1 ≤ depth y) × (depth y ≤ CHAIN-MAX)) × Named y
 
 stated : (a : Answer) {c : ℕ} → ((k : ℕ) → a ≡ refusal k → Stated k) → some c ≡ answerNumber a → (1 ≤ c) × (c < 256)
 unfolding answerNumber
@@ -149,11 +149,11 @@ why-put-proper sheet plan view allowance scratch =
     (why-put-traced sheet plan view allowance scratch) λ y. why-put-named sheet plan view allowance scratch {y = y}
 
 -- so what the code has fits the 49 bytes of its chain
-told-few : (e : Explanation) → Proper e → toldAs e .depth ≤ 49
+told-few : (e : Explanation) → Proper e → toldAs e .depth ≤ CHAIN-MAX
 unfolding toldAs unmet
 told-few success p = omega arith
 told-few (before c) p = omega arith
 told-few (walked y) p = p .1 .1
 
-pub why-few : {e : Explanation} {w : Told} {s s′ : List ℕ} → Proper e → WhyAnswered e w s s′ → w .depth ≤ 49
+pub why-few : {e : Explanation} {w : Told} {s s′ : List ℕ} → Proper e → WhyAnswered e w s s′ → w .depth ≤ CHAIN-MAX
 why-few {e} p h = rw (h .answer) (told-few e p)

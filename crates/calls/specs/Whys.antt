@@ -7,13 +7,14 @@ use lib.Dec.{leb}
 use lib.ListN.{length}
 use Rattle.rules.specs.Explanation.{Explanation, success, before, walked}
 use Rattle.starts.specs.Starts.{firsts}
+use Rattle.rules.specs.Numbers.{CHAIN-MAX}
 use Rattle.calls.specs.declared.why.Explanation.{Explanation as Told}
 use Rattle.calls.specs.Buffers.{zeroed}
 use Rattle.calls.specs.Calls.{afterRefusal}
 
 -- no node: a success (0), or a refusal from before the walk
 unfoldable pub unmet : ℕ → Told
-unmet c = record { refusal = c; depth = 0; chain = firsts 49 []; first = 0 }
+unmet c = record { refusal = c; depth = 0; chain = firsts CHAIN-MAX []; first = 0 }
 
 -- one more than the node that wrote first; 0 where there is none
 unfoldable pub firstNumber : Option ℕ → ℕ
@@ -24,7 +25,7 @@ firstNumber (some n) = suc n
 unfoldable pub toldAs : Explanation → Told
 toldAs success = unmet 0
 toldAs (before c) = unmet c
-toldAs (walked y) = record { refusal = y .code; depth = length (y .chain); chain = firsts 49 (y .chain); first = firstNumber (y .first) }
+toldAs (walked y) = record { refusal = y .code; depth = length (y .chain); chain = firsts CHAIN-MAX (y .chain); first = firstNumber (y .first) }
 
 -- refusals 2 and 3 do not touch scratch; every other ending zeroes its first 65,536 bytes and touches no others
 unfoldable pub whyCleared : Explanation → List ℕ → List ℕ

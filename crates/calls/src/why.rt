@@ -2,7 +2,7 @@
 ghost use mathlib.Core.Path.{_≡_};
 ghost use Prim.Native.Nat.{_≤_};
 ghost use lib.ListN.{length};
-ghost use Rattle.rules.specs.Numbers.{SCRATCH};
+ghost use Rattle.rules.specs.Numbers.{SCRATCH, CHAIN-MAX};
 ghost use Rattle.rules.specs.Explanation.{whyGet, whyPut};
 ghost use Rattle.walk.specs.Whys.{metAt, whyOf};
 ghost use Rattle.calls.specs.Whys.{unmet, toldAs, WhyAnswered};
@@ -17,7 +17,7 @@ use walk::Reply;
 pub struct Explanation {
     pub refusal: u8,
     pub depth: u8,
-    pub chain: [u8; 49],
+    pub chain: [u8; rules::CHAIN_MAX],
     pub first: u16,
 }
 
@@ -25,7 +25,7 @@ pub struct Explanation {
 fn unmet(refusal: u8) -> Explanation
     ensures { λ r. ⌜ r ≡ unmet refusal ⌝ }
 {
-    let chain = [0u8; 49];
+    let chain = [0u8; rules::CHAIN_MAX];
     Explanation {
         refusal,
         depth: 0,
@@ -36,14 +36,14 @@ fn unmet(refusal: u8) -> Explanation
 
 // A refusal behind the door, whose chain stands in scratch.
 fn refused(refusal: u8, met: Met, scratch: &[u8]) -> Explanation
-    requires { ⌜ (met .depth ≤ 49) × (SCRATCH ≤ length (now scratch)) ⌝ }
+    requires { ⌜ (met .depth ≤ CHAIN-MAX) × (SCRATCH ≤ length (now scratch)) ⌝ }
     ensures { λ r. ⌜ r ≡ toldAs (metAt (now (scratch .entry)) refusal (met .depth) (met .first)) ⌝ }
 {
     let depth = met.depth;
     if depth == 0 {
         return unmet(refusal);
     }
-    let mut chain = [0u8; 49];
+    let mut chain = [0u8; rules::CHAIN_MAX];
     copy_out(scratch, rules::CHAIN, depth as usize, &mut chain, 0);
     let first = met.first;
     Explanation {
@@ -56,7 +56,7 @@ fn refused(refusal: u8, met: Met, scratch: &[u8]) -> Explanation
 
 // A walk's answer, explained.
 fn explained(walked: Reply, met: Met, scratch: &[u8]) -> Explanation
-    requires { ⌜ (met .depth ≤ 49) × (SCRATCH ≤ length (now scratch)) ⌝ }
+    requires { ⌜ (met .depth ≤ CHAIN-MAX) × (SCRATCH ≤ length (now scratch)) ⌝ }
     ensures { λ r. ⌜ r ≡ toldAs (whyOf (now (scratch .entry)) walked met) ⌝ }
 {
     match walked {

@@ -10,7 +10,7 @@ use Rattle.value.specs.Result.{Result, ok, refusal}
 use Rattle.value.specs.Value.{Value, vfalse, encode, flat}
 use Rattle.value.specs.Reading.{readPlan, readView}
 use Rattle.sheet.specs.Sheet.{Sheet, readSheet}
-use Rattle.rules.specs.Numbers.{LEVELS, ALLOWANCE, SCRATCH}
+use Rattle.rules.specs.Numbers.{LEVELS, ALLOWANCE, SCRATCH, GET-OUTPUT, PUT-OUTPUT}
 use Rattle.rules.specs.Outcome.{Out, mapOut, reading}
 use Rattle.rules.specs.Allowance.{within}
 use Rattle.rules.specs.Rules.{Env, get, put}
@@ -99,12 +99,12 @@ module _ {P : ℕ → Type 0} {f g : ℕ → ℕ} {sh sh′ : Sheet} (held : Hol
 
     pub get-answer-same : (output scratch : ℕ) → getAnswer s′ plan allowance output scratch ≡ getAnswer s plan allowance output scratch
     unfolding getAnswer getBytes reading
-    get-answer-same output scratch = ap (λ o. answer (door 256 output scratch allowance o))
+    get-answer-same output scratch = ap (λ o. answer (door GET-OUTPUT output scratch allowance o))
         (rw (e, e′) (reading-same (readPlan (sh .k) plan) same-plan λ μ. ap (mapOut encode) (get-walk-same allowance μ)))
 
     pub put-answer-same : (view : List ℕ) (output scratch : ℕ) → putAnswer s′ plan view allowance output scratch ≡ putAnswer s plan view allowance output scratch
     unfolding putAnswer putBytes reading
-    put-answer-same view output scratch = ap (λ o. answer (door 4096 output scratch allowance o))
+    put-answer-same view output scratch = ap (λ o. answer (door PUT-OUTPUT output scratch allowance o))
         (rw (e, e′) (reading-same (readPlan (sh .k) plan) same-plan λ μ. reading-same (readView view) refl λ vs.
         ap (mapOut (λ X. flat (newPlan X μ))) (put-walk-same allowance μ (getD vs 0 vfalse))))
 

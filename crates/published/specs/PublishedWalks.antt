@@ -108,7 +108,7 @@ module _ (a : ℕ) (sh : Sheet) (μ : Env) (v : Value) where
   unfolding getWalk
   get-walk-complete d = get-complete sh (sh .root) μ v LEVELS a d
 
-  pub get-walk-exact : (d : Get sh μ (residual sh (sh .root)) v) → getCost d .height ≤ 48 → getCost d .nodes ≤ a → Exactly (getCost d) v (getWalk a sh μ)
+  pub get-walk-exact : (d : Get sh μ (residual sh (sh .root)) v) → getCost d .height ≤ LEVELS → getCost d .nodes ≤ a → Exactly (getCost d) v (getWalk a sh μ)
   get-walk-exact d h k = up-exactly (get-walk-complete d) h k
 
   pub get-walk-counted : (s : ℕ) → getWalk a sh μ ≡ done v s → (d : Get sh μ (residual sh (sh .root)) v) × Costs LEVELS s (getCost d)
@@ -123,7 +123,7 @@ module _ (a : ℕ) (sh : Sheet) (μ : Env) (v : Value) where
   unfolding putWalk
   put-walk-complete ω d = plan-complete sh (sh .root) μ v LEVELS a ω d
 
-  pub put-walk-exact : (ω : Writes) (d : Put sh μ v (residual sh (sh .root)) ω) → putCost d .height ≤ 48 → putCost d .nodes ≤ a
+  pub put-walk-exact : (ω : Writes) (d : Put sh μ v (residual sh (sh .root)) ω) → putCost d .height ≤ LEVELS → putCost d .nodes ≤ a
       → Exactly (putCost d) ω (putWalk a sh μ v)
   put-walk-exact ω d h k = up-exactly (put-walk-complete ω d) h k
 

@@ -11,7 +11,7 @@ use Rattle.value.specs.Value.{Value, vfalse, encode, flat}
 use Rattle.value.specs.Reading.{readPlan, readView}
 use Rattle.sheet.specs.Sheet.{Sheet, readSheet}
 use Rattle.sheet.specs.Laws.{sheet-ranges}
-use Rattle.rules.specs.Numbers.{LEVELS, ALLOWANCE, SCRATCH, GET-OUTPUT, PUT-OUTPUT}
+use Rattle.rules.specs.Numbers.{LEVELS, ALLOWANCE, SCRATCH, CHAIN-MAX, GET-OUTPUT, PUT-OUTPUT}
 use Rattle.rules.specs.Outcome.{Out, done, refused, when, mapOut, given, reading}
 use Rattle.rules.specs.OutcomeLaws.{given-yes}
 use Rattle.rules.specs.Answer.{Answer, answer, door, count, newPlan, getWalk, getBytes, getAnswer, putWalk, putBytes, putAnswer}
@@ -234,10 +234,10 @@ pub traced-chain : {sheet : List ℕ} {y : Why} → Traced sheet (walked y) → 
 traced-chain t = says-walked t
 
 -- it has 1 to 49 nodes, and 49 for 40
-pub chain-depth : {sh : Sheet} {n : ℕ} {y : Why} → Chain sh n LEVELS y → (1 ≤ depth y) × (depth y ≤ 49)
+pub chain-depth : {sh : Sheet} {n : ℕ} {y : Why} → Chain sh n LEVELS y → (1 ≤ depth y) × (depth y ≤ CHAIN-MAX)
 chain-depth h = (rw (h .begins) (omega arith), rw (h .begins) (omega (arith, h .short)))
 
-pub chain-deepest : {sh : Sheet} {n : ℕ} {y : Why} → Chain sh n LEVELS y → y .code ≡ 40 → depth y ≡ 49
+pub chain-deepest : {sh : Sheet} {n : ℕ} {y : Why} → Chain sh n LEVELS y → y .code ≡ 40 → depth y ≡ CHAIN-MAX
 chain-deepest h e = rw (h .begins) (omega (arith, h .deepest e))
 
 pub why-get-traced : (sheet plan : List ℕ) (allowance scratch : ℕ) → Traced sheet (whyGet sheet plan allowance scratch)

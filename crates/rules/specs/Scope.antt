@@ -14,7 +14,7 @@ use Rattle.sheet.specs.declared.Node.{Node}
 use Rattle.sheet.specs.declared.Node.the-variants.{Var, False, True, Empty, Number, Front, Pair, ListCase, TruthCase, Split, Call, Add, Each, Wide}
 use Rattle.sheet.specs.Sheet.{Sheet, readSheet}
 use Rattle.sheet.specs.Laws.{sheet-ranges}
-use Rattle.rules.specs.Numbers.{LEVELS}
+use Rattle.rules.specs.Numbers.{LEVELS, VARIABLES, GET-OUTPUT, PUT-OUTPUT}
 use Rattle.rules.specs.Outcome.{Out, refused, plus, when, mapOut, _>>=_, given, reading, choose}
 use Rattle.rules.specs.Allowance.{within}
 use Rattle.rules.specs.Text
@@ -44,12 +44,12 @@ use Rattle.rules.specs.OutcomeLaws.{given-yes}
 -- as `get` and `put`, and no node is entered with over 110 variables in scope (0 is no refusal of document 01's)
 unfoldable pub getNarrow : ℕ → Sheet → Getter
 getNarrow zero sh n μ = refused 40 0
-getNarrow (suc l) sh n μ = given 0 (when (decLe (length μ) 110)) λ _. plus 1 (getNode (getNarrow l sh) sh (getD (sh .nodes) n False) μ)
+getNarrow (suc l) sh n μ = given 0 (when (decLe (length μ) VARIABLES)) λ _. plus 1 (getNode (getNarrow l sh) sh (getD (sh .nodes) n False) μ)
 
 unfoldable pub putNarrow : ℕ → Sheet → Putter
 putNarrow zero sh n μ σ v W = refused 40 0
 putNarrow (suc l) sh n μ σ v W =
-    given 0 (when (decLe (length μ) 110)) λ _. plus 1 (putNode (getNarrow l sh) (putNarrow l sh) sh (getD (sh .nodes) n False) μ σ v W)
+    given 0 (when (decLe (length μ) VARIABLES)) λ _. plus 1 (putNode (getNarrow l sh) (putNarrow l sh) sh (getD (sh .nodes) n False) μ σ v W)
 
 -- OUTCOMES OF EQUAL PARTS ARE EQUAL
 
@@ -106,7 +106,7 @@ module _ {k : ℕ} {g h : Getter} (same : SameGets k g h) (sh : Sheet) where
 pub get-narrow : (l : ℕ) (sh : Sheet) (n : ℕ) (μ : Env) → length μ + 2 * l ≤ 112 → getNarrow l sh n μ ≡ get l sh n μ
 unfolding getNarrow Text.get
 get-narrow zero sh n μ z = refl
-get-narrow (suc l) sh n μ z = given-yes 0 (decLe (length μ) 110) (omega arith)
+get-narrow (suc l) sh n μ z = given-yes 0 (decLe (length μ) VARIABLES) (omega arith)
     ∙ (ap (plus 1) (get-ext {k = length μ + 2} (λ m ν y. get-narrow l sh m ν (omega arith)) sh _ μ (omega arith)))
 
 -- PUT
@@ -157,7 +157,7 @@ pub put-narrow : (l : ℕ) (sh : Sheet) (n : ℕ) (μ : Env) (σ : List ℕ) (v 
     → putNarrow l sh n μ σ v W ≡ put l sh n μ σ v W
 unfolding putNarrow Text.put
 put-narrow zero sh n μ σ v W z = refl
-put-narrow (suc l) sh n μ σ v W z = given-yes 0 (decLe (length μ) 110) (omega arith)
+put-narrow (suc l) sh n μ σ v W z = given-yes 0 (decLe (length μ) VARIABLES) (omega arith)
     ∙ (ap (plus 1) (put-ext {k = length μ + 2} (λ m ν y. get-narrow l sh m ν (omega arith)) (λ m ν τ u X y. put-narrow l sh m ν τ u X (omega arith)) sh μ σ v
     W (omega arith) _))
 
@@ -183,17 +183,17 @@ few-read : (sheet plan : List ℕ) {sh : Sheet} {μ : Env} → readSheet sheet �
 few-read sheet plan {sh} es ep = let r = sheet-ranges sheet es in let q = readValues-sound 20 (sh .k) plan ep in omega arith
 
 module _ (sheet plan : List ℕ) (allowance output scratch : ℕ) where
-  pub get-call-narrow : answer (door 256 output scratch allowance (
+  pub get-call-narrow : answer (door GET-OUTPUT output scratch allowance (
       reading (readSheet sheet) λ sh. reading (readPlan (sh .k) plan) λ μ. mapOut encode (within allowance (getNarrow LEVELS sh (sh .root) μ))))
       ≡ getAnswer sheet plan allowance output scratch
   unfolding getAnswer getBytes
-  get-call-narrow = ap (λ o. answer (door 256 output scratch allowance o)) (reading-ext _ λ sh es. reading-ext _ λ μ ep.
+  get-call-narrow = ap (λ o. answer (door GET-OUTPUT output scratch allowance o)) (reading-ext _ λ sh es. reading-ext _ λ μ ep.
       ap (mapOut encode) (get-walk-narrow allowance sh μ (few-read sheet plan es ep)))
 
-  pub put-call-narrow : (view : List ℕ) → answer (door 4096 output scratch allowance (
+  pub put-call-narrow : (view : List ℕ) → answer (door PUT-OUTPUT output scratch allowance (
       reading (readSheet sheet) λ sh. reading (readPlan (sh .k) plan) λ μ. reading (readView view) λ vs. mapOut (λ X. flat (newPlan X μ))
       (within allowance (putNarrow LEVELS sh (sh .root) μ (count 0 (length μ)) (getD vs 0 vfalse) (replicate (length μ) none)))))
       ≡ putAnswer sheet plan view allowance output scratch
   unfolding putAnswer putBytes
-  put-call-narrow view = ap (λ o. answer (door 4096 output scratch allowance o)) (reading-ext _ λ sh es. reading-ext _ λ μ ep. reading-ext _ λ vs _.
+  put-call-narrow view = ap (λ o. answer (door PUT-OUTPUT output scratch allowance o)) (reading-ext _ λ sh es. reading-ext _ λ μ ep. reading-ext _ λ vs _.
       ap (mapOut (λ X. flat (newPlan X μ))) (put-walk-narrow allowance sh μ (few-read sheet plan es ep) (getD vs 0 vfalse)))

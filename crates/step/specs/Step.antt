@@ -12,6 +12,7 @@ use Rattle.step.specs.declared.Branch.the-variants.{Plain, Parts, Switch
 use Rattle.step.specs.declared.Apart.{Apart}
 use Rattle.step.specs.declared.Apart.the-variants.{At, Other}
 use Rattle.answer.specs.Answer.{doneAs, isRefusal, lenOf, stepsOf}
+use Rattle.rules.specs.Numbers.{SLOTS, SLOT}
 use Rattle.value.specs.Value.{Value}
 use Rattle.value.specs.Laws.{Readable}
 use Rattle.value.specs.Tests.{holds, Agrees}
@@ -56,10 +57,14 @@ notedLen note = suc (note % 256)
 unfoldable pub notedBy : ℕ → ℕ
 notedBy note = note / 256 - 1
 
+-- where the slot of a cell starts in the arena
+abbrev pub slotOf : ℕ → ℕ
+slotOf cell = SLOTS + SLOT * cell
+
 -- where a variable's value stands: in the slot of its cell where it was written, or else where it stood
 unfoldable pub placeOf : (note cell start len : ℕ) → Span
 placeOf zero cell start len = record { start = start; len = len }
-placeOf (suc w) cell start len = record { start = 4096 + 256 * cell; len = notedLen (suc w) }
+placeOf (suc w) cell start len = record { start = slotOf cell; len = notedLen (suc w) }
 
 -- no place
 abbrev pub nowhere : Span

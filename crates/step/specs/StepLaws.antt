@@ -20,6 +20,7 @@ use Rattle.step.specs.Step.{
   noteOf,
   notedLen,
   notedBy,
+  slotOf,
   placeOf,
   entryRefusal,
   fitsKind,
@@ -76,7 +77,7 @@ pub not-written : (note cell start len : ℕ) → note ≡ 0 → record { start 
 unfolding placeOf
 not-written note cell start len e = rw e
 
-pub was-written : (note cell start len : ℕ) → (note ≡ 0 → ⊥) → record { start = 4096 + 256 * cell; len = notedLen note } ≡ placeOf note cell start len
+pub was-written : (note cell start len : ℕ) → (note ≡ 0 → ⊥) → record { start = slotOf cell; len = notedLen note } ≡ placeOf note cell start len
 unfolding placeOf
 was-written zero cell start len n = absurd (n refl)
 was-written (suc w) cell start len n = refl

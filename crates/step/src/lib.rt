@@ -9,7 +9,8 @@ ghost use lib.ListN.{length, getD};
 ghost use lib.Seq.{paste};
 ghost use Rattle.value.specs.Parts.{shapeOf, passesBytes, sameBytes};
 ghost use Rattle.answer.specs.Answer.{doneAs, refusedBy};
-ghost use Rattle.step.specs.Step.{When, frontTwo, pickedTwo, addedTwo, picked, nowhere, noteOf, notedLen, notedBy, placeOf, entryRefusal, fitsKind, fitOf, otherOf, choice, takeOf, TakenBy, apartOf, madeOf, judged, unfitRest, frontedAs};
+ghost use Rattle.rules.specs.Numbers.{VARIABLES};
+ghost use Rattle.step.specs.Step.{When, frontTwo, pickedTwo, addedTwo, picked, nowhere, noteOf, notedLen, notedBy, slotOf, placeOf, entryRefusal, fitsKind, fitOf, otherOf, choice, takeOf, TakenBy, apartOf, madeOf, judged, unfitRest, frontedAs};
 use answer::done;
 use answer::is_refused;
 use answer::len_of;
@@ -18,11 +19,11 @@ use answer::refused_by;
 use answer::steps_of;
 use value::Shape;
 
-/// The variables in scope, at most 110: where each one's bytes start, and how many they are less one.
+/// The variables in scope, at most rules::VARIABLES: where each one's bytes start, and how many they are less one.
 pub struct Scope {
     pub count: u16,
-    pub starts: [u16; 110],
-    pub lens: [u8; 110],
+    pub starts: [u16; rules::VARIABLES],
+    pub lens: [u8; rules::VARIABLES],
 }
 
 /// Where a value stands.
@@ -69,12 +70,12 @@ pub fn length_of(stored: u8) -> usize
 
 /// The value of variable x, which costs no step of its own; refusal 42 where it is not in scope.
 pub fn variable(scope: Scope, x: usize) -> usize
-    ensures { λ r. ⌜ When ((x < scope .count) × (x < 110)) r (doneAs (getD (scope .starts) x 0) (getD (scope .lens) x 0 + 1) 0) 42 ⌝ }
+    ensures { λ r. ⌜ When ((x < scope .count) × (x < VARIABLES)) r (doneAs (getD (scope .starts) x 0) (getD (scope .lens) x 0 + 1) 0) 42 ⌝ }
 {
     if scope.count as usize <= x {
         return refused(42);
     }
-    if 110 <= x {
+    if rules::VARIABLES <= x {
         return refused(42);
     }
     done(scope.starts[x] as usize, length_of(scope.lens[x]), 0)
@@ -204,12 +205,12 @@ pub fn made(kind: u8) -> u8
 
 /// The variables x and y alone, a section's; the scope as it is where it has no room for one of them.
 pub fn section(scope: Scope, x: usize, y: usize) -> Scope
-    ensures { λ r. ⌜ When ((x < 110) × (y < 110)) r (picked scope x y) scope ⌝ }
+    ensures { λ r. ⌜ When ((x < VARIABLES) × (y < VARIABLES)) r (picked scope x y) scope ⌝ }
 {
-    if 110 <= x {
+    if rules::VARIABLES <= x {
         return scope;
     }
-    if 110 <= y {
+    if rules::VARIABLES <= y {
         return scope;
     }
     let mut two = scope;
@@ -222,14 +223,14 @@ pub fn section(scope: Scope, x: usize, y: usize) -> Scope
 }
 
 /// The cells of the two variables x and y alone: a section's variables are its caller's.
-pub fn pick_cells(cells: &[u8; 110], x: usize, y: usize) -> [u8; 110]
-    ensures { λ r. ⌜ When ((x < 110) × (y < 110)) r (pickedTwo (now (cells .entry)) x y) (now (cells .entry)) ⌝ }
+pub fn pick_cells(cells: &[u8; rules::VARIABLES], x: usize, y: usize) -> [u8; rules::VARIABLES]
+    ensures { λ r. ⌜ When ((x < VARIABLES) × (y < VARIABLES)) r (pickedTwo (now (cells .entry)) x y) (now (cells .entry)) ⌝ }
 {
     let mut two = *cells;
-    if 110 <= x {
+    if rules::VARIABLES <= x {
         return two;
     }
-    if 110 <= y {
+    if rules::VARIABLES <= y {
         return two;
     }
     two[0] = cells[x];
@@ -238,14 +239,14 @@ pub fn pick_cells(cells: &[u8; 110], x: usize, y: usize) -> [u8; 110]
 }
 
 /// The cells of a member and of the variable x alone: the member's is c, and x is its caller's.
-pub fn member_cells(cells: &[u8; 110], c: usize, x: usize) -> [u8; 110]
-    ensures { λ r. ⌜ When ((c < 110) × (x < 110)) r (frontTwo (now (cells .entry)) c (getD (now (cells .entry)) x 0)) (now (cells .entry)) ⌝ }
+pub fn member_cells(cells: &[u8; rules::VARIABLES], c: usize, x: usize) -> [u8; rules::VARIABLES]
+    ensures { λ r. ⌜ When ((c < VARIABLES) × (x < VARIABLES)) r (frontTwo (now (cells .entry)) c (getD (now (cells .entry)) x 0)) (now (cells .entry)) ⌝ }
 {
     let mut two = *cells;
-    if 110 <= c {
+    if rules::VARIABLES <= c {
         return two;
     }
-    if 110 <= x {
+    if rules::VARIABLES <= x {
         return two;
     }
     two[0] = c as u8;
@@ -254,8 +255,8 @@ pub fn member_cells(cells: &[u8; 110], c: usize, x: usize) -> [u8; 110]
 }
 
 /// The variables n and n + 1 are the new cells c and c + 1; nothing changes where there is no room for them.
-pub fn add_cells(cells: &mut [u8; 110], n: usize, c: usize)
-    ensures { λ _. ⌜ When ((c + 2 ≤ 110) × (n + 2 ≤ 110)) (now (cells .exit)) (addedTwo (now (cells .entry)) n c (c + 1)) (now (cells .entry)) ⌝ }
+pub fn add_cells(cells: &mut [u8; rules::VARIABLES], n: usize, c: usize)
+    ensures { λ _. ⌜ When ((c + 2 ≤ VARIABLES) × (n + 2 ≤ VARIABLES)) (now (cells .exit)) (addedTwo (now (cells .entry)) n c (c + 1)) (now (cells .entry)) ⌝ }
 {
     if 108 < c {
         return;
@@ -294,28 +295,28 @@ pub fn noted_len(note: u16) -> usize
 /// Where a variable's value stands: in the slot of its cell where it was written, by what is noted of it, or else where it stood; nowhere
 /// where there is no such cell.
 pub fn place_of(note: u16, cell: usize, start: usize, len: usize) -> Span
-    ensures { λ r. ⌜ When (cell < 110) r (placeOf note cell start len) nowhere ⌝ }
+    ensures { λ r. ⌜ When (cell < VARIABLES) r (placeOf note cell start len) nowhere ⌝ }
 {
-    if 110 <= cell {
+    if rules::VARIABLES <= cell {
         return Span { start: 0, len: 0 };
     }
     if note == 0 {
         return Span { start, len };
     }
     Span {
-        start: 4096 + 256 * cell,
+        start: rules::SLOTS + rules::SLOT * cell,
         len: noted_len(note),
     }
 }
 
 /// Where the slot of a cell starts in the arena; 0 where there is no such cell.
 pub fn slot_of(cell: usize) -> usize
-    ensures { λ r. ⌜ When (cell < 110) r (4096 + 256 * cell) 0 ⌝ }
+    ensures { λ r. ⌜ When (cell < VARIABLES) r (slotOf cell) 0 ⌝ }
 {
-    if 110 <= cell {
+    if rules::VARIABLES <= cell {
         return 0;
     }
-    4096 + 256 * cell
+    rules::SLOTS + rules::SLOT * cell
 }
 
 /// Copies a slice into the arena; nothing changes where it does not fit.

@@ -10,7 +10,7 @@ use lib.Seq.{getD-set-same, getD-set-other, getD-append-seam}
 use Rattle.value.specs.Value.{Value, vfalse, encode, size}
 use Rattle.value.specs.Encoding.{size-pos}
 use Rattle.value.specs.Laws.{Readable}
-use Rattle.rules.specs.Numbers.{STACK}
+use Rattle.rules.specs.Numbers.{STACK, VARIABLES, SLOTS}
 use Rattle.step.specs.declared.Scope.{Scope}
 use Rattle.step.specs.Step.{picked}
 use Rattle.walk.specs.Scope.{pushed, alone, withMember}
@@ -18,7 +18,7 @@ use Rattle.walk.specs.Parts.{part, Kept, part-kept}
 
 -- bytes that a walk at `top` leaves alone: in the plan, or on the stack below `top`
 pub data Below (top start len : ℕ) : Type 0 where
-  inPlan : start + len ≤ 4096 → Below top start len
+  inPlan : start + len ≤ SLOTS → Below top start len
   onStack : STACK ≤ start → start + len ≤ top → Below top start len
 
 -- the value v stands in the arena from `start`, in `len` bytes
@@ -31,8 +31,8 @@ pub record Held (a : List ℕ) (top start len : ℕ) (v : Value) : Type 0 where
 -- the scope's variables stand for the values μ
 pub record Scoped (a : List ℕ) (s : Scope) (top : ℕ) (μ : List Value) : Type 0 where
   pub count : s .count ≡ length μ
-  pub starts-long : length (s .starts) ≡ 110
-  pub lens-long : length (s .lens) ≡ 110
+  pub starts-long : length (s .starts) ≡ VARIABLES
+  pub lens-long : length (s .lens) ≡ VARIABLES
   pub each : (i : ℕ) → i < length μ → Held a top (getD (s .starts) i 0) (getD (s .lens) i 0 + 1) (getD μ i vfalse)
 
 pub below-ends : {top start len : ℕ} → Below top start len → STACK ≤ top → start + len ≤ top
@@ -67,7 +67,7 @@ module _ {b a : List ℕ} {top : ℕ} (kept : Kept top b a) (base : STACK ≤ to
   env-later w = record { count = w .count; starts-long = w .starts-long; lens-long = w .lens-long; each = λ i h. held-later (w .each i h) }
 
 -- one variable more
-pub env-push : {a : List ℕ} {s : Scope} {top start len : ℕ} {μ : List Value} {v : Value} → Scoped a s top μ → Held a top start len v → s .count < 110
+pub env-push : {a : List ℕ} {s : Scope} {top start len : ℕ} {μ : List Value} {v : Value} → Scoped a s top μ → Held a top start len v → s .count < VARIABLES
     → Scoped a (pushed s start len) top (μ ++ (v ∷ []))
 env-push {a} {s} {top} {start} {len} {μ} {v} w h lt = record {
   count = rw length-append (omega (arith, w .count));
@@ -95,8 +95,8 @@ env-push {a} {s} {top} {start} {len} {μ} {v} w h lt = record {
         rw (p, q, q′, u) h
 
 -- two variables alone
-env-alone : {a : List ℕ} (s : Scope) {top start : ℕ} (len : ℕ) {start′ : ℕ} (len′ : ℕ) {u v : Value} → length (s .starts) ≡ 110 → length (s .lens) ≡ 110
-    → Held a top start (len + 1) u → Held a top start′ (len′ + 1) v → Scoped a (alone s start len start′ len′) top (u ∷ v ∷ [])
+env-alone : {a : List ℕ} (s : Scope) {top start : ℕ} (len : ℕ) {start′ : ℕ} (len′ : ℕ) {u v : Value} → length (s .starts) ≡ VARIABLES
+    → length (s .lens) ≡ VARIABLES → Held a top start (len + 1) u → Held a top start′ (len′ + 1) v → Scoped a (alone s start len start′ len′) top (u ∷ v ∷ [])
 env-alone {a} s {top} {start} len {start′} len′ {u} {v} ls ll hu hv = record {
   count = refl;
   starts-long = simp length-set ls;
@@ -104,10 +104,10 @@ env-alone {a} s {top} {start} len {start′} len′ {u} {v} ls ll hu hv = record
   each = go;
 }
   where
-    first : (l : List ℕ) (u v : ℕ) → length l ≡ 110 → getD (set (set l 0 u) 1 v) 0 0 ≡ u
+    first : (l : List ℕ) (u v : ℕ) → length l ≡ VARIABLES → getD (set (set l 0 u) 1 v) 0 0 ≡ u
     first l u v e = getD-set-other (set l 0 u) 1 0 v 0 (λ q. omega arith) ∙ getD-set-same l 0 u 0 (omega arith)
 
-    second : (l : List ℕ) (u v : ℕ) → length l ≡ 110 → getD (set (set l 0 u) 1 v) 1 0 ≡ v
+    second : (l : List ℕ) (u v : ℕ) → length l ≡ VARIABLES → getD (set (set l 0 u) 1 v) 1 0 ≡ v
     second l u v e = getD-set-same (set l 0 u) 1 v 0 (simp length-set (omega arith))
 
     go : (i : ℕ) → i < 2 → Held a top (getD (alone s start len start′ len′ .starts) i 0) (getD (alone s start len start′ len′ .lens) i 0 + 1)

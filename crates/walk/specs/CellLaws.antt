@@ -27,9 +27,9 @@ use Rattle.value.specs.Encoding.{size-pos}
 use Rattle.value.specs.Laws.{Readable}
 use Rattle.rules.specs.Text.{two}
 use Rattle.rules.specs.Explain.{Cell, Cells}
-use Rattle.rules.specs.Numbers.{STACK}
+use Rattle.rules.specs.Numbers.{STACK, VARIABLES, SLOTS}
 use Rattle.walk.specs.Parts.{part, Kept, part-kept, kept-below}
-use Rattle.step.specs.Step.{frontTwo, pickedTwo, noteOf, notedLen}
+use Rattle.step.specs.Step.{frontTwo, pickedTwo, noteOf, notedLen, slotOf}
 use Rattle.step.specs.StepLaws.{noted}
 use Rattle.walk.specs.Cells.{Frame, Holds, holds-as, Slot, blank, full, Written, Named}
 
@@ -69,7 +69,7 @@ either n i h = go (decLt i n) (decLt i (n + 1))
     go (no p) (no q) = second (omega arith)
 
 -- two blank cells more
-pub written-more : {a slots : List ℕ} {n : ℕ} {W : Cells} → Written a slots n W → n + 2 ≤ 110
+pub written-more : {a slots : List ℕ} {n : ℕ} {W : Cells} → Written a slots n W → n + 2 ≤ VARIABLES
     → Written a (set (set slots n 0) (n + 1) 0) (n + 2) (W ++ two none none)
 written-more {a} {slots} {n} {W} w h = record {
   count = length-append W (two none none) ∙ omega (arith, w .count);
@@ -78,13 +78,13 @@ written-more {a} {slots} {n} {W} w h = record {
   each = λ i l. go i (either n i l);
 }
   where
-    go : (i : ℕ) → Either n i → Slot a (4096 + 256 * i) (getD (set (set slots n 0) (n + 1) 0) i 0) (getD (W ++ two none none) i none)
+    go : (i : ℕ) → Either n i → Slot a (slotOf i) (getD (set (set slots n 0) (n + 1) 0) i 0) (getD (W ++ two none none) i none)
     go i (before l) = rw (set-two-left slots n i 0 0 0 l, two-left W none none none i (omega (arith, w .count))) (w .each i l)
     go i (first e) = rw (two-first W none none none i (omega (arith, w .count))) (blank (set-two-first slots n i 0 0 0 e (omega (arith, w .long))))
     go i (second e) = rw (two-second W none none none i (omega (arith, w .count))) (blank (set-two-second slots n i 0 0 0 e (omega (arith, w .long))))
 
 -- one blank cell more
-pub written-one : {a slots : List ℕ} {n : ℕ} {W : Cells} → Written a slots n W → n < 110 → Written a (set slots n 0) (n + 1) (W ++ none ∷ [])
+pub written-one : {a slots : List ℕ} {n : ℕ} {W : Cells} → Written a slots n W → n < VARIABLES → Written a (set slots n 0) (n + 1) (W ++ none ∷ [])
 written-one {a} {slots} {n} {W} w h = record {
   count = length-append W (none ∷ []) ∙ omega (arith, w .count);
   few = omega arith;
@@ -92,7 +92,7 @@ written-one {a} {slots} {n} {W} w h = record {
   each = λ i l. go i l (decLt i n);
 }
   where
-    go : (i : ℕ) → i < n + 1 → Dec (i < n) → Slot a (4096 + 256 * i) (getD (set slots n 0) i 0) (getD (W ++ none ∷ []) i none)
+    go : (i : ℕ) → i < n + 1 → Dec (i < n) → Slot a (slotOf i) (getD (set slots n 0) i 0) (getD (W ++ none ∷ []) i none)
     go i l (yes p) = rw (getD-set-other slots n i 0 0 (λ e. omega arith), List·getD-append W (none ∷ []) none i (omega (arith, w .count))) (w .each i p)
     go i l (no p) =
         let e : i ≡ n = omega arith in
@@ -108,7 +108,7 @@ written-less {a} {slots} {n} {m} {X} h w = record {
   each = λ i l. rw (getD-take n X i none l) (w .each i (omega arith));
 }
 
-pub named-more : {cs : List ℕ} {n k : ℕ} {σ : List ℕ} → Named cs n σ → k ≡ length σ → k + 2 ≤ 110
+pub named-more : {cs : List ℕ} {n k : ℕ} {σ : List ℕ} → Named cs n σ → k ≡ length σ → k + 2 ≤ VARIABLES
     → Named (set (set cs k n) (k + 1) (n + 1)) (n + 2) (σ ++ two n (suc n))
 named-more {cs} {n} {k} {σ} w e h = record {
   long = simp length-set (w .long);
@@ -127,7 +127,7 @@ named-more {cs} {n} {k} {σ} w e h = record {
     below i (second q) = rw (two-second σ n (suc n) 0 i (omega arith)) (omega arith)
 
 -- two variables alone
-named-alone : (cs : List ℕ) {n c d : ℕ} → length cs ≡ 110 → c < n → d < n → Named (frontTwo cs c d) n (two c d)
+named-alone : (cs : List ℕ) {n c d : ℕ} → length cs ≡ VARIABLES → c < n → d < n → Named (frontTwo cs c d) n (two c d)
 named-alone cs {n} {c} {d} l hc hd = record {
   long = simp length-set l;
   each = go;
@@ -178,21 +178,21 @@ filled-above {at} {n} {s} {b} {a} f i m h =
     let p : (l : List ℕ) → drop (i - (at + n)) (drop (at + n) l) ≡ drop i l = λ l. drop-drop (i - (at + n)) (at + n) l ∙ ap (λ (j : ℕ). drop j l) z in
     ap (take m) (sym (p a) ∙ ap (drop (i - (at + n))) (f .above) ∙ p b)
 
-module _ {b a s : List ℕ} {n c : ℕ} (f : Filled (4096 + 256 * c) n s b a) (small : n ≤ 256) where
-  pub filled-frame : (top : ℕ) → c < 110 → Frame top b a
+module _ {b a s : List ℕ} {n c : ℕ} (f : Filled (slotOf c) n s b a) (small : n ≤ 256) where
+  pub filled-frame : (top : ℕ) → c < VARIABLES → Frame top b a
   filled-frame top h = record {
-    plan = kept-below (f .below) 4096 (omega arith) .same;
+    plan = kept-below (f .below) SLOTS (omega arith) .same;
     stack = filled-above f STACK (top - STACK) (omega arith);
     long = f .below .long;
   }
 
-  slot-other : {i note : ℕ} {o : Option Cell} → (i ≡ c → ⊥) → Slot b (4096 + 256 * i) note o → Slot a (4096 + 256 * i) note o
+  slot-other : {i note : ℕ} {o : Option Cell} → (i ≡ c → ⊥) → Slot b (slotOf i) note o → Slot a (slotOf i) note o
   slot-other ne (blank z) = blank z
   slot-other {i} {note} ne (full {w = w} s) = go (decLt i c)
     where
-      go : Dec (i < c) → Slot a (4096 + 256 * i) note (some w)
-      go (yes h) = full (holds-as s (part-kept (f .below) (4096 + 256 * i) (notedLen note) (omega (arith, s .long, s .readable .fits))))
-      go (no h) = full (holds-as s (filled-above f (4096 + 256 * i) (notedLen note) (let k : c < i = omega arith in omega arith)))
+      go : Dec (i < c) → Slot a (slotOf i) note (some w)
+      go (yes h) = full (holds-as s (part-kept (f .below) (slotOf i) (notedLen note) (omega (arith, s .long, s .readable .fits))))
+      go (no h) = full (holds-as s (filled-above f (slotOf i) (notedLen note) (let k : c < i = omega arith in omega arith)))
 
   -- v was written to the cell c, by the node x
   pub written-set : (x : ℕ) {slots : List ℕ} {m : ℕ} {W : Cells} {v : Value} → x < 256 → Written b slots m W → c < m → n ≡ size v → s ≡ encode v → Readable v
@@ -207,19 +207,19 @@ module _ {b a s : List ℕ} {n c : ℕ} (f : Filled (4096 + 256 * c) n s b a) (s
       new : Cell
       new = record { value = v; by = x }
 
-      holds : Holds a (4096 + 256 * c) (noteOf x n) new
+      holds : Holds a (slotOf c) (noteOf x n) new
       holds =
           let k = noted x n (omega (arith, z, size-pos v)) small in
           record { there = k .0; long = k .1 ∙ z; by = k .2; few = few; bytes = rw (k .1) (f .bytes ∙ e); readable = r }
 
-      other : (i : ℕ) → i < m → (i ≡ c → ⊥) → Slot a (4096 + 256 * i) (getD (set slots c (noteOf x n)) i 0) (getD (set W c (some new)) i none)
+      other : (i : ℕ) → i < m → (i ≡ c → ⊥) → Slot a (slotOf i) (getD (set slots c (noteOf x n)) i 0) (getD (set W c (some new)) i none)
       other i l ne = rw (getD-set-other slots c i (noteOf x n) 0 ne, getD-set-other W c i (some new) none ne) (slot-other ne (w .each i l))
 
-      here : (i : ℕ) → i ≡ c → Slot a (4096 + 256 * i) (getD (set slots c (noteOf x n)) i 0) (getD (set W c (some new)) i none)
+      here : (i : ℕ) → i ≡ c → Slot a (slotOf i) (getD (set slots c (noteOf x n)) i 0) (getD (set W c (some new)) i none)
       here i q = rw (q, getD-set-same slots c (noteOf x n) 0 (omega (arith, w .long, w .few)), getD-set-same W c (some new) none (omega (arith, w .count)))
           (full holds)
 
-      go : (i : ℕ) → i < m → Dec (i < c) → Dec (c < i) → Slot a (4096 + 256 * i) (getD (set slots c (noteOf x n)) i 0) (getD (set W c (some new)) i none)
+      go : (i : ℕ) → i < m → Dec (i < c) → Dec (c < i) → Slot a (slotOf i) (getD (set slots c (noteOf x n)) i 0) (getD (set W c (some new)) i none)
       go i l (yes p) q = other i l (λ k. omega arith)
       go i l (no p) (yes q) = other i l (λ k. omega arith)
       go i l (no p) (no q) = here i (omega arith)

@@ -8,13 +8,13 @@ use lib.Seq.{paste}
 use Rattle.value.specs.Value.{Value, encode, size}
 use Rattle.value.specs.Laws.{Readable}
 use Rattle.rules.specs.Explain.{Cell, Cells}
-use Rattle.rules.specs.Numbers.{STACK}
-use Rattle.step.specs.Step.{notedLen, notedBy}
+use Rattle.rules.specs.Numbers.{STACK, VARIABLES, SLOTS}
+use Rattle.step.specs.Step.{notedLen, notedBy, slotOf}
 use Rattle.walk.specs.Parts.{part}
 
 -- the bytes of the plan and of the stack below `top` are left alone
 pub record Frame (top : ℕ) (b a : List ℕ) : Type 0 where
-  pub plan : take 4096 a ≡ take 4096 b
+  pub plan : take SLOTS a ≡ take SLOTS b
   pub stack : part a STACK (top - STACK) ≡ part b STACK (top - STACK)
   pub long : length a ≡ length b
 
@@ -40,13 +40,13 @@ pub data Slot (a : List ℕ) (start note : ℕ) : Option Cell → Type 0 where
 -- the n cells hold W
 pub record Written (a slots : List ℕ) (n : ℕ) (W : Cells) : Type 0 where
   pub count : length W ≡ n
-  pub few : n ≤ 110
-  pub long : length slots ≡ 110
-  pub each : (i : ℕ) → i < n → Slot a (4096 + 256 * i) (getD slots i 0) (getD W i none)
+  pub few : n ≤ VARIABLES
+  pub long : length slots ≡ VARIABLES
+  pub each : (i : ℕ) → i < n → Slot a (slotOf i) (getD slots i 0) (getD W i none)
 
 -- the cell of each variable, of n cells
 pub record Named (cells : List ℕ) (n : ℕ) (σ : List ℕ) : Type 0 where
-  pub long : length cells ≡ 110
+  pub long : length cells ≡ VARIABLES
   pub each : (i : ℕ) → i < length σ → getD cells i 0 ≡ getD σ i 0
   pub inside : (i : ℕ) → i < length σ → getD σ i 0 < n
 

@@ -26,7 +26,7 @@ use Rattle.rules.specs.ExplainChain.{get-chain}
 use Rattle.rules.specs.Explanation.{before, afterwards, explained, explainGet}
 use Rattle.rules.specs.Answer.{getWalk, getBytes}
 use Rattle.rules.specs.AnswerLaws.{Lent}
-use Rattle.rules.specs.Numbers.{LEVELS, SCRATCH, STACK}
+use Rattle.rules.specs.Numbers.{LEVELS, SCRATCH, STACK, CHAIN-MAX, PUT-OUTPUT, GET-OUTPUT}
 use Rattle.step.specs.declared.Scope.{Scope}
 use Rattle.arena.specs.Door.{shut, door-shut}
 use Rattle.walk.specs.Said.{whyIn, said-done, said-refused}
@@ -88,7 +88,7 @@ module _ {sheet plan : List ℕ} {table : Table} {sc : Scope} {allowance : ℕ} 
   pub plan-read : ReadAs (w .sh .k) plan (w .μ)
   plan-read = readValues-sound 20 (w .sh .k) plan (w .values)
 
-  pub plan-small : (length (w .μ) ≤ 16) × (length plan ≤ 4096)
+  pub plan-small : (length (w .μ) ≤ 16) × (length plan ≤ PUT-OUTPUT)
   plan-small =
       let r = plan-read in
       let z = sheet-ranges sheet (w .read) .few-variables in
@@ -132,7 +132,7 @@ module _ {sheet plan : List ℕ} {table : Table} {sc : Scope} {allowance : ℕ} 
             = placed (map size (w .μ)) i (omega (arith, sizes-length (w .μ))) ∙ sizes-at (w .μ) i h in
             let f : getD (sc .lens) i 0 + 1 ≡ size (getD (w .μ) i vfalse)
             = w .spanned .len i k (omega (arith, size-pos (getD (w .μ) i vfalse))) (omega (arith, s .readable .fits)) ∙ d in
-            let z : length (flat (w .μ)) ≤ 4096 = omega (arith, plan-small .1, ap length (r .bytes)) in
+            let z : length (flat (w .μ)) ≤ PUT-OUTPUT = omega (arith, plan-small .1, ap length (r .bytes)) in
             rw (e, f) (record { place = inPlan (omega (arith, s .inside)); long = refl; bytes = s .bytes; readable = s .readable })
 
     -- the place of the walk
@@ -159,7 +159,7 @@ module _ {sheet plan : List ℕ} {table : Table} {sc : Scope} {allowance : ℕ} 
       top : AtTop at-root a₂ r (table .root)
       top = at-top plan-ready told sized brought
 
-      pub get-refused : {x : ℕ} → isRefusal r ≡ true → x ≡ codeOf r → PlanWalked 256 (getBytes sheet plan allowance) b a₂ (Refused x)
+      pub get-refused : {x : ℕ} → isRefusal r ≡ true → x ≡ codeOf r → PlanWalked GET-OUTPUT (getBytes sheet plan allowance) b a₂ (Refused x)
       unfolding run mapOut forget whyIn
       get-refused {x} e f =
           let d = not-had (top .gives .told (w .sh) (w .read) (w .μ) plan-env) (said-refused a₂ LEVELS r e) in
@@ -174,7 +174,7 @@ module _ {sheet plan : List ℕ} {table : Table} {sc : Scope} {allowance : ℕ} 
           rw (f, g) (met-explains a₂ r (w .sh) (table .root) (get-chain LEVELS (w .sh) (table .root) (w .μ) allowance) (d .1) (w .lent)
           explain-is)
 
-      pub few-met : isRefusal r ≡ true → lenOf r ≤ 49
+      pub few-met : isRefusal r ≡ true → lenOf r ≤ CHAIN-MAX
       unfolding run
       few-met e =
           let d = not-had (top .gives .told (w .sh) (w .read) (w .μ) plan-env) (said-refused a₂ LEVELS r e) in
@@ -186,7 +186,7 @@ module _ {sheet plan : List ℕ} {table : Table} {sc : Scope} {allowance : ℕ} 
           let d = had (top .gives .told (w .sh) (w .read) (w .μ) plan-env) (said-done a₂ LEVELS r e) in
           rw f (done-explains (d .is) explain-is)
 
-      pub get-done : {len n : ℕ} → isRefusal r ≡ false → len ≡ lenOf r → n ≡ stepsOf r → PlanWalked 256 (getBytes sheet plan allowance) b a₂ (Done len n)
+      pub get-done : {len n : ℕ} → isRefusal r ≡ false → len ≡ lenOf r → n ≡ stepsOf r → PlanWalked GET-OUTPUT (getBytes sheet plan allowance) b a₂ (Done len n)
       unfolding run mapOut forget
       get-done {len} {n} e f q =
           let d = had (top .gives .told (w .sh) (w .read) (w .μ) plan-env) (said-done a₂ LEVELS r e) in
@@ -235,10 +235,11 @@ planned {plan = plan} {table = table} b l t read z s =
     }
 
 -- what stands in the front stands in the whole
-pub front-part : (a x : List ℕ) (len : ℕ) → length a ≡ SCRATCH → len ≤ 4096 → part (a ++ x) STACK len ≡ part a STACK len
+pub front-part : (a x : List ℕ) (len : ℕ) → length a ≡ SCRATCH → len ≤ PUT-OUTPUT → part (a ++ x) STACK len ≡ part a STACK len
 front-part a x len l h = rw (drop-append-le STACK a x (omega arith)) (take-append-le len (drop STACK a) x (rw length-drop (omega arith)))
 
-says-whole : (x : List ℕ) {most : ℕ} {a : List ℕ} {r : Reply} {o : Out (List ℕ)} → most ≤ 4096 → length a ≡ SCRATCH → Says most a r o → Says most (a ++ x) r o
+says-whole : (x : List ℕ) {most : ℕ} {a : List ℕ} {r : Reply} {o : Out (List ℕ)} → most ≤ PUT-OUTPUT → length a ≡ SCRATCH → Says most a r o
+    → Says most (a ++ x) r o
 says-whole x {a = a} t l (says-done len e q h p) = says-done len e q h (front-part a x len l (omega arith) ∙ p)
 says-whole x t l (says-refused e) = says-refused e
 
@@ -261,7 +262,7 @@ module _ {U : Type 0} {most : ℕ} {w : Out (List ℕ)} {allowance : ℕ} {b : L
     pub call-refused : {c n : ℕ} → w ≡ refused c n → WalkCall U most w allowance b b (Refused c)
     call-refused e = answered (nothing-moved b) (λ _. refl) (rw e (says-refused refl))
 
-    pub call-done : {a : List ℕ} {r : Reply} → (U → ⊥) → most ≤ 4096 → PlanWalked most w (take SCRATCH b) a r
+    pub call-done : {a : List ℕ} {r : Reply} → (U → ⊥) → most ≤ PUT-OUTPUT → PlanWalked most w (take SCRATCH b) a r
         → WalkCall U most w allowance b (a ++ drop SCRATCH b) r
     call-done {a} {r} read t g =
         let room = l .scratch-long in

@@ -10,7 +10,7 @@ use lib.Seq.{take-take, drop-drop}
 use Rattle.value.specs.Value.{Value}
 use Rattle.rules.specs.Text.{Env}
 use Rattle.rules.specs.Explain.{Cell, Cells}
-use Rattle.rules.specs.Numbers.{STACK}
+use Rattle.rules.specs.Numbers.{STACK, SLOTS}
 use Rattle.step.specs.declared.Scope.{Scope}
 use Rattle.step.specs.Step.{notedLen}
 use Rattle.walk.specs.Parts.{part, Kept, part-kept, kept-below, take-drop}
@@ -27,7 +27,7 @@ pub frame-refl : (top : ℕ) (b : List ℕ) → Frame top b b
 frame-refl top b = record { plan = refl; stack = refl; long = refl }
 
 pub frame-part : {top : ℕ} {b a : List ℕ} {start len : ℕ} → Frame top b a → Below top start len → part a start len ≡ part b start len
-frame-part {top} {b} {a} {start} {len} f (inPlan h) = part-kept {k = 4096} {b = b} {a = a} (record { same = f .plan; long = f .long }) start len h
+frame-part {top} {b} {a} {start} {len} f (inPlan h) = part-kept {k = SLOTS} {b = b} {a = a} (record { same = f .plan; long = f .long }) start len h
 frame-part {top} {b} {a} {start} {len} f (onStack h k) =
     let z : STACK + (start - STACK) ≡ start = omega arith in
     let p : (l : List ℕ) → part (part l STACK (top - STACK)) (start - STACK) len ≡ part l start len
@@ -43,7 +43,7 @@ pub frame-then : {top top′ : ℕ} {c b a : List ℕ} → Frame top c b → Fra
 frame-then f g h p = let k = frame-below g h p in record { plan = k .plan ∙ f .plan; stack = k .stack ∙ f .stack; long = k .long ∙ f .long }
 
 pub kept-frame : {top : ℕ} {b a : List ℕ} → Kept top b a → STACK ≤ top → Frame top b a
-kept-frame {top} {b} {a} k h = record { plan = kept-below k 4096 (omega arith) .same; stack = part-kept k STACK (top - STACK) (omega arith); long = k .long }
+kept-frame {top} {b} {a} k h = record { plan = kept-below k SLOTS (omega arith) .same; stack = part-kept k STACK (top - STACK) (omega arith); long = k .long }
 
 module _ {b a : List ℕ} {top : ℕ} (f : Frame top b a) (top′ : ℕ) (p : top ≤ top′) where
   pub held-framed : {start len : ℕ} {v : Value} → Held b top start len v → Held a top′ start len v

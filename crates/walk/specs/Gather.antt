@@ -11,7 +11,7 @@ use Rattle.value.specs.Value.{Value, vfalse, encode, flat}
 use Rattle.value.specs.Laws.{Readable}
 use Rattle.value.specs.Spans.{places, starts}
 use Rattle.value.specs.Progress.{starts-filled}
-use Rattle.rules.specs.Numbers.{SCRATCH, STACK}
+use Rattle.rules.specs.Numbers.{SCRATCH, STACK, VARIABLES}
 use Rattle.step.specs.declared.Scope.{Scope}
 use Rattle.step.specs.declared.Span.{Span}
 use Rattle.step.specs.Step.{When, placeOf, nowhere}
@@ -67,7 +67,8 @@ flat-snoc (w ∷ ws) v = ap (λ (l : List ℕ). encode w ++ l) (flat-snoc ws v) 
 
 module _ {i : ℕ} {slots : List ℕ} {sc : Scope} {b a : List ℕ} {len : ℕ} {ss : List ℕ}
     (g : Gathered i slots sc b a len ss) (s : SomePlaced b slots sc) (h : i < sc .count)
-    {p : Span} {l : ℕ} (stood : l ≡ getD (sc .lens) i 0 + 1) (place : When (i < 110) p (placeOf (getD slots i 0) i (getD (sc .starts) i 0) l) nowhere) where
+    {p : Span} {l : ℕ} (stood : l ≡ getD (sc .lens) i 0 + 1)
+    (place : When (i < VARIABLES) p (placeOf (getD slots i 0) i (getD (sc .starts) i 0) l) nowhere) where
   rests : {ws : List Value} → Placed b slots sc ws → Rests b p (getD ws i vfalse)
   rests w =
       let is = place .inside (omega (arith, w .count, w .few)) ∙ ap (placeOf (getD slots i 0) i (getD (sc .starts) i 0)) stood in
@@ -108,7 +109,7 @@ module _ {i : ℕ} {slots : List ℕ} {sc : Scope} {b a : List ℕ} {len : ℕ} 
 
 -- the plan with one value more
 pub grown-more : {i : ℕ} {slots : List ℕ} {sc : Scope} {b a a′ : List ℕ} {q q′ : NewPlan} (g : GatheredIn i slots sc b a q) (s : SomePlaced b slots sc)
-    → i < sc .count → {p : Span} {l : ℕ} → l ≡ getD (sc .lens) i 0 + 1 → When (i < 110) p (placeOf (getD slots i 0) i (getD (sc .starts) i 0) l) nowhere
+    → i < sc .count → {p : Span} {l : ℕ} → l ≡ getD (sc .lens) i 0 + 1 → When (i < VARIABLES) p (placeOf (getD slots i 0) i (getD (sc .starts) i 0) l) nowhere
     → Copied (p .start) (STACK + q .len) (p .len) a a′ → q′ ≡ grownBy q (p .len) → GatheredIn (i + 1) slots sc b a′ q′
 grown-more {i} {q = q} g s h {p} stood place c e =
     let m = gathered-more (g .so-far) s h stood place c in

@@ -22,7 +22,7 @@ use Rattle.rules.specs.Outcome.{when}
 use Rattle.rules.specs.Text
 use Rattle.rules.specs.Text.{Env, onList, two}
 use Rattle.rules.specs.Explain.{Explained, Getter, Told, Why, follow, get, getNode, give, given, got, met, more, next, own as own-rule, tested, wanted, within}
-use Rattle.rules.specs.Numbers.{CHAIN}
+use Rattle.rules.specs.Numbers.{CHAIN, VARIABLES}
 use Rattle.step.specs.declared.Scope.{Scope}
 use Rattle.step.specs.declared.Branch.{Branch}
 use Rattle.step.specs.declared.Branch.the-variants.{Plain, Parts, Switch, Refused}
@@ -277,7 +277,7 @@ module _ {h : Here} {k n g : ℕ} {a : List ℕ} {q : Shape} (w : Subject h k n 
     the-parts {o} v = parts-held o f (held-shape v (w .shape)) (held-above up v)
 
     -- there is room for them
-    pub parts-stored : (h .scope .count + 2 ≤ 110) × Stored (startOf g + 1) (mid - 1) (lenOf g - mid) × (1 ≤ mid) × (mid ≤ lenOf g)
+    pub parts-stored : (h .scope .count + 2 ≤ VARIABLES) × Stored (startOf g + 1) (mid - 1) (lenOf g - mid) × (1 ≤ mid) × (mid ≤ lenOf g)
     parts-stored =
         let d = had (w .gives .told (w .asked .sheet .sh) (w .asked .sheet .read) (w .asked .env) (w .asked .scoped)) (said-done _ _ g (w .done)) in
         let p = the-parts (d .that .held) .held in

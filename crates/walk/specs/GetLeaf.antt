@@ -16,7 +16,7 @@ use Rattle.rules.specs.Text
 use Rattle.rules.specs.Text.{Env}
 use Rattle.rules.specs.Explain.{getNode, give}
 use Rattle.rules.specs.Readable.{nil-readable, truth-readable, number-readable, wide-readable}
-use Rattle.rules.specs.Numbers.{SCRATCH}
+use Rattle.rules.specs.Numbers.{SCRATCH, VARIABLES}
 use Rattle.step.specs.declared.Scope.{Scope}
 use Rattle.step.specs.Step.{When}
 use Rattle.walk.specs.Said.{done-said, refused-said, said}
@@ -36,7 +36,7 @@ pub record Childless (kind : ℕ) : Type 0 where
 
 -- where a variable stands
 record Place (sc : Scope) (x : ℕ) : Type 0 where
-  few : x < 110
+  few : x < VARIABLES
   start-small : getD (sc .starts) x 0 < SCRATCH
   short : getD (sc .lens) x 0 + 1 ≤ 256
 
@@ -48,7 +48,7 @@ place {sc = sc} {x = x} w h =
 
 -- what the code's answer says
 pub var-told : {h : Here} {n r kind : ℕ} → kind ≡ 0x10 → (w : Asked h kind n)
-    → When ((getD (h .sheet) (n + 1) 0 < h .scope .count) × (getD (h .sheet) (n + 1) 0 < 110)) r
+    → When ((getD (h .sheet) (n + 1) 0 < h .scope .count) × (getD (h .sheet) (n + 1) 0 < VARIABLES)) r
     (doneAs (getD (h .scope .starts) (getD (h .sheet) (n + 1) 0) 0) (getD (h .scope .lens) (getD (h .sheet) (n + 1) 0) 0 + 1) 0) 42
     → Tells h (h .arena) r kind n
 unfolding run Text.getNode

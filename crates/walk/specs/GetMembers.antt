@@ -11,7 +11,7 @@ use Rattle.value.specs.Value.{Value, Values, vfalse, list, nil, encode, encodes
 use Rattle.sheet.specs.Sheet.{Sheet, readSheet}
 use Rattle.rules.specs.Text.{Env}
 use Rattle.rules.specs.Explain.{Explained, get}
-use Rattle.rules.specs.Numbers.{CHAIN}
+use Rattle.rules.specs.Numbers.{CHAIN, VARIABLES}
 use Rattle.step.specs.declared.Scope.{Scope}
 use Rattle.walk.specs.Said.{Done, after, done-said, said}
 use Rattle.walk.specs.declared.at.At.{At}
@@ -28,7 +28,7 @@ pub record MembersAsked (s table a : List ℕ) (sc : Scope) (top levels left x r
   pub asked : Ready s table a sc top levels left (enter root)
   pub room : top + 256 + 513 * levels ≤ CHAIN
   pub inside : x < sc .count
-  pub narrow : sc .count ≤ 110
+  pub narrow : sc .count ≤ VARIABLES
   pub some : Values
   pub held : Held a top start (end - start) (list some)
 

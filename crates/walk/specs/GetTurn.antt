@@ -17,7 +17,7 @@ use Rattle.sheet.specs.Sheet.{Sheet, readSheet}
 use Rattle.rules.specs.Outcome.{when}
 use Rattle.rules.specs.Text.{Env, two}
 use Rattle.rules.specs.Explain.{_>>=_, get, given}
-use Rattle.rules.specs.Numbers.{SCRATCH}
+use Rattle.rules.specs.Numbers.{SCRATCH, VARIABLES}
 use Rattle.step.specs.declared.Scope.{Scope}
 use Rattle.step.specs.Step.{frontedAs}
 use Rattle.step.specs.StepLaws.{front-refused, front-long, front-done as step-front-done}
@@ -100,7 +100,7 @@ module _ {h : Here} {x root start end : ℕ} {a : List ℕ} {to : At} {next mid 
       record { so-far = q; first = f .0; others = f .1; are = e; parts = held-front z v }
 
   -- what `member` asks, and that the list goes on behind it
-  pub member-there : (x < 110) × (next + 1 < SCRATCH) × (2 ≤ mid) × (mid - 1 ≤ 256) × (next + mid < end)
+  pub member-there : (x < VARIABLES) × (next + 1 < SCRATCH) × (2 ≤ mid) × (mid - 1 ≤ 256) × (next + mid < end)
   member-there =
       let v = turn (some-reached w b) .parts in
       let s = held-some (v .first) in

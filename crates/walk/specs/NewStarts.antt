@@ -6,7 +6,7 @@ use native.Mathlib.Omega.{arith}
 use lib.ListN.{length}
 use Rattle.starts.specs.declared.Starts.{Starts}
 use Rattle.starts.specs.Starts.{noStarts, loadOf}
-use Rattle.rules.specs.Numbers.{SCRATCH, STACK}
+use Rattle.rules.specs.Numbers.{SCRATCH, STACK, PUT-OUTPUT}
 use Rattle.rules.specs.Outcome.{Out}
 use Rattle.walk.specs.declared.PutWalked.{PutWalked}
 use Rattle.walk.specs.declared.chain.Met.{Met}
@@ -39,7 +39,7 @@ module _ {r : PutWalked} (c : ℕ) (m : Met) (e : r ≡ refusedPut c m) where
   none-with sheet a = rw e
 
 -- what stands in the front of the arena stands in the whole
-pub starts-whole : (sheet x : List ℕ) {most : ℕ} {a : List ℕ} {r : Reply} {o : Out (List ℕ)} → most ≤ 4096 → length a ≡ SCRATCH → Says most a r o
+pub starts-whole : (sheet x : List ℕ) {most : ℕ} {a : List ℕ} {r : Reply} {o : Out (List ℕ)} → most ≤ PUT-OUTPUT → length a ≡ SCRATCH → Says most a r o
     → newStarts sheet a r ≡ newStarts sheet (a ++ x) r
 unfolding newStarts
 starts-whole sheet x {a = a} t l (says-done len e q h p) =

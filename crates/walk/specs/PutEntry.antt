@@ -35,10 +35,10 @@ use Rattle.rules.specs.Text
 use Rattle.rules.specs.Text.{Env}
 use Rattle.rules.specs.Explain.{Cell, Cells, Told, orOld, put}
 use Rattle.rules.specs.Answer.{count, newPlan, putWalk, putBytes}
-use Rattle.rules.specs.Numbers.{LEVELS, SCRATCH, STACK}
+use Rattle.rules.specs.Numbers.{LEVELS, SCRATCH, STACK, VARIABLES, CHAIN-MAX, PUT-OUTPUT}
 use Rattle.rules.specs.Written.{bitsOf, tookIn, putWritten}
 use Rattle.step.specs.declared.Scope.{Scope}
-use Rattle.step.specs.Step.{placeOf}
+use Rattle.step.specs.Step.{placeOf, slotOf}
 use Rattle.step.specs.StepLaws.{was-written}
 use Rattle.walk.specs.Said.{whyIn, said-done, said-refused}
 use Rattle.starts.specs.declared.NewPlan.{NewPlan}
@@ -105,12 +105,12 @@ first-named {k} {n} c e = record {
   inside = λ i h. let l : i < n = omega (arith, count-length 0 n) in omega (arith, count-at 0 n i l);
 }
 
-none-written : (a : List ℕ) (m n : ℕ) → m ≡ n → m ≤ 16 → Written a (replicate 110 0) m (replicate n none)
+none-written : (a : List ℕ) (m n : ℕ) → m ≡ n → m ≤ 16 → Written a (replicate VARIABLES 0) m (replicate n none)
 none-written a m n e h = record {
   count = length-replicate n none ∙ sym e;
   few = omega arith;
   long = refl;
-  each = λ i l. rw (getD-replicate {A = ℕ} 110 i 0 0 (omega arith), getD-replicate {A = Option Cell} n i none none (omega arith)) (blank refl);
+  each = λ i l. rw (getD-replicate {A = ℕ} VARIABLES i 0 0 (omega arith), getD-replicate {A = Option Cell} n i none none (omega arith)) (blank refl);
 }
 
 -- THE NEW PLAN
@@ -129,7 +129,7 @@ new-at [] (v ∷ μ) i e h = absurd (omega arith)
 new-at (o ∷ X) (v ∷ μ) zero e h = old-strip o v
 new-at (o ∷ X) (v ∷ μ) (suc i) e h = new-at X μ i (omega arith) (omega arith)
 
-rests : {a : List ℕ} {start len c w : ℕ} {o : Option Cell} {v : Value} → Slot a (4096 + 256 * c) w o → c < 110 → Held a STACK start len v
+rests : {a : List ℕ} {start len c w : ℕ} {o : Option Cell} {v : Value} → Slot a (slotOf c) w o → c < VARIABLES → Held a STACK start len v
     → Rests a (placeOf w c start len) (orOld o v)
 unfolding placeOf Text.orOld
 rests (blank z) h k = rw z (record { bytes = k .bytes; readable = k .readable; short = held-short k; inside = below-ends (k .place) (le-refl STACK) })
@@ -191,7 +191,7 @@ module _ {sheet plan view : List ℕ} {table : Table} {sc : Scope} {allowance : 
   written-is = rw (w .read, w .values, s .read) (ap tookIn (sym walk-erased))
 
   module _ {m cells : List ℕ} (c : CopiedIn plan b m) (n : Counted (sc .count) cells) where
-    put-given : Given m (replicate 110 0) sheet (Shown view) sc cells (sc .count) (sc .count) STACK
+    put-given : Given m (replicate VARIABLES 0) sheet (Shown view) sc cells (sc .count) (sc .count) STACK
         (w .sh) (w .μ) (count 0 (length (w .μ))) (s .value) (replicate (length (w .μ)) none)
     put-given = record {
       read = w .read;
@@ -208,7 +208,7 @@ module _ {sheet plan view : List ℕ} {table : Table} {sc : Scope} {allowance : 
       sheet = sheet;
       table = table .starts;
       arena = m;
-      slots = replicate 110 0;
+      slots = replicate VARIABLES 0;
       scope = sc;
       cells = cells;
       count = sc .count;
@@ -236,7 +236,7 @@ module _ {sheet plan view : List ℕ} {table : Table} {sc : Scope} {allowance : 
     }
 
     module _ {a slots : List ℕ} {r : ℕ} (g : PutTold put-root (Shown view) a slots r (enter (table .root))) where
-      pub put-refused : {x : ℕ} → isRefusal r ≡ true → x ≡ codeOf r → PlanWalked 4096 (putBytes sheet plan view allowance) b a (Refused x)
+      pub put-refused : {x : ℕ} → isRefusal r ≡ true → x ≡ codeOf r → PlanWalked PUT-OUTPUT (putBytes sheet plan view allowance) b a (Refused x)
       unfolding run mapOut forget whyIn
       put-refused {x} e f =
           let d = not-had (g .told put-given) (said-refused a LEVELS r e) in
@@ -251,7 +251,7 @@ module _ {sheet plan view : List ℕ} {table : Table} {sc : Scope} {allowance : 
           let d = not-had (g .told put-given) (said-refused a LEVELS r e) in
           rw (f, h) (met-explains a r (w .sh) (table .root) walk-chain (d .1) (w .lent) explain-put)
 
-      pub few-met : isRefusal r ≡ true → lenOf r ≤ 49
+      pub few-met : isRefusal r ≡ true → lenOf r ≤ CHAIN-MAX
       unfolding run
       few-met e = few-nodes a r (w .sh) (table .root) walk-chain (not-had (g .told put-given) (said-refused a LEVELS r e) .1)
 
@@ -287,13 +287,13 @@ module _ {sheet plan view : List ℕ} {table : Table} {sc : Scope} {allowance : 
           new-bytes : part a′ STACK (new .len) ≡ flat ws
           new-bytes = let p = placed-new in all .all .told p ∙ ap flat (ap (λ (i : ℕ). take i ws) (p .count) ∙ take-length ws)
 
-          pub put-done : {n : ℕ} → n ≡ stepsOf r → PlanWalked 4096 (putBytes sheet plan view allowance) b a′ (Done (new .len) n)
+          pub put-done : {n : ℕ} → n ≡ stepsOf r → PlanWalked PUT-OUTPUT (putBytes sheet plan view allowance) b a′ (Done (new .len) n)
           unfolding mapOut forget
           put-done {n} q =
               let h = all .all in
               let z : putBytes sheet plan view allowance ≡ done (flat ws) n
               = put-is ∙ ap (λ (t : Told Cells). mapOut (λ X. flat (newPlan X (w .μ))) (forget strip t)) (wrote .is) ∙ ap (done (flat ws)) (sym q) in
-              let few : new .len ≤ 4096 = omega (arith, h .short, few-variables) in
+              let few : new .len ≤ PUT-OUTPUT = omega (arith, h .short, few-variables) in
               let l : length (part a′ STACK (new .len)) ≡ new .len = part-length a′ STACK (new .len) (omega (arith, h .kept .long, placed-new .long)) in
               record { long = h .kept .long ∙ g .frame .long ∙ c .long; says = rw z (says-done (new .len) refl (sym l ∙ ap length new-bytes) few new-bytes) }
 

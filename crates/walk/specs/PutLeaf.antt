@@ -18,9 +18,9 @@ use Rattle.sheet.specs.Laws.{sheet-ranges}
 use Rattle.rules.specs.Text
 use Rattle.rules.specs.Text.{Env}
 use Rattle.rules.specs.Explain.{own as own-rule, Cell, Cells, constant, putNode, write}
-use Rattle.rules.specs.Numbers.{SCRATCH}
+use Rattle.rules.specs.Numbers.{SCRATCH, VARIABLES}
 use Rattle.step.specs.declared.Scope.{Scope}
-use Rattle.step.specs.Step.{noteOf, notedLen, notedBy, judged}
+use Rattle.step.specs.Step.{noteOf, notedLen, notedBy, judged, slotOf}
 use Rattle.arena.specs.Writing.{Takes, Writes, first-wrote, again-wrote}
 use Rattle.walk.specs.Said.{Done, Refused, said, done-said, refused-said, refused-by-said}
 use Rattle.walk.specs.Parts.{part}
@@ -91,17 +91,17 @@ module _ {h : PutHere} {view : List ℕ} {x kind n r : ℕ} (w : LeafAsked h (Sh
 
 -- what `write` asks and gives
 pub record Writable (a slots : List ℕ) (c : ℕ) (view : List ℕ) : Type 0 where
-  pub cell : c < 110
+  pub cell : c < VARIABLES
   pub long : length a ≡ SCRATCH
-  pub slots-long : length slots ≡ 110
+  pub slots-long : length slots ≡ VARIABLES
   pub some : 1 ≤ length view
   pub view-short : length view ≤ 256
 
 pub data Write (c x : ℕ) (view b a slots slots′ : List ℕ) (r : ℕ) : Type 0 where
-  first : getD slots c 0 ≡ 0 → a ≡ paste b (4096 + 256 * c) view (length view) → slots′ ≡ set slots c (noteOf x (length view)) → r ≡ doneAs 0 0 0
+  first : getD slots c 0 ≡ 0 → a ≡ paste b (slotOf c) view (length view) → slots′ ≡ set slots c (noteOf x (length view)) → r ≡ doneAs 0 0 0
       → Write c x view b a slots slots′ r
   again : (getD slots c 0 ≡ 0 → ⊥) → a ≡ b → slots′ ≡ slots
-      → r ≡ judged (refusedBy 54 (notedBy (getD slots c 0))) (sameBytes (part b (4096 + 256 * c) (notedLen (getD slots c 0))) view)
+      → r ≡ judged (refusedBy 54 (notedBy (getD slots c 0))) (sameBytes (part b (slotOf c) (notedLen (getD slots c 0))) view)
       → Write c x view b a slots slots′ r
 
 -- as the code has it
@@ -150,7 +150,7 @@ record CellOf (n x c : ℕ) (a slots σ : List ℕ) (W : Cells) : Type 0 where
   named : getElem? σ x ≡ some c
   inside : c < n
   there : getElem? W c ≡ some (getD W c none)
-  slot : Slot a (4096 + 256 * c) (getD slots c 0) (getD W c none)
+  slot : Slot a (slotOf c) (getD slots c 0) (getD W c none)
 
 cell : {b slots s cells : List ℕ} {P : Value → Type 0} {sc : Scope} {count top x : ℕ} {sh : Sheet} {μ : Env} {σ : List ℕ} {v : Value} {W : Cells}
     → x < sc .count
@@ -210,7 +210,7 @@ module _ {h : PutHere} {view : List ℕ} {by kind n : ℕ} (w : LeafAsked h (Sho
     unfolding run Text.putNode Text.write
     var-told (first z e f is) =
         let u = var-writable in
-        let fill = rw (← e) at (filled (h .arena) view (4096 + 256 * c) (omega (arith, u .cell, u .view-short, u .long))) in
+        let fill = rw (← e) at (filled (h .arena) view (slotOf c) (omega (arith, u .cell, u .view-short, u .long))) in
         rw (f, var) (record {
           frame = filled-frame fill (u .view-short) (h .top) (u .cell);
           long = length-set (h .slots) c (noteOf by (length view));
@@ -221,17 +221,17 @@ module _ {h : PutHere} {view : List ℕ} {by kind n : ℕ} (w : LeafAsked h (Sho
               (finish (ap (said _ _) is ∙ nothing _ _)
               (record { written = written-set fill (u .view-short) by few (g .written) (q .inside) len (g .shown .bytes) (g .shown .readable) })));
         })
-    var-told {r = r} (again z e f is) = rw (e, f, var) (by-test (sameBytes (part (h .arena) (4096 + 256 * c) (notedLen note)) view) refl)
+    var-told {r = r} (again z e f is) = rw (e, f, var) (by-test (sameBytes (part (h .arena) (slotOf c) (notedLen note)) view) refl)
       where
         note : ℕ
         note = getD (h .slots) c 0
 
-        compared : (u v : Value) (p : Bool) → sameBytes (part (h .arena) (4096 + 256 * c) (notedLen note)) view ≡ p
-            → part (h .arena) (4096 + 256 * c) (notedLen note) ≡ encode u
+        compared : (u v : Value) (p : Bool) → sameBytes (part (h .arena) (slotOf c) (notedLen note)) view ≡ p
+            → part (h .arena) (slotOf c) (notedLen note) ≡ encode u
             → Shown view v → sameBytes (encode u) (encode v) ≡ p
         compared u v p i q s = rw (q, s .bytes) at i
 
-        by-test : (p : Bool) → sameBytes (part (h .arena) (4096 + 256 * c) (notedLen note)) view ≡ p
+        by-test : (p : Bool) → sameBytes (part (h .arena) (slotOf c) (notedLen note)) view ≡ p
             → LeafTells h (Shown view) (h .arena) (h .slots) r by 0x10 n
         by-test true i = record {
           frame = frame-refl _ _;

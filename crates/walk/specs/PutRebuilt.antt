@@ -16,9 +16,9 @@ use Rattle.sheet.specs.Sheet.{Sheet}
 use Rattle.rules.specs.Text
 use Rattle.rules.specs.Text.{Env}
 use Rattle.rules.specs.Explain.{Cell, Cells, orOld}
-use Rattle.rules.specs.Numbers.{SCRATCH, STACK}
+use Rattle.rules.specs.Numbers.{SCRATCH, STACK, VARIABLES}
 use Rattle.step.specs.declared.Span.{Span}
-use Rattle.step.specs.Step.{placeOf, unfitRest}
+use Rattle.step.specs.Step.{placeOf, unfitRest, slotOf}
 use Rattle.step.specs.StepLaws.{was-written}
 use Rattle.walk.specs.Said.{refused-said, said}
 use Rattle.walk.specs.Parts.{part}
@@ -40,7 +40,7 @@ pub record Stands (a : List ℕ) (p : Span) (v : Value) : Type 0 where
   pub readable : Readable v
   pub inside : p .start + p .len ≤ SCRATCH
 
-pub stands : {a : List ℕ} {top start len c w : ℕ} {o : Option Cell} {v : Value} → Slot a (4096 + 256 * c) w o → c < 110 → Held a top start len v → STACK ≤ top
+pub stands : {a : List ℕ} {top start len c w : ℕ} {o : Option Cell} {v : Value} → Slot a (slotOf c) w o → c < VARIABLES → Held a top start len v → STACK ≤ top
     → top ≤ SCRATCH
     → Stands a (placeOf w c start len) (orOld o v)
 unfolding placeOf Text.orOld
@@ -85,7 +85,7 @@ both : {a slots : List ℕ} {n top start first second : ℕ} {f r : Span} {X : C
     → PartsAt a top start first second x y → Both a n X f r x y
 both {a} {slots} {n} {start = start} {first = first} {second = second} {X = X} p q base most w t =
     let m : n + 1 ≡ suc n = add-one n in
-    let s : Slot a (4096 + 256 * (n + 1)) (getD slots (n + 1) 0) (getD X (n + 1) none) = w .each (n + 1) (omega arith) in
+    let s : Slot a (slotOf (n + 1)) (getD slots (n + 1) 0) (getD X (n + 1) none) = w .each (n + 1) (omega arith) in
     record {
       named = elem-at X n none (omega (arith, w .count));
       named′ = elem-at X (suc n) none (omega (arith, w .count));

@@ -15,6 +15,7 @@ use Rattle.rules.specs.Text.{Env, two}
 use Rattle.rules.specs.Explain.{Cells, Putter, _>>=_, under}
 use Rattle.step.specs.declared.Scope.{Scope}
 use Rattle.step.specs.Step.{addedTwo}
+use Rattle.rules.specs.Numbers.{VARIABLES}
 use Rattle.walk.specs.Said.{after, later-said, said, said-done, said-refused}
 use Rattle.walk.specs.declared.at.At.{At}
 use Rattle.walk.specs.declared.putter.Parts.{Parts}
@@ -67,7 +68,7 @@ module _ {h : PutHere} {P : Value → Type 0} {k x y start first second : ℕ} (
       (addedTwo (h .slots) (h .count) 0 0) (h .count + 2)
 
   -- there is room for them
-  pub under-stored : (h .scope .count + 2 ≤ 110) × Stored start first second
+  pub under-stored : (h .scope .count + 2 ≤ VARIABLES) × Stored start first second
   under-stored =
       let i = w .inner in
       let p = w .parts .parts in

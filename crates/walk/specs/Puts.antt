@@ -16,7 +16,7 @@ use Rattle.sheet.specs.Laws.{Ranged}
 use Rattle.rules.specs.Outcome.{when}
 use Rattle.rules.specs.Text.{Env, mkList}
 use Rattle.rules.specs.Explain.{Cells, Explained, Putter, _>>=_, both, get, given, orOld, put, putNode, under}
-use Rattle.rules.specs.Numbers.{ALLOWANCE, SCRATCH, STACK, CHAIN}
+use Rattle.rules.specs.Numbers.{ALLOWANCE, SCRATCH, STACK, CHAIN, VARIABLES}
 use Rattle.step.specs.declared.Scope.{Scope}
 use Rattle.walk.specs.Said.{said}
 use Rattle.walk.specs.Arena.{Scoped, Held}
@@ -131,8 +131,8 @@ pub record Few (left r : ℕ) : Type 0 where
 -- a branch that adds two variables may still be entered
 pub record Inner (sc : Scope) (count levels : ℕ) : Type 0 where
   pub some : 1 ≤ levels
-  pub variables : sc .count + 2 * levels ≤ 110
-  pub more-cells : count + 2 * levels ≤ 110
+  pub variables : sc .count + 2 * levels ≤ VARIABLES
+  pub more-cells : count + 2 * levels ≤ VARIABLES
 
 -- the switch of the list case whose record starts at byte n of the sheet s
 abbrev pub switchAt : List ℕ → ℕ → Task

@@ -6,12 +6,12 @@ use native.Mathlib.Decide.{decLt}
 use native.Mathlib.Omega.{arith}
 use lib.ListN.{length, getD, set, replicate, length-set}
 use lib.Seq.{getD-set-same, getD-set-other}
-use Rattle.rules.specs.Numbers.{SCRATCH}
+use Rattle.rules.specs.Numbers.{SCRATCH, VARIABLES}
 use Rattle.step.specs.declared.Scope.{Scope}
 use Rattle.step.specs.Step.{frontTwo}
 
 abbrev pub noVariable : Scope
-noVariable = record { count = 0; starts = replicate 110 0; lens = replicate 110 0 }
+noVariable = record { count = 0; starts = replicate VARIABLES 0; lens = replicate VARIABLES 0 }
 
 -- one variable more
 abbrev pub pushed : Scope → ℕ → ℕ → Scope
@@ -77,20 +77,20 @@ pub record Stored (start first second : ℕ) : Type 0 where
 -- the k variables of a plan
 pub record Spanned (k : ℕ) (ss ls : List ℕ) (s : Scope) : Type 0 where
   pub count : s .count ≡ k
-  pub starts-long : length (s .starts) ≡ 110
-  pub lens-long : length (s .lens) ≡ 110
+  pub starts-long : length (s .starts) ≡ VARIABLES
+  pub lens-long : length (s .lens) ≡ VARIABLES
   pub start : (i : ℕ) → i < k → getD (s .starts) i 0 ≡ getD ss i 0
   pub len : (i : ℕ) → i < k → 1 ≤ getD ls i 0 → getD ls i 0 ≤ 256 → getD (s .lens) i 0 + 1 ≡ getD ls i 0
 
 -- i of them are copied
 pub record Spanning (i : ℕ) (P : ℕ → ℕ → Type 0) (xs : List ℕ) : Type 0 where
-  pub long : length xs ≡ 110
+  pub long : length xs ≡ VARIABLES
   pub each : (j : ℕ) → j < i → P j (getD xs j 0)
 
-pub spanning-none : {P : ℕ → ℕ → Type 0} → Spanning 0 P (replicate 110 0)
+pub spanning-none : {P : ℕ → ℕ → Type 0} → Spanning 0 P (replicate VARIABLES 0)
 spanning-none = record { long = refl; each = λ j h. absurd (omega arith) }
 
-pub spanning-more : {i x : ℕ} {P : ℕ → ℕ → Type 0} {xs : List ℕ} → i < 110 → Spanning i P xs → P i x → Spanning (i + 1) P (set xs i x)
+pub spanning-more : {i x : ℕ} {P : ℕ → ℕ → Type 0} {xs : List ℕ} → i < VARIABLES → Spanning i P xs → P i x → Spanning (i + 1) P (set xs i x)
 spanning-more {i} {x} {P} {xs} h m p = record { long = length-set xs i x ∙ m .long; each = λ j lt. go j lt (decLt j i) }
   where
     go : (j : ℕ) → j < i + 1 → Dec (j < i) → P j (getD (set xs i x) j 0)

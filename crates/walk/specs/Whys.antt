@@ -7,7 +7,7 @@ use native.Mathlib.Omega.{arith}
 use lib.ListN.{length, take, drop, List·getD-append}
 use lib.Seq.{length-take-le}
 use Rattle.answer.specs.Answer.{codeOf, lenOf, startOf}
-use Rattle.rules.specs.Numbers.{LEVELS, SCRATCH, CHAIN}
+use Rattle.rules.specs.Numbers.{LEVELS, SCRATCH, CHAIN, CHAIN-MAX}
 use Rattle.rules.specs.AnswerLaws.{Lent}
 use Rattle.rules.specs.Explain.{Why, Told, got, met}
 use Rattle.rules.specs.ExplainChain.{Chain, Meets, stop}
@@ -59,7 +59,7 @@ metBy (walked y) = record { depth = length (y .chain); first = numbered (y .firs
 
 -- a call with the arena b before and a behind it explains e, where the arena and the allowance will do; it is met nowhere where they will not
 pub record Explains (e : Explanation) (allowance : ℕ) (b a : List ℕ) (w : Reply) (m : Met) : Type 0 where
-  pub few : m .depth ≤ 49
+  pub few : m .depth ≤ CHAIN-MAX
   pub why : Lent 0 0 (length b) allowance → whyOf a w m ≡ e
   pub place : Lent 0 0 (length b) allowance → m ≡ metBy e
   pub idle : (Lent 0 0 (length b) allowance → ⊥) → m ≡ nowhere
@@ -93,7 +93,7 @@ module _ {A : Type 0} (a : List ℕ) (r : ℕ) (sh : Sheet) (n : ℕ) {t : Told 
   unfolding whyIn
   nodes = sym (length-bytes a CHAIN (lenOf r)) ∙ ap (λ (l : List ℕ). length l) (chain .begins)
 
-  pub few-nodes : lenOf r ≤ 49
+  pub few-nodes : lenOf r ≤ CHAIN-MAX
   few-nodes = omega (arith, nodes, chain .short)
 
   met-why : whyOf a (Refused (codeOf r)) (record { depth = lenOf r; first = startOf r }) ≡ explained t
@@ -140,7 +140,7 @@ unfolding bytesAt
 bytes-front a x i zero h = refl
 bytes-front a x i (suc d) h = rw (List·getD-append a x 0 i (omega arith), bytes-front a x (suc i) d (omega arith)) refl
 
-met-front : (a x : List ℕ) (c depth first : ℕ) → depth ≤ 49 → length a ≡ SCRATCH → metAt (a ++ x) c depth first ≡ metAt a c depth first
+met-front : (a x : List ℕ) (c depth first : ℕ) → depth ≤ CHAIN-MAX → length a ≡ SCRATCH → metAt (a ++ x) c depth first ≡ metAt a c depth first
 unfolding metAt
 met-front a x c zero first h l = refl
 met-front a x c (suc d) first h l = rw (bytes-front a x CHAIN (suc d) (omega arith)) refl

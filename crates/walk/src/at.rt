@@ -2,7 +2,7 @@
 ghost use mathlib.Core.Path.{_≡_};
 ghost use Prim.Native.Nat.{_+_, _≤_};
 ghost use Rattle.answer.specs.Answer.{lenOf, startOf, stepsOf};
-ghost use Rattle.rules.specs.Numbers.{SCRATCH};
+ghost use Rattle.rules.specs.Numbers.{SCRATCH, VARIABLES};
 ghost use Rattle.walk.specs.Places.{belowOf, raisedOf, afterOf, behindOf, withCellOf, widerOf};
 use answer::len_of;
 use answer::start_of;
@@ -75,7 +75,7 @@ impl At {
 
     /// With one cell more.
     pub fn with_cell(self) -> At
-        requires { ⌜ self .cells + 1 ≤ 110 ⌝ }
+        requires { ⌜ self .cells + 1 ≤ VARIABLES ⌝ }
         ensures { λ r. ⌜ r ≡ withCellOf self ⌝ }
     {
         At {
@@ -88,7 +88,7 @@ impl At {
 
     /// With two cells more.
     pub fn wider(self) -> At
-        requires { ⌜ self .cells + 2 ≤ 110 ⌝ }
+        requires { ⌜ self .cells + 2 ≤ VARIABLES ⌝ }
         ensures { λ r. ⌜ r ≡ widerOf self ⌝ }
     {
         At {

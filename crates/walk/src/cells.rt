@@ -3,11 +3,11 @@ ghost use Prim.Native.Nat.{_≤_};
 ghost use Rattle.walk.specs.Gather.{Counted};
 
 /// The cells of k variables.
-pub fn first_cells(k: usize) -> [u8; 110]
+pub fn first_cells(k: usize) -> [u8; rules::VARIABLES]
     requires { ⌜ k ≤ 16 ⌝ }
     ensures { λ r. ⌜ Counted k r ⌝ }
 {
-    let mut of = [0u8; 110];
+    let mut of = [0u8; rules::VARIABLES];
     let mut i = 0;
     while i < k {
         of[i] = i as u8;

@@ -2,6 +2,7 @@
 ghost use mathlib.Core.Path.{_≡_};
 ghost use Prim.Native.Nat.{_≤_};
 ghost use Rattle.answer.specs.Answer.{lenOf, startOf};
+ghost use Rattle.rules.specs.Numbers.{CHAIN-MAX};
 ghost use Rattle.walk.specs.Whys.{nowhere};
 use answer::len_of;
 use answer::start_of;
@@ -22,7 +23,7 @@ pub fn nowhere() -> Met
 
 /// Where the refusal that an answer is was met.
 pub fn met_at(answer: usize) -> Met
-    requires { ⌜ lenOf answer ≤ 49 ⌝ }
+    requires { ⌜ lenOf answer ≤ CHAIN-MAX ⌝ }
     ensures { λ r. ⌜ r ≡ record { depth = lenOf answer; first = startOf answer } ⌝ }
 {
     Met {

@@ -141,7 +141,7 @@ pub fn get(sheet: &[u8], plan: &[u8], allowance: usize, arena: &mut [u8]) -> Get
 }
 
 // The new plan, from byte 32,256 on: each variable's value, from where it now stands.
-fn gather(arena: &mut [u8], slots: &[u16; 110], scope: Scope) -> NewPlan
+fn gather(arena: &mut [u8], slots: &[u16; rules::VARIABLES], scope: Scope) -> NewPlan
     requires { ⌜ SomePlaced (now arena) (now slots) scope ⌝ }
     ensures { λ r. ⌜ AllGathered (now (slots .entry)) scope (now (arena .entry)) (now (arena .exit)) r ⌝ }
 {
@@ -192,7 +192,7 @@ fn put_plan(
     ensures { λ r. ⌜ Explains (explainPut (now (sheet .entry)) (now (plan .entry)) (now (view .entry)) allowance) allowance (now (arena .entry)) (now (arena .exit)) (r .walked) (r .met) ⌝ }
 {
     copy_in(plan, arena);
-    let mut slots = [0u16; 110];
+    let mut slots = [0u16; rules::VARIABLES];
     let k = scope.count as usize;
     let cells = first_cells(k);
     let at = At {

@@ -1,7 +1,7 @@
 //! Scopes, each made whole: the empty one, one of one variable, a plan's, a member's, and a scope with two variables more.
 ghost use mathlib.Core.Path.{_≡_};
 ghost use Prim.Native.Nat.{_+_, _-_, _<_, _≤_};
-ghost use Rattle.rules.specs.Numbers.{SCRATCH};
+ghost use Rattle.rules.specs.Numbers.{SCRATCH, VARIABLES};
 ghost use Rattle.walk.specs.Scope.{noVariable, pushed, withMember, withTwo, Stored, Spanned};
 use step::Scope;
 use value::Spans;
@@ -12,8 +12,8 @@ pub fn none() -> Scope
 {
     Scope {
         count: 0,
-        starts: [0u16; 110],
-        lens: [0u8; 110],
+        starts: [0u16; rules::VARIABLES],
+        lens: [0u8; rules::VARIABLES],
     }
 }
 
@@ -22,8 +22,8 @@ pub fn single(start: usize, len: usize) -> Scope
     requires { ⌜ (start < SCRATCH) × (1 ≤ len) × (len ≤ 256) ⌝ }
     ensures { λ r. ⌜ r ≡ pushed noVariable start len ⌝ }
 {
-    let mut starts = [0u16; 110];
-    let mut lens = [0u8; 110];
+    let mut starts = [0u16; rules::VARIABLES];
+    let mut lens = [0u8; rules::VARIABLES];
     starts[0] = start as u16;
     lens[0] = (len - 1) as u8;
     Scope {
@@ -35,7 +35,7 @@ pub fn single(start: usize, len: usize) -> Scope
 
 /// A member, whose value has `len` bytes from `start` on, and the variable x alone.
 pub fn member(scope: Scope, x: usize, start: usize, len: usize) -> Scope
-    requires { ⌜ (x < 110) × (start < SCRATCH) × (1 ≤ len) × (len ≤ 256) ⌝ }
+    requires { ⌜ (x < VARIABLES) × (start < SCRATCH) × (1 ≤ len) × (len ≤ 256) ⌝ }
     ensures { λ r. ⌜ r ≡ withMember scope x start len ⌝ }
 {
     let mut both = scope;
@@ -49,7 +49,7 @@ pub fn member(scope: Scope, x: usize, start: usize, len: usize) -> Scope
 
 /// Two variables more, whose values stand one after the other.
 pub fn with_two(scope: Scope, start: usize, first: usize, second: usize) -> Scope
-    requires { ⌜ (scope .count + 2 ≤ 110) × Stored start first second ⌝ }
+    requires { ⌜ (scope .count + 2 ≤ VARIABLES) × Stored start first second ⌝ }
     ensures { λ r. ⌜ r ≡ withTwo scope start first second ⌝ }
 {
     let n = scope.count as usize;
@@ -67,8 +67,8 @@ pub fn of_spans(k: usize, spans: Spans) -> Scope
     requires { ⌜ k ≤ 16 ⌝ }
     ensures { λ r. ⌜ Spanned k (spans .starts) (spans .lens) r ⌝ }
 {
-    let mut starts = [0u16; 110];
-    let mut lens = [0u8; 110];
+    let mut starts = [0u16; rules::VARIABLES];
+    let mut lens = [0u8; rules::VARIABLES];
     let mut i = 0;
     while i < k {
         starts[i] = spans.starts[i];

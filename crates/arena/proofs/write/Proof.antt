@@ -8,7 +8,8 @@ use lib.Seq.{paste}
 use Rattle.value.specs.Parts.{sameBytes}
 use Rattle.answer.specs.Answer.{refusedBy}
 use Rattle.step.specs.Step.{notedLen, notedBy, judged}
-use Rattle.arena.specs.Writing.{slotOf, Takes, not-taken, taken-first, taken-again}
+use Rattle.step.specs.Step.{slotOf}
+use Rattle.arena.specs.Writing.{Takes, not-taken, taken-first, taken-again}
 use borrow.Author.Needs.{needs}
 use Rattle.arena.proofs.write.Statement.{statement}
 use Rattle.arena.proofs.write.Tie as tie

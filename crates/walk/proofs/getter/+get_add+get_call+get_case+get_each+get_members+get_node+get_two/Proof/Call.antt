@@ -4,6 +4,7 @@ use borrow.Author.Needs.{needs}
 use mathlib.Core.Path.{_≡_, ap, ap₂, _∙_}
 use Prim.Native.Nat.{ℕ, _+_, _-_, _<_}
 use native.Mathlib.Omega.{arith}
+use Rattle.rules.specs.Numbers.{VARIABLES}
 use Rattle.walk.specs.Gets.{here, ready-scope, as-scope}
 use lib.ListN.{getD}
 use Rattle.sheet.specs.Table.{sectionAt}
@@ -73,7 +74,7 @@ module _ (t : ℕ) where
       call-42₂ (w .1 .0) (w .1 .1) (omega (arith, c .before .before .before .before .before .number-of .ensures, c .before .before .if1 .left))
       (omega (arith, c .before .before .before .before .number-of2 .ensures, c .before .if2 .taken)) (c .refused2 .ensures)
 
-  few : (c : At lts.Else2) → (c .before .before .before .before .number-of .result < 110) × (c .before .before .before .number-of2 .result < 110)
+  few : (c : At lts.Else2) → (c .before .before .before .before .number-of .result < VARIABLES) × (c .before .before .before .number-of2 .result < VARIABLES)
   few c = let w = entry c .pre .1 .0 in (omega (arith, w .variables, c .before .if1 .left), omega (arith, w .variables, c .if2 .left))
 
   section-is : (c : At lts.After-section) → let i = in-scope (found c) in let e = entry i in

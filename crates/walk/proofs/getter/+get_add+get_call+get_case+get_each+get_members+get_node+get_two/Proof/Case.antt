@@ -8,6 +8,7 @@ use Rattle.answer.specs.Answer.{isRefusal, startOf, lenOf, start-small, later-a
 use mathlib.Core.Bool.{false}
 use Rattle.step.specs.Step.{fitOf}
 use Rattle.step.specs.StepLaws.{fits-as, plain-low, parts-low, fits-refused}
+use Rattle.rules.specs.Numbers.{VARIABLES}
 use Rattle.walk.specs.Gets.{here, levels-as, ready-node, as-node, ready-as, gives-as}
 use Rattle.walk.specs.Scope.{withTwo, Stored, stored-as}
 use Rattle.walk.specs.GetBranch.{judgeable, judged-as}
@@ -173,7 +174,7 @@ module _ (t : ℕ) where
 
   stored : (c : At lts.After-number-of3) → let g = got (there (beyond (shaped (parts c)))) in let r = g .get-node .result in
       let m = c .before .before .i2 .given .0 .1 .0 in
-      (entry g .args .scope .count + 2 ≤ 110) × Stored (startOf r + 1) (m - 1) (lenOf r - m) × (1 ≤ m) × (m ≤ lenOf r)
+      (entry g .args .scope .count + 2 ≤ VARIABLES) × Stored (startOf r + 1) (m - 1) (lenOf r - m) × (1 ≤ m) × (m ≤ lenOf r)
   stored c = parts-stored (subject (shaped (parts c))) (fits-as (told (parts c)) (c .before .before .i2 .given .1))
 
   add-with-two : At lts.Need-add-with-two

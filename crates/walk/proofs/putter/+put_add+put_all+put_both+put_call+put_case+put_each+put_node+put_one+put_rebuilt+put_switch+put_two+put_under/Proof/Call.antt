@@ -7,6 +7,7 @@ use native.Mathlib.Omega.{arith}
 use lib.ListN.{getD}
 use Rattle.sheet.specs.Table.{sectionAt}
 use Rattle.step.specs.Step.{picked, pickedTwo}
+use Rattle.rules.specs.Numbers.{VARIABLES}
 use Rattle.walk.specs.Cells.{Shown}
 use Rattle.walk.specs.Puts.{put-here}
 use Rattle.walk.specs.PutReady.{ready-as, gives-as}
@@ -70,7 +71,7 @@ module _ (t : ℕ) where
         root-is = c .section-root .ensures ∙ ap (sectionAt (entry i .args .sheet .now)) (c .before .number-of3 .ensures);
       }
 
-  few : (c : At lts.Else2) → (c .before .before .before .before .number-of .result < 110) × (c .before .before .before .number-of2 .result < 110)
+  few : (c : At lts.Else2) → (c .before .before .before .before .number-of .result < VARIABLES) × (c .before .before .before .number-of2 .result < VARIABLES)
   few c = let w = entry c .pre .1 .0 in (omega (arith, w .variables, c .before .if1 .left), omega (arith, w .variables, c .if2 .left))
 
   section-is : (c : At lts.After-section) → let i = in-scope (found c) in let e = entry i in

@@ -12,6 +12,7 @@ use borrow.Author.Tests.{ltb-true, ltb-false}
 use Rattle.answer.specs.Answer.{isRefusal, doneAs, startOf, lenOf, stepsOf, steps-small}
 use Rattle.value.specs.Parts.{shapeOf, middleOf}
 use Rattle.step.specs.Step.{frontTwo, placeOf}
+use Rattle.rules.specs.Numbers.{VARIABLES}
 use Rattle.walk.specs.declared.at.At.{At as Where}
 use Rattle.walk.specs.Places.{behindOf, withCellOf}
 use Rattle.walk.specs.Scope.{withMember}
@@ -151,7 +152,7 @@ module _ (t : ℕ) where
       let a = entry (begun (found (there l))) .args in
       c .member .ensures ∙ ap₂ (withMember (a .scope) (a .by .x)) (l .before .start-of .ensures) (l .len-of .ensures)
 
-  room : (c : At lts.Start) → (c .args .at .cells + 1 ≤ 109) × (c .args .by .x < 110)
+  room : (c : At lts.Start) → (c .args .at .cells + 1 ≤ 109) × (c .args .by .x < VARIABLES)
   room c = let w = c .pre .1 .0 in let i = w .inner in (omega (arith, i .more-cells, i .some), omega (arith, i .variables, i .some, w .variable))
 
   cells-are : (c : At lts.After-member-cells) → let a = entry (begun (found (there (scoped c .before)))) .args in

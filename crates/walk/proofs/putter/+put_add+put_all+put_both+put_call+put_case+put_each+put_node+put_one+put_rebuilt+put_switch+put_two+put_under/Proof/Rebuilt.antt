@@ -7,6 +7,7 @@ use native.Mathlib.Omega.{arith}
 use mathlib.Core.Bool.{false}
 use lib.ListN.{getD}
 use Rattle.step.specs.Step.{unfitRest}
+use Rattle.rules.specs.Numbers.{VARIABLES}
 use Rattle.walk.specs.Puts.{put-there}
 use Rattle.walk.specs.PutReady.{few}
 use Rattle.walk.specs.PutRebuilt.{Rebuilding, parts-end, rebuilt-places, rebuilt-43, rebuilt-44, rebuilt-long, rebuilt-asks, rebuilt-told}
@@ -53,7 +54,7 @@ module _ (t : ℕ) where
   short c = c .before .before .before
 
   -- WHAT IS KNOWN THERE
-  room : (c : At lts.Start) → c .args .at .cells + 2 ≤ 110
+  room : (c : At lts.Start) → c .args .at .cells + 2 ≤ VARIABLES
   room c = c .pre .1 .0 .given .written .few
 
   places : (c : At lts.After-place-of2) → let e = entry c in let p = e .args .parts in

@@ -7,6 +7,7 @@ use native.Mathlib.Omega.{arith}
 use mathlib.Core.Bool.{false}
 use Rattle.answer.specs.Answer.{isRefusal, later-as}
 use Rattle.step.specs.Step.{addedTwo}
+use Rattle.rules.specs.Numbers.{VARIABLES}
 use Rattle.walk.specs.Cells.{Shown}
 use Rattle.walk.specs.Gets.{levels-as}
 use Rattle.walk.specs.Puts.{enter, put-there, PutTold, Few}
@@ -86,7 +87,7 @@ module _ (t : ℕ) where
       Under (put-there (c .pre .1 .0)) (Shown (a .view .now)) (a .kind) (a .branch) (a .subject) (a .parts .start) (a .parts .first) (a .parts .second)
   asked c = record { asked = c .pre .1 .0; inner = c .pre .1 .1 .0; parts = c .pre .1 .1 .1 }
 
-  room : (c : At lts.Start) → (c .args .at .cells + 2 ≤ 110) × (c .args .scope .count + 2 ≤ 110)
+  room : (c : At lts.Start) → (c .args .at .cells + 2 ≤ VARIABLES) × (c .args .scope .count + 2 ≤ VARIABLES)
   room c = let i = c .pre .1 .1 .0 in (omega (arith, i .more-cells, i .some), omega (arith, i .variables, i .some))
 
   cells-are : (c : At lts.After-add-cells) → let a = entry (scoped c) .args in c .add-cells .last .0 ≡ addedTwo (a .cells .now) (a .scope .count)
