@@ -11,9 +11,14 @@ use Rattle.calls.specs.Reply.{Reply, Done, Refused}
 use Rattle.calls.specs.Calls.{written, cleared}
 use Rattle.report.specs.Text.{refusalLine, successLine}
 use Rattle.report.specs.Writing.{Front}
+use Rattle.words.specs.Numbers.{INPUT}
 use Rattle.words.specs.declared.Job.{Job}
 use Rattle.words.specs.declared.Job.the-variants.{Get, Put, Other}
 use Rattle.words.specs.Format.{sheetOf, planOf, viewOf, jobOf, jobNumber}
+
+-- the most bytes of a line, by the name that the code has for it (src/lib.rt)
+abbrev pub LINE : ℕ
+LINE = 8204
 
 -- a job's answer: what the call answers on buffers of the sizes that document 01 asks for, or the number of what is no job
 unfoldable pub answerOf : List ℕ → Job → Answer
@@ -23,7 +28,7 @@ answerOf bs Other = refusal (jobNumber Other)
 
 -- over 8,192 bytes: 61, whatever they are
 unfoldable pub jobAnswer : List ℕ → Answer
-jobAnswer bs = cond (leb (length bs) 8192) (answerOf bs (jobOf bs)) (refusal 61)
+jobAnswer bs = cond (leb (length bs) INPUT) (answerOf bs (jobOf bs)) (refusal 61)
 
 unfoldable pub answerLine : Answer → List ℕ
 answerLine (refusal c) = refusalLine c
@@ -55,4 +60,4 @@ clearedBy bs Other s = s
 
 pub record Lent (bs o o′ s s′ : List ℕ) : Type 0 where
   pub output : o′ ≡ written (jobAnswer bs) o
-  pub scratch : s′ ≡ cond (leb (length bs) 8192) (clearedBy bs (jobOf bs) s) s
+  pub scratch : s′ ≡ cond (leb (length bs) INPUT) (clearedBy bs (jobOf bs) s) s

@@ -2,7 +2,7 @@
 use mathlib.Core.Bool.{Bool, true, false, cond}
 use mathlib.Core.Path.{_≡_, refl, sym, ap}
 use mathlib.Core.List.{List, []}
-use Prim.Native.Nat.{ℕ, _≤_, _<_}
+use Prim.Native.Nat.{ℕ, _+_, _≤_, _<_}
 use native.Mathlib.Omega.{arith}
 use native.Mathlib.Decide.{decLe}
 use borrow.Author.Tests.{le-leb, lt-leb}
@@ -18,15 +18,16 @@ use Rattle.calls.specs.Small.{Small, small-get, small-put}
 use Rattle.report.specs.Text.{refusalLine, successLine}
 use Rattle.report.specs.TextLaws.{refusal-length, success-length}
 use Rattle.report.specs.Writing.{Wrote, Front, wrote-front, wrote-text}
+use Rattle.words.specs.Numbers.{INPUT}
 use Rattle.words.specs.declared.fields.Fields.{Fields}
 use Rattle.words.specs.declared.Job.{Job}
 use Rattle.words.specs.declared.Job.the-variants.{Get, Put, Other}
 use Rattle.words.specs.Format.{sheetOf, planOf, viewOf, jobOf}
-use Rattle.job.specs.Line.{answerOf, jobAnswer, answerLine, jobLine, replyLine, Said, clearedBy, Lent}
+use Rattle.job.specs.Line.{LINE, answerOf, jobAnswer, answerLine, jobLine, replyLine, Said, clearedBy, Lent}
 
 -- HOW LONG A LINE IS
 
-fits : (a : Answer) → Small (reply a) → length (answerLine a) ≤ 8204
+fits : (a : Answer) → Small (reply a) → length (answerLine a) ≤ LINE
 unfolding answerLine reply
 fits (refusal c) s = omega (arith, refusal-length c (s .1))
 fits (success bs n) s = omega (arith, s .0, success-length n bs (s .1))
@@ -35,38 +36,38 @@ fits (success bs n) s = omega (arith, s .0, success-length n bs (s .1))
 answered : (a : Answer) → Answered a (reply a) [] (written a []) [] (cleared a [])
 answered a = record { answer = refl; output = refl; scratch = refl }
 
-fits-get : (sheet plan : List ℕ) (allowance output scratch : ℕ) → length (answerLine (getAnswer sheet plan allowance output scratch)) ≤ 8204
+fits-get : (sheet plan : List ℕ) (allowance output scratch : ℕ) → length (answerLine (getAnswer sheet plan allowance output scratch)) ≤ LINE
 fits-get sheet plan allowance output scratch = fits _ (small-get sheet plan allowance output scratch (answered _))
 
-fits-put : (sheet plan view : List ℕ) (allowance output scratch : ℕ) → length (answerLine (putAnswer sheet plan view allowance output scratch)) ≤ 8204
+fits-put : (sheet plan view : List ℕ) (allowance output scratch : ℕ) → length (answerLine (putAnswer sheet plan view allowance output scratch)) ≤ LINE
 fits-put sheet plan view allowance output scratch = fits _ (small-put sheet plan view allowance output scratch (answered _))
 
-fits-refusal : (c : ℕ) → c < 256 → length (answerLine (refusal c)) ≤ 8204
+fits-refusal : (c : ℕ) → c < 256 → length (answerLine (refusal c)) ≤ LINE
 unfolding answerLine
 fits-refusal c h = omega (arith, refusal-length c h)
 
-fits-job : (bs : List ℕ) (j : Job) → length (answerLine (answerOf bs j)) ≤ 8204
+fits-job : (bs : List ℕ) (j : Job) → length (answerLine (answerOf bs j)) ≤ LINE
 unfolding answerOf
 fits-job bs (Get f) = fits-get _ _ (f .allowance) GET-OUTPUT SCRATCH
 fits-job bs (Put f) = fits-put _ _ _ (f .allowance) PUT-OUTPUT SCRATCH
 fits-job bs Other = fits-refusal 60 (omega arith)
 
-pub line-fits : (bs : List ℕ) → length (jobLine bs) ≤ 8204
+pub line-fits : (bs : List ℕ) → length (jobLine bs) ≤ LINE
 unfolding jobLine jobAnswer
-line-fits bs = go (leb (length bs) 8192)
+line-fits bs = go (leb (length bs) INPUT)
   where
-    go : (p : Bool) → length (answerLine (cond p (answerOf bs (jobOf bs)) (refusal 61))) ≤ 8204
+    go : (p : Bool) → length (answerLine (cond p (answerOf bs (jobOf bs)) (refusal 61))) ≤ LINE
     go true = fits-job bs (jobOf bs)
     go false = fits-refusal 61 (omega arith)
 
 -- THE FIRST 8,193 BYTES DECIDE IT
-pub line-front : (bs : List ℕ) → jobLine (take 8193 bs) ≡ jobLine bs
+pub line-front : (bs : List ℕ) → jobLine (take (INPUT + 1) bs) ≡ jobLine bs
 unfolding jobLine jobAnswer
-line-front bs = go (decLe (length bs) 8193)
+line-front bs = go (decLe (length bs) (INPUT + 1))
   where
-    go : Dec (length bs ≤ 8193) → jobLine (take 8193 bs) ≡ jobLine bs
-    go (yes h) = rw (take-all 8193 bs h)
-    go (no h) = rw (length-take-le 8193 bs (omega arith), lt-leb (length bs) 8192 (omega arith))
+    go : Dec (length bs ≤ INPUT + 1) → jobLine (take (INPUT + 1) bs) ≡ jobLine bs
+    go (yes h) = rw (take-all (INPUT + 1) bs h)
+    go (no h) = rw (length-take-le (INPUT + 1) bs (omega arith), lt-leb (length bs) INPUT (omega arith))
 
 -- WHAT SHOWS IT OF THE CODE
 
@@ -96,7 +97,7 @@ unfolding getAnswer door given when decLe
 more-output sheet plan allowance = refl
 
 -- a call on buffers of the sizes that the program lends
-module _ {o s t : List ℕ} (eo : length o ≡ PUT-OUTPUT) (es : length s ≡ SCRATCH) (et : length t ≡ 8204) (sheet plan : List ℕ) (allowance : ℕ)
+module _ {o s t : List ℕ} (eo : length o ≡ PUT-OUTPUT) (es : length s ≡ SCRATCH) (et : length t ≡ LINE) (sheet plan : List ℕ) (allowance : ℕ)
     {q : Reply} {o′ s′ t′ : List ℕ} {r : ℕ} where
   -- a get is lent more than the 256 bytes that it needs
   pub said-get : Answered (getAnswer sheet plan allowance (length o) (length s)) q o o′ s s′ → Wrote (replyLine q o′) 0 t t′ r
@@ -109,24 +110,24 @@ module _ {o s t : List ℕ} (eo : length o ≡ PUT-OUTPUT) (es : length s ≡ SC
 
 -- an input: over 8,192 bytes, no job, a get, a put
 module _ (bs : List ℕ) where
-  answer-over : 8192 < length bs → jobAnswer bs ≡ refusal 61
+  answer-over : INPUT < length bs → jobAnswer bs ≡ refusal 61
   unfolding jobAnswer
-  answer-over h = rw (lt-leb (length bs) 8192 h)
+  answer-over h = rw (lt-leb (length bs) INPUT h)
 
-  answer-job : {i j : Job} → length bs ≤ 8192 → i ≡ jobOf bs → i ≡ j → jobAnswer bs ≡ answerOf bs j
+  answer-job : {i j : Job} → length bs ≤ INPUT → i ≡ jobOf bs → i ≡ j → jobAnswer bs ≡ answerOf bs j
   unfolding jobAnswer
-  answer-job h e q = rw (le-leb (length bs) 8192 h, ← e, q)
+  answer-job h e q = rw (le-leb (length bs) INPUT h, ← e, q)
 
-  lent-over : (o s : List ℕ) → 8192 < length bs → Lent bs o o s s
+  lent-over : (o s : List ℕ) → INPUT < length bs → Lent bs o o s s
   unfolding written
-  lent-over o s h = record { output = rw (answer-over h); scratch = rw (lt-leb (length bs) 8192 h) }
+  lent-over o s h = record { output = rw (answer-over h); scratch = rw (lt-leb (length bs) INPUT h) }
 
-  lent-job : {i j : Job} → length bs ≤ 8192 → i ≡ jobOf bs → i ≡ j → {o o′ s s′ : List ℕ}
+  lent-job : {i j : Job} → length bs ≤ INPUT → i ≡ jobOf bs → i ≡ j → {o o′ s s′ : List ℕ}
       → o′ ≡ written (answerOf bs j) o → s′ ≡ clearedBy bs j s → Lent bs o o′ s s′
-  lent-job h e q p z = record { output = rw (answer-job h e q) p; scratch = rw (le-leb (length bs) 8192 h, ← e, q) z }
+  lent-job h e q p z = record { output = rw (answer-job h e q) p; scratch = rw (le-leb (length bs) INPUT h, ← e, q) z }
 
   module _ {t t′ : List ℕ} {r : ℕ} where
-    line-wrote : (c : ℕ) → length t ≡ 8204 → jobAnswer bs ≡ refusal c → Wrote (refusalLine c) 0 t t′ r → Front (jobLine bs) t t′ r
+    line-wrote : (c : ℕ) → length t ≡ LINE → jobAnswer bs ≡ refusal c → Wrote (refusalLine c) 0 t t′ r → Front (jobLine bs) t t′ r
     unfolding jobLine answerLine
     line-wrote c et e l = wrote-front (wrote-text l (sym (ap answerLine e))) (rw et (line-fits bs))
 
@@ -134,11 +135,11 @@ module _ (bs : List ℕ) where
     unfolding jobLine
     line-said e f = rw e f
 
-    pub prints-over : {o s : List ℕ} → length t ≡ 8204 → 8192 < length bs → Wrote (refusalLine 61) 0 t t′ r → Front (jobLine bs) t t′ r × Lent bs o o s s
+    pub prints-over : {o s : List ℕ} → length t ≡ LINE → INPUT < length bs → Wrote (refusalLine 61) 0 t t′ r → Front (jobLine bs) t t′ r × Lent bs o o s s
     prints-over {o} {s} et h l = (line-wrote 61 et (answer-over h) l, lent-over o s h)
 
-    module _ {j : Job} (h : length bs ≤ 8192) (e : j ≡ jobOf bs) where
-      pub prints-none : {o s : List ℕ} → length t ≡ 8204 → j ≡ Other → Wrote (refusalLine 60) 0 t t′ r → Front (jobLine bs) t t′ r × Lent bs o o s s
+    module _ {j : Job} (h : length bs ≤ INPUT) (e : j ≡ jobOf bs) where
+      pub prints-none : {o s : List ℕ} → length t ≡ LINE → j ≡ Other → Wrote (refusalLine 60) 0 t t′ r → Front (jobLine bs) t t′ r × Lent bs o o s s
       unfolding answerOf written clearedBy
       prints-none et q l = (line-wrote 60 et (answer-job h e q) l, lent-job h e q refl refl)
 

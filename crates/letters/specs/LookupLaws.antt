@@ -16,6 +16,7 @@ use Rattle.starts.specs.declared.Found.the-variants.{At, Refused}
 use Rattle.starts.specs.Starts.{loadOf, numbers, proper, standsAt, findOf, partOf}
 use Rattle.starts.specs.Lookup.{length-firsts, proper-is}
 use Rattle.starts.specs.StartsLaws.{load-few}
+use Rattle.words.specs.Numbers.{INPUT}
 use Rattle.words.specs.Format.{two, part}
 use Rattle.words.specs.Starts.{startsIn, kept, kept-all}
 use Rattle.letters.specs.Lookups.{loadedLine, loadLine, foundLine, valueLine}
@@ -31,13 +32,13 @@ below-more h none = none
 below-more h (each {a} p r) = each {a = a} (omega arith) (below-more h r)
 
 -- the starts of a plan of at most 8,192 bytes: at most 16 of 4 digits, each behind a space
-pub starts-length : (sheet plan : List ℕ) → length plan ≤ 8192 → length (words (map decimalOf (numbers (loadOf sheet plan .starts)))) ≤ 80
+pub starts-length : (sheet plan : List ℕ) → length plan ≤ INPUT → length (words (map decimalOf (numbers (loadOf sheet plan .starts)))) ≤ 80
 starts-length sheet plan h =
     let s = loadOf sheet plan .starts in
     let m = numbers-length 3 (below-more {m = length plan} (omega arith) (load-small sheet plan .below)) in
     omega (arith, m, length-firsts (s .count) (s .at), load-few sheet plan)
 
-fits-loaded : (sheet plan : List ℕ) → length plan ≤ 8192 → length (loadedLine (loadOf sheet plan)) ≤ 16378
+fits-loaded : (sheet plan : List ℕ) → length plan ≤ INPUT → length (loadedLine (loadOf sheet plan)) ≤ 16378
 unfolding loadedLine
 fits-loaded sheet plan h = go (eqb (loadOf sheet plan .refusal) 0)
   where
@@ -45,7 +46,7 @@ fits-loaded sheet plan h = go (eqb (loadOf sheet plan .refusal) 0)
     go true = rw ok-length (omega (arith, starts-length sheet plan h))
     go false = fits-refusal (loadOf sheet plan .refusal) (load-small sheet plan .byte)
 
-pub fits-load : (bs : List ℕ) → length bs ≤ 8192 → length (loadLine bs) ≤ 16378
+pub fits-load : (bs : List ℕ) → length bs ≤ INPUT → length (loadLine bs) ≤ 16378
 unfolding loadLine
 fits-load bs h = go (leb (3 + two bs 1) (length bs))
   where
@@ -71,7 +72,7 @@ found-small s n i {c} e = go (proper s n) (ltb i (s .count)) e
     go true false f = let z : 23 ≡ c = cc in omega arith
     go false q f = let z : 24 ≡ c = cc in omega arith
 
-fits-found : (bs : List ℕ) → length bs ≤ 8192 → 3 + 2 * getD bs 2 0 ≤ length bs → (f : Found)
+fits-found : (bs : List ℕ) → length bs ≤ INPUT → 3 + 2 * getD bs 2 0 ≤ length bs → (f : Found)
     → findOf (startsIn bs) (length (drop (3 + 2 * getD bs 2 0) bs)) (getD bs 1 0) ≡ f → length (foundLine f (drop (3 + 2 * getD bs 2 0) bs)) ≤ 16378
 unfolding foundLine partOf words startsIn
 fits-found bs h k (At a b) e =
@@ -79,7 +80,7 @@ fits-found bs h k (At a b) e =
     simp (ok-length, length-append, hex-length, length-take, length-drop) (omega arith)
 fits-found bs h k (Refused c) e = fits-refusal c (found-small (startsIn bs) _ _ e)
 
-pub fits-value : (bs : List ℕ) → length bs ≤ 8192 → length (valueLine bs) ≤ 16378
+pub fits-value : (bs : List ℕ) → length bs ≤ INPUT → length (valueLine bs) ≤ 16378
 unfolding valueLine
 fits-value bs h = go (leb (3 + 2 * getD bs 2 0) (length bs)) refl
   where

@@ -15,6 +15,7 @@ use Rattle.report.specs.Text.{hexOf, decimalOf, refusalLine, okLine}
 use Rattle.report.specs.Writing.{Wrote}
 use Rattle.starts.specs.declared.Starts.{Starts}
 use Rattle.starts.specs.Starts.{numbers}
+use Rattle.words.specs.Numbers.{INPUT}
 use Rattle.words.specs.declared.fields.Taken.{Taken}
 use Rattle.words.specs.declared.fields.Taken.the-variants.{Whole, Cut}
 use Rattle.words.specs.declared.Job.{Job}
@@ -84,7 +85,7 @@ byLetter bs =
 
 -- over 8,192 bytes: 61, whatever they are
 unfoldable pub toolEnding : List ℕ → Ending
-toolEnding bs = cond (leb (length bs) 8192) (byLetter bs) (says (refusalLine 61))
+toolEnding bs = cond (leb (length bs) INPUT) (byLetter bs) (says (refusalLine 61))
 
 -- THE LINE THAT THE PROGRAM PRINTS FOR AN INPUT
 unfoldable pub toolLine : List ℕ → List ℕ

@@ -2,7 +2,7 @@
 use mathlib.Core.Bool.{Bool, true, false, cond}
 use mathlib.Core.Path.{_≡_, refl, sym, ap, _∙_}
 use mathlib.Core.List.{List, []}
-use Prim.Native.Nat.{ℕ, _≤_, _<_}
+use Prim.Native.Nat.{ℕ, _+_, _≤_, _<_}
 use native.Mathlib.Omega.{arith}
 use native.Mathlib.Decide.{decLe}
 use borrow.Author.Tests.{lt-leb, leb-true}
@@ -15,6 +15,7 @@ use Rattle.calls.specs.Calls.{reply, written, cleared, Answered, newStarts}
 use Rattle.calls.specs.Small.{Small, small-put}
 use Rattle.report.specs.Text.{words, refusalLine}
 use Rattle.report.specs.TextLaws.{hex-length, decimal-length, ok-length}
+use Rattle.words.specs.Numbers.{INPUT}
 use Rattle.words.specs.declared.fields.Taken.{Taken}
 use Rattle.words.specs.declared.fields.Taken.the-variants.{Whole, Cut}
 use Rattle.words.specs.Format.{fieldsOf, sheetOf, planOf, viewOf}
@@ -26,7 +27,7 @@ use Rattle.tool.specs.WhyLaws.{whys-fit}
 -- HOW LONG A LINE IS
 
 -- what stands behind the new plan: its starts, or four digits
-besides-length : (bits : Bool) (sheet new : List ℕ) (n written : ℕ) → length new ≤ 8192
+besides-length : (bits : Bool) (sheet new : List ℕ) (n written : ℕ) → length new ≤ INPUT
     → length (words (besides bits (newStarts sheet (success new n)) written)) ≤ 80
 unfolding besides bitsWord newStarts words
 besides-length false sheet new n written h = starts-length sheet new h
@@ -49,7 +50,7 @@ fits-puts bits bs (Whole f) =
     answered : {x : Answer} → Answered x (reply x) [] (written x []) [] (cleared x [])
     answered = record { answer = refl; output = refl; scratch = refl }
 
-fits-letter : (bs : List ℕ) → length bs ≤ 8192 → length (byLetter bs .line) ≤ 16378
+fits-letter : (bs : List ℕ) → length bs ≤ INPUT → length (byLetter bs .line) ≤ 16378
 unfolding byLetter
 fits-letter bs h = let c = getD bs 0 0 in one (eqb c 0x4C) _ _ (fits-load bs h)
     (one (eqb c 0x56) _ _ (fits-value bs h)
@@ -65,24 +66,24 @@ fits-letter bs h = let c = getD bs 0 0 in one (eqb c 0x4C) _ _ (fits-load bs h)
 
 pub line-fits : (bs : List ℕ) → length (toolLine bs) ≤ 16378
 unfolding toolLine toolEnding
-line-fits bs = go (leb (length bs) 8192) refl
+line-fits bs = go (leb (length bs) INPUT) refl
   where
-    go : (p : Bool) → leb (length bs) 8192 ≡ p → length (cond p (byLetter bs) (says (refusalLine 61)) .line) ≤ 16378
+    go : (p : Bool) → leb (length bs) INPUT ≡ p → length (cond p (byLetter bs) (says (refusalLine 61)) .line) ≤ 16378
     go true e = fits-letter bs (leb-true _ _ e)
     go false e = fits-refusal 61 (omega arith)
 
 -- THE FIRST 8,193 BYTES DECIDE IT
 
-pub ending-over : (bs : List ℕ) → 8192 < length bs → toolEnding bs ≡ says (refusalLine 61)
+pub ending-over : (bs : List ℕ) → INPUT < length bs → toolEnding bs ≡ says (refusalLine 61)
 unfolding toolEnding
-ending-over bs h = rw (lt-leb (length bs) 8192 h)
+ending-over bs h = rw (lt-leb (length bs) INPUT h)
 
-pub line-front : (bs : List ℕ) → toolLine (take 8193 bs) ≡ toolLine bs
+pub line-front : (bs : List ℕ) → toolLine (take (INPUT + 1) bs) ≡ toolLine bs
 unfolding toolLine
-line-front bs = go (decLe (length bs) 8193)
+line-front bs = go (decLe (length bs) (INPUT + 1))
   where
-    go : Dec (length bs ≤ 8193) → toolLine (take 8193 bs) ≡ toolLine bs
-    go (yes h) = rw (take-all 8193 bs h)
+    go : Dec (length bs ≤ INPUT + 1) → toolLine (take (INPUT + 1) bs) ≡ toolLine bs
+    go (yes h) = rw (take-all (INPUT + 1) bs h)
     go (no h) =
-        let l = length-take-le 8193 bs (omega arith) in
-        ap (λ (e : Ending). e .line) (ending-over (take 8193 bs) (omega arith) ∙ sym (ending-over bs (omega arith)))
+        let l = length-take-le (INPUT + 1) bs (omega arith) in
+        ap (λ (e : Ending). e .line) (ending-over (take (INPUT + 1) bs) (omega arith) ∙ sym (ending-over bs (omega arith)))

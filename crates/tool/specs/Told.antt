@@ -14,6 +14,7 @@ use Rattle.calls.specs.Calls.{reply, written, newStarts, newWritten, PutAnswere
 use Rattle.report.specs.Text.{hexOf, decimalOf, refusalLine, okLine}
 use Rattle.report.specs.Writing.{Wrote, Front, wrote-front, wrote-text}
 use Rattle.starts.specs.declared.Starts.{Starts}
+use Rattle.words.specs.Numbers.{INPUT}
 use Rattle.words.specs.declared.fields.Fields.{Fields}
 use Rattle.words.specs.declared.fields.Taken.{Taken}
 use Rattle.words.specs.declared.fields.Taken.the-variants.{Whole, Cut}
@@ -102,32 +103,32 @@ ended-why bs {o = o} x = record { text = x .0; output = whys-output bs o; scratc
 
 -- the letter of an input
 module _ (bs : List ℕ) where
-  module _ (h : length bs ≤ 8192) {letter : ℕ} (e : letter ≡ getD bs 0 0) where
+  module _ (h : length bs ≤ INPUT) {letter : ℕ} (e : letter ≡ getD bs 0 0) where
     pub letter-L : letter ≡ 0x4C → toolEnding bs ≡ says (loadLine bs)
     unfolding toolEnding byLetter
-    letter-L q = rw (le-leb (length bs) 8192 h, sym e ∙ q)
+    letter-L q = rw (le-leb (length bs) INPUT h, sym e ∙ q)
 
     pub letter-V : letter ≡ 0x56 → toolEnding bs ≡ says (valueLine bs)
     unfolding toolEnding byLetter
-    letter-V q = rw (le-leb (length bs) 8192 h, sym e ∙ q)
+    letter-V q = rw (le-leb (length bs) INPUT h, sym e ∙ q)
 
     pub letter-S : letter ≡ 0x53 → toolEnding bs ≡ puts false bs (fieldsOf bs)
     unfolding toolEnding byLetter
-    letter-S q = rw (le-leb (length bs) 8192 h, sym e ∙ q)
+    letter-S q = rw (le-leb (length bs) INPUT h, sym e ∙ q)
 
     pub letter-W : letter ≡ 0x57 → toolEnding bs ≡ puts true bs (fieldsOf bs)
     unfolding toolEnding byLetter
-    letter-W q = rw (le-leb (length bs) 8192 h, sym e ∙ q)
+    letter-W q = rw (le-leb (length bs) INPUT h, sym e ∙ q)
 
     pub letter-Y : letter ≡ 0x59 → toolEnding bs ≡ whys (drop 1 bs)
     unfolding toolEnding byLetter
-    letter-Y q = rw (le-leb (length bs) 8192 h, sym e ∙ q)
+    letter-Y q = rw (le-leb (length bs) INPUT h, sym e ∙ q)
 
     pub letter-none : (letter ≡ 0x4C → ⊥) → (letter ≡ 0x56 → ⊥) → (letter ≡ 0x53 → ⊥) → (letter ≡ 0x57 → ⊥) → (letter ≡ 0x59 → ⊥)
         → toolEnding bs ≡ says (refusalLine 60)
     unfolding toolEnding byLetter
     letter-none l v s w y = rw (
-      le-leb (length bs) 8192 h,
+      le-leb (length bs) INPUT h,
       ← e,
       ne-eqb letter 0x4C l,
       ne-eqb letter 0x56 v,
