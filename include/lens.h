@@ -1,5 +1,5 @@
-/* Gabqweshi's archive (rt staticlib lens): one sheet of rules, read both ways, the values of a plan found by their number, and why a
- * reading is refused.
+/* Gabqweshi's archive (rt staticlib lens): one sheet of rules, read both ways, the values of a plan found by their number, why a
+ * reading is refused, and tools for sheets.
  *
  *   lens_get          a plan to its list (the "view")
  *   lens_put          the old plan and an edited list to the new plan
@@ -9,6 +9,7 @@
  *   lens_find         where the value of a variable stands, by those starts
  *   lens_why_get      why lens_get refuses: the node, and the way to it from the root
  *   lens_why_put      why lens_put refuses
+ *   lens_number       a sheet with its nodes numbered as first met
  *
  * Bytes of sheets, plans and lists, and what to do about each refusal, are in docs/SHEETS.md and docs/TOOLS.md.
  *
@@ -30,7 +31,8 @@ extern "C" {
 /* What a caller lends. Smaller buffers and other allowances are refused; larger buffers are fine. */
 #define LENS_GET_OUT 256u         /* bytes of output for lens_get */
 #define LENS_PUT_OUT 4096u        /* bytes of output for lens_put, lens_put_starts and lens_put_written */
-#define LENS_SCRATCH 65536u       /* bytes of scratch for each of them */
+#define LENS_SHEET_OUT 2048u      /* bytes of output for lens_number */
+#define LENS_SCRATCH 65536u       /* bytes of scratch for each function that takes any */
 #define LENS_ALLOWANCE_MAX 1000000u /* the most steps that may be allowed; the least is 1 */
 #define LENS_STARTS_MAX 16u       /* the most values of a plan: starts are an array of so many numbers, always */
 #define LENS_CHAIN_MAX 49u        /* the most nodes of a chain: 48 entered, and one that is too deep; chain has room for so many */
@@ -91,10 +93,20 @@ uint64_t lens_why_put(const uint8_t *sheet, size_t sheet_len, const uint8_t *pla
 #define LENS_CHAIN_LENGTH(answer) ((size_t)(((answer) >> 8) & 0xFFu))
 #define LENS_FIRST(answer) ((int)(((answer) >> 16) & 0xFFFFu) - 1) /* the node that wrote first; -1: none */
 
+/* Tools. Each answers with one number: the refusal in the low 8 bits (LENS_NUMBER; LENS_OK: success), and in the next 16 what the tool
+ * tells, as is said at each; 0 above. With a refusal these 16 bits are 0, but for the node that LENS_NODE_TWICE names. */
+#define LENS_NODE(answer) ((unsigned)(((answer) >> 8) & 0xFFFFu)) /* the node that is named */
+
+/* The sheet written anew, with its nodes numbered as first met: the main root is 0, a node stands before its children, and each child with
+ * all below it before the next; then from each section's root in turn. Nodes that are never met are dropped. The new sheet reads out and
+ * back as the old one, steps and refusals included, and two files of one sheet become the same bytes. LENS_LENGTH: its bytes.
+ * Refusals: LENS_OUTPUT_SMALL; the sheet's own; LENS_NODE_TWICE, with the lowest such node (LENS_NODE). */
+uint64_t lens_number(const uint8_t *sheet, size_t sheet_len, uint8_t *out, size_t out_len);
+
 /* What the buffers hold afterwards:
  *
  *               success                                  refusals 1 to 3    every other refusal
- *   output      LENS_LENGTH bytes of the list or plan     as before          as before
+ *   output      LENS_LENGTH bytes of what is given        as before          as before
  *               at its front, those behind as before
  *   scratch     its first LENS_SCRATCH bytes are 0,       as before          its first LENS_SCRATCH bytes are 0,
  *               others as before                                            others as before
@@ -122,7 +134,7 @@ uint64_t lens_why_put(const uint8_t *sheet, size_t sheet_len, const uint8_t *pla
 
 /* make-tables: refusals */
 /* the call */
-#define LENS_OUTPUT_SMALL 1u      /* the output lent is under 256 bytes for a get, or 4,096 for a put */
+#define LENS_OUTPUT_SMALL 1u      /* the output lent is under 256 bytes for a list, 4,096 for a plan, or 2,048 for a sheet */
 #define LENS_SCRATCH_SMALL 2u     /* the scratch lent is under 65,536 bytes */
 #define LENS_ALLOWANCE_RANGE 3u   /* the allowance is 0 or over 1,000,000 */
 
@@ -162,6 +174,9 @@ uint64_t lens_why_put(const uint8_t *sheet, size_t sheet_len, const uint8_t *pla
 #define LENS_VIEW_BELOW 52u       /* a number of the list sent back is below the amount that the sheet adds */
 #define LENS_NO_BRANCH 53u        /* the list sent back passes the test of neither branch of a case */
 #define LENS_CLASH 54u            /* two places of the list sent back that come from one variable differ */
+
+/* a sheet numbered anew */
+#define LENS_NODE_TWICE 81u       /* a node of the sheet is used twice as a child or a root */
 /* make-tables: end */
 
 #ifdef __cplusplus

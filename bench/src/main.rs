@@ -1,10 +1,11 @@
 //! The archive and the independent Rust implementation on the same jobs in the same buffers, for release; and a value of a plan by its
-//! number, beside readings from the front.
+//! number, beside readings from the front; and the tools of sheets.
 //!
 //! Both clear 65,536 bytes of scratch in every call of a job, and that is counted on both sides.
 
 mod jobs;
 mod lookup;
+mod tools;
 
 use jobs::{rows, Row};
 use reference::answer::taken;
@@ -143,6 +144,10 @@ fn main() {
         progress(lookup::NAME);
         lookups = lookup::lines();
     }
+    let tools = tools::lines(&word, &mut buffers).unwrap_or_else(|fault| {
+        eprintln!("\n{fault}");
+        std::process::exit(1);
+    });
     progress("");
 
     println!("{}", machine());
@@ -157,7 +162,7 @@ fn main() {
         println!("{line}");
     }
     println!("\n{within} of {} jobs within their limit", rows.len());
-    for line in &lookups {
+    for line in lookups.iter().chain(&tools) {
         println!("{line}");
     }
 }

@@ -6,6 +6,8 @@
 pub const GET_OUT: usize = 256;
 /// Bytes of output that a put asks for.
 pub const PUT_OUT: usize = 4096;
+/// Bytes of output that a tool asks for that writes a sheet.
+pub const SHEET_OUT: usize = 2048;
 /// Bytes of scratch that get and put ask for, and those that tell why they refuse.
 pub const SCRATCH: usize = 65_536;
 /// The most values of a plan: starts are an array of so many numbers.
@@ -15,7 +17,7 @@ pub const CHAIN_MAX: usize = 49;
 /// The most bytes of stack that a call takes, measured on the deepest jobs (`tests/stack`) and rounded up.
 pub const STACK: usize = 204_800;
 
-/// The archive's answer. What a function does not give is 0, and with a refusal all but the number.
+/// The archive's answer. What a function does not give is 0, and with a refusal all but the number and the node that it names.
 #[derive(Clone, Copy, Debug, PartialEq, Eq)]
 pub struct Answer(pub u64);
 
@@ -25,7 +27,7 @@ impl Answer {
         self.0 as u8
     }
 
-    /// How many bytes at the front of the output are the list or the plan.
+    /// How many bytes at the front of the output are what is given.
     pub fn length(self) -> usize {
         (self.0 >> 8 & 0xFFFF) as usize
     }
@@ -38,6 +40,11 @@ impl Answer {
     /// The nodes entered.
     pub fn steps(self) -> u32 {
         (self.0 >> 32) as u32
+    }
+
+    /// The node that a tool's refusal names, of 81.
+    pub fn node(self) -> Option<u8> {
+        (self.number() == 81).then_some((self.0 >> 8) as u8)
     }
 }
 
@@ -155,6 +162,8 @@ mod archive {
             start: *mut usize,
             end: *mut usize,
         ) -> u8;
+
+        pub fn lens_number(sheet: *const u8, sheet_len: usize, out: *mut u8, out_len: usize) -> u64;
     }
 }
 
@@ -311,4 +320,10 @@ pub fn load(sheet: &[u8], plan: &[u8], starts: &mut [u16; STARTS_MAX]) -> Answer
 pub fn find(starts: &[u16; STARTS_MAX], count: usize, plan_len: usize, variable: usize, start: &mut usize, end: &mut usize) -> u8 {
     // Safety: the starts are as many numbers as the archive may read; the other pointers are those of exclusive references.
     unsafe { archive::lens_find(starts.as_ptr(), count, plan_len, variable, start, end) }
+}
+
+/// Writes a sheet anew into `out`, with its nodes numbered as first met.
+pub fn number(sheet: &[u8], out: &mut [u8]) -> Answer {
+    // Safety: as in `get`.
+    Answer(unsafe { archive::lens_number(sheet.as_ptr(), sheet.len(), out.as_mut_ptr(), out.len()) })
 }

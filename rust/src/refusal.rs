@@ -1,5 +1,6 @@
 //! Refusals.
 
+use crate::raw::Answer;
 use std::error::Error;
 use std::fmt;
 
@@ -51,7 +52,7 @@ macro_rules! refusals {
 
 refusals! {
     // make-tables: refusals
-    1 OUTPUT_SMALL "the output lent is under 256 bytes for a get, or 4,096 for a put: lend a larger one"
+    1 OUTPUT_SMALL "the output lent is under 256 bytes for a list, 4,096 for a plan, or 2,048 for a sheet: lend a larger one"
     2 SCRATCH_SMALL "the scratch lent is under 65,536 bytes: lend more"
     3 ALLOWANCE_RANGE "the allowance is 0 or over 1,000,000: allow 1 to 1,000,000 steps"
     10 SHEET_KIND "a record of the sheet has an unknown kind or stands out of its place: send one 01, then the 20s, then the nodes"
@@ -79,6 +80,7 @@ refusals! {
     52 VIEW_BELOW "a number of the list sent back is below the amount that the sheet adds: raise it to that amount or more"
     53 NO_BRANCH "the list sent back passes the test of neither branch of a case: undo that edit, or give the sheet a test that allows it"
     54 CLASH "two places of the list sent back that come from one variable differ: edit both alike"
+    81 NODE_TWICE "a node of the sheet is used twice as a child or a root: give each use a node of its own"
     // make-tables: end
 }
 
@@ -110,3 +112,47 @@ impl fmt::Debug for Refusal {
 }
 
 impl Error for Refusal {}
+
+/// A tool's refusal, and the node of the sheet that it names.
+///
+/// ```
+/// use lens::{Refusal, Sheet};
+///
+/// // A pair whose halves are one node.
+/// let refused = Sheet::new(&[0x01, 0x01, 0x00, 0x16, 0x01, 0x01, 0x10, 0x00]).numbered().unwrap_err();
+/// assert_eq!((refused.refusal, refused.node), (Refusal::NODE_TWICE, Some(1)));
+/// assert_eq!(
+///     refused.to_string(),
+///     "node 1: a node of the sheet is used twice as a child or a root: give each use a node of its own (refusal 81)"
+/// );
+/// ```
+#[derive(Clone, Copy, Debug, PartialEq, Eq, Hash)]
+pub struct NodeRefusal {
+    pub refusal: Refusal,
+    /// The lowest node that it is met at; none for a refusal of another thing than one node.
+    pub node: Option<u8>,
+}
+
+impl NodeRefusal {
+    /// The refusal of an answer as an error.
+    pub(crate) fn check(answer: Answer) -> Result<(), NodeRefusal> {
+        Refusal::check(answer.number()).map_err(|refusal| NodeRefusal { refusal, node: answer.node() })
+    }
+}
+
+impl From<Refusal> for NodeRefusal {
+    fn from(refusal: Refusal) -> NodeRefusal {
+        NodeRefusal { refusal, node: None }
+    }
+}
+
+impl fmt::Display for NodeRefusal {
+    fn fmt(&self, f: &mut fmt::Formatter) -> fmt::Result {
+        if let Some(node) = self.node {
+            write!(f, "node {node}: ")?;
+        }
+        self.refusal.fmt(f)
+    }
+}
+
+impl Error for NodeRefusal {}

@@ -26,6 +26,7 @@ fn the_header_has_the_same_numbers() {
     let sizes = [
         ("GET_OUT", raw::GET_OUT),
         ("PUT_OUT", raw::PUT_OUT),
+        ("SHEET_OUT", raw::SHEET_OUT),
         ("SCRATCH", raw::SCRATCH),
         ("STARTS_MAX", raw::STARTS_MAX),
         ("CHAIN_MAX", raw::CHAIN_MAX),

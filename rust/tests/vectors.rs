@@ -2,7 +2,8 @@
 //! prints. `LENS_VECTORS` names a file for document 01's program, `LENS_TOOL_VECTORS` one for `tools` (`check_jobs` and `check_tools` have
 //! those that are taken where they are not set).
 
-use lens::{raw, Plan, Refusal, Sheet, Starts};
+use lens::{raw, NodeRefusal, Plan, Sheet, Starts};
+use reference::answer;
 use reference::job::{self, Job};
 use reference::tool::{self, Given, Tool};
 use reference::vectors::{check_jobs, check_tools};
@@ -17,7 +18,7 @@ fn jobs_of_a_file() {
     check_jobs(|input| job::printed(input, run));
 }
 
-fn run_tool(tool: &Tool) -> Result<Given, Refusal> {
+fn run_tool(tool: &Tool) -> Result<Given, NodeRefusal> {
     match tool {
         Tool::Load { sheet, plan } => {
             let plan = Sheet::new(sheet).load(plan)?;
@@ -26,7 +27,7 @@ fn run_tool(tool: &Tool) -> Result<Given, Refusal> {
         Tool::Value { variable, starts, plan } => {
             let starts = Starts::new(starts);
             starts.find(plan.len(), *variable)?;
-            Ok(Given::Part(Plan::with_starts(plan, starts).value(*variable).to_vec()))
+            Ok(Given::Bytes(Plan::with_starts(plan, starts).value(*variable).to_vec()))
         }
         Tool::Put { bits, sheet, plan, view, allowance } => {
             let put = Sheet::new(sheet).put(plan, view, *allowance)?;
@@ -46,10 +47,12 @@ fn run_tool(tool: &Tool) -> Result<Given, Refusal> {
                     .map_or(Ok(()), |why| Err(Explanation { refusal: why.refusal.number(), chain: why.chain, first: why.first })),
             ))
         }
+        Tool::Number { sheet } => Ok(Given::Bytes(Sheet::new(sheet).numbered()?)),
     }
 }
 
 #[test]
 fn tools_of_a_file() {
-    check_tools(|input| tool::printed(input, |tool| run_tool(tool).map_err(Refusal::number)));
+    let refused = |refused: NodeRefusal| answer::NodeRefusal { refusal: refused.refusal.number(), node: refused.node };
+    check_tools(|input| tool::printed(input, |tool| run_tool(tool).map_err(refused)));
 }

@@ -7,46 +7,20 @@ use lib.Dec.{leb, eqb}
 use lib.ListN.{length, drop}
 use borrow.Author.Tests.{le-leb, lt-leb, eq-eqb, ne-eqb}
 use Rattle.value.specs.Result.{Result, ok, refusal, andThen, unless}
-use Rattle.report.specs.Writing.{Wrote, Front, wrote-front}
 use Rattle.sheet.specs.Sheet.{Sheet, readSheet}
 use Rattle.sheet.specs.Rows.{sheetWritten}
 use Rattle.join.specs.Joined.{joined}
 use Rattle.join.specs.JoinedCalls.{joinedBytes}
-use Rattle.join.specs.declared.Joined.{Joined}
-use Rattle.join.specs.declared.Joined.the-variants.{Done, Refused}
 
 -- 1 an output under 2,048 bytes, judged first
 unfoldable pub joinAnswer : (s t : List ℕ) (output : ℕ) → Result (List ℕ)
 joinAnswer s t output = unless 1 (leb 2048 output) (joinedBytes s t)
-
--- a success is its length; a refusal its number
-unfoldable pub replyOf : Result (List ℕ) → Joined
-replyOf (ok u) = Done (length u)
-replyOf (refusal c) = Refused c
-
--- the output: the joined sheet at its front and what was there behind it; a refusal writes nothing
-unfoldable pub outputOf : Result (List ℕ) → List ℕ → List ℕ
-outputOf (ok u) b = u ++ drop (length u) b
-outputOf (refusal c) b = b
 
 unfoldable pub textOf : Result (List ℕ) → List ℕ
 textOf (ok u) = u
 textOf (refusal c) = []
 
 -- CASE BY CASE
-
-abbrev pub Answers : Result (List ℕ) → Joined → (b b′ : List ℕ) → Type 0
-Answers r j b b′ = (j ≡ replyOf r) × (b′ ≡ outputOf r b)
-
-pub answers-no : (r : Result (List ℕ)) (b : List ℕ) {c : ℕ} → r ≡ refusal c → Answers r (Refused c) b b
-unfolding replyOf outputOf
-answers-no r b e = rw e (refl, refl)
-
-pub answers-ok : (r : Result (List ℕ)) {u : List ℕ} {n : ℕ} {b b′ : List ℕ} → r ≡ ok u → Wrote u 0 b b′ n → length u ≤ length b → Answers r (Done n) b b′
-unfolding replyOf outputOf
-answers-ok r e w h =
-    let f = wrote-front w h in
-    rw e (ap Done (f .long), rw (← f .long) (f .made))
 
 module _ (s t : List ℕ) (n : ℕ) where
   pub join-1 : n < 2048 → joinAnswer s t n ≡ refusal 1

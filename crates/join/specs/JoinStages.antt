@@ -12,11 +12,11 @@ use Rattle.sheet.specs.Table.{tableOf}
 use Rattle.sheet.specs.Laws.{Reads, table-reads, table-refused}
 use Rattle.sheet.specs.Rows.{sheetWritten}
 use Rattle.sheet.specs.Written.{Bytes}
-use Rattle.join.specs.declared.Joined.{Joined}
-use Rattle.join.specs.declared.Joined.the-variants.{Done, Refused}
+use Rattle.made.specs.declared.Made.the-variants.{Done, Refused}
+use Rattle.made.specs.Made.{Makes, makes-no, makes-text}
 use Rattle.join.specs.Joined.{joined}
 use Rattle.join.specs.JoinedCalls.{joinedBytes}
-use Rattle.join.specs.JoinAnswer.{joinAnswer, textOf, Answers, answers-no, answers-ok, join-1, join-bytes, join-first, join-second, join-83, join-nodes, join-sections, join-ok}
+use Rattle.join.specs.JoinAnswer.{joinAnswer, textOf, join-1, join-bytes, join-first, join-second, join-83, join-nodes, join-sections, join-ok}
 use Rattle.join.specs.JoinWritten.{Joinable, joined-fits}
 
 -- a sheet that was read
@@ -37,33 +37,33 @@ refused-is s {a} e f =
     table-refused s (λ z. f (q ∙ z)) ∙ ap refusal (sym q)
 
 module _ (s t b : List ℕ) where
-  pub no-room : length b < 2048 → Answers (joinAnswer s t (length b)) (Refused 1) b b
-  no-room h = answers-no (joinAnswer s t (length b)) b (join-1 s t (length b) h)
+  pub no-room : length b < 2048 → Makes (joinAnswer s t (length b)) (Refused 1) b b
+  no-room h = makes-no _ (join-1 s t (length b) h)
 
   module _ (room : 2048 ≤ length b) {x : Table} where
-    pub no-first : x ≡ tableOf (readSheet s) → (x .refusal ≡ 0 → ⊥) → Answers (joinAnswer s t (length b)) (Refused (x .refusal)) b b
-    no-first e f = answers-no (joinAnswer s t (length b)) b (join-first s t (length b) room (refused-is s e f))
+    pub no-first : x ≡ tableOf (readSheet s) → (x .refusal ≡ 0 → ⊥) → Makes (joinAnswer s t (length b)) (Refused (x .refusal)) b b
+    no-first e f = makes-no _ (join-first s t (length b) room (refused-is s e f))
 
     module _ (fine : Fine s x) {y : Table} where
-      pub no-second : y ≡ tableOf (readSheet t) → (y .refusal ≡ 0 → ⊥) → Answers (joinAnswer s t (length b)) (Refused (y .refusal)) b b
-      no-second e f = answers-no (joinAnswer s t (length b)) b (join-second s t (length b) room (fine-read fine .1 .sheet) (refused-is t e f))
+      pub no-second : y ≡ tableOf (readSheet t) → (y .refusal ≡ 0 → ⊥) → Makes (joinAnswer s t (length b)) (Refused (y .refusal)) b b
+      no-second e f = makes-no _ (join-second s t (length b) room (fine-read fine .1 .sheet) (refused-is t e f))
 
       module _ (fine′ : Fine t y) where
-        pub no-variables : (x .k ≡ y .k → ⊥) → Answers (joinAnswer s t (length b)) (Refused 83) b b
-        no-variables f = answers-no (joinAnswer s t (length b)) b (join-83 s t (length b) room (fine-read fine .1 .sheet) (fine-read fine′ .1 .sheet)
+        pub no-variables : (x .k ≡ y .k → ⊥) → Makes (joinAnswer s t (length b)) (Refused 83) b b
+        no-variables f = makes-no _ (join-83 s t (length b) room (fine-read fine .1 .sheet) (fine-read fine′ .1 .sheet)
             (λ e. f (fine-read fine .1 .k ∙ e ∙ sym (fine-read fine′ .1 .k))))
 
         module _ (k : x .k ≡ y .k) where
           same-k : fine-read fine .0 .k ≡ fine-read fine′ .0 .k
           same-k = sym (fine-read fine .1 .k) ∙ k ∙ fine-read fine′ .1 .k
 
-          pub no-nodes : 200 < 1 + x .nodes + y .nodes → Answers (joinAnswer s t (length b)) (Refused 84) b b
-          no-nodes h = answers-no (joinAnswer s t (length b)) b (join-nodes s t (length b) room (fine-read fine .1 .sheet) (fine-read fine′ .1 .sheet) same-k
+          pub no-nodes : 200 < 1 + x .nodes + y .nodes → Makes (joinAnswer s t (length b)) (Refused 84) b b
+          no-nodes h = makes-no _ (join-nodes s t (length b) room (fine-read fine .1 .sheet) (fine-read fine′ .1 .sheet) same-k
               (omega (arith, fine-read fine .1 .nodes, fine-read fine′ .1 .nodes)))
 
           module _ (n : 1 + x .nodes + y .nodes ≤ 200) where
-            pub no-sections : 8 < x .sections + y .sections → Answers (joinAnswer s t (length b)) (Refused 84) b b
-            no-sections h = answers-no (joinAnswer s t (length b)) b (join-sections s t (length b) room (fine-read fine .1 .sheet) (fine-read fine′ .1 .sheet) same-k
+            pub no-sections : 8 < x .sections + y .sections → Makes (joinAnswer s t (length b)) (Refused 84) b b
+            no-sections h = makes-no _ (join-sections s t (length b) room (fine-read fine .1 .sheet) (fine-read fine′ .1 .sheet) same-k
                 (omega (arith, fine-read fine .1 .nodes, fine-read fine′ .1 .nodes)) (omega (arith, fine-read fine .1 .sections, fine-read fine′ .1 .sections)))
 
             module _ (c : x .sections + y .sections ≤ 8) where
@@ -80,9 +80,9 @@ module _ (s t b : List ℕ) where
               }
 
               pub all-written : {r : ℕ} {b′ : List ℕ} → Bytes s → Bytes t → Wrote (textOf (joinedBytes s t)) 0 b b′ r
-                  → Answers (joinAnswer s t (length b)) (Done r) b b′
+                  → Makes (joinAnswer s t (length b)) (Done r) b b′
               unfolding textOf
               all-written small small′ w =
                   let e : joinAnswer s t (length b) ≡ ok (textOf (joinedBytes s t))
                   = join-bytes s t (length b) room ∙ joinable .answer ∙ ap (λ z. ok (textOf z)) (sym (joinable .answer)) in
-                  answers-ok (joinAnswer s t (length b)) e w (omega (arith, joined-fits joinable small small′))
+                  makes-text (textOf (joinedBytes s t)) e w (omega (arith, joined-fits joinable small small′))

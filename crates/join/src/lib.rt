@@ -1,21 +1,17 @@
 //! Two sheets joined into one, whose list is the pair of both lists (document 02, request 7).
+use made::Made;
 use records::Anew;
 use sheet::Table;
 ghost use mathlib.Core.Path.{_≡_};
 ghost use lib.ListN.{length};
 ghost use Rattle.join.specs.JoinedCalls.{joinedBytes};
-ghost use Rattle.join.specs.JoinAnswer.{joinAnswer, replyOf, outputOf, textOf};
+ghost use Rattle.made.specs.Made.{Makes};
+ghost use Rattle.join.specs.JoinAnswer.{joinAnswer, textOf};
 ghost use Rattle.join.specs.JoinWritten.{anewOf, Joinable};
 ghost use Rattle.report.specs.Writing.{Wrote};
 
 /// The bytes of output that joining takes.
 pub const OUTPUT: usize = 2_048;
-
-/// What joining gives: the length of the joined sheet, which is at the front of the output; or a refusal's number.
-pub enum Joined {
-    Done(usize),
-    Refused(u8),
-}
 
 // All of a sheet's nodes in their order, its nodes' numbers raised and those of its sections.
 fn raised(count: usize, by: u8, shift: u8) -> Anew
@@ -55,29 +51,28 @@ fn write(first: &[u8], a: Table, second: &[u8], b: Table, out: &mut [u8]) -> usi
 /// Two sheets joined: node 0 is a pair of the two roots, the first sheet's nodes follow, then the second's; the sections likewise. Refused,
 /// and nothing is written: 1 an output under 2,048 bytes; the first sheet's own refusals (10 to 14); the second's; 83 the sheets have
 /// not as many variables; 84 over 200 nodes or 8 sections.
-pub fn join(first: &[u8], second: &[u8], out: &mut [u8]) -> Joined
-    ensures { λ r. ⌜ r ≡ replyOf (joinAnswer (now (first .entry)) (now (second .entry)) (length (now (out .entry)))) ⌝ }
-    ensures { λ r. ⌜ now (out .exit) ≡ outputOf (joinAnswer (now (first .entry)) (now (second .entry)) (length (now (out .entry)))) (now (out .entry)) ⌝ }
+pub fn join(first: &[u8], second: &[u8], out: &mut [u8]) -> Made
+    ensures { λ r. ⌜ Makes (joinAnswer (now (first .entry)) (now (second .entry)) (length (now (out .entry)))) r (now (out .entry)) (now (out .exit)) ⌝ }
 {
     if out.len() < OUTPUT {
-        return Joined::Refused(1);
+        return Made::Refused(1);
     }
     let a = sheet::read_sheet(first);
     if a.refusal != 0 {
-        return Joined::Refused(a.refusal);
+        return Made::Refused(a.refusal);
     }
     let b = sheet::read_sheet(second);
     if b.refusal != 0 {
-        return Joined::Refused(b.refusal);
+        return Made::Refused(b.refusal);
     }
     if a.k != b.k {
-        return Joined::Refused(83);
+        return Made::Refused(83);
     }
     if 200 < 1 + a.nodes + b.nodes {
-        return Joined::Refused(84);
+        return Made::Refused(84);
     }
     if 8 < a.sections + b.sections {
-        return Joined::Refused(84);
+        return Made::Refused(84);
     }
-    Joined::Done(write(first, a, second, b, out))
+    Made::Done(write(first, a, second, b, out))
 }

@@ -1,6 +1,5 @@
-pub mod Answered
 pub mod Reader
 pub mod Turns
-pub mod Reply
+pub mod Returns
 pub mod Writer
 pub mod WriterTurns

@@ -1,4 +1,5 @@
 //! Values as JSON text (RFC 8259), and back (document 02, request 11).
+use made::Made;
 use report::byte;
 use report::bytes;
 use report::decimal;
@@ -15,14 +16,7 @@ ghost use Rattle.report.specs.Writing.{Wrote};
 ghost use Rattle.json.specs.Reader.{Skips, Passes, Gives};
 ghost use Rattle.json.specs.Turns.{Scalar};
 ghost use Rattle.notation.specs.Calls.{toJson, fromJson};
-ghost use Rattle.json.specs.Answered.{Answered};
-
-/// What a call answers: how many bytes stand at the front of the output, or the number of a refusal.
-pub enum Reply {
-    Done(usize),
-    Refused(u8),
-}
-
+ghost use Rattle.made.specs.Made.{Makes};
 // What a reader or a writer within a call answers: the places behind what it read and behind what it wrote, or the number of a refusal.
 enum Step {
     Done(usize, usize),
@@ -301,24 +295,24 @@ fn object(s: &[u8], at: usize, levels: usize, out: &mut [u8], put: usize) -> Ste
 
 /// JSON text as the bytes of a value, at the front of the output. Refusals: 1 output under 256 bytes; 70 not such a text and 71 nested 49 deep, each
 /// at the first byte that shows it; 72 over 256 bytes as a value.
-pub fn read(text: &[u8], out: &mut [u8]) -> Reply
-    ensures { λ r. ⌜ Answered (fromJson (now (text .entry)) (length (now (out .entry)))) r (now (out .entry)) (now (out .exit)) ⌝ }
+pub fn read(text: &[u8], out: &mut [u8]) -> Made
+    ensures { λ r. ⌜ Makes (fromJson (now (text .entry)) (length (now (out .entry)))) r (now (out .entry)) (now (out .exit)) ⌝ }
 {
     if out.len() < 256 {
-        return Reply::Refused(1);
+        return Made::Refused(1);
     }
     let mut bytes = [0u8; 257];
     match value(text, 0, 48, &mut bytes, 0) {
-        Step::Refused(code) => Reply::Refused(code),
+        Step::Refused(code) => Made::Refused(code),
         Step::Done(at, n) => {
             if skip(text, at) < text.len() {
-                return Reply::Refused(70);
+                return Made::Refused(70);
             }
             if 256 < n {
-                return Reply::Refused(72);
+                return Made::Refused(72);
             }
             copy(&bytes, n, out);
-            Reply::Done(n)
+            Made::Done(n)
         }
     }
 }
@@ -416,22 +410,22 @@ fn write_object(v: &[u8], at: usize, levels: usize, text: &mut [u8], put: usize)
 
 /// The bytes of a value as JSON text, at the front of the output. Refusals: 1 output under 2,048 bytes; 30, 31 and 32 of the value, as a view has them;
 /// 71 nested 49 deep.
-pub fn write(v: &[u8], out: &mut [u8]) -> Reply
-    ensures { λ r. ⌜ Answered (toJson (now (v .entry)) (length (now (out .entry)))) r (now (out .entry)) (now (out .exit)) ⌝ }
+pub fn write(v: &[u8], out: &mut [u8]) -> Made
+    ensures { λ r. ⌜ Makes (toJson (now (v .entry)) (length (now (out .entry)))) r (now (out .entry)) (now (out .exit)) ⌝ }
 {
     if out.len() < 2048 {
-        return Reply::Refused(1);
+        return Made::Refused(1);
     }
     let code = read_view(v);
     if code != 0 {
-        return Reply::Refused(code);
+        return Made::Refused(code);
     }
     let mut text = [0u8; 2048];
     match write_value(v, 0, 48, &mut text, 0) {
-        Step::Refused(code) => Reply::Refused(code),
+        Step::Refused(code) => Made::Refused(code),
         Step::Done(_, n) => {
             copy(&text, n, out);
-            Reply::Done(n)
+            Made::Done(n)
         }
     }
 }

@@ -1,3 +1,4 @@
 pub mod Packing
 pub mod HandedOut
 pub mod Whys
+pub mod Tools

@@ -3,6 +3,7 @@
 mod answers;
 mod lookups;
 mod packing;
+mod sheets;
 mod whys;
 
 pub use answers::lens_get;
@@ -11,5 +12,6 @@ pub use answers::lens_put_starts;
 pub use answers::lens_put_written;
 pub use lookups::lens_find;
 pub use lookups::lens_load;
+pub use sheets::lens_number;
 pub use whys::lens_why_get;
 pub use whys::lens_why_put;

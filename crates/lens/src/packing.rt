@@ -9,6 +9,7 @@ ghost use Rattle.starts.specs.Starts.{firsts};
 ghost use Rattle.calls.specs.Small.{Small};
 ghost use Rattle.lens.specs.Packing.{packedReply};
 ghost use Rattle.lens.specs.HandedOut.{handedOut};
+ghost use Rattle.lens.specs.Tools.{Tells};
 use calls::Reply;
 use starts::Starts;
 
@@ -65,4 +66,11 @@ pub fn hand_bits(packed: u64, bits: u16, to: &mut u16)
         return;
     }
     *to = bits;
+}
+
+// The answer of a tool: the refusal in the low 8 bits, 0 for a success; what is told beside it in the next 16.
+pub fn pack_told(number: u8, told: u16) -> u64
+    ensures { λ r. ⌜ Tells number told r ⌝ }
+{
+    (number as u64) + 256 * (told as u64)
 }

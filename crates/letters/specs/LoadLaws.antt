@@ -1,6 +1,6 @@
 -- What loading gives is small: a refusal's number is a byte, and all starts are below the plan's length.
 use mathlib.Core.Path.{_≡_, refl}
-use mathlib.Core.List.{List}
+use mathlib.Core.List.{List, []}
 use Prim.Native.Nat.{ℕ, _<_}
 use native.Mathlib.Omega.{arith}
 use native.Mathlib.Decide.{decLe}
@@ -33,6 +33,11 @@ pub record LoadSmall (n : ℕ) (l : Loaded) : Type 0 where
 small-refused : (n c : ℕ) → c < 256 → LoadSmall n (refusedLoad c)
 unfolding refusedLoad noStarts
 small-refused n c h = record { byte = h; below = none }
+
+-- a sheet's refusals are those that a get meets
+pub sheet-small : (s : List ℕ) {c : ℕ} → readSheet s ≡ refuses c → c < 256
+unfolding getAnswer getBytes door given when decLe reading answer
+sheet-small s {c} e = stated-small c (get-refusals s [] 1 GET-OUTPUT SCRATCH c (rw e)) .1
 
 -- the sheet's and the plan's refusals are those that a get meets
 pub load-small : (sheet plan : List ℕ) → LoadSmall (length plan) (loadOf sheet plan)

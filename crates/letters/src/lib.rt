@@ -1,5 +1,20 @@
 //! The letters of the program `tools` that walk nothing: each takes the input, and writes its line.
-mod lookups;
+ghost use Rattle.report.specs.Writing.{Wrote};
+ghost use Rattle.letters.specs.Letters.{letterLine};
 
-pub use lookups::load_line;
-pub use lookups::value_line;
+mod lines;
+mod lookups;
+mod sheets;
+
+/// The line for an input by its letter; 60 where it is none of these.
+pub fn line(input: &[u8], text: &mut [u8]) -> usize
+    ensures { λ r. ⌜ Wrote (letterLine (now (input .entry))) 0 (now (text .entry)) (now (text .exit)) r ⌝ }
+{
+    let letter = words::byte_at(input, 0);
+    match letter {
+        0x4C => lookups::load_line(input, text),
+        0x56 => lookups::value_line(input, text),
+        0x4E => sheets::number_line(input, text),
+        _ => report::refusal(text, 0, 60),
+    }
+}

@@ -1,8 +1,7 @@
 //! The starts of a plan's values (letter L), and one value by its number (letter V).
-ghost use mathlib.Core.List.{[], _∷_};
-ghost use Rattle.report.specs.Text.{hexOf, okLine};
 ghost use Rattle.report.specs.Writing.{Wrote};
 ghost use Rattle.letters.specs.Lookups.{loadLine, valueLine};
+use crate::lines::part_line;
 use starts::Found;
 
 /// The line of letter L.
@@ -22,15 +21,6 @@ pub fn load_line(input: &[u8], text: &mut [u8]) -> usize
     }
     let mut end = report::bytes(text, 0, b"ok");
     end = words::start_words(text, end, loaded.starts);
-    report::byte(text, end, b'\n')
-}
-
-// A line of one part in hexadecimal.
-fn part_line(part: &[u8], text: &mut [u8]) -> usize
-    ensures { λ r. ⌜ Wrote (okLine (hexOf (now (part .entry)) ∷ [])) 0 (now (text .entry)) (now (text .exit)) r ⌝ }
-{
-    let mut end = report::bytes(text, 0, b"ok");
-    end = report::hex_word(text, end, part);
     report::byte(text, end, b'\n')
 }
 

@@ -3,3 +3,4 @@ pub mod Counting
 pub mod Meeting
 pub mod Places
 pub mod NumberStages
+pub mod Small

@@ -26,6 +26,12 @@ codeOf (Done n) = 0
 codeOf (Refused c) = c
 codeOf (Twice n) = 81
 
+-- and what it tells beside the number: the length of the sheet, the node
+unfoldable pub valueOf : Numbered → ℕ
+valueOf (Done n) = n
+valueOf (Refused c) = 0
+valueOf (Twice n) = n
+
 -- CASE BY CASE
 
 abbrev pub Answers : Answer → Numbered → (b b′ : List ℕ) → Type 0

@@ -128,6 +128,15 @@ module _ {sh : Sheet} (r : Ranges sh) where
   abbrev N : ℕ
   N = length (sh .nodes)
 
+  -- the main root is node 0
+  pub main-first : numbered sh .root ≡ 0
+  unfolding numbered newNumber order roots metFrom
+  main-first = first N (r .root)
+    where
+      first : (l : ℕ) → sh .root < l → placeOf (metFrom l sh (sh .root) ++ gathered (metFrom N sh) (sh .sections)) (sh .root) ≡ 0
+      first zero h = absurd (omega arith)
+      first (suc l) h = place-first (sh .root) _ refl
+
   -- n itself, with a level or more
   pub met-self : (l n : ℕ) → 1 ≤ l → n ∈ metFrom l sh n
   unfolding metFrom

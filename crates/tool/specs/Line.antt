@@ -22,7 +22,7 @@ use Rattle.words.specs.declared.Job.{Job}
 use Rattle.words.specs.declared.Job.the-variants.{Get, Put, Other}
 use Rattle.words.specs.Format.{fieldsOf, sheetOf, planOf, viewOf, jobOf, jobNumber}
 use Rattle.words.specs.Answers.{bitsWord}
-use Rattle.letters.specs.Lookups.{loadLine, valueLine}
+use Rattle.letters.specs.Letters.{letterLine}
 use Rattle.tool.specs.Why.{whyLine}
 
 -- what an input comes to: the line, and the call on output and scratch that was made for it, or on scratch alone, where one was
@@ -72,16 +72,14 @@ whyBy bs Other = says (refusalLine (jobNumber Other))
 unfoldable pub whys : List ℕ → Ending
 whys bs = whyBy bs (jobOf bs)
 
--- BY ITS LETTER: a row for each
+-- BY ITS LETTER: a row for each that walks; all others, and what is no letter, have their line from `letters`
 unfoldable pub byLetter : List ℕ → Ending
 byLetter bs =
     let letter = getD bs 0 0 in
-    cond (eqb letter 0x4C) (says (loadLine bs))
-    (cond (eqb letter 0x56) (says (valueLine bs))
-    (cond (eqb letter 0x53) (puts false bs (fieldsOf bs))
+    cond (eqb letter 0x53) (puts false bs (fieldsOf bs))
     (cond (eqb letter 0x57) (puts true bs (fieldsOf bs))
     (cond (eqb letter 0x59) (whys (drop 1 bs))
-    (says (refusalLine 60))))))
+    (says (letterLine bs))))
 
 -- over 8,192 bytes: 61, whatever they are
 unfoldable pub toolEnding : List ℕ → Ending

@@ -20,7 +20,8 @@ use Rattle.words.specs.declared.fields.Taken.{Taken}
 use Rattle.words.specs.declared.fields.Taken.the-variants.{Whole, Cut}
 use Rattle.words.specs.Format.{fieldsOf, sheetOf, planOf, viewOf}
 use Rattle.words.specs.Answers.{bitsWord}
-use Rattle.letters.specs.LookupLaws.{fits-refusal, starts-length, fits-load, fits-value}
+use Rattle.letters.specs.LookupLaws.{fits-refusal, starts-length}
+use Rattle.letters.specs.Letters.{letter-fits}
 use Rattle.tool.specs.Line.{Ending, says, besides, putLine, puts, byLetter, toolEnding, toolLine}
 use Rattle.tool.specs.WhyLaws.{whys-fit}
 
@@ -52,12 +53,10 @@ fits-puts bits bs (Whole f) =
 
 fits-letter : (bs : List ℕ) → length bs ≤ INPUT → length (byLetter bs .line) ≤ 16378
 unfolding byLetter
-fits-letter bs h = let c = getD bs 0 0 in one (eqb c 0x4C) _ _ (fits-load bs h)
-    (one (eqb c 0x56) _ _ (fits-value bs h)
-    (one (eqb c 0x53) _ _ (fits-puts false bs (fieldsOf bs))
+fits-letter bs h = let c = getD bs 0 0 in one (eqb c 0x53) _ _ (fits-puts false bs (fieldsOf bs))
     (one (eqb c 0x57) _ _ (fits-puts true bs (fieldsOf bs))
     (one (eqb c 0x59) _ _ (omega (arith, whys-fit (drop 1 bs)))
-    (fits-refusal 60 (omega arith))))))
+    (letter-fits bs h)))
   where
     -- a row and those below it
     one : (p : Bool) (x y : Ending) → length (x .line) ≤ 16378 → length (y .line) ≤ 16378 → length (cond p x y .line) ≤ 16378

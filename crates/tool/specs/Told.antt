@@ -21,7 +21,7 @@ use Rattle.words.specs.declared.fields.Taken.the-variants.{Whole, Cut}
 use Rattle.words.specs.Format.{fieldsOf, sheetOf, planOf, viewOf}
 use Rattle.words.specs.Answers.{bitsWord}
 use Rattle.words.specs.Starts.{kept, kept-all}
-use Rattle.letters.specs.Lookups.{loadLine, valueLine}
+use Rattle.letters.specs.Letters.{letterLine}
 use Rattle.tool.specs.Line.{
   Ending,
   made,
@@ -104,14 +104,6 @@ ended-why bs {o = o} x = record { text = x .0; output = whys-output bs o; scratc
 -- the letter of an input
 module _ (bs : List ℕ) where
   module _ (h : length bs ≤ INPUT) {letter : ℕ} (e : letter ≡ getD bs 0 0) where
-    pub letter-L : letter ≡ 0x4C → toolEnding bs ≡ says (loadLine bs)
-    unfolding toolEnding byLetter
-    letter-L q = rw (le-leb (length bs) INPUT h, sym e ∙ q)
-
-    pub letter-V : letter ≡ 0x56 → toolEnding bs ≡ says (valueLine bs)
-    unfolding toolEnding byLetter
-    letter-V q = rw (le-leb (length bs) INPUT h, sym e ∙ q)
-
     pub letter-S : letter ≡ 0x53 → toolEnding bs ≡ puts false bs (fieldsOf bs)
     unfolding toolEnding byLetter
     letter-S q = rw (le-leb (length bs) INPUT h, sym e ∙ q)
@@ -124,18 +116,9 @@ module _ (bs : List ℕ) where
     unfolding toolEnding byLetter
     letter-Y q = rw (le-leb (length bs) INPUT h, sym e ∙ q)
 
-    pub letter-none : (letter ≡ 0x4C → ⊥) → (letter ≡ 0x56 → ⊥) → (letter ≡ 0x53 → ⊥) → (letter ≡ 0x57 → ⊥) → (letter ≡ 0x59 → ⊥)
-        → toolEnding bs ≡ says (refusalLine 60)
+    pub letter-other : (letter ≡ 0x53 → ⊥) → (letter ≡ 0x57 → ⊥) → (letter ≡ 0x59 → ⊥) → toolEnding bs ≡ says (letterLine bs)
     unfolding toolEnding byLetter
-    letter-none l v s w y = rw (
-      le-leb (length bs) INPUT h,
-      ← e,
-      ne-eqb letter 0x4C l,
-      ne-eqb letter 0x56 v,
-      ne-eqb letter 0x53 s,
-      ne-eqb letter 0x57 w,
-      ne-eqb letter 0x59 y,
-    )
+    letter-other s w y = rw (le-leb (length bs) INPUT h, ← e, ne-eqb letter 0x53 s, ne-eqb letter 0x57 w, ne-eqb letter 0x59 y)
 
 -- a line that no call was made for
 pub said : {l : List ℕ} {r : ℕ} {t t′ o s : List ℕ} → Wrote l 0 t t′ r → Ended (says l) r t t′ o o s s

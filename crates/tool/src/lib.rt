@@ -26,11 +26,9 @@ pub fn line(
     }
     let letter = words::byte_at(input, 0);
     match letter {
-        0x4C => letters::load_line(input, text),
-        0x56 => letters::value_line(input, text),
         0x53 => put_line(input, false, out, scratch, text),
         0x57 => put_line(input, true, out, scratch, text),
         0x59 => why_line(input, scratch, text),
-        _ => report::refusal(text, 0, 60),
+        _ => letters::line(input, text),
     }
 }

@@ -14,6 +14,10 @@ bitsWord b = hexOf (b / 256 ∷ b % 256 ∷ [])
 unfoldable pub noLine : List (List ℕ) → List ℕ
 noLine ws = 0x6E ∷ 0x6F ∷ (words ws ++ (0x0A ∷ []))
 
+-- a refusal that names a node: its number, and the node
+unfoldable pub nodeLine : (code node : ℕ) → List ℕ
+nodeLine code node = noLine (decimalOf code ∷ decimalOf node ∷ [])
+
 -- the refusal's number, the node where it was met, which ends the chain, its depth, the chain, and by whom it was written first
 unfoldable pub metWords : (code : ℕ) (chain : List ℕ) (by : List (List ℕ)) → List (List ℕ)
 metWords code chain by =

@@ -10,7 +10,7 @@ use lib.Seq.{take-suc}
 use Rattle.report.specs.Text.{words, decimalOf, refusalLine, okLine}
 use Rattle.report.specs.TextLaws.{wrote-words}
 use Rattle.report.specs.Writing.{Wrote, wrote-then, wrote-text}
-use Rattle.words.specs.Answers.{noLine, byNumber, metWords, toldLine}
+use Rattle.words.specs.Answers.{noLine, nodeLine, byNumber, metWords, toldLine}
 use Rattle.words.specs.Starts.{map-append}
 
 -- nodes written one after another: the first i of them, and one more
@@ -35,6 +35,14 @@ pub wrote-no : (ws : List (List ℕ)) {i m n r : ℕ} {b b₁ b₂ b₃ : List �
     → Wrote (0x6E ∷ 0x6F ∷ []) i b b₁ m → Wrote (words ws) m b₁ b₂ n → Wrote (0x0A ∷ []) n b₂ b₃ r → Wrote (noLine ws) i b b₃ r
 unfolding noLine
 wrote-no ws p q f = wrote-then p (wrote-then q f)
+
+-- a refusal that names a node
+pub wrote-node-line : (code node : ℕ) {i₁ i₂ i₃ r : ℕ} {b b₁ b₂ b₃ b₄ : List ℕ} → Wrote (0x6E ∷ 0x6F ∷ []) 0 b b₁ i₁
+    → Wrote (words (decimalOf code ∷ [])) i₁ b₁ b₂ i₂ → Wrote (words (decimalOf node ∷ [])) i₂ b₂ b₃ i₃ → Wrote (0x0A ∷ []) i₃ b₃ b₄ r
+    → Wrote (nodeLine code node) 0 b b₄ r
+unfolding nodeLine
+wrote-node-line code node w c n feed =
+    wrote-no (decimalOf code ∷ decimalOf node ∷ []) w (wrote-words (decimalOf code ∷ []) (decimalOf node ∷ []) c n) feed
 
 -- the words of a refusal that was met at a node
 pub wrote-met : (code : ℕ) (chain : List ℕ) (by : List (List ℕ)) {i₁ i₂ i₃ i₄ i₅ i₆ r : ℕ} {b b₁ b₂ b₃ b₄ b₅ b₆ b₇ : List ℕ}

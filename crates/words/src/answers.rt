@@ -5,7 +5,7 @@ ghost use lib.ListN.{length};
 ghost use Rattle.starts.specs.Starts.{firsts};
 ghost use Rattle.report.specs.Text.{decimalOf, words};
 ghost use Rattle.report.specs.Writing.{Wrote};
-ghost use Rattle.words.specs.Answers.{bitsWord, noLine, byNumber, metWords, toldLine};
+ghost use Rattle.words.specs.Answers.{bitsWord, noLine, nodeLine, byNumber, metWords, toldLine};
 use crate::fields::kept;
 use starts::Starts;
 
@@ -89,4 +89,14 @@ pub fn told_line(refusal: u8, nodes: &[u8], first: u16, text: &mut [u8]) -> usiz
         return report::refusal(text, 0, refusal as usize);
     }
     met_line(refusal, nodes, first, text)
+}
+
+/// The line of a refusal that names a node: its number, and the node.
+pub fn node_line(text: &mut [u8], refusal: u8, node: usize) -> usize
+    ensures { λ r. ⌜ Wrote (nodeLine refusal node) 0 (now (text .entry)) (now (text .exit)) r ⌝ }
+{
+    let mut end = report::bytes(text, 0, b"no");
+    end = report::decimal_word(text, end, refusal as usize);
+    end = report::decimal_word(text, end, node);
+    report::byte(text, end, b'\n')
 }

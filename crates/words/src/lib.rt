@@ -6,6 +6,7 @@ mod answers;
 mod fields;
 
 pub use answers::bits_word;
+pub use answers::node_line;
 pub use answers::start_words;
 pub use answers::told_line;
 pub use fields::Fields;

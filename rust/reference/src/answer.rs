@@ -1,4 +1,6 @@
 //! Answers: one number, made and taken apart.
+//!
+//! Readings of a plan or a list answer with a [`Success`]; tools that walk no plan, and the checker of plans, tell one number.
 
 use crate::Refusal;
 
@@ -30,5 +32,36 @@ pub fn taken(answer: u64) -> Result<Success, Refusal> {
             steps: (answer >> 32) as u32,
         }),
         refusal => Err(refusal),
+    }
+}
+
+/// A refusal, and the node that it names; only 81 and 82 name one.
+#[derive(Clone, Copy, Debug, PartialEq, Eq)]
+pub struct NodeRefusal {
+    pub refusal: Refusal,
+    pub node: Option<u8>,
+}
+
+impl From<Refusal> for NodeRefusal {
+    fn from(refusal: Refusal) -> NodeRefusal {
+        NodeRefusal { refusal, node: None }
+    }
+}
+
+/// A tool's answer: the refusal in the low 8 bits (0: success), in the next 16 what a success tells or the node of a refusal.
+pub fn packed(result: Result<usize, NodeRefusal>) -> u64 {
+    match result {
+        Ok(told) => (told as u64) << 8,
+        Err(NodeRefusal { refusal, node }) => u64::from(refusal) | u64::from(node.unwrap_or(0)) << 8,
+    }
+}
+
+/// A tool's answer taken apart.
+pub fn unpacked(answer: u64) -> Result<usize, NodeRefusal> {
+    let told = (answer >> 8) as u16;
+    match answer as u8 {
+        0 => Ok(told.into()),
+        refusal @ (81 | 82) => Err(NodeRefusal { refusal, node: Some(told as u8) }),
+        refusal => Err(refusal.into()),
     }
 }

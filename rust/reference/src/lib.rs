@@ -1,18 +1,21 @@
 //! Document 01, "House sheets, plans and venue lists", in plain safe Rust, with requests 1 (the node 1C), 2 (the
 //! starts of a plan's values), 4 (numbers over 65,535: the kind of value 06 and the node 1D), 5 (defaults of a list case that take
-//! after the list sent), 8 (which variables a put wrote) and 9 (why a call is refused) of document 02, "Requests after the base version".
+//! after the list sent), 8 (which variables a put wrote), 9 (why a call is refused) and 12 (one numbering for a sheet file) of document 02,
+//! "Requests after the base version".
 //!
 //! It was written from the papers and shares no line with the Rattle code, so that where the two agree on a job, two readings of the
 //! papers agree. Its tests and the benchmark's baseline are its only uses: programs use the crate `lens`.
 //!
-//! [`get`], [`put`], [`load`], [`put_starts`] and [`put_written`] work in the caller's buffers exactly as the archive's functions do, and answer in the
-//! same form, which [`answer`] takes apart.
+//! [`get`], [`put`], [`load`], [`put_starts`], [`put_written`] and [`number`] work in the caller's buffers exactly as the archive's
+//! functions do, and answer in the same form, which [`answer`] takes apart.
 
 #![forbid(unsafe_code)]
 
 pub mod answer;
 pub mod job;
+mod numbering;
 mod plan;
+mod record;
 mod sheet;
 pub mod tool;
 mod value;
@@ -20,6 +23,7 @@ pub mod vectors;
 mod walk;
 pub mod why;
 
+pub use numbering::number;
 pub use plan::{find, from_front, part};
 
 use answer::{made, Success};
@@ -32,7 +36,9 @@ use why::Explanation;
 pub const GET_OUT: usize = 256;
 /// Bytes of output that a put asks for.
 pub const PUT_OUT: usize = 4096;
-/// Bytes of scratch that both ask for.
+/// Bytes of output that a tool asks for that writes a sheet.
+pub const SHEET_OUT: usize = 2048;
+/// Bytes of scratch that get and put ask for.
 pub const SCRATCH: usize = 65_536;
 /// The largest allowance.
 pub const ALLOWANCE: u32 = 1_000_000;

@@ -3,8 +3,10 @@
 use crate::value::{wide, LARGEST_NUMBER};
 use crate::Refusal;
 
-const MOST_SECTIONS: usize = 8;
-const MOST_NODES: usize = 200;
+/// The most sections of a sheet.
+pub const MOST_SECTIONS: usize = 8;
+/// The most nodes of a sheet.
+pub const MOST_NODES: usize = 200;
 
 #[derive(Clone, Copy)]
 pub enum Node {
@@ -70,6 +72,16 @@ impl Sheet {
 
     pub fn section(&self, number: u8) -> u8 {
         self.sections[usize::from(number)]
+    }
+
+    /// The records of its nodes, in node order.
+    pub fn nodes(&self) -> &[Node] {
+        &self.nodes[..self.node_count]
+    }
+
+    /// The roots of its sections, in section order.
+    pub fn sections(&self) -> &[u8] {
+        &self.sections[..self.section_count]
     }
 
     fn read_records(&mut self, bytes: &[u8]) -> Result<(), Refusal> {

@@ -1,10 +1,10 @@
 //! The inputs of the program `tools`, and what it prints.
 
-use crate::answer::taken;
+use crate::answer::{taken, unpacked, NodeRefusal};
 use crate::job::{counted, Job, LONGEST_INPUT};
 use crate::vectors::hex;
 use crate::why::Explanation;
-use crate::{Refusal, PUT_OUT, SCRATCH, STARTS_MAX};
+use crate::{Refusal, PUT_OUT, SCRATCH, SHEET_OUT, STARTS_MAX};
 
 /// One call.
 #[derive(Clone, Debug, PartialEq, Eq)]
@@ -17,15 +17,26 @@ pub enum Tool {
     Put { bits: bool, sheet: Vec<u8>, plan: Vec<u8>, view: Vec<u8>, allowance: u32 },
     /// 59: why a job of document 01's program is refused.
     Why(Job),
+    /// 4E: a sheet numbered anew.
+    Number { sheet: Vec<u8> },
 }
 
 /// What a call gives.
 #[derive(Clone, Debug, PartialEq, Eq)]
 pub enum Given {
     Starts(Vec<u16>),
-    Part(Vec<u8>),
-    Put { steps: u32, plan: Vec<u8>, starts: Vec<u16> },
-    Written { steps: u32, plan: Vec<u8>, written: u16 },
+    /// A value or a sheet.
+    Bytes(Vec<u8>),
+    Put {
+        steps: u32,
+        plan: Vec<u8>,
+        starts: Vec<u16>,
+    },
+    Written {
+        steps: u32,
+        plan: Vec<u8>,
+        written: u16,
+    },
     Why(Result<(), Explanation>),
 }
 
@@ -56,12 +67,13 @@ impl Tool {
                 Some(Tool::Put { bits: letter == 0x57, sheet, plan, view: view?, allowance })
             }
             0x59 => Job::take_apart(fields).map(Tool::Why),
+            0x4E => Some(Tool::Number { sheet: fields.to_vec() }),
             _ => None,
         }
     }
 
     /// Runs the call on the reference.
-    pub fn run(&self) -> Result<Given, Refusal> {
+    pub fn run(&self) -> Result<Given, NodeRefusal> {
         let mut starts = [0; STARTS_MAX];
         match self {
             Tool::Load { sheet, plan } => {
@@ -70,7 +82,7 @@ impl Tool {
             }
             Tool::Value { variable, starts, plan } => {
                 crate::find(starts, plan.len(), *variable)?;
-                Ok(Given::Part(crate::part(starts, plan, *variable).to_vec()))
+                Ok(Given::Bytes(crate::part(starts, plan, *variable).to_vec()))
             }
             Tool::Put { bits, sheet, plan, view, allowance } => {
                 let (mut out, mut scratch, mut written) = ([0; PUT_OUT], [0; SCRATCH], 0);
@@ -89,20 +101,26 @@ impl Tool {
                     Some(view) => crate::why_put(sheet, plan, view, *allowance, scratch),
                 }))
             }
+            Tool::Number { sheet } => {
+                let mut out = [0; SHEET_OUT];
+                let length = unpacked(crate::number(sheet, &mut out))?;
+                Ok(Given::Bytes(out[..length].to_vec()))
+            }
         }
     }
 }
 
 /// What the program prints for an input, without the line feed, where `run` does the call.
-pub fn printed(input: &[u8], run: impl Fn(&Tool) -> Result<Given, Refusal>) -> String {
-    match Tool::from_input(input).and_then(|tool| run(&tool)) {
+pub fn printed(input: &[u8], run: impl Fn(&Tool) -> Result<Given, NodeRefusal>) -> String {
+    match Tool::from_input(input).map_err(NodeRefusal::from).and_then(|tool| run(&tool)) {
         Ok(Given::Starts(starts)) => format!("ok {}", decimal(&starts)),
-        Ok(Given::Part(part)) => format!("ok {}", hex(&part)),
+        Ok(Given::Bytes(bytes)) => format!("ok {}", hex(&bytes)),
         Ok(Given::Put { steps, plan, starts }) => format!("ok {steps} {} {}", hex(&plan), decimal(&starts)),
         Ok(Given::Written { steps, plan, written }) => format!("ok {steps} {} {written:04X}", hex(&plan)),
         Ok(Given::Why(Ok(()))) => "ok".to_string(),
         Ok(Given::Why(Err(explanation))) => explanation.line(),
-        Err(refusal) => format!("no {refusal}"),
+        Err(NodeRefusal { refusal, node: None }) => format!("no {refusal}"),
+        Err(NodeRefusal { refusal, node: Some(node) }) => format!("no {refusal} {node}"),
     }
 }
 

@@ -17,12 +17,12 @@ pub fn unhex(text: &str) -> Option<Vec<u8>> {
     Some(digits.chunks(2).map(|pair| pair[0] << 4 | pair[1]).collect())
 }
 
-/// The lines of a file of vectors for which something else is printed: each has an input in hexadecimal (`-` for no byte), a space, and
+/// Those of the lines of vectors for which something else is printed: each has an input in hexadecimal (`-` for no byte), a space, and
 /// what the program prints. Also how many lines there were.
-pub fn wrong_lines(file: &str, printed: impl Fn(&[u8]) -> String) -> (usize, Vec<String>) {
+pub fn wrong_lines(lines: &[&str], printed: impl Fn(&[u8]) -> String) -> (usize, Vec<String>) {
     let mut wrong = Vec::new();
     let mut count = 0;
-    for line in file.lines() {
+    for line in lines {
         let Some((input, wanted)) = line.split_once(' ') else {
             wrong.push(format!("{line}: no such line"));
             continue;
@@ -48,10 +48,20 @@ pub fn check_jobs(printed: impl Fn(&[u8]) -> String) {
 }
 
 /// Runs the inputs of `tools` of the file that `LENS_TOOL_VECTORS` names; or else those of `vectors/tools.txt`, and of
-/// `shared/vectors/tools-full.txt` beside the repository where that folder is there.
+/// `shared/vectors/tools-full.txt` and `tools-next.txt` beside the repository where that folder is there: of the latter those whose
+/// letter stands in `vectors/letters.txt`.
 pub fn check_tools(printed: impl Fn(&[u8]) -> String) {
-    check_files("LENS_TOOL_VECTORS", "tools.txt", "tools-full.txt", printed);
+    check_files("LENS_TOOL_VECTORS", "tools.txt", "tools-full.txt", &printed);
+    let next = Path::new(BESIDE).join("tools-next.txt");
+    if std::env::var_os("LENS_TOOL_VECTORS").is_none() && next.exists() {
+        let file = read(&next);
+        let landed = |line: &str| LETTERS.lines().any(|letter| line.starts_with(letter));
+        check_lines(&next, &file.lines().filter(|line| landed(line)).collect::<Vec<_>>(), printed);
+    }
 }
+
+/// The letters of `tools-next.txt` that the program has, in hexadecimal, one a line.
+const LETTERS: &str = include_str!("../../../vectors/letters.txt");
 
 fn check_files(variable: &str, own: &str, whole: &str, printed: impl Fn(&[u8]) -> String) {
     if let Some(named) = std::env::var_os(variable) {
@@ -67,8 +77,16 @@ fn check_files(variable: &str, own: &str, whole: &str, printed: impl Fn(&[u8]) -
 
 /// Panics where something else is printed for a line of a file, or where it has none.
 fn check_file(path: &Path, printed: impl Fn(&[u8]) -> String) {
-    let file = std::fs::read_to_string(path).unwrap_or_else(|error| panic!("{}: {error}", path.display()));
-    let (count, wrong) = wrong_lines(&file, printed);
+    check_lines(path, &read(path).lines().collect::<Vec<_>>(), printed);
+}
+
+fn read(path: &Path) -> String {
+    std::fs::read_to_string(path).unwrap_or_else(|error| panic!("{}: {error}", path.display()))
+}
+
+/// Panics where something else is printed for one of these lines of a file, or where there is none.
+fn check_lines(path: &Path, lines: &[&str], printed: impl Fn(&[u8]) -> String) {
+    let (count, wrong) = wrong_lines(lines, printed);
     assert!(count > 0, "no line of {}", path.display());
     assert!(wrong.is_empty(), "{} of {count} lines of {} wrong:\n{}", wrong.len(), path.display(), wrong.join("\n"));
     println!("{count} lines of {}", path.display());

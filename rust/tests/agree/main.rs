@@ -1,17 +1,21 @@
 //! The archive and the reference agree, and the laws hold of the archive's answers: both of document 01, that of a plan's starts, that of
 //! the variables that a put wrote, and that a refusal is explained by its own number.
 //!
-//! Each case is made from its number. `LENS_CASES` says how many there are (200,000), `LENS_FIRST` which is the first (0).
+//! Each case is made from its number. `LENS_CASES` says how many there are (200,000), `LENS_FIRST` which is the first (0). Tools that walk
+//! no plan have tests of their own, of 20,000 cases each.
 
 mod cases;
 mod edges;
 mod lookups;
+mod numbering;
 mod random;
+mod records;
 mod seen;
 mod sent;
 mod sheets;
 mod starts;
 mod switches;
+mod tools;
 mod values;
 mod why;
 mod written;

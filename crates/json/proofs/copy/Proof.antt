@@ -1,7 +1,7 @@
 -- `copy` meets its contract: i bytes are copied. Assumes nothing.
 use Prim.Native.Nat.{_≤_, _-_}
 use native.Mathlib.Omega.{arith}
-use Rattle.json.specs.Reply.{Copied, none-copied, copied-more, all-copied}
+use Rattle.json.specs.Returns.{Copied, none-copied, copied-more, all-copied}
 use Rattle.json.proofs.copy.Statement.{statement}
 use Rattle.json.proofs.copy.Tie as tie
 

@@ -1,6 +1,6 @@
 -- `read` meets its contract: each way that the text is answered. Assumes nothing.
 use mathlib.Core.Path.{refl}
-use Rattle.json.specs.Reply.{read-short, read-refused, read-more, read-long, read-done, read-at}
+use Rattle.json.specs.Returns.{read-short, read-refused, read-more, read-long, read-done, read-at}
 use borrow.Author.Needs.{needs}
 use Rattle.json.proofs.read.Statement.{statement}
 use Rattle.json.proofs.read.Tie as tie

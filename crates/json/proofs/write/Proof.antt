@@ -2,7 +2,7 @@
 use mathlib.Core.Path.{refl}
 use native.Mathlib.Omega.{arith}
 use borrow.Author.Needs.{needs}
-use Rattle.json.specs.Reply.{is-whole, whole-holds, write-short, write-malformed, write-asks, write-deep, write-done}
+use Rattle.json.specs.Returns.{is-whole, whole-holds, write-short, write-malformed, write-asks, write-deep, write-done}
 use Rattle.json.proofs.write.Statement.{statement}
 use Rattle.json.proofs.write.Tie as tie
 

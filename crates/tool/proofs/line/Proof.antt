@@ -1,9 +1,8 @@
 -- `line` meets its contract: a case for each letter. Assumes nothing.
 use borrow.Author.Needs.{needs}
 use native.Mathlib.Omega.{arith}
-use borrow.Author.Needs.{needs}
 use Rattle.tool.specs.LineLaws.{ending-over}
-use Rattle.tool.specs.Told.{said, printed, letter-L, letter-V, letter-S, letter-W, letter-Y, letter-none, ended-why}
+use Rattle.tool.specs.Told.{said, printed, letter-S, letter-W, letter-Y, letter-other, ended-why}
 use Rattle.tool.proofs.line.Statement.{statement}
 use Rattle.tool.proofs.line.Tie as tie
 
@@ -23,49 +22,34 @@ returns c =
 
 returns-2 : tie.Need-returns-2
 returns-2 c =
-    let told = c .before .before in
+    let told = c .before .before .before .before in
     let read = told .before in
     let bs = entry read .args .input .now in
-    printed bs (letter-L bs (short read .if1 .left) (read .byte-at .ensures) (told .match .keys1)) (omega arith) (said (c .load-line .ensures))
+    printed bs (letter-S bs (short read .if1 .left) (read .byte-at .ensures) (told .match .keys1)) (omega arith) (c .put-line .ensures)
 
 returns-3 : tie.Need-returns-3
 returns-3 c =
-    let told = c .before .before in
+    let told = c .before .before .before .before in
     let read = told .before in
     let bs = entry read .args .input .now in
-    printed bs (letter-V bs (short read .if1 .left) (read .byte-at .ensures) (told .match .keys2)) (omega arith) (said (c .value-line .ensures))
+    printed bs (letter-W bs (short read .if1 .left) (read .byte-at .ensures) (told .match .keys2)) (omega arith) (c .put-line2 .ensures)
 
 returns-4 : tie.Need-returns-4
 returns-4 c =
-    let told = c .before .before .before .before in
-    let read = told .before in
-    let bs = entry read .args .input .now in
-    printed bs (letter-S bs (short read .if1 .left) (read .byte-at .ensures) (told .match .keys3)) (omega arith) (c .put-line .ensures)
-
-returns-5 : tie.Need-returns-5
-returns-5 c =
-    let told = c .before .before .before .before in
-    let read = told .before in
-    let bs = entry read .args .input .now in
-    printed bs (letter-W bs (short read .if1 .left) (read .byte-at .ensures) (told .match .keys4)) (omega arith) (c .put-line2 .ensures)
-
-returns-6 : tie.Need-returns-6
-returns-6 c =
     let told = c .before .before .before in
     let read = told .before in
     let bs = entry read .args .input .now in
-    printed bs (letter-Y bs (short read .if1 .left) (read .byte-at .ensures) (told .match .keys5)) (omega arith) (ended-why _ (c .why-line .ensures))
+    printed bs (letter-Y bs (short read .if1 .left) (read .byte-at .ensures) (told .match .keys3)) (omega arith) (ended-why _ (c .why-line .ensures))
 
-returns-7 : tie.Need-returns-7
-returns-7 c =
+returns-5 : tie.Need-returns-5
+returns-5 c =
     let told = c .before .before in
     let read = told .before in
     let bs = entry read .args .input .now in
     let other = told .match .rest in
-    printed bs
-    (letter-none bs (short read .if1 .left) (read .byte-at .ensures) (other .0 .0 .0 .0 .1) (other .0 .0 .0 .1) (other .0 .0 .1) (other .0 .1) (other .1))
-    (omega arith) (said (c .refusal2 .ensures))
+    printed bs (letter-other bs (short read .if1 .left) (read .byte-at .ensures) (other .0 .0 .1) (other .0 .1) (other .1)) (omega arith)
+    (said (c .line .ensures))
 
 pub line-spec : {M : Type 1} → statement M
 line-spec = tie.close (tie.spec (λ c κs. search needs) returns (λ c κs. search needs) (λ c κs. search needs) (λ c κs. search needs)
-    (λ c κs. search needs) (λ c κs. search needs) (λ c κs. search needs) (λ c κs. search needs) returns-2 returns-3 returns-4 returns-5 returns-6 returns-7)
+    (λ c κs. search needs) (λ c κs. search needs) returns-2 returns-3 returns-4 returns-5)

@@ -24,10 +24,10 @@ use Rattle.notation.specs.Grammar.{value, finished, take as takes, ends, run, r
 use Rattle.notation.specs.Reads.{sFinished, run-take}
 use Rattle.json.specs.Reader.{On, Skips, Gives, gDone, gRefused, at-byte}
 use Rattle.notation.specs.Calls.{JSON-ROOM, VALUE-ROOM, toJson, fromJson}
-use Rattle.json.specs.Answered.{reply, written, Answered}
+use Rattle.made.specs.Made.{Makes, makes-no, makes-ok}
 use Rattle.json.specs.declared.Step.{Step}
 use Rattle.json.specs.declared.Step.the-variants.{Done, Refused}
-use Rattle.json.specs.declared.Reply.the-variants.{Done as Gave, Refused as Denied}
+use Rattle.made.specs.declared.Made.the-variants.{Done as Gave, Refused as Denied}
 
 -- BYTES COPIED TO THE FRONT: so far i of them
 pub record Copied (s b a : List ℕ) (i : ℕ) : Type 0 where
@@ -49,17 +49,9 @@ all-copied {s} {b} n c e = c .made ∙ ap (λ (k : ℕ). take k s ++ drop k b) e
 
 -- READING
 
-denied : {x : Result (List ℕ)} (c : ℕ) {o : List ℕ} → x ≡ refusal c → Answered x (Denied c) o o
-unfolding reply written
-denied c e = rw e record { answer = refl; output = refl }
-
-gave : {x : Result (List ℕ)} (bs : List ℕ) {n : ℕ} {o o′ : List ℕ} → x ≡ ok bs → n ≡ length bs → o′ ≡ bs ++ drop n o → Answered x (Gave n) o o′
-unfolding reply written
-gave bs {o} e f g = rw e record { answer = ap Gave f; output = g ∙ ap (λ (k : ℕ). bs ++ drop k o) f }
-
-pub read-short : (s o : List ℕ) → length o < VALUE-ROOM → Answered (fromJson s (length o)) (Denied 1) o o
+pub read-short : (s o : List ℕ) → length o < VALUE-ROOM → Makes (fromJson s (length o)) (Denied 1) o o
 unfolding fromJson unless
-read-short s o h = denied 1 (rw (lt-leb VALUE-ROOM (length o) h))
+read-short s o h = makes-no 1 (rw (lt-leb VALUE-ROOM (length o) h))
 
 -- the value is read, and then nothing but white space stands there
 whole : (s : List ℕ) {at j : ℕ} (v : Value) → On (value LEVELS) s 0 at (λ k. k v) → Skips s at j → length s ≤ j → run s (value LEVELS finished) ≡ ok v
@@ -72,44 +64,44 @@ module _ (s o : List ℕ) (h : VALUE-ROOM ≤ length o) where
   unfolding fromJson unless readJson
   as-read = rw (le-leb VALUE-ROOM (length o) h)
 
-  refused : {c : ℕ} → run s (value LEVELS finished) ≡ refusal c → Answered (fromJson s (length o)) (Denied c) o o
+  refused : {c : ℕ} → run s (value LEVELS finished) ≡ refusal c → Makes (fromJson s (length o)) (Denied c) o o
   unfolding andThen mapResult
-  refused {c} e = denied c (as-read ∙ rw e)
+  refused {c} e = makes-no c (as-read ∙ rw e)
 
   pub read-refused : {b b′ : List ℕ} {r : Step} {c : ℕ} → Gives (value LEVELS) encode s 0 0 b b′ r → r ≡ Refused c
-      → Answered (fromJson s (length o)) (Denied c) o o
+      → Makes (fromJson s (length o)) (Denied c) o o
   read-refused {b} {b′} {c = c} g e = go (rw e at g)
     where
-      go : Gives (value LEVELS) encode s 0 0 b b′ (Refused c) → Answered (fromJson s (length o)) (Denied c) o o
+      go : Gives (value LEVELS) encode s 0 0 b b′ (Refused c) → Makes (fromJson s (length o)) (Denied c) o o
       go (gRefused l f) = refused (f finished)
 
   pub read-more : {b b′ : List ℕ} {r : Step} {at n j : ℕ} → Gives (value LEVELS) encode s 0 0 b b′ r → r ≡ Done at n → Skips s at j → j < length s
-      → Answered (fromJson s (length o)) (Denied 70) o o
+      → Makes (fromJson s (length o)) (Denied 70) o o
   unfolding takes
   read-more {b} {b′} {at} {n} {j} g e q l = go (rw e at g)
     where
-      go : Gives (value LEVELS) encode s 0 0 b b′ (Done at n) → Answered (fromJson s (length o)) (Denied 70) o o
+      go : Gives (value LEVELS) encode s 0 0 b b′ (Done at n) → Makes (fromJson s (length o)) (Denied 70) o o
       go (gDone v w t) = refused (t .goes finished ∙ q .goes (finished v) sFinished ∙ ap (λ (l : List ℕ). run l (finished v)) (at-byte s j l refl)
           ∙ run-take (getD s j 0) (drop (j + 1) s) (finished v) (q .black l))
 
   pub read-long : {b b′ : List ℕ} {r : Step} {at n j : ℕ} → Gives (value LEVELS) encode s 0 0 b b′ r → r ≡ Done at n → Skips s at j → length s ≤ j
-      → length b ≡ 257 → 256 < n → Answered (fromJson s (length o)) (Denied 72) o o
+      → length b ≡ 257 → 256 < n → Makes (fromJson s (length o)) (Denied 72) o o
   unfolding andThen unless mapResult
   read-long {b} {b′} {at} {n} g e q l m k = go (rw e at g)
     where
-      go : Gives (value LEVELS) encode s 0 0 b b′ (Done at n) → Answered (fromJson s (length o)) (Denied 72) o o
-      go (gDone v w t) = denied 72 (as-read ∙ rw (whole s v t q l, lt-leb (size v) 256 (omega (arith, w .end, size-encode v))))
+      go : Gives (value LEVELS) encode s 0 0 b b′ (Done at n) → Makes (fromJson s (length o)) (Denied 72) o o
+      go (gDone v w t) = makes-no 72 (as-read ∙ rw (whole s v t q l, lt-leb (size v) 256 (omega (arith, w .end, size-encode v))))
 
   pub read-done : {b b′ : List ℕ} {r : Step} {at n j : ℕ} {o′ : List ℕ} → Gives (value LEVELS) encode s 0 0 b b′ r → r ≡ Done at n → Skips s at j
-      → length s ≤ j → length b ≡ 257 → n ≤ 256 → o′ ≡ take n b′ ++ drop n o → Answered (fromJson s (length o)) (Gave n) o o′
+      → length s ≤ j → length b ≡ 257 → n ≤ 256 → o′ ≡ take n b′ ++ drop n o → Makes (fromJson s (length o)) (Gave n) o o′
   unfolding andThen unless mapResult
   read-done {b} {b′} {at} {n} {o′} g e q l m k d = go (rw e at g)
     where
-      go : Gives (value LEVELS) encode s 0 0 b b′ (Done at n) → Answered (fromJson s (length o)) (Gave n) o o′
+      go : Gives (value LEVELS) encode s 0 0 b b′ (Done at n) → Makes (fromJson s (length o)) (Gave n) o o′
       go (gDone v w t) =
           let z = size-encode v in
           let f = wrote-front w (omega (arith, w .end)) in
-          gave (encode v) (as-read ∙ rw (whole s v t q l, le-leb (size v) 256 (omega (arith, w .end)))) (f .long)
+          makes-ok (encode v) (as-read ∙ rw (whole s v t q l, le-leb (size v) 256 (omega (arith, w .end)))) (f .long)
           (d ∙ ap (λ (l : List ℕ). l ++ drop n o) (front-read f))
 
 -- what is asked for the copy: a value that was read has as many bytes as it says
@@ -121,18 +113,18 @@ read-at {s} {b} {b′} {at} {n} g e = go (rw e at g)
 
 -- WRITING
 
-pub write-short : (v o : List ℕ) → length o < JSON-ROOM → Answered (toJson v (length o)) (Denied 1) o o
+pub write-short : (v o : List ℕ) → length o < JSON-ROOM → Makes (toJson v (length o)) (Denied 1) o o
 unfolding toJson unless
-write-short v o h = denied 1 (rw (lt-leb JSON-ROOM (length o) h))
+write-short v o h = makes-no 1 (rw (lt-leb JSON-ROOM (length o) h))
 
 module _ (v o : List ℕ) (h : JSON-ROOM ≤ length o) where
   as-written : toJson v (length o) ≡ andThen (readView v) λ vs. writeJson (getD vs 0 vfalse)
   unfolding toJson unless
   as-written = rw (le-leb JSON-ROOM (length o) h)
 
-  pub write-malformed : {c : ℕ} → c ≡ viewCode v → (c ≡ 0 → ⊥) → Answered (toJson v (length o)) (Denied c) o o
+  pub write-malformed : {c : ℕ} → c ≡ viewCode v → (c ≡ 0 → ⊥) → Makes (toJson v (length o)) (Denied c) o o
   unfolding andThen
-  write-malformed {c} e n = denied c (as-written ∙ rw (view-refusal v (λ z. n (e ∙ z)), e))
+  write-malformed {c} e n = makes-no c (as-written ∙ rw (view-refusal v (λ z. n (e ∙ z)), e))
 
 -- the value that the bytes are
 pub record Whole (v : List ℕ) : Type 0 where
@@ -166,19 +158,19 @@ module _ {v : List ℕ} (w : Whole v) {b b′ : List ℕ} {r : Step} (p : Writes
       go (pDone f d q) = (q .inside, omega (arith, q .end))
 
   module _ (o : List ℕ) (h : JSON-ROOM ≤ length o) where
-    pub write-deep : {c : ℕ} → r ≡ Refused c → Answered (toJson v (length o)) (Denied c) o o
+    pub write-deep : {c : ℕ} → r ≡ Refused c → Makes (toJson v (length o)) (Denied c) o o
     unfolding andThen writeJson unless
     write-deep {c} e = go (rw e at its-text)
       where
-        go : Puts (jsonOf (w .x)) (depth (w .x)) LEVELS (0 + size (w .x)) 0 b b′ (Refused c) → Answered (toJson v (length o)) (Denied c) o o
-        go (pDeep f d l) = denied c (as-written v o h ∙ rw (w .view, lt-leb (depth (w .x)) LEVELS d, f))
+        go : Puts (jsonOf (w .x)) (depth (w .x)) LEVELS (0 + size (w .x)) 0 b b′ (Refused c) → Makes (toJson v (length o)) (Denied c) o o
+        go (pDeep f d l) = makes-no c (as-written v o h ∙ rw (w .view, lt-leb (depth (w .x)) LEVELS d, f))
 
-    pub write-done : length b ≡ JSON-ROOM → {n m : ℕ} → r ≡ Done n m → {o′ : List ℕ} → o′ ≡ take m b′ ++ drop m o → Answered (toJson v (length o)) (Gave m) o o′
+    pub write-done : length b ≡ JSON-ROOM → {n m : ℕ} → r ≡ Done n m → {o′ : List ℕ} → o′ ≡ take m b′ ++ drop m o → Makes (toJson v (length o)) (Gave m) o o′
     unfolding andThen writeJson unless
     write-done l {n} {m} e {o′} d = go (rw e at its-text)
       where
-        go : Puts (jsonOf (w .x)) (depth (w .x)) LEVELS (0 + size (w .x)) 0 b b′ (Done n m) → Answered (toJson v (length o)) (Gave m) o o′
+        go : Puts (jsonOf (w .x)) (depth (w .x)) LEVELS (0 + size (w .x)) 0 b b′ (Done n m) → Makes (toJson v (length o)) (Gave m) o o′
         go (pDone f k q) =
             let y = wrote-front q (omega (arith, json-short (w .readable))) in
-            gave (jsonOf (w .x)) (as-written v o h ∙ rw (w .view, le-leb (depth (w .x)) LEVELS k)) (y .long)
+            makes-ok (jsonOf (w .x)) (as-written v o h ∙ rw (w .view, le-leb (depth (w .x)) LEVELS k)) (y .long)
             (d ∙ ap (λ (l : List ℕ). l ++ drop m o) (front-read y))

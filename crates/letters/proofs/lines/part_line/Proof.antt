@@ -3,8 +3,8 @@ use borrow.Author.Needs.{needs}
 use mathlib.Core.List.{[], _∷_}
 use Rattle.report.specs.Text.{hexOf}
 use Rattle.report.specs.TextLaws.{wrote-ok}
-use Rattle.letters.proofs.lookups.part_line.Statement.{statement}
-use Rattle.letters.proofs.lookups.part_line.Tie as tie
+use Rattle.letters.proofs.lines.part_line.Statement.{statement}
+use Rattle.letters.proofs.lines.part_line.Tie as tie
 
 returns : tie.Need-returns
 returns c =

@@ -1,0 +1,94 @@
+//! Tools of sheets beside the Rust reference, and how their cost grows.
+
+use crate::{median, ratio, times, Buffers};
+use std::hint::black_box;
+
+/// One call of a tool, on both sides.
+struct Row {
+    name: String,
+    /// What the cost is held to: how many there are of the unit.
+    size: usize,
+    unit: &'static str,
+    archive: Call,
+    reference: Call,
+}
+
+type Call = Box<dyn Fn(&mut Buffers) -> u64>;
+
+fn rows() -> Vec<Row> {
+    [50, 100, 200].map(numbered).into()
+}
+
+/// A sheet numbered anew.
+fn numbered(nodes: usize) -> Row {
+    let (ours, theirs) = (drawn(nodes), drawn(nodes));
+    Row {
+        name: format!("number: a sheet of {nodes} nodes"),
+        size: nodes,
+        unit: "node",
+        archive: Box::new(move |buffers| lens::raw::number(black_box(&ours), &mut buffers.out).0),
+        reference: Box::new(move |buffers| reference::number(black_box(&theirs), &mut buffers.out)),
+    }
+}
+
+/// A sheet of so many nodes, each used once: pairs, each the second part of the one before, and their leaves behind all of them; an even
+/// number has an add on top. In the one numbering a leaf stands behind its pair.
+fn drawn(nodes: usize) -> Vec<u8> {
+    let first = 1 - nodes % 2;
+    let pairs = (nodes - 1 - first) / 2;
+    let mut sheet = vec![0x01, 0x01, 0x00];
+    if first == 1 {
+        sheet.extend([0x1B, 0x01, 0x00, 0x64]);
+    }
+    for pair in first..first + pairs {
+        // The last pair's second part is the last leaf.
+        let next = if pair + 1 < first + pairs { pair + 1 } else { nodes - 1 };
+        sheet.extend([0x16, (pair + pairs) as u8, next as u8]);
+    }
+    for _ in 0..=pairs {
+        sheet.extend([0x10, 0x00]);
+    }
+    sheet
+}
+
+/// The table, with an empty line before it: the rows whose names have the word, none where there is no such row.
+pub fn lines(word: &str, buffers: &mut [Buffers; 2]) -> Result<Vec<String>, String> {
+    let mut lines = Vec::new();
+    for row in rows().iter().filter(|row| row.name.contains(word)) {
+        crate::progress(&row.name);
+        lines.push(line(row, buffers)?);
+    }
+    if !lines.is_empty() {
+        let head =
+            format!("{:<46} {:>7} {:>12} {:>8} {:>12} {:>8} {:>6}", "tool", "", "archive/call", "", "Rust/call", "", "ratio");
+        lines.splice(0..0, [String::new(), head]);
+    }
+    Ok(lines)
+}
+
+fn line(row: &Row, buffers: &mut [Buffers; 2]) -> Result<String, String> {
+    let [ours, theirs] = buffers;
+    let (answer, wanted) = ((row.archive)(ours), (row.reference)(theirs));
+    let length = (wanted >> 8 & 0xFFFF) as usize;
+    if answer != wanted || wanted & 0xFF != 0 || ours.out[..length] != theirs.out[..length] {
+        return Err(format!("{}: the archive answers {answer:016X}, the reference {wanted:016X}, or other bytes", row.name));
+    }
+    let [ours, theirs] = times([
+        &mut || {
+            black_box((row.archive)(ours));
+        },
+        &mut || {
+            black_box((row.reference)(theirs));
+        },
+    ]);
+    let ratio = ratio(&ours, &theirs);
+    let a_unit = |ns: f64| format!("{:.1}", ns / row.size as f64);
+    let (ours, theirs) = (median(ours), median(theirs));
+    Ok(format!(
+        "{:<46} {:>7} {ours:>12.0} {:>8} {theirs:>12.0} {:>8} {ratio:>6.2}",
+        row.name,
+        format!("/{}:", row.unit),
+        a_unit(ours),
+        a_unit(theirs)
+    ))
+}

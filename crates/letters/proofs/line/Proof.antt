@@ -1,0 +1,35 @@
+-- `line` meets its contract: a case for each letter. Assumes nothing.
+use borrow.Author.Needs.{needs}
+use Rattle.report.specs.Writing.{wrote-text}
+use Rattle.letters.specs.Letters.{letter-L, letter-V, letter-N, letter-none}
+use Rattle.letters.proofs.line.Statement.{statement}
+use Rattle.letters.proofs.line.Tie as tie
+
+returns : tie.Need-returns
+returns c =
+    let said = c .before .before in
+    let told = said .before .before in
+    wrote-text (said .load-line .ensures) (letter-L _ (told .before .byte-at .ensures) (told .match .keys1))
+
+returns-2 : tie.Need-returns-2
+returns-2 c =
+    let said = c .before .before in
+    let told = said .before .before in
+    wrote-text (said .value-line .ensures) (letter-V _ (told .before .byte-at .ensures) (told .match .keys2))
+
+returns-3 : tie.Need-returns-3
+returns-3 c =
+    let said = c .before .before in
+    let told = said .before .before in
+    wrote-text (said .number-line .ensures) (letter-N _ (told .before .byte-at .ensures) (told .match .keys3))
+
+returns-4 : tie.Need-returns-4
+returns-4 c =
+    let said = c .before .before in
+    let told = said .before .before in
+    let other = told .match .rest in
+    wrote-text (said .refusal .ensures) (letter-none _ (told .before .byte-at .ensures) (other .0 .0 .1) (other .0 .1) (other .1))
+
+pub line-spec : {M : Type 1} → statement M
+line-spec = tie.close (tie.spec (λ c κs. search needs) (λ c κs. search needs) (λ c κs. search needs) (λ c κs. search needs) (λ c κs. search needs)
+    (λ c. search needs) returns (λ c. search needs) returns-2 (λ c. search needs) returns-3 (λ c. search needs) returns-4)

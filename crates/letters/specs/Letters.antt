@@ -1,0 +1,54 @@
+-- The line for an input whose letter walks nothing: a row for each letter.
+use mathlib.Core.Bool.{Bool, true, false, cond}
+use mathlib.Core.Path.{_≡_, sym, _∙_}
+use mathlib.Core.List.{List}
+use Prim.Native.Nat.{ℕ, _≤_}
+use native.Mathlib.Omega.{arith}
+use borrow.Author.Tests.{ne-eqb}
+use lib.Dec.{eqb}
+use lib.ListN.{length, getD}
+use Rattle.report.specs.Text.{refusalLine}
+use Rattle.words.specs.Numbers.{INPUT}
+use Rattle.letters.specs.Lookups.{loadLine, valueLine}
+use Rattle.letters.specs.LookupLaws.{fits-refusal, fits-load, fits-value}
+use Rattle.letters.specs.Sheets.{numberLine}
+use Rattle.letters.specs.SheetLaws.{fits-number}
+
+unfoldable pub letterLine : List ℕ → List ℕ
+letterLine bs =
+    let letter = getD bs 0 0 in
+    cond (eqb letter 0x4C) (loadLine bs)
+    (cond (eqb letter 0x56) (valueLine bs)
+    (cond (eqb letter 0x4E) (numberLine bs)
+    (refusalLine 60)))
+
+-- a row and those below it
+one-fits : (p : Bool) (x y : List ℕ) → length x ≤ 16378 → length y ≤ 16378 → length (cond p x y) ≤ 16378
+one-fits true x y h k = h
+one-fits false x y h k = k
+
+pub letter-fits : (bs : List ℕ) → length bs ≤ INPUT → length (letterLine bs) ≤ 16378
+unfolding letterLine
+letter-fits bs h = let c = getD bs 0 0 in one-fits (eqb c 0x4C) _ _ (fits-load bs h)
+    (one-fits (eqb c 0x56) _ _ (fits-value bs h)
+    (one-fits (eqb c 0x4E) _ _ (fits-number bs)
+    (fits-refusal 60 (omega arith))))
+
+-- WHAT SHOWS IT OF THE CODE: a law for each row
+
+module _ (bs : List ℕ) {letter : ℕ} (e : letter ≡ getD bs 0 0) where
+  pub letter-L : letter ≡ 0x4C → loadLine bs ≡ letterLine bs
+  unfolding letterLine
+  letter-L q = sym (rw (sym e ∙ q))
+
+  pub letter-V : letter ≡ 0x56 → valueLine bs ≡ letterLine bs
+  unfolding letterLine
+  letter-V q = sym (rw (sym e ∙ q))
+
+  pub letter-N : letter ≡ 0x4E → numberLine bs ≡ letterLine bs
+  unfolding letterLine
+  letter-N q = sym (rw (sym e ∙ q))
+
+  pub letter-none : (letter ≡ 0x4C → ⊥) → (letter ≡ 0x56 → ⊥) → (letter ≡ 0x4E → ⊥) → refusalLine 60 ≡ letterLine bs
+  unfolding letterLine
+  letter-none l v n = sym (rw (← e, ne-eqb letter 0x4C l, ne-eqb letter 0x56 v, ne-eqb letter 0x4E n))
