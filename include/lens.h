@@ -10,6 +10,7 @@
  *   lens_why_get      why lens_get refuses: the node, and the way to it from the root
  *   lens_why_put      why lens_put refuses
  *   lens_number       a sheet with its nodes numbered as first met
+ *   lens_join         two sheets to one, whose list is the pair of both
  *
  * Bytes of sheets, plans and lists, and what to do about each refusal, are in docs/SHEETS.md and docs/TOOLS.md.
  *
@@ -31,7 +32,7 @@ extern "C" {
 /* What a caller lends. Smaller buffers and other allowances are refused; larger buffers are fine. */
 #define LENS_GET_OUT 256u         /* bytes of output for lens_get */
 #define LENS_PUT_OUT 4096u        /* bytes of output for lens_put, lens_put_starts and lens_put_written */
-#define LENS_SHEET_OUT 2048u      /* bytes of output for lens_number */
+#define LENS_SHEET_OUT 2048u      /* bytes of output for lens_number and lens_join */
 #define LENS_SCRATCH 65536u       /* bytes of scratch for each function that takes any */
 #define LENS_ALLOWANCE_MAX 1000000u /* the most steps that may be allowed; the least is 1 */
 #define LENS_STARTS_MAX 16u       /* the most values of a plan: starts are an array of so many numbers, always */
@@ -102,6 +103,12 @@ uint64_t lens_why_put(const uint8_t *sheet, size_t sheet_len, const uint8_t *pla
  * back as the old one, steps and refusals included, and two files of one sheet become the same bytes. LENS_LENGTH: its bytes.
  * Refusals: LENS_OUTPUT_SMALL; the sheet's own; LENS_NODE_TWICE, with the lowest such node (LENS_NODE). */
 uint64_t lens_number(const uint8_t *sheet, size_t sheet_len, uint8_t *out, size_t out_len);
+
+/* The two sheets joined: node 0 is a pair of both roots, the first sheet's nodes and sections follow, then the second's. The new sheet
+ * reads a plan out to the pair of both lists, and reads a pair back through the first sheet, then the second, one variable still taking
+ * one value. LENS_LENGTH: its bytes. Refusals: LENS_OUTPUT_SMALL; the first sheet's own, then the second's; LENS_SHEETS_DIFFER;
+ * LENS_JOIN_FULL. */
+uint64_t lens_join(const uint8_t *first, size_t first_len, const uint8_t *second, size_t second_len, uint8_t *out, size_t out_len);
 
 /* What the buffers hold afterwards:
  *
@@ -177,6 +184,10 @@ uint64_t lens_number(const uint8_t *sheet, size_t sheet_len, uint8_t *out, size_
 
 /* a sheet numbered anew */
 #define LENS_NODE_TWICE 81u       /* a node of the sheet is used twice as a child or a root */
+
+/* two sheets joined */
+#define LENS_SHEETS_DIFFER 83u    /* the two sheets have another k */
+#define LENS_JOIN_FULL 84u        /* both sheets together, with the pair, have over 200 nodes or 8 sections */
 /* make-tables: end */
 
 #ifdef __cplusplus

@@ -16,7 +16,7 @@ struct Row {
 type Call = Box<dyn Fn(&mut Buffers) -> u64>;
 
 fn rows() -> Vec<Row> {
-    [50, 100, 200].map(numbered).into()
+    [50, 100, 200].map(numbered).into_iter().chain([24, 49, 99].map(joined)).collect()
 }
 
 /// A sheet numbered anew.
@@ -28,6 +28,18 @@ fn numbered(nodes: usize) -> Row {
         unit: "node",
         archive: Box::new(move |buffers| lens::raw::number(black_box(&ours), &mut buffers.out).0),
         reference: Box::new(move |buffers| reference::number(black_box(&theirs), &mut buffers.out)),
+    }
+}
+
+/// Two sheets of so many nodes joined.
+fn joined(nodes: usize) -> Row {
+    let (ours, theirs) = (drawn(nodes), drawn(nodes));
+    Row {
+        name: format!("join: two sheets of {nodes} nodes"),
+        size: 2 * nodes,
+        unit: "node",
+        archive: Box::new(move |buffers| lens::raw::join(black_box(&ours), black_box(&ours), &mut buffers.out).0),
+        reference: Box::new(move |buffers| reference::join(black_box(&theirs), black_box(&theirs), &mut buffers.out)),
     }
 }
 

@@ -164,6 +164,15 @@ mod archive {
         ) -> u8;
 
         pub fn lens_number(sheet: *const u8, sheet_len: usize, out: *mut u8, out_len: usize) -> u64;
+
+        pub fn lens_join(
+            first: *const u8,
+            first_len: usize,
+            second: *const u8,
+            second_len: usize,
+            out: *mut u8,
+            out_len: usize,
+        ) -> u64;
     }
 }
 
@@ -326,4 +335,10 @@ pub fn find(starts: &[u16; STARTS_MAX], count: usize, plan_len: usize, variable:
 pub fn number(sheet: &[u8], out: &mut [u8]) -> Answer {
     // Safety: as in `get`.
     Answer(unsafe { archive::lens_number(sheet.as_ptr(), sheet.len(), out.as_mut_ptr(), out.len()) })
+}
+
+/// Joins two sheets into `out`.
+pub fn join(first: &[u8], second: &[u8], out: &mut [u8]) -> Answer {
+    // Safety: as in `get`.
+    Answer(unsafe { archive::lens_join(first.as_ptr(), first.len(), second.as_ptr(), second.len(), out.as_mut_ptr(), out.len()) })
 }

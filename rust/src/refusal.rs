@@ -81,6 +81,8 @@ refusals! {
     53 NO_BRANCH "the list sent back passes the test of neither branch of a case: undo that edit, or give the sheet a test that allows it"
     54 CLASH "two places of the list sent back that come from one variable differ: edit both alike"
     81 NODE_TWICE "a node of the sheet is used twice as a child or a root: give each use a node of its own"
+    83 SHEETS_DIFFER "the two sheets have another k: join sheets of one plan"
+    84 JOIN_FULL "both sheets together, with the pair, have over 200 nodes or 8 sections: make one of them smaller"
     // make-tables: end
 }
 

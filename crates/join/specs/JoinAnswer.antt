@@ -1,16 +1,15 @@
 -- What joining answers: the definition that `join::join` is held to.
-use mathlib.Core.Path.{_≡_, refl, ap, sym, _∙_}
-use mathlib.Core.Bool.{Bool, true, false}
-use mathlib.Core.List.{List, [], _∷_, _++_}
+use mathlib.Core.Path.{_≡_, _∙_}
+use mathlib.Core.List.{List, []}
 use Prim.Native.Nat.{ℕ, suc, _+_, _≤_, _<_}
-use lib.Dec.{leb, eqb}
-use lib.ListN.{length, drop}
+use lib.Dec.{leb}
+use lib.ListN.{length}
 use borrow.Author.Tests.{le-leb, lt-leb, eq-eqb, ne-eqb}
 use Rattle.value.specs.Result.{Result, ok, refusal, andThen, unless}
 use Rattle.sheet.specs.Sheet.{Sheet, readSheet}
 use Rattle.sheet.specs.Rows.{sheetWritten}
 use Rattle.join.specs.Joined.{joined}
-use Rattle.join.specs.JoinedCalls.{joinedBytes}
+use Rattle.join.specs.JoinedCalls.{joinedBytes, Joins, unless-ok, joined-told, joined-short}
 
 -- 1 an output under 2,048 bytes, judged first
 unfoldable pub joinAnswer : (s t : List ℕ) (output : ℕ) → Result (List ℕ)
@@ -54,8 +53,29 @@ module _ (s t : List ℕ) (n : ℕ) where
           module _ (few : suc (length (x .nodes) + length (y .nodes)) ≤ 200) where
             pub join-sections : 8 < length (x .sections) + length (y .sections) → joinAnswer s t n ≡ refusal 84
             unfolding joinedBytes andThen unless
-            join-sections h = join-bytes ∙ rw (ex, ey, eq-eqb (x .k) (y .k) k, le-leb (suc (length (x .nodes) + length (y .nodes))) 200 few, lt-leb (length (x .sections) + length (y .sections)) 8 h)
+            join-sections h = join-bytes ∙ rw (
+              ex,
+              ey,
+              eq-eqb (x .k) (y .k) k,
+              le-leb (suc (length (x .nodes) + length (y .nodes))) 200 few,
+              lt-leb (length (x .sections) + length (y .sections)) 8 h,
+            )
 
             pub join-ok : length (x .sections) + length (y .sections) ≤ 8 → joinAnswer s t n ≡ ok (sheetWritten (joined x y))
             unfolding joinedBytes andThen unless
-            join-ok h = join-bytes ∙ rw (ex, ey, eq-eqb (x .k) (y .k) k, le-leb (suc (length (x .nodes) + length (y .nodes))) 200 few, le-leb (length (x .sections) + length (y .sections)) 8 h)
+            join-ok h = join-bytes ∙ rw (
+              ex,
+              ey,
+              eq-eqb (x .k) (y .k) k,
+              le-leb (suc (length (x .nodes) + length (y .nodes))) 200 few,
+              le-leb (length (x .sections) + length (y .sections)) 8 h,
+            )
+
+-- what a success tells: all laws of the joined sheet begin here (JoinedGets, JoinedPuts)
+pub join-told : (s t : List ℕ) (n : ℕ) {u : List ℕ} → joinAnswer s t n ≡ ok u → Joins s t u
+unfolding joinAnswer
+join-told s t n e = joined-told s t (unless-ok 1 (leb 2048 n) e .1)
+
+-- a joined sheet has at most 1,619 bytes
+pub join-short : (s t : List ℕ) (n : ℕ) {u : List ℕ} → joinAnswer s t n ≡ ok u → length u ≤ 1619
+join-short s t n e = joined-short (join-told s t n e)

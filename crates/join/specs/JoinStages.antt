@@ -1,10 +1,10 @@
 -- What `join` has found out, stage by stage, and what it then answers.
-use mathlib.Core.Path.{_≡_, refl, sym, ap, _∙_}
+use mathlib.Core.Path.{_≡_, sym, ap, _∙_}
 use mathlib.Core.List.{List}
-use Prim.Native.Nat.{ℕ, suc, _+_, _≤_, _<_}
+use Prim.Native.Nat.{ℕ, _+_, _≤_, _<_}
 use native.Mathlib.Omega.{arith}
 use lib.ListN.{length}
-use Rattle.value.specs.Result.{Result, ok, refusal}
+use Rattle.value.specs.Result.{ok, refusal}
 use Rattle.report.specs.Writing.{Wrote}
 use Rattle.sheet.specs.declared.Table.{Table}
 use Rattle.sheet.specs.Sheet.{Sheet, readSheet}
@@ -69,7 +69,8 @@ module _ (s t b : List ℕ) where
             module _ (c : x .sections + y .sections ≤ 8) where
               answer-is : joinAnswer s t (length b) ≡ ok (sheetWritten (joined (fine-read fine .0) (fine-read fine′ .0)))
               answer-is = join-ok s t (length b) room (fine-read fine .1 .sheet) (fine-read fine′ .1 .sheet) same-k
-                  (omega (arith, fine-read fine .1 .nodes, fine-read fine′ .1 .nodes)) (omega (arith, fine-read fine .1 .sections, fine-read fine′ .1 .sections))
+                  (omega (arith, fine-read fine .1 .nodes, fine-read fine′ .1 .nodes))
+                  (omega (arith, fine-read fine .1 .sections, fine-read fine′ .1 .sections))
 
               pub joinable : Joinable s x t y
               joinable = record {

@@ -1,21 +1,21 @@
 -- The joined sheet as it is written, piece by piece.
-use mathlib.Core.Path.{_≡_, refl, ap, ap₂, sym, _∙_}
+use mathlib.Core.Path.{_≡_, refl, ap, sym, _∙_}
 use mathlib.Core.List.{List, [], _∷_, _++_, map, append-assoc}
-use Prim.Native.Nat.{ℕ, zero, suc, _+_, _≤_, _<_}
+use Prim.Native.Nat.{ℕ, suc, _+_, _≤_, _<_}
 use native.Mathlib.Nat.{zero-add}
 use native.Mathlib.Omega.{arith}
 use lib.ListN.{length, getD}
-use Rattle.value.specs.Result.{Result, ok, refusal}
+use Rattle.value.specs.Result.{ok}
 use Rattle.report.specs.Writing.{Wrote, wrote-then, wrote-text}
 use Rattle.sheet.specs.declared.Node.{Node}
-use Rattle.sheet.specs.declared.Node.the-variants.{Pair, False}
+use Rattle.sheet.specs.declared.Node.the-variants.{False}
 use Rattle.sheet.specs.declared.Table.{Table}
 use Rattle.sheet.specs.Kinds.{children, calls, renumber, written}
 use Rattle.sheet.specs.Sheet.{Sheet, readSheet}
 use Rattle.sheet.specs.Table.{tableOf, sectionAt}
 use Rattle.sheet.specs.Forms.{listing}
 use Rattle.sheet.specs.Laws.{Child, Ranges, sheet-ranges, section-read}
-use Rattle.sheet.specs.Rows.{Every, allWritten, rootsWritten, sheetWritten}
+use Rattle.sheet.specs.Rows.{allWritten, sheetWritten}
 use Rattle.sheet.specs.Written.{Bytes}
 use Rattle.sheet.specs.Ranging.{every-map, children-in, calls-in}
 use Rattle.records.specs.declared.Anew.{Anew}
@@ -42,7 +42,8 @@ pub record Joinable (s : List ℕ) (a : Table) (t : List ℕ) (b : Table) : Type
 map-listing : (h : Node → Node) (ns : List Node) (d : Node) → map (λ n. h (getD ns n d)) (listing (length ns) (λ i. i)) ≡ map h ns
 map-listing h ns d = go ns (λ i. i) (λ i z. refl)
   where
-    go : (ms : List Node) (k : ℕ → ℕ) → ((i : ℕ) → i < length ms → getD ns (k i) d ≡ getD ms i d) → map (λ n. h (getD ns n d)) (listing (length ms) k) ≡ map h ms
+    go : (ms : List Node) (k : ℕ → ℕ) → ((i : ℕ) → i < length ms → getD ns (k i) d ≡ getD ms i d)
+        → map (λ n. h (getD ns n d)) (listing (length ms) k) ≡ map h ms
     go [] k e = refl
     go (m ∷ ms) k e =
         ap (λ (n : Node). h n ∷ map (λ n. h (getD ns n d)) (listing (length ms) (λ i. k (suc i)))) (e 0 (omega arith))
@@ -183,10 +184,12 @@ module _ {s t : List ℕ} {a b : Table} (h : Joinable s a t b) (small : Bytes s)
       ap textOf (h .answer) ∙ told .written ∙ joined-pieces x y
       ∙ sym (pieces-same k (omega arith) (omega arith)
       (sections-raised s (h .first-table) (told .read-first) small 1 0 suc itself (λ i. omega arith) (λ i. omega arith) (omega arith) (omega arith))
-      (sections-raised t (h .second-table) (told .read-second) small′ (1 + a .nodes) (a .sections) (nodeBehind x) (sectionBehind x) (λ i. omega arith) (λ i. omega arith)
+      (sections-raised t (h .second-table) (told .read-second) small′ (1 + a .nodes) (a .sections) (nodeBehind x) (sectionBehind x)
+      (λ i. omega arith) (λ i. omega arith)
       (omega arith) (omega arith))
       (nodes-raised s (h .first-table) (told .read-first) small 1 0 suc itself (λ i. omega arith) (λ i. omega arith) (omega arith) (omega arith))
-      (nodes-raised t (h .second-table) (told .read-second) small′ (1 + a .nodes) (a .sections) (nodeBehind x) (sectionBehind x) (λ i. omega arith) (λ i. omega arith)
+      (nodes-raised t (h .second-table) (told .read-second) small′ (1 + a .nodes) (a .sections) (nodeBehind x) (sectionBehind x)
+      (λ i. omega arith) (λ i. omega arith)
       (omega arith) (omega arith)))
 
   -- it has room

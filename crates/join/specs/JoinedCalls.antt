@@ -45,7 +45,7 @@ unfolding andThen
 then-ok (ok a) e = (a, refl, e)
 then-ok (refusal c) e = let z : _≡_ {A = ℕ} 0 1 = cc in absurd (omega arith)
 
-unless-ok : {A : Type 0} (c : ℕ) (b : Bool) {r : Result A} {a : A} → unless c b r ≡ ok a → (b ≡ true) × (r ≡ ok a)
+pub unless-ok : {A : Type 0} (c : ℕ) (b : Bool) {r : Result A} {a : A} → unless c b r ≡ ok a → (b ≡ true) × (r ≡ ok a)
 unfolding unless
 unless-ok c true e = (refl, e)
 unless-ok c false e = let z : _≡_ {A = ℕ} 0 1 = cc in absurd (omega arith)

@@ -6,6 +6,7 @@ use Rattle.value.specs.Result.{ok, refusal, andThen, mapResult, orRefuse, unles
 use Rattle.sheet.specs.Sheet.{readNodes, oneSection, ifSection, readRecords, withNodes, readBody, nodesInRange, rootsInRange, inRange, readHeader, readSheet}
 use Rattle.sheet.specs.Kinds.{formOf, bodyWidth, make, nodeInRange, ofKind, renumber, written}
 use Rattle.sheet.specs.Rows.{sheetWritten}
+use Rattle.rules.specs.Examples.{P, T}
 use Rattle.join.specs.Joined.{joined}
 use Rattle.join.specs.JoinedCalls.{joinedBytes}
 
@@ -23,6 +24,13 @@ pub joins-calling : joinedBytes calling calling ≡ ok (0x01 ∷ 0x01 ∷ 0x00 �
 unfolding joinedBytes joined renumber ofKind sheetWritten written andThen mapResult orRefuse unless formOf bodyWidth make readNodes oneSection ifSection
     readRecords withNodes readBody nodeInRange nodesInRange rootsInRange inRange readHeader readSheet
 joins-calling = refl
+
+-- document 01's sheet P joined with itself is its sheet T: a put that gives the one variable two values (54), and one that gives it the same
+-- value twice, are starred examples of T there
+pub joins-P : joinedBytes P P ≡ ok T
+unfolding joinedBytes joined renumber ofKind sheetWritten written andThen mapResult orRefuse unless formOf bodyWidth make readNodes oneSection ifSection
+    readRecords withNodes readBody nodeInRange nodesInRange rootsInRange inRange readHeader readSheet
+joins-P = refl
 
 -- k differs
 pub joins-not : joinedBytes single (0x01 ∷ 0x02 ∷ 0x00 ∷ 0x10 ∷ 0x01 ∷ []) ≡ refusal 83

@@ -2,7 +2,6 @@
 -- variable then has what either wrote.
 use mathlib.Core.Path.{_≡_, refl, ap, sym, _∙_}
 use mathlib.Core.Option.{Option, none, some, Option·none-ne-some}
-use mathlib.Core.List.{List, [], _∷_}
 use Prim.Native.Nat.{ℕ, _+_, _≤_}
 use native.Mathlib.Omega.{arith}
 use lib.ListN.{length, replicate}
@@ -17,13 +16,14 @@ use Rattle.rules.specs.Rules.{Env, Cells, put}
 use Rattle.rules.specs.Answer.{count, putWalk}
 use Rattle.rules.specs.Related.{ends, more, all2-length}
 use Rattle.rules.specs.Consistency.{Later}
-use Rattle.published.specs.Published.{Writes, Over, blank, residual, Put, Merge1, neither, left, right, same, Merge, mEnds, mMore}
+use Rattle.published.specs.Published.{Over, residual, Put, Merge1, neither, left, right, same, Merge, mEnds, mMore}
 use Rattle.published.specs.PublishedCost.{Cost, putCost}
-use Rattle.published.specs.PublishedCells.{Laid, Seen, Joined, seen-later, laid-later, merge-is, joined-one}
-use Rattle.published.specs.PublishedPut.{put-over, put-exact, put-counted}
-use Rattle.published.specs.PublishedWalks.{blank-is, blank-later, blank-laid, seen-self, seen-below, plan-counted}
+use Rattle.published.specs.PublishedCells.{Laid, Joined, seen-later, laid-later}
+use Rattle.published.specs.PublishedPut.{put-over, put-exact}
+use Rattle.published.specs.PublishedWalks.{blank-later, blank-laid, seen-self, seen-below, plan-counted}
 use Rattle.published.specs.UpTo.{Costs, Exactly, exactly, too-long}
 use Rattle.join.specs.Joined.{joined, put-walk-joined, put-walk-pair}
+use Rattle.join.specs.Beside.{Meets, alike, refuses, clashes, merge-none, puts-beside}
 
 -- CELLS MERGED: the least that have what both have
 
@@ -64,11 +64,6 @@ exact-done : {A : Type 0} {c : Cost} {v : A} {o : Out A} → Exactly c v o → c
 exact-done exactly h = refl
 exact-done (too-long l) h = absurd (omega arith)
 
-over-blank : (μ : Env) → Over (blank μ) μ
-unfolding blank
-over-blank [] = ends
-over-blank (u ∷ μ) = more tt (over-blank μ)
-
 merge-joined : (μ : Env) {X Y Z : Cells} → Over Y μ → Merge X Y Z → Joined (count 0 (length μ)) X Y Z
 merge-joined μ o m = record {
   later = merge-left m;
@@ -84,7 +79,8 @@ module _ (sh : Sheet) (n : ℕ) (μ : Env) (v : Value) (l : ℕ) where
   laid o = laid-later (blank-laid μ) (blank-later o)
 
   -- from any cells, where it is derived
-  derived : {X Y Z : Cells} {t : ℕ} → Over X μ → (d : Put sh μ v (residual sh n) Y) → Costs l t (putCost d) → Joined (count 0 (length μ)) X Y Z → puts X ≡ done Z t
+  derived : {X Y Z : Cells} {t : ℕ} → Over X μ → (d : Put sh μ v (residual sh n) Y) → Costs l t (putCost d)
+      → Joined (count 0 (length μ)) X Y Z → puts X ≡ done Z t
   derived {X} {Y} {Z} {t} o d k j =
       let x = put-exact sh n μ v (count 0 (length μ)) X (laid o) l t Y Z d j (k .levels) (omega (arith, k .count)) in
       within-done t (puts X) (exact-done x (k .short) ∙ ap (done Z) (k .count)) .0
@@ -96,19 +92,12 @@ module _ (sh : Sheet) (n : ℕ) (μ : Env) (v : Value) (l : ℕ) where
 
   -- and the other way round: a put on what another wrote succeeds alone
   pub put-off : {X Z : Cells} {t : ℕ} → Over X μ → puts X ≡ done Z t → (Y : Cells) × (puts (replicate (length μ) none) ≡ done Y t) × Merge X Y Z
-  put-off {X} {Z} {t} o e =
-      let (w, k) = put-counted sh n μ v (count 0 (length μ)) X (laid o) l t t Z (ap (within t) e ∙ done-within t Z t (omega arith)) in
-      let y = put-over (w .rel) in
-      let (u, m) = merge-is (seen-later (seen-self o) (w .joined .later)) (w .joined .seen) in
-      let q : u ≡ Z = joined-one (merge-joined μ y m) (w .joined) in
-      (w .ω, rw (blank-is μ) (derived (over-blank μ) (w .rel) k (alone y)), rw q at m)
+  put-off {X} {Z} {t} o e = go _ _ e (puts-beside l sh n μ (count 0 (length μ)) v X _ X (merge-none X (length μ) (all2-length o)))
     where
-      alone : {ω : Writes} → Over ω μ → Joined (count 0 (length μ)) (blank μ) ω ω
-      alone y = record {
-        later = blank-later y;
-        seen = seen-self y;
-        least = λ U a b. seen-below (length μ) (sym (all2-length (blank-later y)) ∙ all2-length a) b;
-      }
+      go : (o o′ : Out Cells) → o′ ≡ done Z t → Meets (Merge X) o o′ → (Y : Cells) × (o ≡ done Y t) × Merge X Y Z
+      go o o′ q (alike {a = Y} {b = U} {s = c} m) = let z : U ≡ Z = cc in let k : c ≡ t = cc in (Y, ap (done Y) k, rw z at m)
+      go o o′ q refuses = let z : _≡_ {A = ℕ} 0 1 = cc in absurd (omega arith)
+      go o o′ q (clashes h) = let z : _≡_ {A = ℕ} 0 1 = cc in absurd (omega arith)
 
 -- THE LAW
 
@@ -116,15 +105,20 @@ over-of : (sh : Sheet) (μ : Env) (v : Value) {s : ℕ} (X : Cells)
     → put 47 sh (sh .root) μ (count 0 (length μ)) v (replicate (length μ) none) ≡ done X s → Over X μ
 over-of sh μ v {s} X e = put-over (plan-counted sh (sh .root) μ v 47 s s X (ap (within s) e ∙ done-within s X s (omega arith)) .0)
 
-bind-done : {A B : Type 0} (m : Out A) (f : A → Out B) {b : B} {n : ℕ} → m >>= f ≡ done b n → (a : A) × (s : ℕ) × (m ≡ done a s) × (plus s (f a) ≡ done b n)
+pub bind-done : {A B : Type 0} (m : Out A) (f : A → Out B) {b : B} {n : ℕ} → m >>= f ≡ done b n → (a : A) × (s : ℕ) × (m ≡ done a s) × (plus s (f a) ≡ done b n)
 unfolding _>>=_
 bind-done (done a s) f e = (a, s, refl, e)
 bind-done (refused c s) f e = let z : _≡_ {A = ℕ} 0 1 = cc in absurd (omega arith)
 
-plus-done : {A : Type 0} (s : ℕ) (o : Out A) {a : A} {n : ℕ} → plus s o ≡ done a n → (t : ℕ) × (o ≡ done a t) × (n ≡ s + t)
+pub plus-done : {A : Type 0} (s : ℕ) (o : Out A) {a : A} {n : ℕ} → plus s o ≡ done a n → (t : ℕ) × (o ≡ done a t) × (n ≡ s + t)
 unfolding plus
 plus-done s (done a t) e = (t, cc, cc)
 plus-done s (refused c t) e = let z : _≡_ {A = ℕ} 0 1 = cc in absurd (omega arith)
+
+pub given-done : {A B : Type 0} (c : ℕ) (o : Option A) (f : A → Out B) {b : B} {n : ℕ} → given c o f ≡ done b n → (a : A) × (f a ≡ done b n)
+unfolding given
+given-done c none f e = let z : _≡_ {A = ℕ} 0 1 = cc in absurd (omega arith)
+given-done c (some a) f e = (a, e)
 
 -- how the two parts put the two halves of a view
 pub record Parts (a b : Sheet) (μ : Env) (x y : Value) (Z : Cells) (n : ℕ) : Type 0 where

@@ -1,5 +1,5 @@
 -- The joined sheet of two sheets is in range, where it has few enough nodes and sections.
-use mathlib.Core.Path.{_≡_, refl}
+use mathlib.Core.Path.{_≡_}
 use Prim.Native.Nat.{ℕ, zero, suc, _+_, _-_, _≤_, _<_}
 use native.Mathlib.Omega.{arith}
 use native.Mathlib.Decide.{decLt}
@@ -55,7 +55,8 @@ module _ {a b : Sheet} (ra : Ranges a) (rb : Ranges b) (few : suc (length (a .no
 
   behind-node : (n : ℕ) → n < N + M → Dec (n < N) → Fits (suc n) (getD (joined a b .nodes) (suc n) False)
   unfolding joined
-  behind-node n h (yes k) = rw (front-at (renumber suc itself) (renumber (nodeBehind a) (sectionBehind a)) (a .nodes) (b .nodes) n False False k) (first-node n k)
+  behind-node n h (yes k) =
+      rw (front-at (renumber suc itself) (renumber (nodeBehind a) (sectionBehind a)) (a .nodes) (b .nodes) n False False k) (first-node n k)
   behind-node n h (no k) =
       let q : N + (n - N) ≡ n = omega arith in
       let l : n - N < M = omega arith in

@@ -1,7 +1,13 @@
 -- The answer of a tool as one number: the low 8 bits the refusal (0: success), the next 16 what is told beside it.
 use mathlib.Core.Path.{_≡_, refl}
 use mathlib.Core.List.{List}
-use Prim.Native.Nat.{ℕ, _+_, _*_, _/_, _%_}
+use Prim.Native.Nat.{ℕ, _+_, _*_, _/_, _%_, _≤_}
+use native.Mathlib.Omega.{arith}
+use lib.ListN.{length}
+use Rattle.value.specs.Result.{Result, ok}
+use Rattle.made.specs.declared.Made.{Made}
+use Rattle.made.specs.declared.Made.the-variants as Made
+use Rattle.made.specs.Made.{made, written, Makes, codeOf as madeCode, lengthOf, done-front}
 use Rattle.preorder.specs.NumberAnswer.{Answer}
 use Rattle.numbering.specs.declared.Numbered.{Numbered}
 use Rattle.numbering.specs.declared.Numbered.the-variants.{Done, Refused, Twice}
@@ -18,7 +24,40 @@ pub record NumberPacked (a : Answer) (r : ℕ) (o o′ : List ℕ) : Type 0 wher
   pub answer : Tells (codeOf (replyOf a)) (valueOf (replyOf a)) r
   pub output : o′ ≡ outputOf a o
 
+-- a tool's answer is a (crate `made`): the number r says so, the length of what was made beside it, and the output o became o′
+pub record MadePacked (a : Result (List ℕ)) (r : ℕ) (o o′ : List ℕ) : Type 0 where
+  pub answer : Tells (madeCode (made a)) (lengthOf (made a)) r
+  pub output : o′ ≡ written a o
+
 -- WHAT SHOWS IT, case by case
+
+abbrev pub MadeTold : Made → ℕ → Type 0
+MadeTold q r = Tells (madeCode q) (lengthOf q) r
+
+module _ {q : Made} {r : ℕ} where
+  pub made-done : {n : ℕ} → q ≡ Made.Done n → Tells 0 n r → MadeTold q r
+  unfolding madeCode lengthOf
+  made-done e t = rw e t
+
+  pub made-refused : {c : ℕ} → q ≡ Made.Refused c → Tells c 0 r → MadeTold q r
+  unfolding madeCode lengthOf
+  made-refused e t = rw e t
+
+pub done-length : {q : Made} {n : ℕ} → q ≡ Made.Done n → lengthOf q ≡ n
+unfolding lengthOf
+done-length e = rw e
+
+pub made-packed : {a : Result (List ℕ)} {q : Made} {r : ℕ} {o o′ : List ℕ} → Makes a q o o′ → MadeTold q r → MadePacked a r o o′
+made-packed m t = record { answer = rw (m .answer) at t; output = m .output }
+
+-- what was made is no longer than any success of the answer
+pub made-inside : (k : ℕ) {a : Result (List ℕ)} {q : Made} {o o′ : List ℕ} → Makes a q o o′ → ((u : List ℕ) → a ≡ ok u → length u ≤ k) → lengthOf q ≤ k
+unfolding lengthOf
+made-inside k {q = q} m h = go q refl
+  where
+    go : (p : Made) → q ≡ p → lengthOf p ≤ k
+    go (Made.Done n) e = let f = done-front m e in omega (arith, h (f .bytes) (f .is), f .long)
+    go (Made.Refused c) e = omega arith
 
 abbrev pub NumberTold : Numbered → ℕ → Type 0
 NumberTold q r = Tells (codeOf q) (valueOf q) r

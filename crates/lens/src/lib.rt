@@ -12,6 +12,7 @@ pub use answers::lens_put_starts;
 pub use answers::lens_put_written;
 pub use lookups::lens_find;
 pub use lookups::lens_load;
+pub use sheets::lens_join;
 pub use sheets::lens_number;
 pub use whys::lens_why_get;
 pub use whys::lens_why_put;

@@ -9,8 +9,10 @@ ghost use Rattle.starts.specs.Starts.{firsts};
 ghost use Rattle.calls.specs.Small.{Small};
 ghost use Rattle.lens.specs.Packing.{packedReply};
 ghost use Rattle.lens.specs.HandedOut.{handedOut};
-ghost use Rattle.lens.specs.Tools.{Tells};
+ghost use Rattle.lens.specs.Tools.{Tells, MadeTold};
+ghost use Rattle.made.specs.Made.{lengthOf};
 use calls::Reply;
+use made::Made;
 use starts::Starts;
 
 // The low 8 bits are the refusal, 0 for a success; the next 16 the length, the upper 32 the steps. The 8 bits between are 0 here:
@@ -73,4 +75,15 @@ pub fn pack_told(number: u8, told: u16) -> u64
     ensures { λ r. ⌜ Tells number told r ⌝ }
 {
     (number as u64) + 256 * (told as u64)
+}
+
+// What a tool made: its length, or its refusal.
+pub fn pack_made(made: Made) -> u64
+    requires { ⌜ lengthOf made < 65536 ⌝ }
+    ensures { λ r. ⌜ MadeTold made r ⌝ }
+{
+    match made {
+        Made::Done(n) => pack_told(0, n as u16),
+        Made::Refused(c) => pack_told(c, 0),
+    }
 }

@@ -1,7 +1,9 @@
 //! Sheets made of sheets, for C.
 ghost use lib.ListN.{length};
 ghost use Rattle.preorder.specs.NumberAnswer.{numberAnswer};
-ghost use Rattle.lens.specs.Tools.{NumberPacked};
+ghost use Rattle.join.specs.JoinAnswer.{joinAnswer};
+ghost use Rattle.lens.specs.Tools.{NumberPacked, MadePacked};
+use crate::packing::pack_made;
 use crate::packing::pack_told;
 use numbering::Numbered;
 
@@ -15,4 +17,12 @@ pub extern "C" fn lens_number(sheet: &[u8], out: &mut [u8]) -> u64
         Numbered::Refused(c) => pack_told(c, 0),
         Numbered::Twice(n) => pack_told(81, n as u16),
     }
+}
+
+/// `join::join` for C: the joined sheet at the front of `out`.
+#[no_mangle]
+pub extern "C" fn lens_join(first: &[u8], second: &[u8], out: &mut [u8]) -> u64
+    ensures { λ r. ⌜ MadePacked (joinAnswer (now (first .entry)) (now (second .entry)) (length (now (out .entry)))) r (now (out .entry)) (now (out .exit)) ⌝ }
+{
+    pack_made(join::join(first, second, out))
 }

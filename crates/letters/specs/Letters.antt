@@ -11,8 +11,8 @@ use Rattle.report.specs.Text.{refusalLine}
 use Rattle.words.specs.Numbers.{INPUT}
 use Rattle.letters.specs.Lookups.{loadLine, valueLine}
 use Rattle.letters.specs.LookupLaws.{fits-refusal, fits-load, fits-value}
-use Rattle.letters.specs.Sheets.{numberLine}
-use Rattle.letters.specs.SheetLaws.{fits-number}
+use Rattle.letters.specs.Sheets.{numberLine, joinLine}
+use Rattle.letters.specs.SheetLaws.{fits-number, fits-join}
 
 unfoldable pub letterLine : List ℕ → List ℕ
 letterLine bs =
@@ -20,7 +20,8 @@ letterLine bs =
     cond (eqb letter 0x4C) (loadLine bs)
     (cond (eqb letter 0x56) (valueLine bs)
     (cond (eqb letter 0x4E) (numberLine bs)
-    (refusalLine 60)))
+    (cond (eqb letter 0x4A) (joinLine bs)
+    (refusalLine 60))))
 
 -- a row and those below it
 one-fits : (p : Bool) (x y : List ℕ) → length x ≤ 16378 → length y ≤ 16378 → length (cond p x y) ≤ 16378
@@ -32,7 +33,8 @@ unfolding letterLine
 letter-fits bs h = let c = getD bs 0 0 in one-fits (eqb c 0x4C) _ _ (fits-load bs h)
     (one-fits (eqb c 0x56) _ _ (fits-value bs h)
     (one-fits (eqb c 0x4E) _ _ (fits-number bs)
-    (fits-refusal 60 (omega arith))))
+    (one-fits (eqb c 0x4A) _ _ (fits-join bs)
+    (fits-refusal 60 (omega arith)))))
 
 -- WHAT SHOWS IT OF THE CODE: a law for each row
 
@@ -49,6 +51,10 @@ module _ (bs : List ℕ) {letter : ℕ} (e : letter ≡ getD bs 0 0) where
   unfolding letterLine
   letter-N q = sym (rw (sym e ∙ q))
 
-  pub letter-none : (letter ≡ 0x4C → ⊥) → (letter ≡ 0x56 → ⊥) → (letter ≡ 0x4E → ⊥) → refusalLine 60 ≡ letterLine bs
+  pub letter-J : letter ≡ 0x4A → joinLine bs ≡ letterLine bs
   unfolding letterLine
-  letter-none l v n = sym (rw (← e, ne-eqb letter 0x4C l, ne-eqb letter 0x56 v, ne-eqb letter 0x4E n))
+  letter-J q = sym (rw (sym e ∙ q))
+
+  pub letter-none : (letter ≡ 0x4C → ⊥) → (letter ≡ 0x56 → ⊥) → (letter ≡ 0x4E → ⊥) → (letter ≡ 0x4A → ⊥) → refusalLine 60 ≡ letterLine bs
+  unfolding letterLine
+  letter-none l v n j = sym (rw (← e, ne-eqb letter 0x4C l, ne-eqb letter 0x56 v, ne-eqb letter 0x4E n, ne-eqb letter 0x4A j))

@@ -1,14 +1,16 @@
--- Laws of the line of letter N: how long it is, and what shows it of the code.
+-- Laws of the lines of letters N and J: how long they are, and what shows them of the code.
 use mathlib.Core.Path.{_≡_, refl, sym, ap, ap₂, _∙_}
 use mathlib.Core.Bool.{Bool, true, false, cond}
 use mathlib.Core.List.{List, [], _∷_, _++_}
-use Prim.Native.Nat.{ℕ, _≤_, _<_}
+use Prim.Native.Nat.{ℕ, _+_, _≤_, _<_}
 use native.Mathlib.Omega.{arith}
+use borrow.Author.Tests.{le-leb, lt-leb}
 use lib.Dec.{leb, ltb}
 use lib.ListN.{length, take, drop, length-append}
 use lib.Seq.{take-append-seam}
 use Rattle.report.specs.Text.{hexOf, words, decimalOf, refusalLine, okLine}
 use Rattle.report.specs.TextLaws.{hex-length, ok-length, decimal-length}
+use Rattle.words.specs.Format.{two, part}
 use Rattle.words.specs.Answers.{noLine, nodeLine}
 use Rattle.value.specs.Result.{Result, ok, refusal}
 use Rattle.sheet.specs.Sheet.{Sheet, readSheet}
@@ -22,7 +24,11 @@ use Rattle.preorder.specs.UsedTwice.{UsedTwice, twice-told}
 use Rattle.numbering.specs.declared.Numbered.{Numbered}
 use Rattle.numbering.specs.declared.Numbered.the-variants.{Done, Refused, Twice}
 use Rattle.numbering.specs.Replies.{replyOf, outputOf}
-use Rattle.letters.specs.Sheets.{numberedLine, numberLine}
+use Rattle.join.specs.JoinAnswer.{joinAnswer, join-short}
+use Rattle.join.specs.JoinedCalls.{joinedBytes}
+use Rattle.letters.specs.Small.{Small, small-number, small-unless, small-then, small-sheet}
+use Rattle.letters.specs.Making.{madeLine, fits-made}
+use Rattle.letters.specs.Sheets.{numberedLine, numberLine, joinLine}
 use Rattle.letters.specs.LoadLaws.{sheet-small}
 use Rattle.letters.specs.LookupLaws.{fits-refusal}
 
@@ -63,6 +69,21 @@ fits-number bs = go (numberAnswer (drop 1 bs) 2048) refl
         let u = twice-told (drop 1 bs) 2048 e in
         fits-node 81 n (omega arith) (omega (arith, u .inside, sheet-ranges (drop 1 bs) (u .read) .few-nodes))
 
+join-small : (s t : List ℕ) (n : ℕ) → Small (joinAnswer s t n)
+unfolding joinAnswer joinedBytes
+join-small s t n = small-unless 1 _ (omega arith) (small-then (small-sheet s) λ a. small-then (small-sheet t) λ b. small-unless 83 _ (omega arith)
+    (small-unless 84 _ (omega arith) (small-unless 84 _ (omega arith) Small.done)))
+
+pub fits-join : (bs : List ℕ) → length (joinLine bs) ≤ 16378
+unfolding joinLine
+fits-join bs = go (leb (3 + two bs 1) (length bs))
+  where
+    go : (p : Bool) → let n = two bs 1 in
+        length (cond p (madeLine false (joinAnswer (part bs 3 n) (drop (3 + n) bs) 2048)) (refusalLine 60)) ≤ 16378
+    go true = let n = two bs 1 in fits-made false _ (λ u e. omega (arith, join-short (part bs 3 n) (drop (3 + n) bs) 2048 e))
+        (small-number (join-small (part bs 3 n) (drop (3 + n) bs) 2048))
+    go false = fits-refusal 60 (omega arith)
+
 -- WHAT SHOWS IT OF THE CODE
 
 -- the line of what `number` replied, with its output
@@ -95,3 +116,14 @@ module _ (o : List ℕ) {r : Numbered} where
   pub number-twice : {k : ℕ} → r ≡ Twice k → nodeLine 81 k ≡ numberReply r o
   unfolding numberReply
   number-twice e = rw e
+
+-- letter J
+module _ (bs : List ℕ) {n : ℕ} (en : n ≡ two bs 1) where
+  pub join-cut : length bs < 3 + n → refusalLine 60 ≡ joinLine bs
+  unfolding joinLine
+  join-cut h = sym (rw (← en, lt-leb (3 + n) (length bs) h))
+
+  pub join-whole : 3 + n ≤ length bs → {s t : List ℕ} → s ≡ part bs 3 n → t ≡ drop (3 + n) bs → {k : ℕ} → k ≡ 2048
+      → madeLine false (joinAnswer s t k) ≡ joinLine bs
+  unfolding joinLine
+  join-whole h es et ek = sym (rw (← en, le-leb (3 + n) (length bs) h, ← es, ← et, ek))

@@ -15,6 +15,7 @@ pub fn line(input: &[u8], text: &mut [u8]) -> usize
         0x4C => lookups::load_line(input, text),
         0x56 => lookups::value_line(input, text),
         0x4E => sheets::number_line(input, text),
+        0x4A => sheets::join_line(input, text),
         _ => report::refusal(text, 0, 60),
     }
 }

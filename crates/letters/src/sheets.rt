@@ -1,6 +1,7 @@
-//! A sheet in the one numbering (letter N).
+//! A sheet in the one numbering (letter N), and two sheets joined (letter J).
 ghost use Rattle.report.specs.Writing.{Wrote};
-ghost use Rattle.letters.specs.Sheets.{numberLine};
+ghost use Rattle.letters.specs.Sheets.{numberLine, joinLine};
+use crate::lines::made_line;
 use crate::lines::part_line;
 use numbering::Numbered;
 
@@ -14,4 +15,21 @@ pub fn number_line(input: &[u8], text: &mut [u8]) -> usize
         Numbered::Refused(c) => report::refusal(text, 0, c as usize),
         Numbered::Twice(n) => words::node_line(text, 81, n),
     }
+}
+
+/// The line of letter J.
+pub fn join_line(input: &[u8], text: &mut [u8]) -> usize
+    ensures { λ r. ⌜ Wrote (joinLine (now (input .entry))) 0 (now (text .entry)) (now (text .exit)) r ⌝ }
+{
+    let first = words::number_at(input, 1);
+    if input.len() < 3 + first {
+        return report::refusal(text, 0, 60);
+    }
+    let mut joined = [0u8; join::OUTPUT];
+    let made = join::join(
+        words::part_at(input, 3, first),
+        words::rest_from(input, 3 + first),
+        &mut joined,
+    );
+    made_line(made, &joined, false, text)
 }

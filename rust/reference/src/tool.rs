@@ -19,6 +19,8 @@ pub enum Tool {
     Why(Job),
     /// 4E: a sheet numbered anew.
     Number { sheet: Vec<u8> },
+    /// 4A: two sheets joined.
+    Join { first: Vec<u8>, second: Vec<u8> },
 }
 
 /// What a call gives.
@@ -68,6 +70,10 @@ impl Tool {
             }
             0x59 => Job::take_apart(fields).map(Tool::Why),
             0x4E => Some(Tool::Number { sheet: fields.to_vec() }),
+            0x4A => {
+                let (first, second) = counted(fields)?;
+                Some(Tool::Join { first: first.to_vec(), second: second.to_vec() })
+            }
             _ => None,
         }
     }
@@ -104,6 +110,11 @@ impl Tool {
             Tool::Number { sheet } => {
                 let mut out = [0; SHEET_OUT];
                 let length = unpacked(crate::number(sheet, &mut out))?;
+                Ok(Given::Bytes(out[..length].to_vec()))
+            }
+            Tool::Join { first, second } => {
+                let mut out = [0; SHEET_OUT];
+                let length = unpacked(crate::join(first, second, &mut out))?;
                 Ok(Given::Bytes(out[..length].to_vec()))
             }
         }

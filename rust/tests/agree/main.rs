@@ -6,6 +6,7 @@
 
 mod cases;
 mod edges;
+mod join;
 mod lookups;
 mod numbering;
 mod random;
