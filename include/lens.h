@@ -11,6 +11,7 @@
  *   lens_why_put      why lens_put refuses
  *   lens_number       a sheet with its nodes numbered as first met
  *   lens_join         two sheets to one, whose list is the pair of both
+ *   lens_growth       how often a variable's length counts in the list's
  *
  * Bytes of sheets, plans and lists, and what to do about each refusal, are in docs/SHEETS.md and docs/TOOLS.md.
  *
@@ -110,6 +111,12 @@ uint64_t lens_number(const uint8_t *sheet, size_t sheet_len, uint8_t *out, size_
  * LENS_JOIN_FULL. */
 uint64_t lens_join(const uint8_t *first, size_t first_len, const uint8_t *second, size_t second_len, uint8_t *out, size_t out_len);
 
+/* How often the variable's length counts in the list's, of a sheet of the kinds 10 to 16, 1B and 1D alone: where its value becomes d bytes
+ * longer, and both plans read out, the list becomes LENS_GROWTH times d bytes longer. Refusals: the sheet's own; LENS_OTHER_KIND;
+ * LENS_VARIABLE, not below k; LENS_GROWTH_LARGE, over 256. */
+uint64_t lens_growth(const uint8_t *sheet, size_t sheet_len, size_t variable);
+#define LENS_GROWTH(answer) ((unsigned)(((answer) >> 8) & 0xFFFFu)) /* 0 to 256 */
+
 /* What the buffers hold afterwards:
  *
  *               success                                  refusals 1 to 3    every other refusal
@@ -158,7 +165,7 @@ uint64_t lens_join(const uint8_t *first, size_t first_len, const uint8_t *second
 #define LENS_PLAN_COUNT 22u       /* the plan has too few values, or bytes behind them */
 
 /* a value found by its number */
-#define LENS_VARIABLE 23u         /* the variable's number is not below the count of the starts */
+#define LENS_VARIABLE 23u         /* the variable's number is not below the count of the starts, or the sheet's k */
 #define LENS_STARTS 24u           /* the starts are not 1 to 16 numbers that rise from 0, all below the plan's length */
 
 /* the list sent back */
@@ -188,6 +195,10 @@ uint64_t lens_join(const uint8_t *first, size_t first_len, const uint8_t *second
 /* two sheets joined */
 #define LENS_SHEETS_DIFFER 83u    /* the two sheets have another k */
 #define LENS_JOIN_FULL 84u        /* both sheets together, with the pair, have over 200 nodes or 8 sections */
+
+/* how much longer the list can get */
+#define LENS_OTHER_KIND 87u       /* the sheet has a node of another kind than 10 to 16, 1B and 1D */
+#define LENS_GROWTH_LARGE 88u     /* the variable counts over 256 times in the list, so that no plan reads out */
 /* make-tables: end */
 
 #ifdef __cplusplus

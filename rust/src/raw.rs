@@ -42,6 +42,11 @@ impl Answer {
         (self.0 >> 32) as u32
     }
 
+    /// How often a variable's length counts in the list's.
+    pub fn growth(self) -> usize {
+        (self.0 >> 8 & 0xFFFF) as usize
+    }
+
     /// The node that a tool's refusal names, of 81.
     pub fn node(self) -> Option<u8> {
         (self.number() == 81).then_some((self.0 >> 8) as u8)
@@ -173,6 +178,8 @@ mod archive {
             out: *mut u8,
             out_len: usize,
         ) -> u64;
+
+        pub fn lens_growth(sheet: *const u8, sheet_len: usize, variable: usize) -> u64;
     }
 }
 
@@ -341,4 +348,10 @@ pub fn number(sheet: &[u8], out: &mut [u8]) -> Answer {
 pub fn join(first: &[u8], second: &[u8], out: &mut [u8]) -> Answer {
     // Safety: as in `get`.
     Answer(unsafe { archive::lens_join(first.as_ptr(), first.len(), second.as_ptr(), second.len(), out.as_mut_ptr(), out.len()) })
+}
+
+/// Tells how often a variable's length counts in the list's.
+pub fn growth(sheet: &[u8], variable: usize) -> Answer {
+    // Safety: as in `get`.
+    Answer(unsafe { archive::lens_growth(sheet.as_ptr(), sheet.len(), variable) })
 }

@@ -63,7 +63,7 @@ refusals! {
     20 PLAN_MALFORMED "a value of the plan is cut or malformed: send it whole, with known kinds, a list as every rest, and an 06 only over 65,535"
     21 PLAN_LONG "a value of the plan has over 256 bytes: make it shorter"
     22 PLAN_COUNT "the plan has too few values, or bytes behind them: send as many values as the sheet's k says, and nothing else"
-    23 VARIABLE "the variable's number is not below the count of the starts: ask for one that the plan has"
+    23 VARIABLE "the variable's number is not below the count of the starts, or the sheet's k: ask for one that the plan has"
     24 STARTS "the starts are not 1 to 16 numbers that rise from 0, all below the plan's length: load the plan anew"
     30 VIEW_MALFORMED "the list sent back is cut or malformed: send it whole, with known kinds, a list as every rest, and an 06 only over 65,535"
     31 VIEW_LONG "the list sent back has over 256 bytes: make it shorter"
@@ -83,6 +83,8 @@ refusals! {
     81 NODE_TWICE "a node of the sheet is used twice as a child or a root: give each use a node of its own"
     83 SHEETS_DIFFER "the two sheets have another k: join sheets of one plan"
     84 JOIN_FULL "both sheets together, with the pair, have over 200 nodes or 8 sections: make one of them smaller"
+    87 OTHER_KIND "the sheet has a node of another kind than 10 to 16, 1B and 1D: ask of a sheet without cases, splits, calls and eaches"
+    88 GROWTH_LARGE "the variable counts over 256 times in the list, so that no plan reads out: use it less often in the sheet"
     // make-tables: end
 }
 

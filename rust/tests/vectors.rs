@@ -48,6 +48,7 @@ fn run_tool(tool: &Tool) -> Result<Given, NodeRefusal> {
             ))
         }
         Tool::Number { sheet } => Ok(Given::Bytes(Sheet::new(sheet).numbered()?)),
+        Tool::Growth { sheet, variable } => Ok(Given::Growth(Sheet::new(sheet).growth(*variable)?)),
         Tool::Join { first, second } => Ok(Given::Bytes(Sheet::new(first).join(Sheet::new(second))?)),
     }
 }

@@ -27,6 +27,15 @@ unfoldable pub told : Result ℕ → Growing
 told (ok r) = Times r
 told (refusal c) = Refused c
 
+-- the number of each case in document 02, 0 for a success; and what is told beside it
+unfoldable pub codeOf : Growing → ℕ
+codeOf (Times r) = 0
+codeOf (Refused c) = c
+
+unfoldable pub timesOf : Growing → ℕ
+timesOf (Times r) = r
+timesOf (Refused c) = 0
+
 -- a sheet that was read, with its table
 pub record Readied (s : List ℕ) (t : Table) : Type 0 where
   pub sh : Sheet

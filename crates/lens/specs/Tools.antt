@@ -1,5 +1,5 @@
 -- The answer of a tool as one number: the low 8 bits the refusal (0: success), the next 16 what is told beside it.
-use mathlib.Core.Path.{_≡_, refl}
+use mathlib.Core.Path.{_≡_, refl, sym, _∙_}
 use mathlib.Core.List.{List}
 use Prim.Native.Nat.{ℕ, _+_, _*_, _/_, _%_, _≤_}
 use native.Mathlib.Omega.{arith}
@@ -8,6 +8,10 @@ use Rattle.value.specs.Result.{Result, ok}
 use Rattle.made.specs.declared.Made.{Made}
 use Rattle.made.specs.declared.Made.the-variants as Made
 use Rattle.made.specs.Made.{made, written, Makes, codeOf as madeCode, lengthOf, done-front}
+use Rattle.growth.specs.declared.Growing.{Growing}
+use Rattle.growth.specs.declared.Growing.the-variants.{Times}
+use Rattle.growth.specs.declared.Growing.the-variants as Growing
+use Rattle.growth.specs.Tool.{told, codeOf as growingCode, timesOf}
 use Rattle.preorder.specs.NumberAnswer.{Answer}
 use Rattle.numbering.specs.declared.Numbered.{Numbered}
 use Rattle.numbering.specs.declared.Numbered.the-variants.{Done, Refused, Twice}
@@ -28,6 +32,10 @@ pub record NumberPacked (a : Answer) (r : ℕ) (o o′ : List ℕ) : Type 0 wher
 pub record MadePacked (a : Result (List ℕ)) (r : ℕ) (o o′ : List ℕ) : Type 0 where
   pub answer : Tells (madeCode (made a)) (lengthOf (made a)) r
   pub output : o′ ≡ written a o
+
+-- the growth's report is a
+abbrev pub GrowthPacked : Result ℕ → ℕ → Type 0
+GrowthPacked a r = Tells (growingCode (told a)) (timesOf (told a)) r
 
 -- WHAT SHOWS IT, case by case
 
@@ -77,3 +85,12 @@ module _ {q : Numbered} {r : ℕ} where
 
 pub number-packed : {a : Answer} {q : Numbered} {r : ℕ} {o o′ : List ℕ} → (q ≡ replyOf a) × (o′ ≡ outputOf a o) → NumberTold q r → NumberPacked a r o o′
 number-packed (e, f) t = record { answer = rw e at t; output = f }
+
+module _ (a : Result ℕ) {q : Growing} {r : ℕ} (e : q ≡ told a) where
+  pub growth-times : {n : ℕ} → q ≡ Times n → Tells 0 n r → GrowthPacked a r
+  unfolding growingCode timesOf
+  growth-times f t = rw (sym e ∙ f) t
+
+  pub growth-refused : {c : ℕ} → q ≡ Growing.Refused c → Tells c 0 r → GrowthPacked a r
+  unfolding growingCode timesOf
+  growth-refused f t = rw (sym e ∙ f) t

@@ -1,6 +1,7 @@
 //! The archive: every function for other languages. A slice is a pointer and a length, 16 starts, 49 nodes and a number of bits are pointers,
 //! and the answer is one number.
 mod answers;
+mod growths;
 mod lookups;
 mod packing;
 mod sheets;
@@ -10,6 +11,7 @@ pub use answers::lens_get;
 pub use answers::lens_put;
 pub use answers::lens_put_starts;
 pub use answers::lens_put_written;
+pub use growths::lens_growth;
 pub use lookups::lens_find;
 pub use lookups::lens_load;
 pub use sheets::lens_join;

@@ -13,6 +13,7 @@ use Rattle.letters.specs.Lookups.{loadLine, valueLine}
 use Rattle.letters.specs.LookupLaws.{fits-refusal, fits-load, fits-value}
 use Rattle.letters.specs.Sheets.{numberLine, joinLine}
 use Rattle.letters.specs.SheetLaws.{fits-number, fits-join}
+use Rattle.letters.specs.Growths.{growthLine, fits-growth}
 
 unfoldable pub letterLine : List ℕ → List ℕ
 letterLine bs =
@@ -21,7 +22,8 @@ letterLine bs =
     (cond (eqb letter 0x56) (valueLine bs)
     (cond (eqb letter 0x4E) (numberLine bs)
     (cond (eqb letter 0x4A) (joinLine bs)
-    (refusalLine 60))))
+    (cond (eqb letter 0x52) (growthLine bs)
+    (refusalLine 60)))))
 
 -- a row and those below it
 one-fits : (p : Bool) (x y : List ℕ) → length x ≤ 16378 → length y ≤ 16378 → length (cond p x y) ≤ 16378
@@ -34,7 +36,8 @@ letter-fits bs h = let c = getD bs 0 0 in one-fits (eqb c 0x4C) _ _ (fits-load b
     (one-fits (eqb c 0x56) _ _ (fits-value bs h)
     (one-fits (eqb c 0x4E) _ _ (fits-number bs)
     (one-fits (eqb c 0x4A) _ _ (fits-join bs)
-    (fits-refusal 60 (omega arith)))))
+    (one-fits (eqb c 0x52) _ _ (fits-growth bs)
+    (fits-refusal 60 (omega arith))))))
 
 -- WHAT SHOWS IT OF THE CODE: a law for each row
 
@@ -55,6 +58,10 @@ module _ (bs : List ℕ) {letter : ℕ} (e : letter ≡ getD bs 0 0) where
   unfolding letterLine
   letter-J q = sym (rw (sym e ∙ q))
 
-  pub letter-none : (letter ≡ 0x4C → ⊥) → (letter ≡ 0x56 → ⊥) → (letter ≡ 0x4E → ⊥) → (letter ≡ 0x4A → ⊥) → refusalLine 60 ≡ letterLine bs
+  pub letter-R : letter ≡ 0x52 → growthLine bs ≡ letterLine bs
   unfolding letterLine
-  letter-none l v n j = sym (rw (← e, ne-eqb letter 0x4C l, ne-eqb letter 0x56 v, ne-eqb letter 0x4E n, ne-eqb letter 0x4A j))
+  letter-R q = sym (rw (sym e ∙ q))
+
+  pub letter-none : (letter ≡ 0x4C → ⊥) → (letter ≡ 0x56 → ⊥) → (letter ≡ 0x4E → ⊥) → (letter ≡ 0x4A → ⊥) → (letter ≡ 0x52 → ⊥) → refusalLine 60 ≡ letterLine bs
+  unfolding letterLine
+  letter-none l v n j r = sym (rw (← e, ne-eqb letter 0x4C l, ne-eqb letter 0x56 v, ne-eqb letter 0x4E n, ne-eqb letter 0x4A j, ne-eqb letter 0x52 r))

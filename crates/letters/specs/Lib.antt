@@ -5,4 +5,5 @@ pub mod Small
 pub mod Making
 pub mod Sheets
 pub mod SheetLaws
+pub mod Growths
 pub mod Letters

@@ -2,6 +2,7 @@
 ghost use Rattle.report.specs.Writing.{Wrote};
 ghost use Rattle.letters.specs.Letters.{letterLine};
 
+mod growths;
 mod lines;
 mod lookups;
 mod sheets;
@@ -16,6 +17,7 @@ pub fn line(input: &[u8], text: &mut [u8]) -> usize
         0x56 => lookups::value_line(input, text),
         0x4E => sheets::number_line(input, text),
         0x4A => sheets::join_line(input, text),
+        0x52 => growths::growth_line(input, text),
         _ => report::refusal(text, 0, 60),
     }
 }

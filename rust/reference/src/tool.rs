@@ -21,6 +21,8 @@ pub enum Tool {
     Number { sheet: Vec<u8> },
     /// 4A: two sheets joined.
     Join { first: Vec<u8>, second: Vec<u8> },
+    /// 52: how often a variable's length counts in the list's.
+    Growth { sheet: Vec<u8>, variable: usize },
 }
 
 /// What a call gives.
@@ -40,6 +42,7 @@ pub enum Given {
         written: u16,
     },
     Why(Result<(), Explanation>),
+    Growth(usize),
 }
 
 impl Tool {
@@ -73,6 +76,10 @@ impl Tool {
             0x4A => {
                 let (first, second) = counted(fields)?;
                 Some(Tool::Join { first: first.to_vec(), second: second.to_vec() })
+            }
+            0x52 => {
+                let (&variable, sheet) = fields.split_first()?;
+                Some(Tool::Growth { sheet: sheet.to_vec(), variable: variable.into() })
             }
             _ => None,
         }
@@ -117,6 +124,7 @@ impl Tool {
                 let length = unpacked(crate::join(first, second, &mut out))?;
                 Ok(Given::Bytes(out[..length].to_vec()))
             }
+            Tool::Growth { sheet, variable } => Ok(Given::Growth(unpacked(crate::growth(sheet, *variable))?)),
         }
     }
 }
@@ -128,6 +136,7 @@ pub fn printed(input: &[u8], run: impl Fn(&Tool) -> Result<Given, NodeRefusal>) 
         Ok(Given::Bytes(bytes)) => format!("ok {}", hex(&bytes)),
         Ok(Given::Put { steps, plan, starts }) => format!("ok {steps} {} {}", hex(&plan), decimal(&starts)),
         Ok(Given::Written { steps, plan, written }) => format!("ok {steps} {} {written:04X}", hex(&plan)),
+        Ok(Given::Growth(growth)) => format!("ok {growth}"),
         Ok(Given::Why(Ok(()))) => "ok".to_string(),
         Ok(Given::Why(Err(explanation))) => explanation.line(),
         Err(NodeRefusal { refusal, node: None }) => format!("no {refusal}"),

@@ -6,6 +6,7 @@
 
 mod cases;
 mod edges;
+mod growth;
 mod join;
 mod lookups;
 mod numbering;
