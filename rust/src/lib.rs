@@ -4,7 +4,7 @@
 //! [`Sheet::growth`] says how much longer its list can get.
 //!
 //! The work is done by an archive that is proved to follow the definitions of sheets, whose manual is `docs/SHEETS.md`; this crate lends it
-//! its buffers and turns its answers into Rust. Four laws are proved of those answers:
+//! its buffers and turns its answers into Rust. Five laws are proved of those answers:
 //!
 //! - after a [`put`](Sheet::put) that succeeds, the [`get`](Sheet::get) of the new plan, under the same allowance, gives exactly the
 //!   list, in no more steps;
@@ -12,7 +12,9 @@
 //! - a value found by its number in a plan that [`load`](Sheet::load) gave ([`Plan::value`]), or in the new plan of a put as it was given
 //!   ([`Put::value`]), is the one that a reading of the plan from the front gives; a plan made with other starts
 //!   ([`Plan::with_starts`]) has the part that these name;
-//! - a variable that a put did not write ([`Put::written`]) has its old bytes in the new plan.
+//! - a variable that a put did not write ([`Put::written`]) has its old bytes in the new plan;
+//! - under a sheet without records 17, 18 and 1C an edit can be taken back ([`Sheet::undoes`]): the list that was read out before it, put
+//!   into the new plan under the edit's allowance, gives the old plan in as many steps.
 //!
 //! A sheet that joins two lists, the edit of a joined list, and the new plan:
 //!
@@ -56,6 +58,7 @@ mod numbering;
 mod plan;
 pub mod raw;
 mod refusal;
+mod undo;
 mod why;
 
 pub use plan::{Plan, Starts};

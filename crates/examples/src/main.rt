@@ -1,7 +1,8 @@
 //! Runs the readers and the program's jobs on the lines of data/ and prints what each says.
 //!
 //! A line is a letter, a space and bytes in hexadecimal: `v` a value, `c` bytes that each test is asked of, `p` a plan behind the byte k,
-//! `w` a view, `s` a sheet, `j` a job, `t` a job whose call is followed by the one that turns it back, `k` a job of the program `tools`.
+//! `w` a view, `s` a sheet, `j` a job, `t` a job whose call is followed by the one that turns it back, `u` a put whose edit is taken back,
+//! `k` a job of the program `tools`.
 mod buffers;
 mod lines;
 mod tests;
@@ -124,6 +125,7 @@ fn answer(letter: u8, bytes: &[u8], text: &mut [u8; job::LINE]) -> usize
         b's' => sheet_line(bytes, text),
         b'j' => job_line(bytes, text),
         b't' => turns::line(bytes, text),
+        b'u' => turns::undo_line(bytes, text),
         b'k' => tool_line(bytes, text),
         b'p' => {
             if bytes.len() == 0 {

@@ -1,2 +1,4 @@
 pub mod RoundTrips
 pub mod TripCalls
+pub mod Undone
+pub mod UndoneCalls

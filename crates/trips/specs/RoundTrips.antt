@@ -116,7 +116,7 @@ zeros-twice : (n : ℕ) (s : List ℕ) → zeros n (zeros n s) ≡ zeros n s
 unfolding zeros
 zeros-twice n s = ap (λ (l : List ℕ). replicate n 0 ++ l) (drop-at (replicate n 0) (drop n s) n (length-replicate n 0))
 
-cleared-zeroed : (a : Answer) (s : List ℕ) → cleared a (zeroed s) ≡ zeroed s
+pub cleared-zeroed : (a : Answer) (s : List ℕ) → cleared a (zeroed s) ≡ zeroed s
 unfolding cleared afterRefusal
 cleared-zeroed (refusal c) s = go (leb c 3)
   where

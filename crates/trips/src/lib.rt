@@ -1,12 +1,17 @@
-//! Two calls one after the other: a list put back and read out again, and a list read out and put back unedited.
+//! Calls one after the other: a list put back and read out again, a list read out and put back unedited, and an edit that is taken back.
 ghost use mathlib.Core.Path.{_≡_};
 ghost use lib.ListN.{length};
 ghost use Rattle.rules.specs.Answer.{getAnswer, putAnswer};
 ghost use Rattle.trips.specs.RoundTrips.{Tripped, ListStands, PlanStays, backAndOut, outAndBack, verdict, Inside};
-use calls::Reply;
 
-/// What two calls one after the other answer: the steps of both, or a refusal of one of them. The third case is there to be
-/// ruled out: a list that was taken back and does not stand, or an unedited list that moved something.
+mod undone;
+
+use calls::Reply;
+pub use undone::put_and_undo;
+
+/// What calls one after the other answer: the steps of two of them, or a refusal of one. The third case is there to be ruled
+/// out: a list that was taken back and does not stand, an unedited list that moved something, or an edit that was not taken
+/// back. Only the last can be met, with a sheet that chooses (`put_and_undo`).
 pub enum Trip {
     Kept { first: usize, second: usize },
     Stopped(u8),

@@ -33,7 +33,20 @@ use Rattle.rules.specs.Written.{bitsOf, took, tookIn, putWritten}
 use Rattle.undo.specs.Alike.{Stands, here, there, Named, named-covers, SameAt, Spares, get-alike, put-alike, put-spares}
 use Rattle.undo.specs.Straight.{straight, Straight, all-straight, Reached, root, reached-closed}
 use Rattle.undo.specs.Undo.{Alike, undone}
-use Rattle.undo.specs.Plans.{new-agrees, old-agrees, new-length, blank-keeps, numbers-fit, view-back, blank-alike, plan-back, new-left, new-same, count-at, blank-at}
+use Rattle.undo.specs.Plans.{
+  new-agrees,
+  old-agrees,
+  new-length,
+  blank-keeps,
+  numbers-fit,
+  view-back,
+  blank-alike,
+  plan-back,
+  new-left,
+  new-same,
+  count-at,
+  blank-at,
+}
 
 -- TAKING BACK AN EDIT
 
@@ -121,13 +134,16 @@ module _ (sheet plan : List ℕ) (allowance output scratch : ℕ) (view : List �
 -- PLANS THAT DIFFER WHERE NO RECORD LOOKS
 
 -- the door lets all through or none
-door-either : (need output scratch allowance : ℕ)
-    → ((o : Out (List ℕ)) → door need output scratch allowance o ≡ o) ⊎ ((c : ℕ) × ((o : Out (List ℕ)) → door need output scratch allowance o ≡ refused c 0))
+abbrev Either : (need output scratch allowance : ℕ) → Type 0
+Either need output scratch allowance =
+    ((o : Out (List ℕ)) → door need output scratch allowance o ≡ o)
+    ⊎ ((c : ℕ) × ((o : Out (List ℕ)) → door need output scratch allowance o ≡ refused c 0))
+
+door-either : (need output scratch allowance : ℕ) → Either need output scratch allowance
 unfolding door
 door-either need output scratch allowance = go (decLe need output) (decLe SCRATCH scratch) (decLe 1 allowance) (decLe allowance ALLOWANCE)
   where
-    go : Dec (need ≤ output) → Dec (SCRATCH ≤ scratch) → Dec (1 ≤ allowance) → Dec (allowance ≤ ALLOWANCE)
-        → ((o : Out (List ℕ)) → door need output scratch allowance o ≡ o) ⊎ ((c : ℕ) × ((o : Out (List ℕ)) → door need output scratch allowance o ≡ refused c 0))
+    go : Dec (need ≤ output) → Dec (SCRATCH ≤ scratch) → Dec (1 ≤ allowance) → Dec (allowance ≤ ALLOWANCE) → Either need output scratch allowance
     go (no a) b c d = inr (1, λ o. given-not 1 (decLe need output) _ a)
     go (yes a) (no b) c d = inr (2, λ o. given-yes 1 (decLe need output) a ∙ given-not 2 (decLe SCRATCH scratch) _ b)
     go (yes a) (yes b) (no c) d =
@@ -140,20 +156,34 @@ door-either need output scratch allowance = go (decLe need output) (decLe SCRATC
     go (yes a) (yes b) (yes c) (yes d) = inl λ o. given-yes 1 (decLe need output) a ∙ given-yes 2 (decLe SCRATCH scratch) b
         ∙ given-yes 3 (decLe 1 allowance) c ∙ given-yes 3 (decLe allowance ALLOWANCE) d
 
--- two new plans: the variables that no record names are left as they were, and the rest are the same in both
-pub record Wrote (sh : Sheet) (μ ν : Env) (new new′ : List ℕ) : Type 0 where
+-- two new plans, of N the variables that a record names: those that none names are left as they were, and the rest are the same in both
+pub record Wrote (sh : Sheet) (N : ℕ → Type 0) (μ ν : Env) (new new′ : List ℕ) : Type 0 where
   pub first : Env
   pub second : Env
   pub first-read : readPlan (sh .k) new ≡ ok first
   pub second-read : readPlan (sh .k) new′ ≡ ok second
-  pub rest : (x : ℕ) → Named sh x → getElem? first x ≡ getElem? second x
-  pub first-left : (x : ℕ) → (Named sh x → ⊥) → getElem? first x ≡ getElem? μ x
-  pub second-left : (x : ℕ) → (Named sh x → ⊥) → getElem? second x ≡ getElem? ν x
+  pub rest : (x : ℕ) → N x → getElem? first x ≡ getElem? second x
+  pub first-left : (x : ℕ) → (N x → ⊥) → getElem? first x ≡ getElem? μ x
+  pub second-left : (x : ℕ) → (N x → ⊥) → getElem? second x ≡ getElem? ν x
 
 -- two puts: refused alike, or done in as many steps
-pub data PutsSame (sh : Sheet) (μ ν : Env) : Answer → Answer → Type 0 where
-  refusals : {c : ℕ} → PutsSame sh μ ν (refusal c) (refusal c)
-  successes : {new new′ : List ℕ} {n : ℕ} → Wrote sh μ ν new new′ → PutsSame sh μ ν (success new n) (success new′ n)
+pub data PutsSame (sh : Sheet) (N : ℕ → Type 0) (μ ν : Env) : Answer → Answer → Type 0 where
+  refusals : {c : ℕ} → PutsSame sh N μ ν (refusal c) (refusal c)
+  successes : {new new′ : List ℕ} {n : ℕ} → Wrote sh N μ ν new new′ → PutsSame sh N μ ν (success new n) (success new′ n)
+
+-- the same variables in other words
+puts-as : {sh : Sheet} {N M : ℕ → Type 0} {μ ν : Env} {a b : Answer} → ((x : ℕ) → N x → M x) → ((x : ℕ) → M x → N x)
+    → PutsSame sh N μ ν a b → PutsSame sh M μ ν a b
+puts-as f g refusals = refusals
+puts-as f g (successes w) = successes (record {
+  first = w .first;
+  second = w .second;
+  first-read = w .first-read;
+  second-read = w .second-read;
+  rest = λ x m. w .rest x (g x m);
+  first-left = λ x h. w .first-left x (λ n. h (f x n));
+  second-left = λ x h. w .second-left x (λ n. h (f x n));
+})
 
 -- a put leaves what no record names
 left-at : (sh : Sheet) (μ : Env) (v : Value) (X : Cells) (n : ℕ) → put LEVELS sh (sh .root) μ (count 0 (length μ)) v (replicate (length μ) none) ≡ done X n
@@ -197,7 +227,7 @@ module _ (sheet plan plan′ : List ℕ) {sh : Sheet} (es : readSheet sheet ≡ 
 
   module _ (view : List ℕ) (allowance : ℕ) where
     wrote : (vs : List Value) → readView view ≡ ok vs → (X : Cells) (n : ℕ) → putWalk allowance sh μ (getD vs 0 vfalse) ≡ done X n
-        → Wrote sh μ ν (flat (newPlan X μ)) (flat (newPlan X ν))
+        → Wrote sh (Named sh) μ ν (flat (newPlan X μ)) (flat (newPlan X ν))
     unfolding putWalk
     wrote vs ev X n ew =
         let (e, few) = within-done allowance _ ew in
@@ -237,7 +267,7 @@ module _ (sheet plan plan′ : List ℕ) {sh : Sheet} (es : readSheet sheet ≡ 
         }
 
     walked : (vs : List Value) → readView view ≡ ok vs → (o : Out Cells) → putWalk allowance sh μ (getD vs 0 vfalse) ≡ o
-        → PutsSame sh μ ν (answer (mapOut (λ X. flat (newPlan X μ)) o)) (answer (mapOut (λ X. flat (newPlan X ν)) o))
+        → PutsSame sh (Named sh) μ ν (answer (mapOut (λ X. flat (newPlan X μ)) o)) (answer (mapOut (λ X. flat (newPlan X ν)) o))
     unfolding mapOut answer
     walked vs ev (done X n) e = successes (wrote vs ev X n e)
     walked vs ev (refused c n) e = refusals
@@ -246,14 +276,13 @@ module _ (sheet plan plan′ : List ℕ) {sh : Sheet} (es : readSheet sheet ≡ 
     bytes : Env → Result (List Value) → Out (List ℕ)
     bytes η r = reading r λ vs. mapOut (λ X. flat (newPlan X η)) (putWalk allowance sh η (getD vs 0 vfalse))
 
-    read : (r : Result (List Value)) → readView view ≡ r → PutsSame sh μ ν (answer (bytes μ r)) (answer (bytes ν r))
+    read : (r : Result (List Value)) → readView view ≡ r → PutsSame sh (Named sh) μ ν (answer (bytes μ r)) (answer (bytes ν r))
     unfolding bytes reading answer putWalk
     read (ok vs) e = rw (← same-walk (getD vs 0 vfalse)) (walked vs e _ refl)
     read (Rattle.value.specs.Result.refusal c) e = refusals
 
-    let-in : (output scratch : ℕ) → ((o : Out (List ℕ)) → door PUT-OUTPUT output scratch allowance o ≡ o)
-        ⊎ ((c : ℕ) × ((o : Out (List ℕ)) → door PUT-OUTPUT output scratch allowance o ≡ refused c 0))
-        → PutsSame sh μ ν (answer (door PUT-OUTPUT output scratch allowance (bytes μ (readView view))))
+    let-in : (output scratch : ℕ) → Either PUT-OUTPUT output scratch allowance
+        → PutsSame sh (Named sh) μ ν (answer (door PUT-OUTPUT output scratch allowance (bytes μ (readView view))))
         (answer (door PUT-OUTPUT output scratch allowance (bytes ν (readView view))))
     unfolding answer
     let-in output scratch (inl h) = rw (h (bytes μ (readView view)), h (bytes ν (readView view))) (read (readView view) refl)
@@ -261,7 +290,7 @@ module _ (sheet plan plan′ : List ℕ) {sh : Sheet} (es : readSheet sheet ≡ 
 
     -- and take a list alike: refused with the same number, or done in as many steps; what no record names is left, and the rest is the same
     pub same-put : (output scratch : ℕ)
-        → PutsSame sh μ ν (putAnswer sheet plan view allowance output scratch) (putAnswer sheet plan′ view allowance output scratch)
+        → PutsSame sh (Named sh) μ ν (putAnswer sheet plan view allowance output scratch) (putAnswer sheet plan′ view allowance output scratch)
     unfolding putAnswer putBytes reading bytes
     same-put output scratch = rw (es, ep, eq) (let-in output scratch (door-either PUT-OUTPUT output scratch allowance))
 
@@ -311,5 +340,9 @@ module _ (sheet plan plan′ : List ℕ) {sh : Sheet} (es : readSheet sheet ≡ 
   straight-get = same-get sheet plan plan′ es ep eq widened
 
   pub straight-put : (view : List ℕ) (allowance output scratch : ℕ)
-      → PutsSame sh μ ν (putAnswer sheet plan view allowance output scratch) (putAnswer sheet plan′ view allowance output scratch)
-  straight-put = same-put sheet plan plan′ es ep eq widened
+      → PutsSame sh (NamedIn10or1A sh) μ ν (putAnswer sheet plan view allowance output scratch) (putAnswer sheet plan′ view allowance output scratch)
+  straight-put view allowance output scratch =
+      puts-as (straight-named sh st) (λ x h. (h .0, h .2)) (same-put sheet plan plan′ es ep eq widened view allowance output scratch)
+
+  pub straight-written : (view : List ℕ) (allowance : ℕ) → putWritten sheet plan view allowance ≡ putWritten sheet plan′ view allowance
+  straight-written = same-written sheet plan plan′ es ep eq widened

@@ -1,5 +1,5 @@
 //! The archive and the reference agree, and the laws hold of the archive's answers: both of document 01, that of a plan's starts, that of
-//! the variables that a put wrote, and that a refusal is explained by its own number.
+//! the variables that a put wrote, that of an edit taken back, and that a refusal is explained by its own number.
 //!
 //! Each case is made from its number. `LENS_CASES` says how many there are (200,000), `LENS_FIRST` which is the first (0). Tools that walk
 //! no plan have tests of their own, of 20,000 cases each.
@@ -18,6 +18,7 @@ mod sheets;
 mod starts;
 mod switches;
 mod tools;
+mod undone;
 mod values;
 mod why;
 mod written;
@@ -32,6 +33,7 @@ use reference::vectors::hex;
 use seen::Seen;
 use starts::{check_behind, check_load, check_values, Given, BEFORE};
 use switches::takes_after;
+use undone::check_undone;
 use why::check_why;
 use written::{check_bits, check_union, wrote_old};
 
@@ -225,6 +227,8 @@ impl Bench {
             if case.job.view.is_some() {
                 let written = self.archive.written;
                 seen.written(answer.count(), written, wrote_old(&case.job.plan, &bytes, written));
+                self.laws += 1;
+                seen.undone(check_undone(&case.job, &bytes, answer.steps(), &mut self.spare)?);
             }
         }
         seen.job(&case.job, answer, takes_after(&case.job, &mut self.spare));

@@ -1,6 +1,7 @@
 //! How often each answer came.
 
 use crate::sheets;
+use crate::undone::Undone;
 use crate::values::has_price;
 use lens::raw::Answer;
 use lens::Refusal;
@@ -20,6 +21,7 @@ pub struct Seen {
     loads: [u64; 256],
     lookups: [u64; 256],
     written: Written,
+    edits: Edits,
 }
 
 /// Puts that succeeded, by the variables that they wrote.
@@ -32,6 +34,17 @@ struct Written {
     old: u64,
 }
 
+/// Puts that changed a plan that reads out, by what became of the edit when it was taken back.
+#[derive(Default)]
+struct Edits {
+    /// Sheets without records 17, 18 and 1C.
+    straight: u64,
+    /// Others whose old plan came back in as many steps.
+    back: u64,
+    /// Others.
+    lost: u64,
+}
+
 impl Default for Seen {
     fn default() -> Seen {
         Seen {
@@ -42,6 +55,7 @@ impl Default for Seen {
             loads: [0; 256],
             lookups: [0; 256],
             written: Written::default(),
+            edits: Edits::default(),
         }
     }
 }
@@ -77,6 +91,16 @@ impl Seen {
         self.written.old += u64::from(old);
     }
 
+    /// A put that succeeded, taken back; none where its old plan does not read out.
+    pub fn undone(&mut self, undone: Option<Undone>) {
+        match undone {
+            Some(Undone { straight: true, changed: true, .. }) => self.edits.straight += 1,
+            Some(Undone { changed: true, back: true, .. }) => self.edits.back += 1,
+            Some(Undone { changed: true, .. }) => self.edits.lost += 1,
+            _ => {}
+        }
+    }
+
     /// Every refusal came of each function that has it, also with numbers of four bytes; those that are not seldom where defaults are got
     /// came there too; and successes were no rarity. (Refusals from 60 on are those of programs and tools, and no job's.)
     pub fn assert_wide(&self) {
@@ -104,6 +128,8 @@ impl Seen {
         let [wide_gets, wide_puts] = columns(&self.wide);
         let Written { none, some, all: whole, old } = self.written;
         assert!([none, some, whole, old].iter().all(|&count| count > 1000), "too few of some bits: {self}");
+        let Edits { straight, back, lost } = self.edits;
+        assert!([straight, back, lost].iter().all(|&count| count > 1000), "too few of some edits: {self}");
         for (counts, total, of) in [
             (gets, all, "gets"),
             (puts, all, "puts"),
@@ -134,6 +160,11 @@ impl fmt::Display for Seen {
             }
         }
         let Written { none, some, all, old } = self.written;
-        writeln!(f, "puts that wrote no variable {none}, some {some}, all {all}; one of them with its old value {old}")
+        writeln!(f, "puts that wrote no variable {none}, some {some}, all {all}; one of them with its old value {old}")?;
+        let Edits { straight, back, lost } = self.edits;
+        writeln!(
+            f,
+            "edits taken back of sheets without 17, 18 and 1C {straight}; of others {back}, and {lost} that did not come back"
+        )
     }
 }
