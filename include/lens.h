@@ -12,6 +12,7 @@
  *   lens_number       a sheet with its nodes numbered as first met
  *   lens_join         two sheets to one, whose list is the pair of both
  *   lens_growth       how often a variable's length counts in the list's
+ *   lens_check_plan   whether a finished new plan goes with the list
  *
  * Bytes of sheets, plans and lists, and what to do about each refusal, are in docs/SHEETS.md and docs/TOOLS.md.
  *
@@ -117,6 +118,15 @@ uint64_t lens_join(const uint8_t *first, size_t first_len, const uint8_t *second
 uint64_t lens_growth(const uint8_t *sheet, size_t sheet_len, size_t variable);
 #define LENS_GROWTH(answer) ((unsigned)(((answer) >> 8) & 0xFFFFu)) /* 0 to 256 */
 
+/* Whether a new plan that was made elsewhere goes with the list `view` and the old plan. LENS_YES is 1 exactly where the new plan reads out
+ * to that list, and every variable whose number stands in no 10, 1A or 1C record of the sheet has its old bytes; otherwise 0. What
+ * lens_put gives under an allowance gets a yes under it. Refusals: LENS_SCRATCH_SMALL, LENS_ALLOWANCE_RANGE; those of the sheet, the old plan
+ * and the list, as for lens_put; LENS_NEW_PLAN; those of reading the new plan out. */
+uint64_t lens_check_plan(const uint8_t *sheet, size_t sheet_len, const uint8_t *old_plan, size_t old_len, const uint8_t *view,
+                         size_t view_len, const uint8_t *new_plan, size_t new_len, uint32_t allowance, uint8_t *scratch,
+                         size_t scratch_len);
+#define LENS_YES(answer) ((unsigned)(((answer) >> 8) & 1u))
+
 /* What the buffers hold afterwards:
  *
  *               success                                  refusals 1 to 3    every other refusal
@@ -195,6 +205,9 @@ uint64_t lens_growth(const uint8_t *sheet, size_t sheet_len, size_t variable);
 /* two sheets joined */
 #define LENS_SHEETS_DIFFER 83u    /* the two sheets have another k */
 #define LENS_JOIN_FULL 84u        /* both sheets together, with the pair, have over 200 nodes or 8 sections */
+
+/* a new plan judged */
+#define LENS_NEW_PLAN 85u         /* the new plan is malformed, has a value of over 256 bytes, or another count of values than k */
 
 /* how much longer the list can get */
 #define LENS_OTHER_KIND 87u       /* the sheet has a node of another kind than 10 to 16, 1B and 1D */

@@ -1,8 +1,9 @@
 //! The archive and the independent Rust implementation on the same jobs in the same buffers, for release; and a value of a plan by its
-//! number, beside readings from the front; and the tools of sheets.
+//! number, beside readings from the front; and the tools of sheets, and the checker of plans.
 //!
 //! Both clear 65,536 bytes of scratch in every call of a job, and that is counted on both sides.
 
+mod checker;
 mod jobs;
 mod lookup;
 mod tools;
@@ -144,7 +145,11 @@ fn main() {
         progress(lookup::NAME);
         lookups = lookup::lines();
     }
-    let tools = tools::lines(&word, &mut buffers).unwrap_or_else(|fault| {
+    let tools = tools::lines(&word, &mut buffers).and_then(|mut lines| {
+        lines.extend(checker::lines(&word, &mut buffers)?);
+        Ok(lines)
+    });
+    let tools = tools.unwrap_or_else(|fault| {
         eprintln!("\n{fault}");
         std::process::exit(1);
     });

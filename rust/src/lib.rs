@@ -1,7 +1,7 @@
 //! One sheet of rules for a venue, read both ways: forwards it gives the list from the plan, backwards the new plan from the old plan
 //! and the edited list. The values of a plan are found by their number, and where a reading is refused, it is told at which node and why.
 //! Tools work on the sheet itself: [`Sheet::numbered`] writes it with one numbering, [`Sheet::join`] makes one of two,
-//! [`Sheet::growth`] says how much longer its list can get.
+//! [`Sheet::growth`] says how much longer its list can get. [`Sheet::accepts`] judges a new plan that was made elsewhere.
 //!
 //! The work is done by an archive that is proved to follow the definitions of sheets, whose manual is `docs/SHEETS.md`; this crate lends it
 //! its buffers and turns its answers into Rust. Five laws are proved of those answers:
@@ -52,6 +52,7 @@
 //! # Ok::<(), lens::Refusal>(())
 //! ```
 
+mod checker;
 mod growth;
 mod join;
 mod numbering;

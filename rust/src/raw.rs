@@ -8,7 +8,7 @@ pub const GET_OUT: usize = 256;
 pub const PUT_OUT: usize = 4096;
 /// Bytes of output that a tool asks for that writes a sheet.
 pub const SHEET_OUT: usize = 2048;
-/// Bytes of scratch that get and put ask for, and those that tell why they refuse.
+/// Bytes of scratch that get and put ask for, those that tell why they refuse, and the checker of plans.
 pub const SCRATCH: usize = 65_536;
 /// The most values of a plan: starts are an array of so many numbers.
 pub const STARTS_MAX: usize = 16;
@@ -45,6 +45,11 @@ impl Answer {
     /// How often a variable's length counts in the list's.
     pub fn growth(self) -> usize {
         (self.0 >> 8 & 0xFFFF) as usize
+    }
+
+    /// Whether the new plan goes with the list.
+    pub fn yes(self) -> bool {
+        self.0 >> 8 & 1 == 1
     }
 
     /// The node that a tool's refusal names, of 81.
@@ -180,6 +185,20 @@ mod archive {
         ) -> u64;
 
         pub fn lens_growth(sheet: *const u8, sheet_len: usize, variable: usize) -> u64;
+
+        pub fn lens_check_plan(
+            sheet: *const u8,
+            sheet_len: usize,
+            old_plan: *const u8,
+            old_len: usize,
+            view: *const u8,
+            view_len: usize,
+            new_plan: *const u8,
+            new_len: usize,
+            allowance: u32,
+            scratch: *mut u8,
+            scratch_len: usize,
+        ) -> u64;
     }
 }
 
@@ -354,4 +373,24 @@ pub fn join(first: &[u8], second: &[u8], out: &mut [u8]) -> Answer {
 pub fn growth(sheet: &[u8], variable: usize) -> Answer {
     // Safety: as in `get`.
     Answer(unsafe { archive::lens_growth(sheet.as_ptr(), sheet.len(), variable) })
+}
+
+/// Judges a new plan beside the old one and the list.
+pub fn check_plan(sheet: &[u8], old: &[u8], view: &[u8], new: &[u8], allowance: u32, scratch: &mut [u8]) -> Answer {
+    // Safety: as in `get`.
+    Answer(unsafe {
+        archive::lens_check_plan(
+            sheet.as_ptr(),
+            sheet.len(),
+            old.as_ptr(),
+            old.len(),
+            view.as_ptr(),
+            view.len(),
+            new.as_ptr(),
+            new.len(),
+            allowance,
+            scratch.as_mut_ptr(),
+            scratch.len(),
+        )
+    })
 }

@@ -83,6 +83,7 @@ refusals! {
     81 NODE_TWICE "a node of the sheet is used twice as a child or a root: give each use a node of its own"
     83 SHEETS_DIFFER "the two sheets have another k: join sheets of one plan"
     84 JOIN_FULL "both sheets together, with the pair, have over 200 nodes or 8 sections: make one of them smaller"
+    85 NEW_PLAN "the new plan is malformed, has a value of over 256 bytes, or another count of values than k: send k values, whole and not too long"
     87 OTHER_KIND "the sheet has a node of another kind than 10 to 16, 1B and 1D: ask of a sheet without cases, splits, calls and eaches"
     88 GROWTH_LARGE "the variable counts over 256 times in the list, so that no plan reads out: use it less often in the sheet"
     // make-tables: end

@@ -49,6 +49,9 @@ fn run_tool(tool: &Tool) -> Result<Given, NodeRefusal> {
         }
         Tool::Number { sheet } => Ok(Given::Bytes(Sheet::new(sheet).numbered()?)),
         Tool::Growth { sheet, variable } => Ok(Given::Growth(Sheet::new(sheet).growth(*variable)?)),
+        Tool::Check { sheet, old, view, new, allowance } => {
+            Ok(Given::Verdict(Sheet::new(sheet).accepts(old, view, new, *allowance)?))
+        }
         Tool::Join { first, second } => Ok(Given::Bytes(Sheet::new(first).join(Sheet::new(second))?)),
     }
 }

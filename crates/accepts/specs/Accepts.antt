@@ -18,6 +18,17 @@ unfoldable pub verdict : Result Bool → Verdict
 verdict (ok b) = yesNo b
 verdict (refusal c) = Refused c
 
+-- the number of each case in the papers, 0 for yes and no; and which of the two it is
+unfoldable pub codeOf : Verdict → ℕ
+codeOf Yes = 0
+codeOf No = 0
+codeOf (Refused c) = c
+
+unfoldable pub yesOf : Verdict → ℕ
+yesOf Yes = 1
+yesOf No = 0
+yesOf (Refused c) = 0
+
 -- refusals 2 and 3 do not touch scratch; every other ending zeroes its first 65,536 bytes and touches no others
 unfoldable pub cleared : Result Bool → List ℕ → List ℕ
 cleared (ok b) s = zeroed s

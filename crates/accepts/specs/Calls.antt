@@ -38,7 +38,8 @@ use Rattle.accepts.specs.declared.Verdict.the-variants.{Yes, No, Refused
 use Rattle.venue.specs.Accepts.{kept, orCode, result, judgedOf, acceptsOf}
 use Rattle.venue.specs.Laws.{read-85}
 use Rattle.accepts.specs.Accepts.{yesNo, verdict, cleared, Accepted}
-use Rattle.accepts.specs.Kept.{Readied, Plans, KeptAs}
+use Rattle.accepts.specs.Marks.{Readied}
+use Rattle.accepts.specs.Kept.{Plans, KeptAs}
 
 -- WHAT THE READERS SAY
 

@@ -5,6 +5,7 @@ use mathlib.Core.List.{List}
 use Prim.Native.Nat.{ℕ, suc, _+_, _-_, _≤_, _<_}
 use native.Mathlib.Numerals.{add-one}
 use native.Mathlib.Omega.{arith}
+use borrow.Author.Tests.{lt-ltb, le-ltb}
 use lib.ListN.{length, getD, take, drop, drop-of-length-le}
 use lib.Seq.{drop-cons}
 use Rattle.value.specs.Result.{ok}
@@ -23,59 +24,9 @@ use Rattle.sheet.specs.Sheet.{Sheet, readSheet}
 use Rattle.sheet.specs.Table.{nodeAt}
 use Rattle.sheet.specs.Laws.{Reads}
 use Rattle.rules.specs.Rules.{Env}
-use Rattle.undo.specs.Alike.{stands, names}
+use Rattle.undo.specs.Alike.{names}
 use Rattle.venue.specs.Accepts.{spared, sparedFrom, kept}
-
--- VARIABLES THAT A RECORD NAMES
-
--- a sheet that was read, with its table
-pub record Readied (s : List ℕ) (t : Table) : Type 0 where
-  pub sh : Sheet
-  pub reads : Reads s t sh
-
--- whether a record names variable x
-abbrev pub NamedAs : List ℕ → ℕ → Bool → Type 0
-NamedAs s x r = (sh : Sheet) → readSheet s ≡ ok sh → r ≡ names x (sh .nodes)
-
-same-sheet : (s : List ℕ) {sh sh′ : Sheet} → readSheet s ≡ ok sh → readSheet s ≡ ok sh′ → sh ≡ sh′
-same-sheet s e f = cc
-
--- the first i nodes do not name it
-pub record Unnamed (s : List ℕ) (t : Table) (x i : ℕ) : Type 0 where
-  pub readied : Readied s t
-  pub few : i ≤ t .nodes
-  pub rest : names x (readied .sh .nodes) ≡ names x (drop i (readied .sh .nodes))
-
-pub none-named : {s : List ℕ} {t : Table} → Readied s t → (x : ℕ) → Unnamed s t x 0
-none-named q x = record { readied = q; few = omega arith; rest = refl }
-
-next-named : (x : ℕ) (ns : List Node) (i : ℕ) → i < length ns → names x (drop i ns) ≡ stands x (variables (getD ns i False)) || names x (drop (i + 1) ns)
-unfolding names
-next-named x ns i h = rw (add-one, drop-cons ns i False)
-
-module _ {s : List ℕ} {t : Table} {x i : ℕ} (to : Unnamed s t x i) where
-  as-told : {b : Bool} → names x (to .readied .sh .nodes) ≡ b → NamedAs s x b
-  as-told e sh f = sym (rw (same-sheet s (to .readied .reads .sheet) f) at e)
-
-  pub all-unnamed : t .nodes ≤ i → NamedAs s x false
-  unfolding names
-  all-unnamed h =
-      let l : length (to .readied .sh .nodes) ≤ i = omega (arith, to .readied .reads .nodes) in
-      as-told (to .rest ∙ rw (drop-of-length-le (to .readied .sh .nodes) l))
-
-  module _ (h : i < t .nodes) {n : Node} (e : n ≡ nodeAt s (getD (t .starts) i 0)) {b : Bool} (p : b ≡ stands x (variables n)) where
-    next-is : names x (to .readied .sh .nodes) ≡ b || names x (drop (i + 1) (to .readied .sh .nodes))
-    next-is =
-        let r = to .readied .reads in
-        let l : i < length (to .readied .sh .nodes) = omega (arith, r .nodes) in
-        let k : getD (to .readied .sh .nodes) i False ≡ n = sym (r .node i l) ∙ sym e in
-        to .rest ∙ next-named x (to .readied .sh .nodes) i l ∙ rw (k, ← p)
-
-    pub this-named : b ≡ true → NamedAs s x true
-    this-named o = as-told (rw o at next-is)
-
-    pub more-unnamed : b ≡ false → Unnamed s t x (i + 1)
-    more-unnamed o = record { readied = to .readied; few = omega (arith, to .few); rest = rw o at next-is }
+use Rattle.accepts.specs.Marks.{same-sheet, isMarked, Marks}
 
 -- THE BYTES OF A VARIABLE
 
@@ -157,9 +108,6 @@ module _ {sheet : List ℕ} {t : Table} {old : List ℕ} {before : Spans} {new :
           let k = p .sh .k in
           (within k old (p .old-read) (p .before-is) x here few-variables, within k new (p .new-read) (p .after-is) x here few-variables)
 
-      pub its-sheet : Readied sheet t
-      its-sheet = record { sh = p .sh; reads = p .reads }
-
       module _ {same : Bool} (s : same ≡ sameBytes (spanOf old before x) (spanOf new after x)) where
         next-kept : kept (p .sh) (p .μ) (p .ν) ≡ (same || names x (p .sh .nodes)) && sparedFrom (p .sh) (p .μ) (p .ν) (x + 1) (t .k - (x + 1))
         unfolding sparedFrom spared
@@ -172,12 +120,12 @@ module _ {sheet : List ℕ} {t : Table} {old : List ℕ} {before : Spans} {new :
         pub same-kept : same ≡ true → Keeping sheet t old before new after (x + 1)
         same-kept e = record { plans = p; few = omega arith; rest = rw e at next-kept }
 
-        module _ (e : same ≡ false) {b : Bool} (n : NamedAs sheet x b) where
-          named-is : names x (p .sh .nodes) ≡ b
-          named-is = sym (n (p .sh) (p .reads .sheet))
+        module _ (e : same ≡ false) (m : List ℕ) (n : Marks sheet m) where
+          marked-as : {b : Bool} → isMarked m x ≡ b → names x (p .sh .nodes) ≡ b
+          marked-as f = sym (n (p .sh) (p .reads .sheet) x (omega (arith, few-variables, here))) ∙ f
 
-          pub named-kept : b ≡ true → Keeping sheet t old before new after (x + 1)
-          named-kept f = record { plans = p; few = omega arith; rest = rw (e, named-is, f) at next-kept }
+          pub named-kept : (getD m x 0 ≡ 0 → ⊥) → Keeping sheet t old before new after (x + 1)
+          named-kept f = record { plans = p; few = omega arith; rest = rw (e, marked-as (lt-ltb 0 (getD m x 0) (omega arith))) at next-kept }
 
-          pub not-kept : b ≡ false → KeptAs sheet old new false
-          not-kept f = ends-kept (rw (e, named-is, f) at next-kept)
+          pub not-kept : getD m x 0 ≡ 0 → KeptAs sheet old new false
+          not-kept f = ends-kept (rw (e, marked-as (le-ltb 0 (getD m x 0) (omega arith))) at next-kept)

@@ -1,3 +1,4 @@
 pub mod Accepts
+pub mod Marks
 pub mod Kept
 pub mod Calls

@@ -6,11 +6,11 @@ ghost use Rattle.value.specs.Parts.{sameBytes};
 ghost use Rattle.rules.specs.AnswerLaws.{Lent};
 ghost use Rattle.walk.specs.Entry.{Free};
 ghost use Rattle.rules.specs.Numbers.{SCRATCH};
-ghost use Rattle.undo.specs.Alike.{stands};
 ghost use Rattle.venue.specs.Accepts.{judgedOf, acceptsOf};
 ghost use Rattle.accepts.specs.Accepts.{yesNo, verdict, Accepted};
 ghost use Rattle.accepts.specs.Calls.{Built, listedOf};
-ghost use Rattle.accepts.specs.Kept.{Readied, NamedAs, Within, spanOf, Plans, KeptAs};
+ghost use Rattle.accepts.specs.Kept.{Within, spanOf, Plans, KeptAs};
+ghost use Rattle.accepts.specs.Marks.{Readied, markedOne, markedAll, Marks};
 use sheet::Node;
 use sheet::Table;
 use value::Spans;
@@ -26,32 +26,44 @@ pub enum Verdict {
 // The refusal of a new plan, whatever is wrong with it.
 const NEW_PLAN: u8 = 85;
 
-// Whether the number x stands as a variable in a node's record.
-fn names(node: Node, x: usize) -> bool
-    ensures { λ r. ⌜ r ≡ stands x (variables node) ⌝ }
+// Marks variable x, where it is one of a plan's.
+fn mark(marks: &mut [u8; 16], x: usize)
+    ensures { λ _. ⌜ now (marks .exit) ≡ markedOne (now (marks .entry)) x ⌝ }
+{
+    if 16 <= x {
+        return;
+    }
+    marks[x] = 1;
+}
+
+// Marks the numbers that stand as variables in a node's record.
+fn mark_node(marks: &mut [u8; 16], node: Node)
+    ensures { λ _. ⌜ now (marks .exit) ≡ markedAll (now (marks .entry)) (variables node) ⌝ }
 {
     match node {
-        Node::Var(y) => y == x,
-        Node::Call { first, second, .. } => (first == x) | (second == x),
-        Node::Each { variable, .. } => variable == x,
-        _ => false,
+        Node::Var(x) => mark(marks, x),
+        Node::Call { first, second, .. } => {
+            mark(marks, first);
+            mark(marks, second)
+        }
+        Node::Each { variable, .. } => mark(marks, variable),
+        _ => (),
     }
 }
 
-// Whether it does in any record of a sheet.
-fn is_named(sheet: &[u8], table: Table, x: usize) -> bool
+// A mark for each variable that a record of the sheet names: in one pass over the records.
+fn named(sheet: &[u8], table: Table) -> [u8; 16]
     requires { ⌜ Readied (now sheet) table ⌝ }
-    ensures { λ r. ⌜ NamedAs (now (sheet .entry)) x r ⌝ }
+    ensures { λ r. ⌜ Marks (now (sheet .entry)) r ⌝ }
 {
+    let mut marks = [0u8; 16];
     let mut i = 0;
     while i < table.nodes {
         let at = table.starts[i] as usize;
-        if names(sheet::node_at(sheet, at), x) {
-            return true;
-        }
+        mark_node(&mut marks, sheet::node_at(sheet, at));
         i += 1;
     }
-    false
+    marks
 }
 
 // The bytes of variable x in a plan.
@@ -77,10 +89,11 @@ fn is_kept(sheet: &[u8], table: Table, old: &[u8], before: Spans, new: &[u8], af
     requires { ⌜ Plans (now sheet) table (now old) before (now new) after ⌝ }
     ensures { λ r. ⌜ KeptAs (now (sheet .entry)) (now (old .entry)) (now (new .entry)) r ⌝ }
 {
+    let marks = named(sheet, table);
     let mut x = 0;
     while x < table.k {
         if !is_same(old, before, new, after, x) {
-            if !is_named(sheet, table, x) {
+            if marks[x] == 0 {
                 return false;
             }
         }

@@ -1,5 +1,6 @@
 -- The answer of a tool as one number: the low 8 bits the refusal (0: success), the next 16 what is told beside it.
 use mathlib.Core.Path.{_≡_, refl, sym, _∙_}
+use mathlib.Core.Bool.{Bool}
 use mathlib.Core.List.{List}
 use Prim.Native.Nat.{ℕ, _+_, _*_, _/_, _%_, _≤_}
 use native.Mathlib.Omega.{arith}
@@ -8,6 +9,10 @@ use Rattle.value.specs.Result.{Result, ok}
 use Rattle.made.specs.declared.Made.{Made}
 use Rattle.made.specs.declared.Made.the-variants as Made
 use Rattle.made.specs.Made.{made, written, Makes, codeOf as madeCode, lengthOf, done-front}
+use Rattle.accepts.specs.declared.Verdict.{Verdict}
+use Rattle.accepts.specs.declared.Verdict.the-variants.{Yes, No}
+use Rattle.accepts.specs.declared.Verdict.the-variants as Verdict
+use Rattle.accepts.specs.Accepts.{verdict, cleared, Accepted, codeOf as verdictCode, yesOf}
 use Rattle.growth.specs.declared.Growing.{Growing}
 use Rattle.growth.specs.declared.Growing.the-variants.{Times}
 use Rattle.growth.specs.declared.Growing.the-variants as Growing
@@ -36,6 +41,11 @@ pub record MadePacked (a : Result (List ℕ)) (r : ℕ) (o o′ : List ℕ) : Ty
 -- the growth's report is a
 abbrev pub GrowthPacked : Result ℕ → ℕ → Type 0
 GrowthPacked a r = Tells (growingCode (told a)) (timesOf (told a)) r
+
+-- the checker's answer is a: the number r says so, 1 beside it for yes, and scratch s became s′
+pub record VerdictPacked (a : Result Bool) (r : ℕ) (s s′ : List ℕ) : Type 0 where
+  pub answer : Tells (verdictCode (verdict a)) (yesOf (verdict a)) r
+  pub scratch : s′ ≡ cleared a s
 
 -- WHAT SHOWS IT, case by case
 
@@ -94,3 +104,22 @@ module _ (a : Result ℕ) {q : Growing} {r : ℕ} (e : q ≡ told a) where
   pub growth-refused : {c : ℕ} → q ≡ Growing.Refused c → Tells c 0 r → GrowthPacked a r
   unfolding growingCode timesOf
   growth-refused f t = rw (sym e ∙ f) t
+
+abbrev pub VerdictTold : Verdict → ℕ → Type 0
+VerdictTold v r = Tells (verdictCode v) (yesOf v) r
+
+module _ {v : Verdict} {r : ℕ} where
+  pub told-yes : v ≡ Yes → Tells 0 1 r → VerdictTold v r
+  unfolding verdictCode yesOf
+  told-yes e t = rw e t
+
+  pub told-no : v ≡ No → Tells 0 0 r → VerdictTold v r
+  unfolding verdictCode yesOf
+  told-no e t = rw e t
+
+  pub told-refused : {c : ℕ} → v ≡ Verdict.Refused c → Tells c 0 r → VerdictTold v r
+  unfolding verdictCode yesOf
+  told-refused e t = rw e t
+
+pub verdict-packed : {a : Result Bool} {v : Verdict} {r : ℕ} {s s′ : List ℕ} → Accepted a v s s′ → VerdictTold v r → VerdictPacked a r s s′
+verdict-packed x t = record { answer = rw (x .answer) at t; scratch = x .scratch }

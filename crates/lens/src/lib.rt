@@ -4,6 +4,7 @@ mod answers;
 mod growths;
 mod lookups;
 mod packing;
+mod plans;
 mod sheets;
 mod whys;
 
@@ -14,6 +15,7 @@ pub use answers::lens_put_written;
 pub use growths::lens_growth;
 pub use lookups::lens_find;
 pub use lookups::lens_load;
+pub use plans::lens_check_plan;
 pub use sheets::lens_join;
 pub use sheets::lens_number;
 pub use whys::lens_why_get;

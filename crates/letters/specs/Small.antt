@@ -1,10 +1,12 @@
 -- Refusals whose numbers are bytes.
 use mathlib.Core.Path.{_≡_, refl}
 use mathlib.Core.Bool.{Bool, true, false}
-use mathlib.Core.List.{List}
-use Prim.Native.Nat.{ℕ, _<_}
+use mathlib.Core.List.{List, [], _∷_}
+use Prim.Native.Nat.{ℕ, zero, suc, _+_, _<_}
 use native.Mathlib.Omega.{arith}
 use Rattle.value.specs.Result.{Result, ok, refusal, andThen, mapResult, unless}
+use Rattle.value.specs.Value.{Value}
+use Rattle.value.specs.Reading.{Found, whole, malformed, tooLong, nothing, aValue, value, readValue, onValue, readValues, readPlan, readView}
 use Rattle.sheet.specs.Sheet.{Sheet, readSheet}
 use Rattle.letters.specs.LoadLaws.{sheet-small}
 
@@ -38,3 +40,26 @@ small-of (refusal c) h = no (h c refl)
 -- a sheet's own
 pub small-sheet : (s : List ℕ) → Small (readSheet s)
 small-sheet s = small-of (readSheet s) (λ c e. sheet-small s e)
+
+-- those of values, whose numbers begin at c
+small-value : {A : Type 0} (c : ℕ) → c + 2 < 256 → (v : Found (value ∷ [])) (f : Value → List ℕ → Result A)
+    → ((w : Value) (bs : List ℕ) → Small (f w bs)) → Small (onValue c v f)
+unfolding onValue
+small-value c h (whole (aValue v nothing) bs) f k = k v bs
+small-value c h malformed f k = no {c = c} (omega arith)
+small-value c h tooLong f k = no {c = c + 1} (omega arith)
+
+small-values : (c : ℕ) → c + 2 < 256 → (k : ℕ) (bs : List ℕ) → Small (readValues c k bs)
+unfolding readValues
+small-values c h zero [] = done
+small-values c h zero (b ∷ bs) = no {c = c + 2} h
+small-values c h (suc k) [] = no {c = c + 2} h
+small-values c h (suc k) (b ∷ bs) = small-value c h (readValue (b ∷ bs)) _ λ v more. small-map _ (small-values c h k more)
+
+-- a view's own
+pub small-view : (bs : List ℕ) → Small (readView bs)
+small-view bs = small-values 30 (omega arith) 1 bs
+
+-- a plan's own
+pub small-plan : (k : ℕ) (bs : List ℕ) → Small (readPlan k bs)
+small-plan k bs = small-values 20 (omega arith) k bs

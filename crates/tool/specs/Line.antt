@@ -2,25 +2,30 @@
 use mathlib.Core.Path.{_≡_}
 use mathlib.Core.Bool.{Bool, true, false, cond}
 use mathlib.Core.List.{List, [], _∷_, map}
-use Prim.Native.Nat.{ℕ}
+use Prim.Native.Nat.{ℕ, _+_}
 use lib.Dec.{leb, eqb}
 use lib.ListN.{length, getD, take, drop}
 use Rattle.rules.specs.Numbers.{SCRATCH, PUT-OUTPUT}
-use Rattle.rules.specs.Answer.{Answer, refusal, success, putAnswer}
+use Rattle.value.specs.Result.{Result, ok, refusal}
+use Rattle.rules.specs.Answer.{Answer, success, putAnswer}
+use Rattle.rules.specs.Answer as Answer
 use Rattle.rules.specs.Explanation.{Explanation, whyGet, whyPut}
 use Rattle.calls.specs.Reply.{Reply, Done, Refused}
 use Rattle.calls.specs.Calls.{written, cleared, newStarts, newWritten}
 use Rattle.calls.specs.Whys.{whyCleared}
+use Rattle.venue.specs.Accepts.{acceptsOf}
+use Rattle.accepts.specs.Accepts.{cleared as judgedCleared}
 use Rattle.report.specs.Text.{hexOf, decimalOf, refusalLine, okLine}
 use Rattle.report.specs.Writing.{Wrote}
 use Rattle.starts.specs.declared.Starts.{Starts}
 use Rattle.starts.specs.Starts.{numbers}
 use Rattle.words.specs.Numbers.{INPUT}
+use Rattle.words.specs.declared.fields.Fields.{Fields}
 use Rattle.words.specs.declared.fields.Taken.{Taken}
 use Rattle.words.specs.declared.fields.Taken.the-variants.{Whole, Cut}
 use Rattle.words.specs.declared.Job.{Job}
 use Rattle.words.specs.declared.Job.the-variants.{Get, Put, Other}
-use Rattle.words.specs.Format.{fieldsOf, sheetOf, planOf, viewOf, jobOf, jobNumber}
+use Rattle.words.specs.Format.{two, part, fieldsOf, sheetOf, planOf, viewOf, jobOf, jobNumber}
 use Rattle.words.specs.Answers.{bitsWord}
 use Rattle.letters.specs.Letters.{letterLine}
 use Rattle.tool.specs.Why.{whyLine}
@@ -30,6 +35,7 @@ pub data Call : Type 0 where
   none : Call
   made : Answer → Call
   asked : Explanation → Call
+  judged : Result Bool → Call
 
 pub record Ending : Type 0 where
   pub line : List ℕ
@@ -47,7 +53,7 @@ besides true s b = bitsWord b ∷ []
 
 -- with these words behind the new plan
 unfoldable pub putLine : (ws : List (List ℕ)) → Answer → List ℕ
-putLine ws (refusal c) = refusalLine c
+putLine ws (Answer.refusal c) = refusalLine c
 putLine ws (success new n) = okLine (decimalOf n ∷ hexOf new ∷ ws)
 
 unfoldable pub puts : (bits : Bool) → List ℕ → Taken → Ending
@@ -72,6 +78,26 @@ whyBy bs Other = says (refusalLine (jobNumber Other))
 unfoldable pub whys : List ℕ → Ending
 whys bs = whyBy bs (jobOf bs)
 
+-- C: the fields of a put, whose last is a list behind its length in two bytes and then a new plan: whether that plan stands
+
+unfoldable pub yesLine : Result Bool → List ℕ
+yesLine (ok true) = okLine ((0x79 ∷ 0x65 ∷ 0x73 ∷ []) ∷ [])
+yesLine (ok false) = okLine ((0x6E ∷ 0x6F ∷ []) ∷ [])
+yesLine (refusal c) = refusalLine c
+
+abbrev pub judges : Result Bool → Ending
+judges a = record { line = yesLine a; call = judged a }
+
+unfoldable pub checksBy : List ℕ → Fields → (rest : List ℕ) → Ending
+checksBy bs f rest =
+    let n = two rest 0 in
+    cond (leb (2 + n) (length rest))
+    (judges (acceptsOf (sheetOf bs f) (planOf bs f) (part rest 2 n) (drop (2 + n) rest) (f .allowance) SCRATCH)) (says (refusalLine 60))
+
+unfoldable pub checks : List ℕ → Taken → Ending
+checks bs Cut = says (refusalLine 60)
+checks bs (Whole f) = checksBy bs f (viewOf bs f)
+
 -- BY ITS LETTER: a row for each that walks; all others, and what is no letter, have their line from `letters`
 unfoldable pub byLetter : List ℕ → Ending
 byLetter bs =
@@ -79,7 +105,8 @@ byLetter bs =
     cond (eqb letter 0x53) (puts false bs (fieldsOf bs))
     (cond (eqb letter 0x57) (puts true bs (fieldsOf bs))
     (cond (eqb letter 0x59) (whys (drop 1 bs))
-    (says (letterLine bs))))
+    (cond (eqb letter 0x43) (checks bs (fieldsOf bs))
+    (says (letterLine bs)))))
 
 -- over 8,192 bytes: 61, whatever they are
 unfoldable pub toolEnding : List ℕ → Ending
@@ -96,11 +123,13 @@ unfoldable pub outputAfter : Call → List ℕ → List ℕ
 outputAfter none o = o
 outputAfter (made a) o = written a o
 outputAfter (asked e) o = o
+outputAfter (judged a) o = o
 
 unfoldable pub scratchAfter : Call → List ℕ → List ℕ
 scratchAfter none s = s
 scratchAfter (made a) s = cleared a s
 scratchAfter (asked e) s = whyCleared e s
+scratchAfter (judged a) s = judgedCleared a s
 
 pub record Lent (bs o o′ s s′ : List ℕ) : Type 0 where
   pub output : o′ ≡ outputAfter (toolEnding bs .call) o

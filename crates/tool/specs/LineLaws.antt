@@ -24,6 +24,7 @@ use Rattle.letters.specs.LookupLaws.{fits-refusal, starts-length}
 use Rattle.letters.specs.Letters.{letter-fits}
 use Rattle.tool.specs.Line.{Ending, says, besides, putLine, puts, byLetter, toolEnding, toolLine}
 use Rattle.tool.specs.WhyLaws.{whys-fit}
+use Rattle.tool.specs.CheckLaws.{checks-fit}
 
 -- HOW LONG A LINE IS
 
@@ -56,7 +57,8 @@ unfolding byLetter
 fits-letter bs h = let c = getD bs 0 0 in one (eqb c 0x53) _ _ (fits-puts false bs (fieldsOf bs))
     (one (eqb c 0x57) _ _ (fits-puts true bs (fieldsOf bs))
     (one (eqb c 0x59) _ _ (omega (arith, whys-fit (drop 1 bs)))
-    (letter-fits bs h)))
+    (one (eqb c 0x43) _ _ (omega (arith, checks-fit bs (fieldsOf bs)))
+    (letter-fits bs h))))
   where
     -- a row and those below it
     one : (p : Bool) (x y : Ending) → length (x .line) ≤ 16378 → length (y .line) ≤ 16378 → length (cond p x y .line) ≤ 16378

@@ -30,6 +30,7 @@ use Rattle.tool.specs.Line.{
   putLine,
   puts,
   whys,
+  checks,
   byLetter,
   toolEnding,
   toolLine,
@@ -40,6 +41,7 @@ use Rattle.tool.specs.Line.{
   replyLine,
 }
 use Rattle.tool.specs.WhyLaws.{Explained, whys-output}
+use Rattle.tool.specs.CheckLaws.{checks-output}
 use Rattle.tool.specs.LineLaws.{line-fits}
 
 -- letters S and W
@@ -101,6 +103,11 @@ module _ (bits : Bool) {sheet plan view : List ℕ} {allowance : ℕ} {a : Answe
 pub ended-why : (bs : List ℕ) {r : ℕ} {t t′ o s s′ : List ℕ} → Explained (whys bs) r t t′ s s′ → Ended (whys bs) r t t′ o o s s′
 ended-why bs {o = o} x = record { text = x .0; output = whys-output bs o; scratch = x .1 }
 
+-- letter C
+pub ended-check : (bs : List ℕ) {r : ℕ} {t t′ o s s′ : List ℕ} → Explained (checks bs (fieldsOf bs)) r t t′ s s′
+    → Ended (checks bs (fieldsOf bs)) r t t′ o o s s′
+ended-check bs {o = o} x = record { text = x .0; output = checks-output bs (fieldsOf bs) o; scratch = x .1 }
+
 -- the letter of an input
 module _ (bs : List ℕ) where
   module _ (h : length bs ≤ INPUT) {letter : ℕ} (e : letter ≡ getD bs 0 0) where
@@ -116,9 +123,20 @@ module _ (bs : List ℕ) where
     unfolding toolEnding byLetter
     letter-Y q = rw (le-leb (length bs) INPUT h, sym e ∙ q)
 
-    pub letter-other : (letter ≡ 0x53 → ⊥) → (letter ≡ 0x57 → ⊥) → (letter ≡ 0x59 → ⊥) → toolEnding bs ≡ says (letterLine bs)
+    pub letter-C : letter ≡ 0x43 → toolEnding bs ≡ checks bs (fieldsOf bs)
     unfolding toolEnding byLetter
-    letter-other s w y = rw (le-leb (length bs) INPUT h, ← e, ne-eqb letter 0x53 s, ne-eqb letter 0x57 w, ne-eqb letter 0x59 y)
+    letter-C q = rw (le-leb (length bs) INPUT h, sym e ∙ q)
+
+    pub letter-other : (letter ≡ 0x53 → ⊥) → (letter ≡ 0x57 → ⊥) → (letter ≡ 0x59 → ⊥) → (letter ≡ 0x43 → ⊥) → toolEnding bs ≡ says (letterLine bs)
+    unfolding toolEnding byLetter
+    letter-other s w y c = rw (
+      le-leb (length bs) INPUT h,
+      ← e,
+      ne-eqb letter 0x53 s,
+      ne-eqb letter 0x57 w,
+      ne-eqb letter 0x59 y,
+      ne-eqb letter 0x43 c,
+    )
 
 -- a line that no call was made for
 pub said : {l : List ℕ} {r : ℕ} {t t′ o s : List ℕ} → Wrote l 0 t t′ r → Ended (says l) r t t′ o o s s

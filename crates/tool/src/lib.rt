@@ -2,9 +2,11 @@
 ghost use Rattle.report.specs.Writing.{Front};
 ghost use Rattle.tool.specs.Line.{toolLine, Lent};
 
+mod checks;
 mod puts;
 mod whys;
 
+use crate::checks::check_line;
 use crate::puts::put_line;
 use crate::whys::why_line;
 
@@ -29,6 +31,7 @@ pub fn line(
         0x53 => put_line(input, false, out, scratch, text),
         0x57 => put_line(input, true, out, scratch, text),
         0x59 => why_line(input, scratch, text),
+        0x43 => check_line(input, scratch, text),
         _ => letters::line(input, text),
     }
 }

@@ -13,7 +13,7 @@ use Rattle.value.specs.Result.{Result, ok, refusal, andThen, unless}
 use Rattle.value.specs.Value.{Value, vfalse, encode}
 use Rattle.value.specs.Parts.{both, sameBytes}
 use Rattle.value.specs.PartsLaws.{same-refl, same-values}
-use Rattle.value.specs.Reading.{readPlan}
+use Rattle.value.specs.Reading.{readPlan, readView}
 use Rattle.value.specs.Laws.{readValues-sound}
 use Rattle.sheet.specs.Sheet.{Sheet, readSheet}
 use Rattle.rules.specs.Numbers.{LEVELS, ALLOWANCE, SCRATCH, GET-OUTPUT}
@@ -41,6 +41,13 @@ pub record Stands (sheet old view new : List ℕ) (allowance : ℕ) : Type 0 whe
   pub new-read : readPlan (sh .k) new ≡ ok ν
   pub same : (x : ℕ) → (Named sh x → ⊥) → getElem? ν x ≡ getElem? μ x
   pub list : (output scratch : ℕ) → GET-OUTPUT ≤ output → SCRATCH ≤ scratch → (n : ℕ) × (getAnswer sheet new allowance output scratch ≡ success view n)
+
+-- a refusal of reading the new plan out is passed on, whatever the comparisons would say
+pub refusal-passed : (sheet old view new : List ℕ) (allowance : ℕ) {sh : Sheet} {μ ν : Env} {vs : List Value} {c n : ℕ} → readSheet sheet ≡ ok sh
+    → readPlan (sh .k) old ≡ ok μ → readView view ≡ ok vs → readPlan (sh .k) new ≡ ok ν → getWalk allowance sh ν ≡ refused c n
+    → judgedOf sheet old view new allowance ≡ refusal c
+unfolding judgedOf andThen orCode result
+refusal-passed sheet old view new allowance es eo ev en ew = rw (es, eo, ev, en, ew)
 
 -- bytes that compare as the same are
 same-bytes : (a b : List ℕ) → sameBytes a b ≡ true → a ≡ b

@@ -23,6 +23,8 @@ pub enum Tool {
     Join { first: Vec<u8>, second: Vec<u8> },
     /// 52: how often a variable's length counts in the list's.
     Growth { sheet: Vec<u8>, variable: usize },
+    /// 43: whether a new plan is one that the list may have made of the old one.
+    Check { sheet: Vec<u8>, old: Vec<u8>, view: Vec<u8>, new: Vec<u8>, allowance: u32 },
 }
 
 /// What a call gives.
@@ -43,6 +45,7 @@ pub enum Given {
     },
     Why(Result<(), Explanation>),
     Growth(usize),
+    Verdict(bool),
 }
 
 impl Tool {
@@ -80,6 +83,12 @@ impl Tool {
             0x52 => {
                 let (&variable, sheet) = fields.split_first()?;
                 Some(Tool::Growth { sheet: sheet.to_vec(), variable: variable.into() })
+            }
+            0x43 => {
+                let Job { sheet, plan, view, allowance } = Job::put(fields)?;
+                let fields = view?;
+                let (view, new) = counted(&fields)?;
+                Some(Tool::Check { sheet, old: plan, view: view.to_vec(), new: new.to_vec(), allowance })
             }
             _ => None,
         }
@@ -124,6 +133,10 @@ impl Tool {
                 let length = unpacked(crate::join(first, second, &mut out))?;
                 Ok(Given::Bytes(out[..length].to_vec()))
             }
+            Tool::Check { sheet, old, view, new, allowance } => {
+                let answer = crate::check_plan(sheet, old, view, new, *allowance, &mut [0; SCRATCH]);
+                Ok(Given::Verdict(unpacked(answer)? == 1))
+            }
             Tool::Growth { sheet, variable } => Ok(Given::Growth(unpacked(crate::growth(sheet, *variable))?)),
         }
     }
@@ -137,6 +150,7 @@ pub fn printed(input: &[u8], run: impl Fn(&Tool) -> Result<Given, NodeRefusal>) 
         Ok(Given::Put { steps, plan, starts }) => format!("ok {steps} {} {}", hex(&plan), decimal(&starts)),
         Ok(Given::Written { steps, plan, written }) => format!("ok {steps} {} {written:04X}", hex(&plan)),
         Ok(Given::Growth(growth)) => format!("ok {growth}"),
+        Ok(Given::Verdict(yes)) => format!("ok {}", if yes { "yes" } else { "no" }),
         Ok(Given::Why(Ok(()))) => "ok".to_string(),
         Ok(Given::Why(Err(explanation))) => explanation.line(),
         Err(NodeRefusal { refusal, node: None }) => format!("no {refusal}"),

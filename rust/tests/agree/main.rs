@@ -5,6 +5,7 @@
 //! no plan have tests of their own, of 20,000 cases each.
 
 mod cases;
+mod checker;
 mod edges;
 mod growth;
 mod join;

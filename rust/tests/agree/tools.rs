@@ -2,7 +2,7 @@
 
 use crate::random::Random;
 use crate::setting;
-use lens::raw::Answer;
+use lens::raw::{Answer, SCRATCH};
 use std::fmt::Debug;
 
 const CASES: u64 = 20_000;
@@ -16,6 +16,9 @@ pub struct Both {
     noise: Vec<u8>,
     archive: Vec<u8>,
     reference: Vec<u8>,
+    /// No byte of it is 0, so that a cleared one is told from one that stayed.
+    scratch_noise: Vec<u8>,
+    scratches: [Vec<u8>; 2],
     seen: [u64; 256],
 }
 
@@ -23,7 +26,9 @@ impl Both {
     fn new() -> Both {
         let mut random = Random::new(1);
         let noise: Vec<u8> = (0..ROOM + GUARD).map(|_| random.byte()).collect();
-        Both { archive: noise.clone(), reference: noise.clone(), noise, seen: [0; 256] }
+        let scratch_noise: Vec<u8> = (0..SCRATCH + 64 + GUARD).map(|_| random.byte() | 1).collect();
+        let scratches = [scratch_noise.clone(), scratch_noise.clone()];
+        Both { archive: noise.clone(), reference: noise.clone(), noise, scratch_noise, scratches, seen: [0; 256] }
     }
 
     /// A tool that writes to an output of this length: the answer, and what it gives.
@@ -42,6 +47,26 @@ impl Both {
         let given = if answer.number() == 0 { answer.length() } else { 0 };
         assert!(self.archive[given..] == self.noise[given..], "bytes behind what is given changed, after {:016X}", answer.0);
         (answer, self.archive[..given].to_vec())
+    }
+
+    /// A tool that works in a scratch of this length and has no output.
+    pub fn call_in_scratch(
+        &mut self,
+        scratch_len: usize,
+        archive: impl FnOnce(&mut [u8]) -> Answer,
+        reference: impl FnOnce(&mut [u8]) -> u64,
+    ) -> Answer {
+        self.scratches.iter_mut().for_each(|scratch| scratch.copy_from_slice(&self.scratch_noise));
+        let [ours, theirs] = &mut self.scratches;
+        let answer = archive(&mut ours[..scratch_len]);
+        let wanted = reference(&mut theirs[..scratch_len]);
+        self.same(answer, wanted);
+        let cleared = if matches!(answer.number(), 2 | 3) { 0 } else { SCRATCH };
+        for scratch in &self.scratches {
+            let as_told = scratch[..cleared].iter().all(|&byte| byte == 0) && scratch[cleared..] == self.scratch_noise[cleared..];
+            assert!(as_told, "after {:016X} scratch is not as it is to be", answer.0);
+        }
+        answer
     }
 
     /// The answers of a tool that has no output.

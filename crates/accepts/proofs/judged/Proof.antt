@@ -2,7 +2,7 @@
 use Rattle.rules.specs.Numbers.{SCRATCH}
 use Rattle.walk.specs.Entry.{Free, sheet-refusal}
 use Rattle.walk.specs.PutEntry.{Viewed, viewed, view-refused}
-use Rattle.accepts.specs.Kept.{Readied}
+use Rattle.accepts.specs.Marks.{Readied}
 use Rattle.accepts.specs.Calls.{
   ready,
   Values,

@@ -2,7 +2,7 @@
 use borrow.Author.Needs.{needs}
 use native.Mathlib.Omega.{arith}
 use Rattle.tool.specs.LineLaws.{ending-over}
-use Rattle.tool.specs.Told.{said, printed, letter-S, letter-W, letter-Y, letter-other, ended-why}
+use Rattle.tool.specs.Told.{said, printed, letter-S, letter-W, letter-Y, letter-C, letter-other, ended-why, ended-check}
 use Rattle.tool.proofs.line.Statement.{statement}
 use Rattle.tool.proofs.line.Tie as tie
 
@@ -43,13 +43,20 @@ returns-4 c =
 
 returns-5 : tie.Need-returns-5
 returns-5 c =
+    let told = c .before .before .before in
+    let read = told .before in
+    let bs = entry read .args .input .now in
+    printed bs (letter-C bs (short read .if1 .left) (read .byte-at .ensures) (told .match .keys4)) (omega arith) (ended-check _ (c .check-line .ensures))
+
+returns-6 : tie.Need-returns-6
+returns-6 c =
     let told = c .before .before in
     let read = told .before in
     let bs = entry read .args .input .now in
     let other = told .match .rest in
-    printed bs (letter-other bs (short read .if1 .left) (read .byte-at .ensures) (other .0 .0 .1) (other .0 .1) (other .1)) (omega arith)
+    printed bs (letter-other bs (short read .if1 .left) (read .byte-at .ensures) (other .0 .0 .0 .1) (other .0 .0 .1) (other .0 .1) (other .1)) (omega arith)
     (said (c .line .ensures))
 
 pub line-spec : {M : Type 1} → statement M
 line-spec = tie.close (tie.spec (λ c κs. search needs) returns (λ c κs. search needs) (λ c κs. search needs) (λ c κs. search needs)
-    (λ c κs. search needs) (λ c κs. search needs) returns-2 returns-3 returns-4 returns-5)
+    (λ c κs. search needs) (λ c κs. search needs) (λ c κs. search needs) returns-2 returns-3 returns-4 returns-5 returns-6)
