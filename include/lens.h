@@ -13,6 +13,8 @@
  *   lens_join         two sheets to one, whose list is the pair of both
  *   lens_growth       how often a variable's length counts in the list's
  *   lens_check_plan   whether a finished new plan goes with the list
+ *   lens_to_json      a value, such as a list, to JSON (RFC 8259)
+ *   lens_from_json    JSON to a value
  *
  * Bytes of sheets, plans and lists, and what to do about each refusal, are in docs/SHEETS.md and docs/TOOLS.md.
  *
@@ -35,6 +37,8 @@ extern "C" {
 #define LENS_GET_OUT 256u         /* bytes of output for lens_get */
 #define LENS_PUT_OUT 4096u        /* bytes of output for lens_put, lens_put_starts and lens_put_written */
 #define LENS_SHEET_OUT 2048u      /* bytes of output for lens_number and lens_join */
+#define LENS_JSON_OUT 2048u       /* bytes of output for lens_to_json: every value fits */
+#define LENS_VALUE_OUT 256u       /* bytes of output for lens_from_json */
 #define LENS_SCRATCH 65536u       /* bytes of scratch for each function that takes any */
 #define LENS_ALLOWANCE_MAX 1000000u /* the most steps that may be allowed; the least is 1 */
 #define LENS_STARTS_MAX 16u       /* the most values of a plan: starts are an array of so many numbers, always */
@@ -127,6 +131,16 @@ uint64_t lens_check_plan(const uint8_t *sheet, size_t sheet_len, const uint8_t *
                          size_t scratch_len);
 #define LENS_YES(answer) ((unsigned)(((answer) >> 8) & 1u))
 
+/* The value written as JSON without white space: false, true, a decimal number, an array, or an object {"a":..,"b":..} for a pair. What is
+ * written reads back to the same value. LENS_LENGTH: its bytes, with no NUL behind them. Refusals: LENS_OUTPUT_SMALL; those of a list sent
+ * back (30 to 32), of the value; LENS_JSON_DEPTH, where arrays and objects would nest 49 deep. */
+uint64_t lens_to_json(const uint8_t *value, size_t value_len, uint8_t *out, size_t out_len);
+
+/* The value of such a text, of any length, with white space (space, tab, line feed, carriage return) before, between and after its tokens.
+ * LENS_LENGTH: its bytes. Refusals: LENS_OUTPUT_SMALL; LENS_JSON_MALFORMED and LENS_JSON_DEPTH, whichever the first byte that shows a fault
+ * decides; LENS_JSON_LONG, once the text is read. */
+uint64_t lens_from_json(const uint8_t *text, size_t text_len, uint8_t *out, size_t out_len);
+
 /* What the buffers hold afterwards:
  *
  *               success                                  refusals 1 to 3    every other refusal
@@ -158,7 +172,7 @@ uint64_t lens_check_plan(const uint8_t *sheet, size_t sheet_len, const uint8_t *
 
 /* make-tables: refusals */
 /* the call */
-#define LENS_OUTPUT_SMALL 1u      /* the output lent is under 256 bytes for a list, 4,096 for a plan, or 2,048 for a sheet */
+#define LENS_OUTPUT_SMALL 1u      /* the output lent is under 256 bytes for a list or a value, 4,096 for a plan, or 2,048 for a sheet or JSON */
 #define LENS_SCRATCH_SMALL 2u     /* the scratch lent is under 65,536 bytes */
 #define LENS_ALLOWANCE_RANGE 3u   /* the allowance is 0 or over 1,000,000 */
 
@@ -178,10 +192,10 @@ uint64_t lens_check_plan(const uint8_t *sheet, size_t sheet_len, const uint8_t *
 #define LENS_VARIABLE 23u         /* the variable's number is not below the count of the starts, or the sheet's k */
 #define LENS_STARTS 24u           /* the starts are not 1 to 16 numbers that rise from 0, all below the plan's length */
 
-/* the list sent back */
-#define LENS_VIEW_MALFORMED 30u   /* the list sent back is cut or malformed */
-#define LENS_VIEW_LONG 31u        /* the list sent back has over 256 bytes */
-#define LENS_VIEW_COUNT 32u       /* the list sent back is not exactly one value */
+/* the list sent back, or a value to be written as JSON */
+#define LENS_VIEW_MALFORMED 30u   /* the list sent back, or the value for JSON, is cut or malformed */
+#define LENS_VIEW_LONG 31u        /* the list sent back, or the value for JSON, has over 256 bytes */
+#define LENS_VIEW_COUNT 32u       /* the list sent back, or the value for JSON, is not exactly one value */
 
 /* walking the sheet */
 #define LENS_DEPTH 40u            /* the walk goes deeper than 48 nodes */
@@ -198,6 +212,11 @@ uint64_t lens_check_plan(const uint8_t *sheet, size_t sheet_len, const uint8_t *
 #define LENS_VIEW_BELOW 52u       /* a number of the list sent back is below the amount that the sheet adds */
 #define LENS_NO_BRANCH 53u        /* the list sent back passes the test of neither branch of a case */
 #define LENS_CLASH 54u            /* two places of the list sent back that come from one variable differ */
+
+/* lists as JSON */
+#define LENS_JSON_MALFORMED 70u   /* the text is not JSON for a value, or a number in it is over 4,294,967,295 */
+#define LENS_JSON_DEPTH 71u       /* arrays and objects nest 49 deep */
+#define LENS_JSON_LONG 72u        /* the value of the text has over 256 bytes */
 
 /* a sheet numbered anew */
 #define LENS_NODE_TWICE 81u       /* a node of the sheet is used twice as a child or a root */

@@ -11,7 +11,7 @@ pub struct Row {
     pub limit: f64,
 }
 
-const LIMIT: f64 = 1.7;
+pub const LIMIT: f64 = 1.7;
 /// The limit of a job with a 1C.
 const EACH_LIMIT: f64 = 1.8;
 /// The limit of a walk of about 250,000 steps.
@@ -203,14 +203,14 @@ pub fn run(job: &Job) -> (Vec<u8>, u32) {
     (out, success.steps)
 }
 
-fn numbers(range: std::ops::Range<u16>) -> Vec<u8> {
+pub fn numbers(range: std::ops::Range<u16>) -> Vec<u8> {
     let mut list: Vec<u8> = range.flat_map(|n| [0x03, 0x04, (n >> 8) as u8, n as u8]).collect();
     list.push(0x02);
     list
 }
 
 /// A list of pairs: n and 100 more.
-fn pairs(range: std::ops::Range<u8>) -> Vec<u8> {
+pub fn pairs(range: std::ops::Range<u8>) -> Vec<u8> {
     let mut list: Vec<u8> = range.flat_map(|n| [0x03, 0x05, 0x04, 0, n, 0x04, 0, n + 100]).collect();
     list.push(0x02);
     list
@@ -283,6 +283,11 @@ fn nested(depth: u8) -> Vec<u8> {
     let mut value = [0x05, 0x01].repeat(usize::from(depth));
     value.extend([0x04, 0x00, 0x07]);
     value
+}
+
+/// A list in a list, so many deep.
+pub fn nested_lists(depth: usize) -> Vec<u8> {
+    [vec![0x03; depth - 1], vec![0x02; depth]].concat()
 }
 
 /// Sixteen values of 255 bytes.

@@ -1,5 +1,5 @@
 //! The archive and the independent Rust implementation on the same jobs in the same buffers, for release; and a value of a plan by its
-//! number, beside readings from the front; and the tools of sheets, and the checker of plans.
+//! number, beside readings from the front; and the tools of sheets, of JSON, and the checker of plans.
 //!
 //! Both clear 65,536 bytes of scratch in every call of a job, and that is counted on both sides.
 

@@ -1,5 +1,6 @@
-//! Tools of sheets beside the Rust reference, and how their cost grows.
+//! Tools of sheets and values beside the Rust reference, and how their cost grows.
 
+use crate::jobs::{nested_lists, numbers, pairs, LIMIT};
 use crate::{median, ratio, times, Buffers};
 use std::hint::black_box;
 
@@ -9,6 +10,8 @@ struct Row {
     /// What the cost is held to: how many there are of the unit.
     size: usize,
     unit: &'static str,
+    /// How many times the reference's time the archive may take, where a request says so.
+    limit: Option<f64>,
     archive: Call,
     reference: Call,
 }
@@ -16,7 +19,44 @@ struct Row {
 type Call = Box<dyn Fn(&mut Buffers) -> u64>;
 
 fn rows() -> Vec<Row> {
-    [50, 100, 200].map(numbered).into_iter().chain([24, 49, 99].map(joined)).collect()
+    let sheets = [50, 100, 200].map(numbered).into_iter().chain([24, 49, 99].map(joined));
+    let values = [
+        ("a list of 7 numbers", numbers(1000..1007)),
+        ("a list of 21 numbers", numbers(1000..1021)),
+        ("a list of 63 numbers", numbers(1000..1063)),
+        ("21 pairs", pairs(0..21)),
+        ("nested 48 deep", nested_lists(48)),
+    ];
+    sheets.chain(values.into_iter().flat_map(|(name, value)| json(name, value))).collect()
+}
+
+/// A value written as JSON, and its text read back; both by the bytes of the text.
+fn json(name: &str, value: Vec<u8>) -> [Row; 2] {
+    let mut out = vec![0; lens::raw::JSON_OUT];
+    let length = reference::to_json(&value, &mut out) >> 8;
+    out.truncate(length as usize);
+    let text = out;
+    let (size, value_too, text_too) = (text.len(), value.clone(), text.clone());
+    let row = |way: &str, archive: Call, reference: Call| Row {
+        name: format!("json: {name}, {way}"),
+        size,
+        unit: "byte",
+        limit: Some(LIMIT),
+        archive,
+        reference,
+    };
+    [
+        row(
+            "written",
+            Box::new(move |buffers| lens::raw::to_json(black_box(&value), &mut buffers.out).0),
+            Box::new(move |buffers| reference::to_json(black_box(&value_too), &mut buffers.out)),
+        ),
+        row(
+            "read",
+            Box::new(move |buffers| lens::raw::from_json(black_box(&text), &mut buffers.out).0),
+            Box::new(move |buffers| reference::from_json(black_box(&text_too), &mut buffers.out)),
+        ),
+    ]
 }
 
 /// A sheet numbered anew.
@@ -26,6 +66,7 @@ fn numbered(nodes: usize) -> Row {
         name: format!("number: a sheet of {nodes} nodes"),
         size: nodes,
         unit: "node",
+        limit: None,
         archive: Box::new(move |buffers| lens::raw::number(black_box(&ours), &mut buffers.out).0),
         reference: Box::new(move |buffers| reference::number(black_box(&theirs), &mut buffers.out)),
     }
@@ -38,6 +79,7 @@ fn joined(nodes: usize) -> Row {
         name: format!("join: two sheets of {nodes} nodes"),
         size: 2 * nodes,
         unit: "node",
+        limit: None,
         archive: Box::new(move |buffers| lens::raw::join(black_box(&ours), black_box(&ours), &mut buffers.out).0),
         reference: Box::new(move |buffers| reference::join(black_box(&theirs), black_box(&theirs), &mut buffers.out)),
     }
@@ -71,8 +113,10 @@ pub fn lines(word: &str, buffers: &mut [Buffers; 2]) -> Result<Vec<String>, Stri
         lines.push(line(row, buffers)?);
     }
     if !lines.is_empty() {
-        let head =
-            format!("{:<46} {:>7} {:>12} {:>8} {:>12} {:>8} {:>6}", "tool", "", "archive/call", "", "Rust/call", "", "ratio");
+        let head = format!(
+            "{:<46} {:>7} {:>12} {:>8} {:>12} {:>8} {:>6} {:>5}",
+            "tool", "", "archive/call", "", "Rust/call", "", "ratio", "limit"
+        );
         lines.splice(0..0, [String::new(), head]);
     }
     Ok(lines)
@@ -96,11 +140,13 @@ fn line(row: &Row, buffers: &mut [Buffers; 2]) -> Result<String, String> {
     let ratio = ratio(&ours, &theirs);
     let a_unit = |ns: f64| format!("{:.1}", ns / row.size as f64);
     let (ours, theirs) = (median(ours), median(theirs));
+    let limit = row.limit.map_or("-".to_string(), |limit| format!("{limit:.1}"));
     Ok(format!(
-        "{:<46} {:>7} {ours:>12.0} {:>8} {theirs:>12.0} {:>8} {ratio:>6.2}",
+        "{:<46} {:>7} {ours:>12.0} {:>8} {theirs:>12.0} {:>8} {ratio:>6.2} {limit:>5} {}",
         row.name,
         format!("/{}:", row.unit),
         a_unit(ours),
-        a_unit(theirs)
+        a_unit(theirs),
+        if row.limit.is_some_and(|limit| ratio > limit) { "over" } else { "" },
     ))
 }

@@ -2,6 +2,7 @@
 //! and the edited list. The values of a plan are found by their number, and where a reading is refused, it is told at which node and why.
 //! Tools work on the sheet itself: [`Sheet::numbered`] writes it with one numbering, [`Sheet::join`] makes one of two,
 //! [`Sheet::growth`] says how much longer its list can get. [`Sheet::accepts`] judges a new plan that was made elsewhere.
+//! [`json`] turns values into JSON and back.
 //!
 //! The work is done by an archive that is proved to follow the definitions of sheets, whose manual is `docs/SHEETS.md`; this crate lends it
 //! its buffers and turns its answers into Rust. Five laws are proved of those answers:
@@ -55,6 +56,7 @@
 mod checker;
 mod growth;
 mod join;
+pub mod json;
 mod numbering;
 mod plan;
 pub mod raw;

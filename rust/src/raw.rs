@@ -8,6 +8,10 @@ pub const GET_OUT: usize = 256;
 pub const PUT_OUT: usize = 4096;
 /// Bytes of output that a tool asks for that writes a sheet.
 pub const SHEET_OUT: usize = 2048;
+/// Bytes of output that a value asks for that is written as JSON.
+pub const JSON_OUT: usize = 2048;
+/// Bytes of output that a text asks for that is read as a value.
+pub const VALUE_OUT: usize = 256;
 /// Bytes of scratch that get and put ask for, those that tell why they refuse, and the checker of plans.
 pub const SCRATCH: usize = 65_536;
 /// The most values of a plan: starts are an array of so many numbers.
@@ -185,6 +189,10 @@ mod archive {
         ) -> u64;
 
         pub fn lens_growth(sheet: *const u8, sheet_len: usize, variable: usize) -> u64;
+
+        pub fn lens_to_json(value: *const u8, value_len: usize, out: *mut u8, out_len: usize) -> u64;
+
+        pub fn lens_from_json(text: *const u8, text_len: usize, out: *mut u8, out_len: usize) -> u64;
 
         pub fn lens_check_plan(
             sheet: *const u8,
@@ -393,4 +401,16 @@ pub fn check_plan(sheet: &[u8], old: &[u8], view: &[u8], new: &[u8], allowance: 
             scratch.len(),
         )
     })
+}
+
+/// Writes a value as JSON into `out`.
+pub fn to_json(value: &[u8], out: &mut [u8]) -> Answer {
+    // Safety: as in `get`.
+    Answer(unsafe { archive::lens_to_json(value.as_ptr(), value.len(), out.as_mut_ptr(), out.len()) })
+}
+
+/// Reads a value from JSON into `out`.
+pub fn from_json(text: &[u8], out: &mut [u8]) -> Answer {
+    // Safety: as in `get`.
+    Answer(unsafe { archive::lens_from_json(text.as_ptr(), text.len(), out.as_mut_ptr(), out.len()) })
 }

@@ -52,7 +52,7 @@ macro_rules! refusals {
 
 refusals! {
     // make-tables: refusals
-    1 OUTPUT_SMALL "the output lent is under 256 bytes for a list, 4,096 for a plan, or 2,048 for a sheet: lend a larger one"
+    1 OUTPUT_SMALL "the output lent is under 256 bytes for a list or a value, 4,096 for a plan, or 2,048 for a sheet or JSON: lend a larger one"
     2 SCRATCH_SMALL "the scratch lent is under 65,536 bytes: lend more"
     3 ALLOWANCE_RANGE "the allowance is 0 or over 1,000,000: allow 1 to 1,000,000 steps"
     10 SHEET_KIND "a record of the sheet has an unknown kind or stands out of its place: send one 01, then the 20s, then the nodes"
@@ -65,9 +65,9 @@ refusals! {
     22 PLAN_COUNT "the plan has too few values, or bytes behind them: send as many values as the sheet's k says, and nothing else"
     23 VARIABLE "the variable's number is not below the count of the starts, or the sheet's k: ask for one that the plan has"
     24 STARTS "the starts are not 1 to 16 numbers that rise from 0, all below the plan's length: load the plan anew"
-    30 VIEW_MALFORMED "the list sent back is cut or malformed: send it whole, with known kinds, a list as every rest, and an 06 only over 65,535"
-    31 VIEW_LONG "the list sent back has over 256 bytes: make it shorter"
-    32 VIEW_COUNT "the list sent back is not exactly one value: send one, with nothing behind it"
+    30 VIEW_MALFORMED "the list sent back, or the value for JSON, is cut or malformed: send it whole, with known kinds, a list as every rest, and an 06 only over 65,535"
+    31 VIEW_LONG "the list sent back, or the value for JSON, has over 256 bytes: make it shorter"
+    32 VIEW_COUNT "the list sent back, or the value for JSON, is not exactly one value: send one, with nothing behind it"
     40 DEPTH "the walk goes deeper than 48 nodes: shorten the list, or nest the sheet less"
     41 SPENT "the allowance is spent before the walk ends: allow more steps"
     42 SCOPE "the sheet names a variable that is not in scope: correct the sheet"
@@ -80,6 +80,9 @@ refusals! {
     52 VIEW_BELOW "a number of the list sent back is below the amount that the sheet adds: raise it to that amount or more"
     53 NO_BRANCH "the list sent back passes the test of neither branch of a case: undo that edit, or give the sheet a test that allows it"
     54 CLASH "two places of the list sent back that come from one variable differ: edit both alike"
+    70 JSON_MALFORMED "the text is not JSON for a value, or a number in it is over 4,294,967,295: send false, true, plain numbers, arrays, objects of a, then b"
+    71 JSON_DEPTH "arrays and objects nest 49 deep: nest them at most 48 deep"
+    72 JSON_LONG "the value of the text has over 256 bytes: make it shorter"
     81 NODE_TWICE "a node of the sheet is used twice as a child or a root: give each use a node of its own"
     83 SHEETS_DIFFER "the two sheets have another k: join sheets of one plan"
     84 JOIN_FULL "both sheets together, with the pair, have over 200 nodes or 8 sections: make one of them smaller"

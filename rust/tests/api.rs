@@ -31,7 +31,10 @@ fn a_refusal_is_an_error_with_a_sentence() {
         Ok(())
     }
     let error = run().unwrap_err();
-    assert_eq!(error.to_string(), "the list sent back is not exactly one value: send one, with nothing behind it (refusal 32)");
+    assert_eq!(
+        error.to_string(),
+        "the list sent back, or the value for JSON, is not exactly one value: send one, with nothing behind it (refusal 32)"
+    );
     for refusal in Refusal::ALL {
         assert!(refusal.to_string().contains(": ") && refusal.name() != "UNKNOWN", "{refusal:?}");
     }

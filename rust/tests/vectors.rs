@@ -2,7 +2,7 @@
 //! prints. `LENS_VECTORS` names a file for document 01's program, `LENS_TOOL_VECTORS` one for `tools` (`check_jobs` and `check_tools` have
 //! those that are taken where they are not set).
 
-use lens::{raw, NodeRefusal, Plan, Sheet, Starts};
+use lens::{json, raw, NodeRefusal, Plan, Sheet, Starts};
 use reference::answer;
 use reference::job::{self, Job};
 use reference::tool::{self, Given, Tool};
@@ -52,6 +52,8 @@ fn run_tool(tool: &Tool) -> Result<Given, NodeRefusal> {
         Tool::Check { sheet, old, view, new, allowance } => {
             Ok(Given::Verdict(Sheet::new(sheet).accepts(old, view, new, *allowance)?))
         }
+        Tool::ToJson { value } => Ok(Given::Text(json::write(value)?)),
+        Tool::FromJson { text } => Ok(Given::Bytes(json::read(text)?)),
         Tool::Join { first, second } => Ok(Given::Bytes(Sheet::new(first).join(Sheet::new(second))?)),
     }
 }

@@ -3,3 +3,4 @@ pub mod Turns
 pub mod Returns
 pub mod Writer
 pub mod WriterTurns
+pub mod Digits

@@ -2,7 +2,7 @@
 use made::Made;
 use report::byte;
 use report::bytes;
-use report::decimal;
+use report::place;
 use value::number as joined;
 use value::read_view;
 ghost use mathlib.Core.Path.{_≡_};
@@ -12,11 +12,20 @@ ghost use lib.ListN.{length, take, drop};
 ghost use Rattle.notation.specs.Grammar.{MOST, white, token, name, word, numeral, digits, value, members, object};
 ghost use Rattle.value.specs.Value.{encode, encodes};
 ghost use Rattle.json.specs.Writer.{Holds, HoldsScalar, HoldsList, HoldsTwo, Writes, WritesList, WritesTwo};
+ghost use Rattle.report.specs.Text.{decimalOf};
 ghost use Rattle.report.specs.Writing.{Wrote};
 ghost use Rattle.json.specs.Reader.{Skips, Passes, Gives};
 ghost use Rattle.json.specs.Turns.{Scalar};
 ghost use Rattle.notation.specs.Calls.{toJson, fromJson};
 ghost use Rattle.made.specs.Made.{Makes};
+
+/// The bytes of output that a text takes, and that a value takes.
+pub const TEXT: usize = 2_048;
+
+pub const VALUE: usize = 256;
+
+// How deep arrays and objects nest at most.
+const LEVELS: usize = 48;
 // What a reader or a writer within a call answers: the places behind what it read and behind what it wrote, or the number of a refusal.
 enum Step {
     Done(usize, usize),
@@ -298,17 +307,17 @@ fn object(s: &[u8], at: usize, levels: usize, out: &mut [u8], put: usize) -> Ste
 pub fn read(text: &[u8], out: &mut [u8]) -> Made
     ensures { λ r. ⌜ Makes (fromJson (now (text .entry)) (length (now (out .entry)))) r (now (out .entry)) (now (out .exit)) ⌝ }
 {
-    if out.len() < 256 {
+    if out.len() < VALUE {
         return Made::Refused(1);
     }
     let mut bytes = [0u8; 257];
-    match value(text, 0, 48, &mut bytes, 0) {
+    match value(text, 0, LEVELS, &mut bytes, 0) {
         Step::Refused(code) => Made::Refused(code),
         Step::Done(at, n) => {
             if skip(text, at) < text.len() {
                 return Made::Refused(70);
             }
-            if 256 < n {
+            if VALUE < n {
                 return Made::Refused(72);
             }
             copy(&bytes, n, out);
@@ -318,6 +327,28 @@ pub fn read(text: &[u8], out: &mut [u8]) -> Made
 }
 
 // WRITING
+
+// A number in decimal: its digits are set from the last to the first, and then written.
+fn decimal(text: &mut [u8], at: usize, n: usize) -> usize
+    requires { ⌜ n ≤ MOST ⌝ }
+    ensures { λ r. ⌜ Wrote (decimalOf n) at (now (text .entry)) (now (text .exit)) r ⌝ }
+{
+    let mut digits = [0u8; 10];
+    let mut m = n;
+    let mut i = 9;
+    while 9 < m {
+        digits[i] = 48 + (m % 10) as u8;
+        m = m / 10;
+        i -= 1;
+    }
+    digits[i] = 48 + m as u8;
+    let mut end = place(text, at);
+    while i < 10 {
+        end = byte(text, end, digits[i]);
+        i += 1;
+    }
+    end
+}
 
 // A value that is neither a list nor a pair, whose bytes stand at `at`.
 fn write_scalar(v: &[u8], at: usize, text: &mut [u8], put: usize) -> Step
@@ -413,15 +444,15 @@ fn write_object(v: &[u8], at: usize, levels: usize, text: &mut [u8], put: usize)
 pub fn write(v: &[u8], out: &mut [u8]) -> Made
     ensures { λ r. ⌜ Makes (toJson (now (v .entry)) (length (now (out .entry)))) r (now (out .entry)) (now (out .exit)) ⌝ }
 {
-    if out.len() < 2048 {
+    if out.len() < TEXT {
         return Made::Refused(1);
     }
     let code = read_view(v);
     if code != 0 {
         return Made::Refused(code);
     }
-    let mut text = [0u8; 2048];
-    match write_value(v, 0, 48, &mut text, 0) {
+    let mut text = [0u8; TEXT];
+    match write_value(v, 0, LEVELS, &mut text, 0) {
         Step::Refused(code) => Made::Refused(code),
         Step::Done(_, n) => {
             copy(&text, n, out);

@@ -6,6 +6,7 @@ mod lookups;
 mod packing;
 mod plans;
 mod sheets;
+mod texts;
 mod whys;
 
 pub use answers::lens_get;
@@ -18,5 +19,7 @@ pub use lookups::lens_load;
 pub use plans::lens_check_plan;
 pub use sheets::lens_join;
 pub use sheets::lens_number;
+pub use texts::lens_from_json;
+pub use texts::lens_to_json;
 pub use whys::lens_why_get;
 pub use whys::lens_why_put;

@@ -14,6 +14,7 @@ use Rattle.letters.specs.LookupLaws.{fits-refusal, fits-load, fits-value
 use Rattle.letters.specs.Sheets.{numberLine, joinLine}
 use Rattle.letters.specs.SheetLaws.{fits-number, fits-join}
 use Rattle.letters.specs.Growths.{growthLine, fits-growth}
+use Rattle.letters.specs.Texts.{textLine, parsedLine, fits-text, fits-parsed}
 
 unfoldable pub letterLine : List ℕ → List ℕ
 letterLine bs =
@@ -23,7 +24,9 @@ letterLine bs =
     (cond (eqb letter 0x4E) (numberLine bs)
     (cond (eqb letter 0x4A) (joinLine bs)
     (cond (eqb letter 0x52) (growthLine bs)
-    (refusalLine 60)))))
+    (cond (eqb letter 0x44) (textLine bs)
+    (cond (eqb letter 0x45) (parsedLine bs)
+    (refusalLine 60)))))))
 
 -- a row and those below it
 one-fits : (p : Bool) (x y : List ℕ) → length x ≤ 16378 → length y ≤ 16378 → length (cond p x y) ≤ 16378
@@ -37,7 +40,9 @@ letter-fits bs h = let c = getD bs 0 0 in one-fits (eqb c 0x4C) _ _ (fits-load b
     (one-fits (eqb c 0x4E) _ _ (fits-number bs)
     (one-fits (eqb c 0x4A) _ _ (fits-join bs)
     (one-fits (eqb c 0x52) _ _ (fits-growth bs)
-    (fits-refusal 60 (omega arith))))))
+    (one-fits (eqb c 0x44) _ _ (fits-text bs)
+    (one-fits (eqb c 0x45) _ _ (fits-parsed bs)
+    (fits-refusal 60 (omega arith))))))))
 
 -- WHAT SHOWS IT OF THE CODE: a law for each row
 
@@ -62,6 +67,24 @@ module _ (bs : List ℕ) {letter : ℕ} (e : letter ≡ getD bs 0 0) where
   unfolding letterLine
   letter-R q = sym (rw (sym e ∙ q))
 
-  pub letter-none : (letter ≡ 0x4C → ⊥) → (letter ≡ 0x56 → ⊥) → (letter ≡ 0x4E → ⊥) → (letter ≡ 0x4A → ⊥) → (letter ≡ 0x52 → ⊥) → refusalLine 60 ≡ letterLine bs
+  pub letter-D : letter ≡ 0x44 → textLine bs ≡ letterLine bs
   unfolding letterLine
-  letter-none l v n j r = sym (rw (← e, ne-eqb letter 0x4C l, ne-eqb letter 0x56 v, ne-eqb letter 0x4E n, ne-eqb letter 0x4A j, ne-eqb letter 0x52 r))
+  letter-D q = sym (rw (sym e ∙ q))
+
+  pub letter-E : letter ≡ 0x45 → parsedLine bs ≡ letterLine bs
+  unfolding letterLine
+  letter-E q = sym (rw (sym e ∙ q))
+
+  pub letter-none : (letter ≡ 0x4C → ⊥) → (letter ≡ 0x56 → ⊥) → (letter ≡ 0x4E → ⊥) → (letter ≡ 0x4A → ⊥) → (letter ≡ 0x52 → ⊥)
+      → (letter ≡ 0x44 → ⊥) → (letter ≡ 0x45 → ⊥) → refusalLine 60 ≡ letterLine bs
+  unfolding letterLine
+  letter-none l v n j r d p = sym (rw (
+    ← e,
+    ne-eqb letter 0x4C l,
+    ne-eqb letter 0x56 v,
+    ne-eqb letter 0x4E n,
+    ne-eqb letter 0x4A j,
+    ne-eqb letter 0x52 r,
+    ne-eqb letter 0x44 d,
+    ne-eqb letter 0x45 p,
+  ))

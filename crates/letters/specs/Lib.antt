@@ -6,4 +6,5 @@ pub mod Making
 pub mod Sheets
 pub mod SheetLaws
 pub mod Growths
+pub mod Texts
 pub mod Letters

@@ -6,6 +6,7 @@ mod growths;
 mod lines;
 mod lookups;
 mod sheets;
+mod texts;
 
 /// The line for an input by its letter; 60 where it is none of these.
 pub fn line(input: &[u8], text: &mut [u8]) -> usize
@@ -18,6 +19,8 @@ pub fn line(input: &[u8], text: &mut [u8]) -> usize
         0x4E => sheets::number_line(input, text),
         0x4A => sheets::join_line(input, text),
         0x52 => growths::growth_line(input, text),
+        0x44 => texts::text_line(input, text),
+        0x45 => texts::parsed_line(input, text),
         _ => report::refusal(text, 0, 60),
     }
 }

@@ -101,7 +101,7 @@ white-no-digit b e true f = let z : true ≡ false = sym e ∙ black b (omega (a
 white-no-digit b e false f = refl
 
 -- what a byte begins
-data Starts : ℕ → Start → Type 0 where
+pub data Starts : ℕ → Start → Type 0 where
   isFalse : {b : ℕ} → b ≡ 0x66 → Starts b startFalse
   isTrue : {b : ℕ} → b ≡ 0x74 → Starts b startTrue
   isArray : {b : ℕ} → b ≡ 0x5B → Starts b startArray
@@ -109,7 +109,7 @@ data Starts : ℕ → Start → Type 0 where
   isNumber : {b : ℕ} → isDigit b ≡ true → Starts b startNumber
   isNone : {b : ℕ} → Starts b noStart
 
-starts : (b : ℕ) → Starts b (startOf b)
+pub starts : (b : ℕ) → Starts b (startOf b)
 unfolding startOf
 starts b = t1 (eqb b 0x66) refl
   where

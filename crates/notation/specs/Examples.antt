@@ -1,5 +1,5 @@
--- Texts and values, computed: `{"a": 7,"b":[true]}`, `65535`, `65536`, `01`, white space, the 49th `[`, a `{` in its place,
--- and a value written.
+-- Texts and values, computed: `{"a": 7,"b":[true]}`, `65535`, `65536`, `01`, white space, an array, 48 levels, a fault in front
+-- of the 49th, the 49th `[`, a `{` in its place, and a value written.
 use mathlib.Core.Path.{_≡_, refl}
 use mathlib.Core.List.{[], _∷_, _++_}
 use lib.ListN.{replicate}
@@ -59,6 +59,24 @@ reads-white = refl
 vertical-tab : readJson (0x0B ∷ 0x37 ∷ []) ≡ refusal 70
 unfolding readJson run ends judge take skip found begin startOf isDigit white unless andThen
 vertical-tab = refl
+
+form-feed : readJson (0x0C ∷ 0x37 ∷ []) ≡ refusal 70
+unfolding readJson run ends judge take skip found begin startOf isDigit white unless andThen
+form-feed = refl
+
+-- the members of an array stay in their order, and white space may stand before a comma
+reads-array : readJson (0x5B ∷ 0x74 ∷ 0x72 ∷ 0x75 ∷ 0x65 ∷ 0x20 ∷ 0x2C ∷ 0x37 ∷ 0x5D ∷ []) ≡ ok (list (cons vtrue (cons (number 7) nil)))
+unfolding readJson run ends judge take skip orDigit orComma orMember found begin startOf isDigit white numeral member rue word unless andThen size sizes
+reads-array = refl
+
+level-48 : fromJson (replicate 48 0x5B ++ replicate 48 0x5D) 256 ≡ ok (replicate 47 3 ++ replicate 48 2)
+unfolding fromJson readJson run ends judge take skip orComma orMember found begin startOf isDigit white mapResult unless andThen encode encodes size sizes
+level-48 = refl
+
+-- an `x` for the `"` of a name, and behind it a `[` that would be the 49th level: the `x` is judged
+fault-first : readJson (replicate 47 0x5B ++ 0x7B ∷ 0x78 ∷ 0x61 ∷ 0x22 ∷ 0x3A ∷ 0x5B ∷ []) ≡ refusal 70
+unfolding readJson run ends judge take skip orMember found begin startOf isDigit white object named name word unless andThen
+fault-first = refl
 
 level-49 : readJson (replicate 49 0x5B) ≡ refusal 71
 unfolding readJson run ends judge take skip orMember found begin startOf isDigit white unless andThen

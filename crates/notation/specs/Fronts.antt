@@ -59,7 +59,7 @@ behind (b ∷ bs) w = judge b (behind bs) (white b) w
 -- HOWEVER THE TEXT GOES ON
 
 -- one byte, where what is read behind it is known to go on by g
-module _ (b : ℕ) (first : Awaits → Result Awaits) (all g : Awaits → Result Value) (h : (w : Awaits) → all w ≡ andThen (first w) g) where
+module _ {A : Type 0} (b : ℕ) (first : Awaits → Result Awaits) (all g : Awaits → Result A) (h : (w : Awaits) → all w ≡ andThen (first w) g) where
   begin-on : (l : ℕ) (k : Value → Awaits) (s : Start) → begin b all l k s ≡ andThen (begin b first l k s) g
   unfolding begin andThen
   begin-on l k startFalse = h (word alse (k vfalse))
@@ -86,7 +86,7 @@ module _ (b : ℕ) (first : Awaits → Result Awaits) (all g : Awaits → Result
   comma-on true l k = h (k nil)
   comma-on false l k = found-on (eqb b 0x2C) (member l k)
 
-  digit-on : (d : Bool) (n : ℕ) (k : Value → Awaits) {x : Result Value} (y : Result Awaits) → x ≡ andThen y g
+  digit-on : (d : Bool) (n : ℕ) (k : Value → Awaits) {x : Result A} (y : Result Awaits) → x ≡ andThen y g
       → orDigit b all d n k x ≡ andThen (orDigit b first d n k y) g
   unfolding orDigit
   digit-on true n k y e = found-on (follows n b) (digits (10 * n + (b - 48)) k)
@@ -121,6 +121,11 @@ pub run-front : (s t : List ℕ) (w : Awaits) → run (s ++ t) w ≡ andThen (be
 unfolding run behind andThen
 run-front [] t w = refl
 run-front (b ∷ s) t w = judge-on b (behind s) (run (s ++ t)) (run t) (λ w. run-front s t w) (white b) w
+
+pub behind-front : (s t : List ℕ) (w : Awaits) → behind (s ++ t) w ≡ andThen (behind s w) (behind t)
+unfolding behind andThen
+behind-front [] t w = refl
+behind-front (b ∷ s) t w = judge-on b (behind s) (behind (s ++ t)) (behind t) (λ w. behind-front s t w) (white b) w
 
 -- a refusal that a front shows is that of every text with this front
 pub refused-early : (s : List ℕ) (w : Awaits) {c : ℕ} → behind s w ≡ refusal c → (t : List ℕ) → run (s ++ t) w ≡ refusal c

@@ -10,6 +10,7 @@ use lib.Dec.{leb}
 use lib.ListN.{length, getD}
 use Rattle.value.specs.All.{All, none, each}
 use Rattle.value.specs.Value.{Value, vfalse, Fits, encode, size, flat}
+use Rattle.value.specs.Encoding.{size-encode}
 use Rattle.value.specs.Reading.{readView}
 use Rattle.value.specs.Laws.{Readable, ReadAs, readValues-sound, readValues-back}
 use Rattle.value.specs.Result.{Result, ok, refusal, andThen, mapResult, unless}
@@ -149,3 +150,15 @@ read-back s room {bytes} e more h = go (readJson s) refl (q .1)
 -- EXACTLY THE TEXTS OF A VALUE of at most 256 bytes are read as its bytes
 pub from-text : {v : Value} {s : List ℕ} → Whole v s → Fits v → (room : ℕ) → VALUE-ROOM ≤ room → fromJson s room ≡ ok (encode v)
 from-text {s} w f room h = from-json s (read-text w f) room h
+
+-- a value that is read has at most 256 bytes
+pub from-short : (s : List ℕ) (room : ℕ) {bytes : List ℕ} → fromJson s room ≡ ok bytes → length bytes ≤ 256
+unfolding fromJson mapResult
+from-short s room {bytes} e = go (readJson s) refl (unless-ok 1 (leb VALUE-ROOM room) (mapResult encode (readJson s)) e .1)
+  where
+    go : (x : Result Value) → readJson s ≡ x → mapResult encode x ≡ ok bytes → length bytes ≤ 256
+    go (ok v) f g =
+        let z : encode v ≡ bytes = cc in
+        let w = read-writable s f in
+        rw (← z) (omega (arith, size-encode v, w .readable .fits))
+    go (refusal c) f g = no-refusal g

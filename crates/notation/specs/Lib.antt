@@ -8,3 +8,5 @@ pub mod Written
 pub mod Derives
 pub mod Laws
 pub mod Fronts
+pub mod Numbers
+pub mod Deep

@@ -1,13 +1,14 @@
 //! Document 01, "House sheets, plans and venue lists", in plain safe Rust, with requests 1 (the node 1C), 2 (the
 //! starts of a plan's values), 4 (numbers over 65,535: the kind of value 06 and the node 1D), 5 (defaults of a list case that take
 //! after the list sent), 7 (two sheets joined), 8 (which variables a put wrote), 9 (why a call is refused), 10 (plans made by a
-//! venue's own system), 12 (one numbering for a sheet file) and 14 (how much longer the list can get) of document 02, "Requests after the base version".
+//! venue's own system), 11 (lists as JSON), 12 (one numbering for a sheet file) and 14 (how much longer the list can get) of document 02,
+//! "Requests after the base version".
 //!
 //! It was written from the papers and shares no line with the Rattle code, so that where the two agree on a job, two readings of the
 //! papers agree. Its tests and the benchmark's baseline are its only uses: programs use the crate `lens`.
 //!
-//! [`get`], [`put`], [`load`], [`put_starts`], [`put_written`] and the tools ([`number`], [`join`], [`growth`], [`check_plan`]) work in the
-//! caller's buffers exactly as the archive's functions do, and answer in the same form, which [`answer`] takes apart.
+//! [`get`], [`put`], [`load`], [`put_starts`], [`put_written`] and the tools ([`number`], [`join`], [`growth`], [`check_plan`],
+//! [`to_json`], [`from_json`]) work in the caller's buffers exactly as the archive's functions do, and answer in the same form, which [`answer`] takes apart.
 
 #![forbid(unsafe_code)]
 
@@ -16,6 +17,7 @@ mod checker;
 mod growth;
 pub mod job;
 mod join;
+mod json;
 mod numbering;
 mod plan;
 mod record;
@@ -29,6 +31,7 @@ pub mod why;
 pub use checker::check_plan;
 pub use growth::growth;
 pub use join::join;
+pub use json::{from_json, to_json};
 pub use numbering::number;
 pub use plan::{find, from_front, part};
 
@@ -44,6 +47,10 @@ pub const GET_OUT: usize = 256;
 pub const PUT_OUT: usize = 4096;
 /// Bytes of output that a tool asks for that writes a sheet.
 pub const SHEET_OUT: usize = 2048;
+/// Bytes of output that a value asks for that is written as JSON.
+pub const JSON_OUT: usize = 2048;
+/// Bytes of output that a text asks for that is read as a value.
+pub const VALUE_OUT: usize = 256;
 /// Bytes of scratch that get and put ask for, and the checker of plans.
 pub const SCRATCH: usize = 65_536;
 /// The largest allowance.

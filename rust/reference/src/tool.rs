@@ -4,7 +4,7 @@ use crate::answer::{taken, unpacked, NodeRefusal};
 use crate::job::{counted, Job, LONGEST_INPUT};
 use crate::vectors::hex;
 use crate::why::Explanation;
-use crate::{Refusal, PUT_OUT, SCRATCH, SHEET_OUT, STARTS_MAX};
+use crate::{Refusal, JSON_OUT, PUT_OUT, SCRATCH, SHEET_OUT, STARTS_MAX, VALUE_OUT};
 
 /// One call.
 #[derive(Clone, Debug, PartialEq, Eq)]
@@ -25,6 +25,10 @@ pub enum Tool {
     Growth { sheet: Vec<u8>, variable: usize },
     /// 43: whether a new plan is one that the list may have made of the old one.
     Check { sheet: Vec<u8>, old: Vec<u8>, view: Vec<u8>, new: Vec<u8>, allowance: u32 },
+    /// 44: a value written as JSON.
+    ToJson { value: Vec<u8> },
+    /// 45: a value read from JSON.
+    FromJson { text: Vec<u8> },
 }
 
 /// What a call gives.
@@ -46,6 +50,7 @@ pub enum Given {
     Why(Result<(), Explanation>),
     Growth(usize),
     Verdict(bool),
+    Text(String),
 }
 
 impl Tool {
@@ -84,6 +89,8 @@ impl Tool {
                 let (&variable, sheet) = fields.split_first()?;
                 Some(Tool::Growth { sheet: sheet.to_vec(), variable: variable.into() })
             }
+            0x44 => Some(Tool::ToJson { value: fields.to_vec() }),
+            0x45 => Some(Tool::FromJson { text: fields.to_vec() }),
             0x43 => {
                 let Job { sheet, plan, view, allowance } = Job::put(fields)?;
                 let fields = view?;
@@ -137,6 +144,16 @@ impl Tool {
                 let answer = crate::check_plan(sheet, old, view, new, *allowance, &mut [0; SCRATCH]);
                 Ok(Given::Verdict(unpacked(answer)? == 1))
             }
+            Tool::ToJson { value } => {
+                let mut out = [0; JSON_OUT];
+                let length = unpacked(crate::to_json(value, &mut out))?;
+                Ok(Given::Text(out[..length].iter().copied().map(char::from).collect()))
+            }
+            Tool::FromJson { text } => {
+                let mut out = [0; VALUE_OUT];
+                let length = unpacked(crate::from_json(text, &mut out))?;
+                Ok(Given::Bytes(out[..length].to_vec()))
+            }
             Tool::Growth { sheet, variable } => Ok(Given::Growth(unpacked(crate::growth(sheet, *variable))?)),
         }
     }
@@ -151,6 +168,7 @@ pub fn printed(input: &[u8], run: impl Fn(&Tool) -> Result<Given, NodeRefusal>) 
         Ok(Given::Written { steps, plan, written }) => format!("ok {steps} {} {written:04X}", hex(&plan)),
         Ok(Given::Growth(growth)) => format!("ok {growth}"),
         Ok(Given::Verdict(yes)) => format!("ok {}", if yes { "yes" } else { "no" }),
+        Ok(Given::Text(text)) => format!("ok {text}"),
         Ok(Given::Why(Ok(()))) => "ok".to_string(),
         Ok(Given::Why(Err(explanation))) => explanation.line(),
         Err(NodeRefusal { refusal, node: None }) => format!("no {refusal}"),

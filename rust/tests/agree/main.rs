@@ -9,6 +9,7 @@ mod checker;
 mod edges;
 mod growth;
 mod join;
+mod json;
 mod lookups;
 mod numbering;
 mod random;

@@ -16,9 +16,22 @@ fn lent() -> Lent {
     Lent { out: vec![0; raw::PUT_OUT], scratch: vec![0; raw::SCRATCH], starts: [0; raw::STARTS_MAX] }
 }
 
-/// Loads the job's plan, asks why the job is refused and does it, a put alone, with starts, and with starts and bits; gives the answer of the
-/// put alone.
+/// The tools that take no job: the sheet numbered, joined with itself and asked for its growth, its plan judged, and lists 48 deep as JSON.
+fn run_tools(job: &Job, lent: &mut Lent) {
+    let Lent { out, scratch, .. } = lent;
+    raw::number(&job.sheet, out);
+    raw::join(&job.sheet, &job.sheet, out);
+    raw::growth(&job.sheet, 0);
+    raw::check_plan(&job.sheet, &job.plan, job.view.as_ref().unwrap_or(&job.plan), &job.plan, job.allowance, scratch);
+    raw::to_json(&[[3; 47].as_slice(), &[2; 48]].concat(), out);
+    raw::from_json(&[[b'['; 48], [b']'; 48]].concat(), out);
+    out.fill(0);
+}
+
+/// Runs the tools, loads the job's plan, asks why the job is refused and does it, a put alone, with starts, and with starts and bits; gives the
+/// answer of the put alone.
 fn run(job: &Job, lent: &mut Lent) -> u64 {
+    run_tools(job, lent);
     let Lent { out, scratch, starts } = lent;
     raw::load(&job.sheet, &job.plan, starts);
     let chain = &mut [0; raw::CHAIN_MAX];

@@ -1,7 +1,7 @@
 -- `line` meets its contract: a case for each letter. Assumes nothing.
 use borrow.Author.Needs.{needs}
 use Rattle.report.specs.Writing.{wrote-text}
-use Rattle.letters.specs.Letters.{letter-L, letter-V, letter-N, letter-J, letter-R, letter-none}
+use Rattle.letters.specs.Letters.{letter-L, letter-V, letter-N, letter-J, letter-R, letter-D, letter-E, letter-none}
 use Rattle.letters.proofs.line.Statement.{statement}
 use Rattle.letters.proofs.line.Tie as tie
 
@@ -39,11 +39,24 @@ returns-6 : tie.Need-returns-6
 returns-6 c =
     let said = c .before .before in
     let told = said .before .before in
+    wrote-text (said .text-line .ensures) (letter-D _ (told .before .byte-at .ensures) (told .match .keys6))
+
+returns-7 : tie.Need-returns-7
+returns-7 c =
+    let said = c .before .before in
+    let told = said .before .before in
+    wrote-text (said .parsed-line .ensures) (letter-E _ (told .before .byte-at .ensures) (told .match .keys7))
+
+returns-8 : tie.Need-returns-8
+returns-8 c =
+    let said = c .before .before in
+    let told = said .before .before in
     let other = told .match .rest in
     wrote-text (said .refusal .ensures)
-    (letter-none _ (told .before .byte-at .ensures) (other .0 .0 .0 .0 .1) (other .0 .0 .0 .1) (other .0 .0 .1) (other .0 .1) (other .1))
+    (letter-none _ (told .before .byte-at .ensures) (other .0 .0 .0 .0 .0 .0 .1) (other .0 .0 .0 .0 .0 .1) (other .0 .0 .0 .0 .1) (other .0 .0 .0 .1) (other .0 .0 .1) (other .0 .1) (other .1))
 
 pub line-spec : {M : Type 1} → statement M
 line-spec = tie.close (tie.spec (λ c κs. search needs) (λ c κs. search needs) (λ c κs. search needs) (λ c κs. search needs)
-    (λ c κs. search needs) (λ c κs. search needs) (λ c κs. search needs) (λ c. search needs) returns (λ c. search needs) returns-2
-    (λ c. search needs) returns-3 (λ c. search needs) returns-4 (λ c. search needs) returns-5 (λ c. search needs) returns-6)
+    (λ c κs. search needs) (λ c κs. search needs) (λ c κs. search needs) (λ c κs. search needs) (λ c κs. search needs) (λ c. search needs)
+    returns (λ c. search needs) returns-2 (λ c. search needs) returns-3 (λ c. search needs) returns-4 (λ c. search needs) returns-5
+    (λ c. search needs) returns-6 (λ c. search needs) returns-7 (λ c. search needs) returns-8)
