@@ -3,6 +3,7 @@ use mathlib.Core.Path.{_≡_, refl, ap, _∙_}
 use mathlib.Core.List.{List, _++_}
 use Prim.Native.Nat.{ℕ, _+_, _*_, _/_, _%_, _≤_}
 use lib.ListN.{length, drop}
+use Rattle.rules.specs.Numbers.{CHAIN-MAX}
 use Rattle.rules.specs.Explanation.{Explanation, success, before, walked, whyGet, whyPut}
 use Rattle.starts.specs.Starts.{firsts}
 use Rattle.calls.specs.declared.why.Explanation.{Explanation as Told}
@@ -39,7 +40,7 @@ told-over : (e : Explanation) → Proper e → (c : List ℕ) → nodesOver (tol
 unfolding toldAs unmet chainOver
 told-over success p c = refl
 told-over (before n) p c = refl
-told-over (walked y) p c = ap (λ (l : List ℕ). l ++ drop (length (y .chain)) c) (firsts-back 49 (y .chain) (p .1 .1))
+told-over (walked y) p c = ap (λ (l : List ℕ). l ++ drop (length (y .chain)) c) (firsts-back CHAIN-MAX (y .chain) (p .1 .1))
 
 why-handed : {e : Explanation} {w : Told} {s s′ : List ℕ} → Proper e → WhyAnswered e w s s′ → (c : List ℕ) {c′ : List ℕ} {r : ℕ}
     → WhyPacked (w .refusal) (w .depth) (w .first) r × (c′ ≡ nodesOver w c) → WhyHanded e r s s′ c c′
@@ -51,7 +52,7 @@ why-handed {e} p h c (q, n) = record {
 
 module _ (sheet plan : List ℕ) (a k : ℕ) {w : Told} {s s′ : List ℕ} where
   module _ (h : WhyAnswered (whyGet sheet plan a k) w s s′) where
-    pub get-few : w .depth ≤ 49
+    pub get-few : w .depth ≤ CHAIN-MAX
     get-few = why-few (why-get-proper sheet plan a k) h
 
     pub get-handed : (c : List ℕ) {c′ : List ℕ} {r : ℕ} → WhyPacked (w .refusal) (w .depth) (w .first) r × (c′ ≡ nodesOver w c)
@@ -59,7 +60,7 @@ module _ (sheet plan : List ℕ) (a k : ℕ) {w : Told} {s s′ : List ℕ} wher
     get-handed = why-handed (why-get-proper sheet plan a k) h
 
   module _ (view : List ℕ) (h : WhyAnswered (whyPut sheet plan view a k) w s s′) where
-    pub put-few : w .depth ≤ 49
+    pub put-few : w .depth ≤ CHAIN-MAX
     put-few = why-few (why-put-proper sheet plan view a k) h
 
     pub put-handed : (c : List ℕ) {c′ : List ℕ} {r : ℕ} → WhyPacked (w .refusal) (w .depth) (w .first) r × (c′ ≡ nodesOver w c)

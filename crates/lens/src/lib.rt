@@ -1,5 +1,5 @@
-//! The archive: every function for other languages. A slice is a pointer and a length, 16 starts, 49 nodes and a number of bits are pointers,
-//! and the answer is one number.
+//! The archive: every function for other languages. A slice is a pointer and a length, 16 starts, the nodes of a chain and a number of bits are
+//! pointers, and the answer is one number.
 mod answers;
 mod growths;
 mod lookups;

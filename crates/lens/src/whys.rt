@@ -2,6 +2,7 @@
 ghost use mathlib.Core.Path.{_≡_};
 ghost use Prim.Native.Nat.{_≤_};
 ghost use lib.ListN.{length};
+ghost use Rattle.rules.specs.Numbers.{CHAIN-MAX};
 ghost use Rattle.rules.specs.Explanation.{whyGet, whyPut};
 ghost use Rattle.lens.specs.Whys.{WhyPacked, nodesOver, WhyHanded};
 use crate::packing::hand_nodes;
@@ -19,7 +20,7 @@ fn pack_why(refusal: u8, depth: u8, first: u16) -> u64
 
 // An explanation: in one number, and its nodes at the front of the caller's bytes.
 fn hand_why(why: Explanation, chain: &mut [u8]) -> u64
-    requires { ⌜ (why .depth ≤ 49) × (length (why .chain) ≡ 49) × (length (now chain) ≡ 49) ⌝ }
+    requires { ⌜ (why .depth ≤ CHAIN-MAX) × (length (why .chain) ≡ CHAIN-MAX) × (length (now chain) ≡ CHAIN-MAX) ⌝ }
     ensures { λ r. ⌜ WhyPacked (why .refusal) (why .depth) (why .first) r × (now (chain .exit) ≡ nodesOver why (now (chain .entry))) ⌝ }
 {
     let nodes = why.chain;
@@ -34,7 +35,7 @@ pub extern "C" fn lens_why_get(
     plan: &[u8],
     allowance: u32,
     scratch: &mut [u8],
-    chain: &mut [u8; 49],
+    chain: &mut [u8; rules::CHAIN_MAX],
 ) -> u64
     ensures { λ r. ⌜ WhyHanded (whyGet (now (sheet .entry)) (now (plan .entry)) allowance (length (now (scratch .entry)))) r (now (scratch .entry)) (now (scratch .exit)) (now (chain .entry)) (now (chain .exit)) ⌝ }
 {
@@ -50,7 +51,7 @@ pub extern "C" fn lens_why_put(
     view: &[u8],
     allowance: u32,
     scratch: &mut [u8],
-    chain: &mut [u8; 49],
+    chain: &mut [u8; rules::CHAIN_MAX],
 ) -> u64
     ensures { λ r. ⌜ WhyHanded (whyPut (now (sheet .entry)) (now (plan .entry)) (now (view .entry)) allowance (length (now (scratch .entry)))) r (now (scratch .entry)) (now (scratch .exit)) (now (chain .entry)) (now (chain .exit)) ⌝ }
 {

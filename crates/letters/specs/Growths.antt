@@ -10,6 +10,7 @@ use lib.ListN.{length, getD, drop, length-append}
 use Rattle.value.specs.Result.{Result, ok, refusal}
 use Rattle.report.specs.Text.{words, decimalOf, refusalLine, okLine}
 use Rattle.report.specs.TextLaws.{ok-length, decimal-length}
+use Rattle.words.specs.Numbers.{LINE}
 use Rattle.growth.specs.declared.Growing.{Growing}
 use Rattle.growth.specs.declared.Growing.the-variants.{Times, Refused}
 use Rattle.growth.specs.Growth.{growthOf}
@@ -33,18 +34,18 @@ growth-small : (s : List ℕ) (x : ℕ) → Small (growthOf s x)
 unfolding growthOf
 growth-small s x = small-then (small-sheet s) λ sh. small-unless 87 _ (omega arith) (small-unless 23 _ (omega arith) (small-unless 88 _ (omega arith) Small.done))
 
-fits-times : (s : List ℕ) (x : ℕ) (r : Result ℕ) → growthOf s x ≡ r → length (timesLine r) ≤ 16378
+fits-times : (s : List ℕ) (x : ℕ) (r : Result ℕ) → growthOf s x ≡ r → length (timesLine r) ≤ LINE
 unfolding timesLine words
 fits-times s x (ok r) e =
     let (sh, es, kinds, variable, is, few) = reported s x r e in
     simp (ok-length, length-append) (omega (arith, decimal-length r 2 (omega arith)))
 fits-times s x (refusal c) e = fits-refusal c (small-number (growth-small s x) c e)
 
-pub fits-growth : (bs : List ℕ) → length (growthLine bs) ≤ 16378
+pub fits-growth : (bs : List ℕ) → length (growthLine bs) ≤ LINE
 unfolding growthLine
 fits-growth bs = go (leb 2 (length bs))
   where
-    go : (p : Bool) → length (cond p (timesLine (growthOf (drop 2 bs) (getD bs 1 0))) (refusalLine 60)) ≤ 16378
+    go : (p : Bool) → length (cond p (timesLine (growthOf (drop 2 bs) (getD bs 1 0))) (refusalLine 60)) ≤ LINE
     go true = fits-times (drop 2 bs) (getD bs 1 0) _ refl
     go false = fits-refusal 60 (omega arith)
 

@@ -8,7 +8,7 @@ use borrow.Author.Tests.{ne-eqb}
 use lib.Dec.{eqb}
 use lib.ListN.{length, getD}
 use Rattle.report.specs.Text.{refusalLine}
-use Rattle.words.specs.Numbers.{INPUT}
+use Rattle.words.specs.Numbers.{INPUT, LINE}
 use Rattle.letters.specs.Lookups.{loadLine, valueLine}
 use Rattle.letters.specs.LookupLaws.{fits-refusal, fits-load, fits-value}
 use Rattle.letters.specs.Sheets.{numberLine, joinLine}
@@ -29,11 +29,11 @@ letterLine bs =
     (refusalLine 60)))))))
 
 -- a row and those below it
-one-fits : (p : Bool) (x y : List ℕ) → length x ≤ 16378 → length y ≤ 16378 → length (cond p x y) ≤ 16378
+one-fits : (p : Bool) (x y : List ℕ) → length x ≤ LINE → length y ≤ LINE → length (cond p x y) ≤ LINE
 one-fits true x y h k = h
 one-fits false x y h k = k
 
-pub letter-fits : (bs : List ℕ) → length bs ≤ INPUT → length (letterLine bs) ≤ 16378
+pub letter-fits : (bs : List ℕ) → length bs ≤ INPUT → length (letterLine bs) ≤ LINE
 unfolding letterLine
 letter-fits bs h = let c = getD bs 0 0 in one-fits (eqb c 0x4C) _ _ (fits-load bs h)
     (one-fits (eqb c 0x56) _ _ (fits-value bs h)

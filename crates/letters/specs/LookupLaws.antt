@@ -16,7 +16,7 @@ use Rattle.starts.specs.declared.Found.the-variants.{At, Refused}
 use Rattle.starts.specs.Starts.{loadOf, numbers, proper, standsAt, findOf, partOf}
 use Rattle.starts.specs.Lookup.{length-firsts, proper-is}
 use Rattle.starts.specs.StartsLaws.{load-few}
-use Rattle.words.specs.Numbers.{INPUT}
+use Rattle.words.specs.Numbers.{INPUT, LINE}
 use Rattle.words.specs.Format.{two, part}
 use Rattle.words.specs.Starts.{startsIn, kept, kept-all}
 use Rattle.letters.specs.Lookups.{loadedLine, loadLine, foundLine, valueLine}
@@ -24,7 +24,7 @@ use Rattle.letters.specs.LoadLaws.{load-small}
 
 -- HOW LONG A LINE IS
 
-pub fits-refusal : (c : ℕ) → c < 256 → length (refusalLine c) ≤ 16378
+pub fits-refusal : (c : ℕ) → c < 256 → length (refusalLine c) ≤ LINE
 fits-refusal c h = omega (arith, refusal-length c h)
 
 below-more : {m n : ℕ} {l : List ℕ} → m ≤ n → Below m l → Below n l
@@ -38,19 +38,19 @@ starts-length sheet plan h =
     let m = numbers-length 3 (below-more {m = length plan} (omega arith) (load-small sheet plan .below)) in
     omega (arith, m, length-firsts (s .count) (s .at), load-few sheet plan)
 
-fits-loaded : (sheet plan : List ℕ) → length plan ≤ INPUT → length (loadedLine (loadOf sheet plan)) ≤ 16378
+fits-loaded : (sheet plan : List ℕ) → length plan ≤ INPUT → length (loadedLine (loadOf sheet plan)) ≤ LINE
 unfolding loadedLine
 fits-loaded sheet plan h = go (eqb (loadOf sheet plan .refusal) 0)
   where
-    go : (p : Bool) → let l = loadOf sheet plan in length (cond p (okLine (map decimalOf (numbers (l .starts)))) (refusalLine (l .refusal))) ≤ 16378
+    go : (p : Bool) → let l = loadOf sheet plan in length (cond p (okLine (map decimalOf (numbers (l .starts)))) (refusalLine (l .refusal))) ≤ LINE
     go true = rw ok-length (omega (arith, starts-length sheet plan h))
     go false = fits-refusal (loadOf sheet plan .refusal) (load-small sheet plan .byte)
 
-pub fits-load : (bs : List ℕ) → length bs ≤ INPUT → length (loadLine bs) ≤ 16378
+pub fits-load : (bs : List ℕ) → length bs ≤ INPUT → length (loadLine bs) ≤ LINE
 unfolding loadLine
 fits-load bs h = go (leb (3 + two bs 1) (length bs))
   where
-    go : (p : Bool) → length (cond p (loadedLine (loadOf (part bs 3 (two bs 1)) (drop (3 + two bs 1) bs))) (refusalLine 60)) ≤ 16378
+    go : (p : Bool) → length (cond p (loadedLine (loadOf (part bs 3 (two bs 1)) (drop (3 + two bs 1) bs))) (refusalLine 60)) ≤ LINE
     go true = fits-loaded _ _ (rw length-drop (omega arith))
     go false = fits-refusal 60 (omega arith)
 
@@ -73,19 +73,19 @@ found-small s n i {c} e = go (proper s n) (ltb i (s .count)) e
     go false q f = let z : 24 ≡ c = cc in omega arith
 
 fits-found : (bs : List ℕ) → length bs ≤ INPUT → 3 + 2 * getD bs 2 0 ≤ length bs → (f : Found)
-    → findOf (startsIn bs) (length (drop (3 + 2 * getD bs 2 0) bs)) (getD bs 1 0) ≡ f → length (foundLine f (drop (3 + 2 * getD bs 2 0) bs)) ≤ 16378
+    → findOf (startsIn bs) (length (drop (3 + 2 * getD bs 2 0) bs)) (getD bs 1 0) ≡ f → length (foundLine f (drop (3 + 2 * getD bs 2 0) bs)) ≤ LINE
 unfolding foundLine partOf words startsIn
 fits-found bs h k (At a b) e =
     let m : 1 ≤ getD bs 2 0 = found-some (startsIn bs) _ _ e in
     simp (ok-length, length-append, hex-length, length-take, length-drop) (omega arith)
 fits-found bs h k (Refused c) e = fits-refusal c (found-small (startsIn bs) _ _ e)
 
-pub fits-value : (bs : List ℕ) → length bs ≤ INPUT → length (valueLine bs) ≤ 16378
+pub fits-value : (bs : List ℕ) → length bs ≤ INPUT → length (valueLine bs) ≤ LINE
 unfolding valueLine
 fits-value bs h = go (leb (3 + 2 * getD bs 2 0) (length bs)) refl
   where
     go : (p : Bool) → leb (3 + 2 * getD bs 2 0) (length bs) ≡ p → let plan = drop (3 + 2 * getD bs 2 0) bs in
-        length (cond p (foundLine (findOf (startsIn bs) (length plan) (getD bs 1 0)) plan) (refusalLine 60)) ≤ 16378
+        length (cond p (foundLine (findOf (startsIn bs) (length plan) (getD bs 1 0)) plan) (refusalLine 60)) ≤ LINE
     go true e = fits-found bs h (leb-true _ _ e) _ refl
     go false e = fits-refusal 60 (omega arith)
 

@@ -8,6 +8,7 @@ use lib.ListN.{length, take, length-append}
 use Rattle.value.specs.Result.{Result, ok, refusal}
 use Rattle.report.specs.Text.{hexOf, words, refusalLine, okLine}
 use Rattle.report.specs.TextLaws.{hex-length, ok-length}
+use Rattle.words.specs.Numbers.{LINE}
 use Rattle.made.specs.declared.Made.{Made}
 use Rattle.made.specs.declared.Made.the-variants.{Done, Refused}
 use Rattle.made.specs.Made.{made, written, Makes, done-front, refused-is}
@@ -30,7 +31,7 @@ word-length true bs = omega arith
 word-length false bs = omega (arith, hex-length bs)
 
 pub fits-made : (plain : Bool) (a : Result (List ℕ)) → ((bs : List ℕ) → a ≡ ok bs → length bs ≤ 2048) → ((c : ℕ) → a ≡ refusal c → c < 256)
-    → length (madeLine plain a) ≤ 16378
+    → length (madeLine plain a) ≤ LINE
 unfolding madeLine words
 fits-made plain (ok bs) h k = simp (ok-length, length-append) (omega (arith, word-length plain bs, h bs refl))
 fits-made plain (refusal c) h k = fits-refusal c (k c refl)

@@ -13,6 +13,7 @@ use Rattle.report.specs.TextLaws.{hex-length, ok-length, decimal-length}
 use Rattle.words.specs.Format.{two, part}
 use Rattle.words.specs.Answers.{noLine, nodeLine}
 use Rattle.value.specs.Result.{Result, ok, refusal}
+use Rattle.words.specs.Numbers.{LINE}
 use Rattle.sheet.specs.Sheet.{Sheet, readSheet}
 use Rattle.sheet.specs.Laws.{sheet-ranges}
 use Rattle.sheet.specs.Rows.{sheetWritten}
@@ -34,11 +35,11 @@ use Rattle.letters.specs.LookupLaws.{fits-refusal}
 
 -- HOW LONG A LINE IS
 
-fits-node : (c n : ℕ) → c < 256 → n < 200 → length (nodeLine c n) ≤ 16378
+fits-node : (c n : ℕ) → c < 256 → n < 200 → length (nodeLine c n) ≤ LINE
 unfolding nodeLine noLine words
 fits-node c n h k = simp length-append (omega (arith, decimal-length c 2 (omega arith), decimal-length n 2 (omega arith)))
 
-fits-part : (t : List ℕ) → length t ≤ 2048 → length (okLine (hexOf t ∷ [])) ≤ 16378
+fits-part : (t : List ℕ) → length t ≤ 2048 → length (okLine (hexOf t ∷ [])) ≤ LINE
 unfolding words
 fits-part t h = simp (ok-length, length-append, hex-length) (omega arith)
 
@@ -58,11 +59,11 @@ number-small s n {c} e = pass (leb 2048 n) e
     pass true e = go (readSheet s) refl e
     pass false e = let z : 1 ≡ c = cc in omega arith
 
-pub fits-number : (bs : List ℕ) → length (numberLine bs) ≤ 16378
+pub fits-number : (bs : List ℕ) → length (numberLine bs) ≤ LINE
 unfolding numberLine numberedLine
 fits-number bs = go (numberAnswer (drop 1 bs) 2048) refl
   where
-    go : (a : Answer) → numberAnswer (drop 1 bs) 2048 ≡ a → length (numberedLine a) ≤ 16378
+    go : (a : Answer) → numberAnswer (drop 1 bs) 2048 ≡ a → length (numberedLine a) ≤ LINE
     go (done t) e = fits-part t (omega (arith, numbered-short (numbered-told (drop 1 bs) 2048 e)))
     go (refused c) e = fits-refusal c (number-small (drop 1 bs) 2048 e)
     go (twice n) e =
@@ -74,12 +75,12 @@ unfolding joinAnswer joinedBytes
 join-small s t n = small-unless 1 _ (omega arith) (small-then (small-sheet s) λ a. small-then (small-sheet t) λ b. small-unless 83 _ (omega arith)
     (small-unless 84 _ (omega arith) (small-unless 84 _ (omega arith) Small.done)))
 
-pub fits-join : (bs : List ℕ) → length (joinLine bs) ≤ 16378
+pub fits-join : (bs : List ℕ) → length (joinLine bs) ≤ LINE
 unfolding joinLine
 fits-join bs = go (leb (3 + two bs 1) (length bs))
   where
     go : (p : Bool) → let n = two bs 1 in
-        length (cond p (madeLine false (joinAnswer (part bs 3 n) (drop (3 + n) bs) 2048)) (refusalLine 60)) ≤ 16378
+        length (cond p (madeLine false (joinAnswer (part bs 3 n) (drop (3 + n) bs) 2048)) (refusalLine 60)) ≤ LINE
     go true = let n = two bs 1 in fits-made false _ (λ u e. omega (arith, join-short (part bs 3 n) (drop (3 + n) bs) 2048 e))
         (small-number (join-small (part bs 3 n) (drop (3 + n) bs) 2048))
     go false = fits-refusal 60 (omega arith)

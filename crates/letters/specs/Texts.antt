@@ -6,6 +6,7 @@ use Prim.Native.Nat.{ℕ, _≤_, _<_}
 use native.Mathlib.Omega.{arith}
 use lib.ListN.{length, drop}
 use Rattle.value.specs.Result.{Result, ok}
+use Rattle.words.specs.Numbers.{LINE}
 use Rattle.notation.specs.Calls.{JSON-ROOM, VALUE-ROOM, toJson, fromJson}
 use Rattle.notation.specs.Text.{LEVELS, writeJson}
 use Rattle.notation.specs.Grammar.{value, finished, run, readJson}
@@ -37,11 +38,11 @@ from-small : (bs : List ℕ) (n : ℕ) → Small (fromJson bs n)
 unfolding fromJson readJson
 from-small bs n = small-unless 1 _ (omega arith) (small-map _ (small-then (small-told (told bs (value LEVELS finished))) λ v. small-unless 72 _ (omega arith) Small.done))
 
-pub fits-text : (bs : List ℕ) → length (textLine bs) ≤ 16378
+pub fits-text : (bs : List ℕ) → length (textLine bs) ≤ LINE
 unfolding textLine
 fits-text bs = fits-made true _ (λ t e. to-short (drop 1 bs) JSON-ROOM e) (small-number (to-small (drop 1 bs) JSON-ROOM))
 
-pub fits-parsed : (bs : List ℕ) → length (parsedLine bs) ≤ 16378
+pub fits-parsed : (bs : List ℕ) → length (parsedLine bs) ≤ LINE
 unfolding parsedLine
 fits-parsed bs = fits-made false _ (λ t e. omega (arith, from-short (drop 1 bs) VALUE-ROOM e)) (small-number (from-small (drop 1 bs) VALUE-ROOM))
 

@@ -15,7 +15,7 @@ use Rattle.calls.specs.Calls.{reply, written, cleared, Answered, newStarts}
 use Rattle.calls.specs.Small.{Small, small-put}
 use Rattle.report.specs.Text.{words, refusalLine}
 use Rattle.report.specs.TextLaws.{hex-length, decimal-length, ok-length}
-use Rattle.words.specs.Numbers.{INPUT}
+use Rattle.words.specs.Numbers.{INPUT, LINE}
 use Rattle.words.specs.declared.fields.Taken.{Taken}
 use Rattle.words.specs.declared.fields.Taken.the-variants.{Whole, Cut}
 use Rattle.words.specs.Format.{fieldsOf, sheetOf, planOf, viewOf}
@@ -35,14 +35,14 @@ unfolding besides bitsWord newStarts words
 besides-length false sheet new n written h = starts-length sheet new h
 besides-length true sheet new n written h = simp (length-append, hex-length) (omega arith)
 
-fits-put : (bits : Bool) (sheet : List ℕ) (written : ℕ) (a : Answer) → Small (reply a) → length (putLine (besides bits (newStarts sheet a) written) a) ≤ 16378
+fits-put : (bits : Bool) (sheet : List ℕ) (written : ℕ) (a : Answer) → Small (reply a) → length (putLine (besides bits (newStarts sheet a) written) a) ≤ LINE
 unfolding putLine reply words
 fits-put bits sheet written (refusal c) s = fits-refusal c (s .1)
 fits-put bits sheet written (success new n) s =
     let m = besides-length bits sheet new n written (omega arith) in
     simp (ok-length, length-append, hex-length) (omega (arith, m, decimal-length n 6 (omega arith)))
 
-fits-puts : (bits : Bool) (bs : List ℕ) (t : Taken) → length (puts bits bs t .line) ≤ 16378
+fits-puts : (bits : Bool) (bs : List ℕ) (t : Taken) → length (puts bits bs t .line) ≤ LINE
 unfolding puts
 fits-puts bits bs Cut = fits-refusal 60 (omega arith)
 fits-puts bits bs (Whole f) =
@@ -52,7 +52,7 @@ fits-puts bits bs (Whole f) =
     answered : {x : Answer} → Answered x (reply x) [] (written x []) [] (cleared x [])
     answered = record { answer = refl; output = refl; scratch = refl }
 
-fits-letter : (bs : List ℕ) → length bs ≤ INPUT → length (byLetter bs .line) ≤ 16378
+fits-letter : (bs : List ℕ) → length bs ≤ INPUT → length (byLetter bs .line) ≤ LINE
 unfolding byLetter
 fits-letter bs h = let c = getD bs 0 0 in one (eqb c 0x53) _ _ (fits-puts false bs (fieldsOf bs))
     (one (eqb c 0x57) _ _ (fits-puts true bs (fieldsOf bs))
@@ -61,15 +61,15 @@ fits-letter bs h = let c = getD bs 0 0 in one (eqb c 0x53) _ _ (fits-puts false 
     (letter-fits bs h))))
   where
     -- a row and those below it
-    one : (p : Bool) (x y : Ending) → length (x .line) ≤ 16378 → length (y .line) ≤ 16378 → length (cond p x y .line) ≤ 16378
+    one : (p : Bool) (x y : Ending) → length (x .line) ≤ LINE → length (y .line) ≤ LINE → length (cond p x y .line) ≤ LINE
     one true x y h k = h
     one false x y h k = k
 
-pub line-fits : (bs : List ℕ) → length (toolLine bs) ≤ 16378
+pub line-fits : (bs : List ℕ) → length (toolLine bs) ≤ LINE
 unfolding toolLine toolEnding
 line-fits bs = go (leb (length bs) INPUT) refl
   where
-    go : (p : Bool) → leb (length bs) INPUT ≡ p → length (cond p (byLetter bs) (says (refusalLine 61)) .line) ≤ 16378
+    go : (p : Bool) → leb (length bs) INPUT ≡ p → length (cond p (byLetter bs) (says (refusalLine 61)) .line) ≤ LINE
     go true e = fits-letter bs (leb-true _ _ e)
     go false e = fits-refusal 61 (omega arith)
 

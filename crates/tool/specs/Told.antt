@@ -14,7 +14,7 @@ use Rattle.calls.specs.Calls.{reply, written, newStarts, newWritten, PutAnswere
 use Rattle.report.specs.Text.{hexOf, decimalOf, refusalLine, okLine}
 use Rattle.report.specs.Writing.{Wrote, Front, wrote-front, wrote-text}
 use Rattle.starts.specs.declared.Starts.{Starts}
-use Rattle.words.specs.Numbers.{INPUT}
+use Rattle.words.specs.Numbers.{INPUT, LINE}
 use Rattle.words.specs.declared.fields.Fields.{Fields}
 use Rattle.words.specs.declared.fields.Taken.{Taken}
 use Rattle.words.specs.declared.fields.Taken.the-variants.{Whole, Cut}
@@ -147,7 +147,7 @@ pub ended-as : {e e′ : Ending} {r : ℕ} {t t′ o o′ s s′ : List ℕ} →
 ended-as q w = rw q w
 
 -- the ending is that of the input, and the line fits
-pub printed : (bs : List ℕ) {e : Ending} {r : ℕ} {t t′ o o′ s s′ : List ℕ} → toolEnding bs ≡ e → length t ≡ 16378 → Ended e r t t′ o o′ s s′
+pub printed : (bs : List ℕ) {e : Ending} {r : ℕ} {t t′ o o′ s s′ : List ℕ} → toolEnding bs ≡ e → length t ≡ LINE → Ended e r t t′ o o′ s s′
     → Front (toolLine bs) t t′ r × Lent bs o o′ s s′
 unfolding toolLine
 printed bs q l w =

@@ -6,7 +6,7 @@ use Prim.Native.Nat.{ℕ, zero, suc, _+_, _-_, _≤_, _<_}
 use native.Mathlib.Omega.{arith}
 use borrow.Author.Tests.{ne-eqb}
 use lib.ListN.{length, getD, take, length-append}
-use Rattle.rules.specs.Numbers.{SCRATCH}
+use Rattle.rules.specs.Numbers.{SCRATCH, CHAIN-MAX}
 use Rattle.rules.specs.Explain.{Why}
 use Rattle.rules.specs.Explanation.{Explanation, success, before, walked, whyGet, whyPut}
 use Rattle.rules.specs.ExplainNodes.{Inside, First, nobody, writer}
@@ -90,7 +90,7 @@ told-is success p = refl
 told-is (before c) p = rw (ne-eqb c 0 (λ z. omega arith))
 told-is (walked y) p =
     let d = length (y .chain) in
-    rw (ne-eqb (y .code) 0 (λ z. omega arith), take-firsts 49 (y .chain) (p .1 .1), ne-eqb d 0 (λ z. omega arith), by-told (y .first))
+    rw (ne-eqb (y .code) 0 (λ z. omega arith), take-firsts CHAIN-MAX (y .chain) (p .1 .1), ne-eqb d 0 (λ z. omega arith), by-told (y .first))
 
 told-text : {e : Explanation} {w : Told} {s s′ : List ℕ} → WhyAnswered e w s s′ → Proper e → {r : ℕ} {t t′ : List ℕ} → Wrote (told w) 0 t t′ r
     → Wrote (whyLine e) 0 t t′ r

@@ -1,6 +1,10 @@
--- The number of the programs' input, by the name that the code has for it (src/lib.rt).
+-- The numbers of the programs' input and of the line of `tools`, by the names that the code has for them (INPUT of src/lib.rt, LINE of crate tool).
 use Prim.Native.Nat.{ℕ}
 
 -- the bytes of an input, at most
 abbrev pub INPUT : ℕ
 INPUT = 8192
+
+-- the bytes of a line of `tools`, at most: `ok`, a space, a part of 8,187 bytes in hexadecimal, a line feed
+abbrev pub LINE : ℕ
+LINE = 16378
