@@ -6,7 +6,7 @@ ghost use Rattle.letters.specs.Growths.{growthLine};
 use growth::Growing;
 
 // A line of one number.
-fn number_line(n: usize, text: &mut [u8]) -> usize
+fn times_line(n: usize, text: &mut [u8]) -> usize
     ensures { λ r. ⌜ Wrote (okLine (decimalOf n ∷ [])) 0 (now (text .entry)) (now (text .exit)) r ⌝ }
 {
     let mut end = report::bytes(text, 0, b"ok");
@@ -23,7 +23,7 @@ pub fn growth_line(input: &[u8], text: &mut [u8]) -> usize
     }
     let variable = words::byte_at(input, 1) as usize;
     match growth::growth(words::rest_from(input, 2), variable) {
-        Growing::Times(n) => number_line(n as usize, text),
+        Growing::Times(n) => times_line(n as usize, text),
         Growing::Refused(c) => report::refusal(text, 0, c as usize),
     }
 }

@@ -7,7 +7,7 @@ use Prim.Native.Nat.{ℕ, zero, suc, _+_, _≤_, _<_}
 use native.Mathlib.Omega.{arith}
 use native.Mathlib.Decide.{decLt}
 use borrow.Author.Tests.{leb-true, le-leb, eqb-true}
-use lib.Dec.{eqb}
+use lib.Dec.{eqb, leb}
 use lib.ListN.{length, getD, getElem?, List·getD-eq-default}
 use Rattle.value.specs.Result.{Result, ok, refusal, andThen, unless}
 use Rattle.value.specs.Value.{Value, vfalse, encode}
@@ -142,6 +142,47 @@ module _ (sh : Sheet) (μ ν : Env) where
       go (no h) =
           same-elem μ ν x (omega arith)
           (List·getD-eq-default μ vfalse {n = x} (omega arith) ∙ sym (List·getD-eq-default ν vfalse {n = x} (omega arith)))
+
+-- OF THE OLD PLAN only what no record names counts: two old plans that agree there get the same answer
+
+module _ (sh : Sheet) (μ μ′ ν : Env) (h : (x : ℕ) → (Named sh x → ⊥) → getElem? μ x ≡ getElem? μ′ x) where
+  spared-alike : (x : ℕ) → spared sh μ ν x ≡ spared sh μ′ ν x
+  unfolding spared
+  spared-alike x = go (names x (sh .nodes)) refl
+    where
+      go : (b : Bool) → names x (sh .nodes) ≡ b
+          → sameBytes (encode (getD μ x vfalse)) (encode (getD ν x vfalse)) || b ≡ sameBytes (encode (getD μ′ x vfalse)) (encode (getD ν x vfalse)) || b
+      go true e =
+          or-true (sameBytes (encode (getD μ x vfalse)) (encode (getD ν x vfalse)))
+          ∙ sym (or-true (sameBytes (encode (getD μ′ x vfalse)) (encode (getD ν x vfalse))))
+      go false e = rw (same-at μ′ μ x (h x λ (i, s). names-false x (sh .nodes) e i s))
+
+  spared-all-alike : (x n : ℕ) → sparedFrom sh μ ν x n ≡ sparedFrom sh μ′ ν x n
+  unfolding sparedFrom
+  spared-all-alike x zero = refl
+  spared-all-alike x (suc n) = rw (spared-alike x, spared-all-alike (suc x) n)
+
+  kept-alike : kept sh μ ν ≡ kept sh μ′ ν
+  unfolding kept
+  kept-alike = spared-all-alike 0 (sh .k)
+
+pub old-alike : (sheet old old′ view new : List ℕ) (allowance scratch : ℕ) {sh : Sheet} {μ μ′ : Env} → readSheet sheet ≡ ok sh
+    → readPlan (sh .k) old ≡ ok μ → readPlan (sh .k) old′ ≡ ok μ′ → ((x : ℕ) → (Named sh x → ⊥) → getElem? μ x ≡ getElem? μ′ x)
+    → acceptsOf sheet old view new allowance scratch ≡ acceptsOf sheet old′ view new allowance scratch
+unfolding acceptsOf judgedOf andThen
+old-alike sheet old old′ view new allowance scratch {sh} {μ} {μ′} es eo eo′ h =
+    ap (λ r. unless 2 (leb SCRATCH scratch) (unless 3 (leb 1 allowance) (unless 3 (leb allowance ALLOWANCE) r))) (rw (es, eo, eo′) (go (readView view)))
+  where
+    last : (r : Result Env) → (andThen r λ ν. andThen (result (getWalk allowance sh ν)) λ v. ok (sameBytes (encode v) view && kept sh μ ν))
+        ≡ (andThen r λ ν. andThen (result (getWalk allowance sh ν)) λ v. ok (sameBytes (encode v) view && kept sh μ′ ν))
+    last (ok ν) = rw (kept-alike sh μ μ′ ν h)
+    last (refusal c) = refl
+
+    go : (r : Result (List Value))
+        → (andThen r λ _. andThen (orCode 85 (readPlan (sh .k) new)) λ ν. andThen (result (getWalk allowance sh ν)) λ v. ok (sameBytes (encode v) view && kept sh μ ν))
+        ≡ (andThen r λ _. andThen (orCode 85 (readPlan (sh .k) new)) λ ν. andThen (result (getWalk allowance sh ν)) λ v. ok (sameBytes (encode v) view && kept sh μ′ ν))
+    go (ok vs) = last (orCode 85 (readPlan (sh .k) new))
+    go (refusal c) = refl
 
 -- EXACTLY WHEN IT SAYS YES
 

@@ -17,7 +17,7 @@ returns-2 c =
     let g = told .before .before in
     let rest = g .before in
     let whole = rest .before .before in
-    wrote-text (said .number-line .ensures)
+    wrote-text (said .times-line .ensures)
     (growth-times _ (whole .if1 .left) (rest .before .byte-at .ensures) (rest .rest-from .ensures) (g .growth .ensures) (told .n .given .1))
 
 returns-3 : tie.Need-returns-3
