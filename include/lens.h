@@ -15,6 +15,7 @@
  *   lens_check_plan   whether a finished new plan goes with the list
  *   lens_to_json      a value, such as a list, to JSON (RFC 8259)
  *   lens_from_json    JSON to a value
+ *   lens_check_types  whether a sheet's parts fit, by types lent beside it
  *
  * Bytes of sheets, plans and lists, and what to do about each refusal, are in docs/SHEETS.md and docs/TOOLS.md.
  *
@@ -101,7 +102,7 @@ uint64_t lens_why_put(const uint8_t *sheet, size_t sheet_len, const uint8_t *pla
 #define LENS_FIRST(answer) ((int)(((answer) >> 16) & 0xFFFFu) - 1) /* the node that wrote first; -1: none */
 
 /* Tools. Each answers with one number: the refusal in the low 8 bits (LENS_NUMBER; LENS_OK: success), and in the next 16 what the tool
- * tells, as is said at each; 0 above. With a refusal these 16 bits are 0, but for the node that LENS_NODE_TWICE names. */
+ * tells, as is said at each; 0 above. With a refusal these 16 bits are 0, but for the node that LENS_NODE_TWICE and LENS_NODE_TYPE name. */
 #define LENS_NODE(answer) ((unsigned)(((answer) >> 8) & 0xFFFFu)) /* the node that is named */
 
 /* The sheet written anew, with its nodes numbered as first met: the main root is 0, a node stands before its children, and each child with
@@ -140,6 +141,14 @@ uint64_t lens_to_json(const uint8_t *value, size_t value_len, uint8_t *out, size
  * LENS_LENGTH: its bytes. Refusals: LENS_OUTPUT_SMALL; LENS_JSON_MALFORMED and LENS_JSON_DEPTH, whichever the first byte that shows a fault
  * decides; LENS_JSON_LONG, once the text is read. */
 uint64_t lens_from_json(const uint8_t *text, size_t text_len, uint8_t *out, size_t out_len);
+
+/* Checks a sheet before it is used. A type is 30 (truth), 31 (a number of kind 04 or 06), 32 (a list) and its member's type, or 33 (a pair) and
+ * two types; at most 256 bytes. Lent, one behind the other: one for each plan variable, for each section those of its two variables and of
+ * what it gives, the list's, one for each node in node order. Where the sheet passes, plans and lists of these types never meet
+ * LENS_SCOPE; they meet LENS_VALUE_KIND only where an 06 is added to, and LENS_VIEW_KIND only there and where an empty list meets a 15.
+ * Nothing is told but the refusals: the sheet's own; LENS_TYPES_MALFORMED; LENS_NODE_TWICE and then LENS_NODE_TYPE, each with the lowest
+ * such node (LENS_NODE). */
+uint64_t lens_check_types(const uint8_t *sheet, size_t sheet_len, const uint8_t *types, size_t types_len);
 
 /* What the buffers hold afterwards:
  *
@@ -218,8 +227,10 @@ uint64_t lens_from_json(const uint8_t *text, size_t text_len, uint8_t *out, size
 #define LENS_JSON_DEPTH 71u       /* arrays and objects nest 49 deep */
 #define LENS_JSON_LONG 72u        /* the value of the text has over 256 bytes */
 
-/* a sheet numbered anew */
+/* a sheet checked or numbered anew */
+#define LENS_TYPES_MALFORMED 80u  /* a type is malformed or has over 256 bytes, or the types are too few or too many */
 #define LENS_NODE_TWICE 81u       /* a node of the sheet is used twice as a child or a root */
+#define LENS_NODE_TYPE 82u        /* a node's type does not go with its kind, its scope, its place or its children's types */
 
 /* two sheets joined */
 #define LENS_SHEETS_DIFFER 83u    /* the two sheets have another k */

@@ -20,6 +20,8 @@ type Call = Box<dyn Fn(&mut Buffers) -> u64>;
 
 fn rows() -> Vec<Row> {
     let sheets = [50, 100, 200].map(numbered).into_iter().chain([24, 49, 99].map(joined));
+    let sheets =
+        sheets.chain([(50, 0), (100, 0), (200, 0), (200, 25), (200, 50), (200, 98)].map(|(nodes, splits)| typed(nodes, splits)));
     let values = [
         ("a list of 7 numbers", numbers(1000..1007)),
         ("a list of 21 numbers", numbers(1000..1021)),
@@ -83,6 +85,40 @@ fn joined(nodes: usize) -> Row {
         archive: Box::new(move |buffers| lens::raw::join(black_box(&ours), black_box(&ours), &mut buffers.out).0),
         reference: Box::new(move |buffers| reference::join(black_box(&theirs), black_box(&theirs), &mut buffers.out)),
     }
+}
+
+/// A sheet checked by types; its widest scope has two variables, and two more for each split.
+fn typed(nodes: usize, splits: usize) -> Row {
+    let (sheet, types) = row_of_numbers(nodes, splits);
+    let (sheet_too, types_too) = (sheet.clone(), types.clone());
+    Row {
+        name: format!("types: {nodes} nodes, scopes up to {}", 2 + 2 * splits),
+        size: nodes,
+        unit: "node",
+        limit: None,
+        archive: Box::new(move |_| lens::raw::check_types(black_box(&sheet), black_box(&types)).0),
+        reference: Box::new(move |_| reference::check_types(black_box(&sheet_too), black_box(&types_too))),
+    }
+}
+
+/// A sheet of so many nodes, an even number, that gives a list of numbers, and its types. Its nodes are a chain: first so many splits of
+/// variable 0, each inside the one before, then fronts of the last variable in scope; at the end a front of an add, and the empty list.
+fn row_of_numbers(nodes: usize, splits: usize) -> (Vec<u8>, Vec<u8>) {
+    let (pair, number, list): (&[u8], &[u8], &[u8]) = (&[0x33, 0x31, 0x31], &[0x31], &[0x32, 0x31]);
+    let last = 1 + 2 * splits as u8;
+    let mut sheet = vec![0x01, 0x02, 0x00];
+    // those of the plan's two variables, and the list's
+    let mut types = [pair, number, list].concat();
+    let end = nodes - 4;
+    for link in (0..end).step_by(2) {
+        let (kind, variable, part) = if link < 2 * splits { (0x19, 0, pair) } else { (0x15, last, number) };
+        sheet.extend([kind, link as u8 + 1, link as u8 + 2, 0x10, variable]);
+        types.extend([list, part].concat());
+    }
+    let end = end as u8;
+    sheet.extend([0x15, end + 1, end + 3, 0x1B, end + 2, 0x00, 0x01, 0x10, last, 0x13]);
+    types.extend([list, number, number, list].concat());
+    (sheet, types)
 }
 
 /// A sheet of so many nodes, each used once: pairs, each the second part of the one before, and their leaves behind all of them; an even

@@ -1,8 +1,8 @@
 //! One sheet of rules for a venue, read both ways: forwards it gives the list from the plan, backwards the new plan from the old plan
 //! and the edited list. The values of a plan are found by their number, and where a reading is refused, it is told at which node and why.
 //! Tools work on the sheet itself: [`Sheet::numbered`] writes it with one numbering, [`Sheet::join`] makes one of two,
-//! [`Sheet::growth`] says how much longer its list can get. [`Sheet::accepts`] judges a new plan that was made elsewhere.
-//! [`json`] turns values into JSON and back.
+//! [`Sheet::growth`] says how much longer its list can get, [`Sheet::check_types`] whether its parts fit. [`Sheet::accepts`] judges a new plan
+//! that was made elsewhere. [`json`] turns values into JSON and back.
 //!
 //! The work is done by an archive that is proved to follow the definitions of sheets, whose manual is `docs/SHEETS.md`; this crate lends it
 //! its buffers and turns its answers into Rust. Five laws are proved of those answers:
@@ -61,11 +61,13 @@ mod numbering;
 mod plan;
 pub mod raw;
 mod refusal;
+mod types;
 mod undo;
 mod why;
 
 pub use plan::{Plan, Starts};
 pub use refusal::{NodeRefusal, Refusal};
+pub use types::Type;
 pub use why::Explanation;
 
 /// The largest allowance; the least is 1.

@@ -56,9 +56,9 @@ impl Answer {
         self.0 >> 8 & 1 == 1
     }
 
-    /// The node that a tool's refusal names, of 81.
+    /// The node that a tool's refusal names, of 81 and 82.
     pub fn node(self) -> Option<u8> {
-        (self.number() == 81).then_some((self.0 >> 8) as u8)
+        matches!(self.number(), 81 | 82).then_some((self.0 >> 8) as u8)
     }
 }
 
@@ -193,6 +193,8 @@ mod archive {
         pub fn lens_to_json(value: *const u8, value_len: usize, out: *mut u8, out_len: usize) -> u64;
 
         pub fn lens_from_json(text: *const u8, text_len: usize, out: *mut u8, out_len: usize) -> u64;
+
+        pub fn lens_check_types(sheet: *const u8, sheet_len: usize, types: *const u8, types_len: usize) -> u64;
 
         pub fn lens_check_plan(
             sheet: *const u8,
@@ -413,4 +415,10 @@ pub fn to_json(value: &[u8], out: &mut [u8]) -> Answer {
 pub fn from_json(text: &[u8], out: &mut [u8]) -> Answer {
     // Safety: as in `get`.
     Answer(unsafe { archive::lens_from_json(text.as_ptr(), text.len(), out.as_mut_ptr(), out.len()) })
+}
+
+/// Checks a sheet by the types lent beside it.
+pub fn check_types(sheet: &[u8], types: &[u8]) -> Answer {
+    // Safety: as in `get`.
+    Answer(unsafe { archive::lens_check_types(sheet.as_ptr(), sheet.len(), types.as_ptr(), types.len()) })
 }

@@ -54,6 +54,10 @@ fn run_tool(tool: &Tool) -> Result<Given, NodeRefusal> {
         }
         Tool::ToJson { value } => Ok(Given::Text(json::write(value)?)),
         Tool::FromJson { text } => Ok(Given::Bytes(json::read(text)?)),
+        Tool::Types { sheet, types } => {
+            Sheet::new(sheet).check_types(types)?;
+            Ok(Given::Passed)
+        }
         Tool::Join { first, second } => Ok(Given::Bytes(Sheet::new(first).join(Sheet::new(second))?)),
     }
 }

@@ -9,10 +9,14 @@ use Rattle.value.specs.Result.{Result, ok}
 use Rattle.made.specs.declared.Made.{Made}
 use Rattle.made.specs.declared.Made.the-variants as Made
 use Rattle.made.specs.Made.{made, written, Makes, codeOf as madeCode, lengthOf, done-front}
-use Rattle.accepts.specs.declared.Verdict.{Verdict}
+use Rattle.accepts.specs.declared.Verdict.{Verdict as Judgement}
 use Rattle.accepts.specs.declared.Verdict.the-variants.{Yes, No}
 use Rattle.accepts.specs.declared.Verdict.the-variants as Verdict
 use Rattle.accepts.specs.Accepts.{verdict, cleared, Accepted, codeOf as verdictCode, yesOf}
+use Rattle.typing.specs.Check.{Verdict}
+use Rattle.types.specs.declared.Checked.{Checked}
+use Rattle.types.specs.declared.Checked.the-variants as Checked
+use Rattle.types.specs.Checked.{checked, codeOf as checkCode, nodeTold}
 use Rattle.growth.specs.declared.Growing.{Growing}
 use Rattle.growth.specs.declared.Growing.the-variants.{Times}
 use Rattle.growth.specs.declared.Growing.the-variants as Growing
@@ -46,6 +50,10 @@ GrowthPacked a r = Tells (growingCode (told a)) (timesOf (told a)) r
 pub record VerdictPacked (a : Result Bool) (r : ℕ) (s s′ : List ℕ) : Type 0 where
   pub answer : Tells (verdictCode (verdict a)) (yesOf (verdict a)) r
   pub scratch : s′ ≡ cleared a s
+
+-- the check's verdict is v: the number r says so, and the node of 81 and 82 beside it
+abbrev pub CheckPacked : Verdict → ℕ → Type 0
+CheckPacked v r = Tells (checkCode (checked v)) (nodeTold (checked v)) r
 
 -- WHAT SHOWS IT, case by case
 
@@ -105,10 +113,10 @@ module _ (a : Result ℕ) {q : Growing} {r : ℕ} (e : q ≡ told a) where
   unfolding growingCode timesOf
   growth-refused f t = rw (sym e ∙ f) t
 
-abbrev pub VerdictTold : Verdict → ℕ → Type 0
+abbrev pub VerdictTold : Judgement → ℕ → Type 0
 VerdictTold v r = Tells (verdictCode v) (yesOf v) r
 
-module _ {v : Verdict} {r : ℕ} where
+module _ {v : Judgement} {r : ℕ} where
   pub told-yes : v ≡ Yes → Tells 0 1 r → VerdictTold v r
   unfolding verdictCode yesOf
   told-yes e t = rw e t
@@ -121,5 +129,18 @@ module _ {v : Verdict} {r : ℕ} where
   unfolding verdictCode yesOf
   told-refused e t = rw e t
 
-pub verdict-packed : {a : Result Bool} {v : Verdict} {r : ℕ} {s s′ : List ℕ} → Accepted a v s s′ → VerdictTold v r → VerdictPacked a r s s′
+pub verdict-packed : {a : Result Bool} {v : Judgement} {r : ℕ} {s s′ : List ℕ} → Accepted a v s s′ → VerdictTold v r → VerdictPacked a r s s′
 verdict-packed x t = record { answer = rw (x .answer) at t; scratch = x .scratch }
+
+module _ (v : Verdict) {q : Checked} {r : ℕ} (e : q ≡ checked v) where
+  pub check-passes : q ≡ Checked.Passes → Tells 0 0 r → CheckPacked v r
+  unfolding checkCode nodeTold
+  check-passes f t = rw (sym e ∙ f) t
+
+  pub check-refused : {c : ℕ} → q ≡ Checked.Refused c → Tells c 0 r → CheckPacked v r
+  unfolding checkCode nodeTold
+  check-refused f t = rw (sym e ∙ f) t
+
+  pub check-at : {c n : ℕ} → q ≡ Checked.At c n → Tells c n r → CheckPacked v r
+  unfolding checkCode nodeTold
+  check-at f t = rw (sym e ∙ f) t

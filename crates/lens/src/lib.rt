@@ -1,6 +1,7 @@
 //! The archive: every function for other languages. A slice is a pointer and a length, 16 starts, the nodes of a chain and a number of bits are
 //! pointers, and the answer is one number.
 mod answers;
+mod checks;
 mod growths;
 mod lookups;
 mod packing;
@@ -13,6 +14,7 @@ pub use answers::lens_get;
 pub use answers::lens_put;
 pub use answers::lens_put_starts;
 pub use answers::lens_put_written;
+pub use checks::lens_check_types;
 pub use growths::lens_growth;
 pub use lookups::lens_find;
 pub use lookups::lens_load;

@@ -32,7 +32,8 @@ growthLine bs = cond (leb 2 (length bs)) (timesLine (growthOf (drop 2 bs) (getD 
 
 growth-small : (s : List ℕ) (x : ℕ) → Small (growthOf s x)
 unfolding growthOf
-growth-small s x = small-then (small-sheet s) λ sh. small-unless 87 _ (omega arith) (small-unless 23 _ (omega arith) (small-unless 88 _ (omega arith) Small.done))
+growth-small s x = small-then (small-sheet s) λ sh. small-unless 87 _ (omega arith) (small-unless 23 _ (omega arith)
+    (small-unless 88 _ (omega arith) Small.done))
 
 fits-times : (s : List ℕ) (x : ℕ) (r : Result ℕ) → growthOf s x ≡ r → length (timesLine r) ≤ LINE
 unfolding timesLine words

@@ -15,6 +15,7 @@ use Rattle.letters.specs.Sheets.{numberLine, joinLine}
 use Rattle.letters.specs.SheetLaws.{fits-number, fits-join}
 use Rattle.letters.specs.Growths.{growthLine, fits-growth}
 use Rattle.letters.specs.Texts.{textLine, parsedLine, fits-text, fits-parsed}
+use Rattle.letters.specs.Checks.{typesLine, fits-types}
 
 unfoldable pub letterLine : List ℕ → List ℕ
 letterLine bs =
@@ -26,7 +27,8 @@ letterLine bs =
     (cond (eqb letter 0x52) (growthLine bs)
     (cond (eqb letter 0x44) (textLine bs)
     (cond (eqb letter 0x45) (parsedLine bs)
-    (refusalLine 60)))))))
+    (cond (eqb letter 0x54) (typesLine bs)
+    (refusalLine 60))))))))
 
 -- a row and those below it
 one-fits : (p : Bool) (x y : List ℕ) → length x ≤ LINE → length y ≤ LINE → length (cond p x y) ≤ LINE
@@ -42,7 +44,8 @@ letter-fits bs h = let c = getD bs 0 0 in one-fits (eqb c 0x4C) _ _ (fits-load b
     (one-fits (eqb c 0x52) _ _ (fits-growth bs)
     (one-fits (eqb c 0x44) _ _ (fits-text bs)
     (one-fits (eqb c 0x45) _ _ (fits-parsed bs)
-    (fits-refusal 60 (omega arith))))))))
+    (one-fits (eqb c 0x54) _ _ (fits-types bs)
+    (fits-refusal 60 (omega arith)))))))))
 
 -- WHAT SHOWS IT OF THE CODE: a law for each row
 
@@ -75,10 +78,14 @@ module _ (bs : List ℕ) {letter : ℕ} (e : letter ≡ getD bs 0 0) where
   unfolding letterLine
   letter-E q = sym (rw (sym e ∙ q))
 
-  pub letter-none : (letter ≡ 0x4C → ⊥) → (letter ≡ 0x56 → ⊥) → (letter ≡ 0x4E → ⊥) → (letter ≡ 0x4A → ⊥) → (letter ≡ 0x52 → ⊥)
-      → (letter ≡ 0x44 → ⊥) → (letter ≡ 0x45 → ⊥) → refusalLine 60 ≡ letterLine bs
+  pub letter-T : letter ≡ 0x54 → typesLine bs ≡ letterLine bs
   unfolding letterLine
-  letter-none l v n j r d p = sym (rw (
+  letter-T q = sym (rw (sym e ∙ q))
+
+  pub letter-none : (letter ≡ 0x4C → ⊥) → (letter ≡ 0x56 → ⊥) → (letter ≡ 0x4E → ⊥) → (letter ≡ 0x4A → ⊥) → (letter ≡ 0x52 → ⊥)
+      → (letter ≡ 0x44 → ⊥) → (letter ≡ 0x45 → ⊥) → (letter ≡ 0x54 → ⊥) → refusalLine 60 ≡ letterLine bs
+  unfolding letterLine
+  letter-none l v n j r d p t = sym (rw (
     ← e,
     ne-eqb letter 0x4C l,
     ne-eqb letter 0x56 v,
@@ -87,4 +94,5 @@ module _ (bs : List ℕ) {letter : ℕ} (e : letter ≡ getD bs 0 0) where
     ne-eqb letter 0x52 r,
     ne-eqb letter 0x44 d,
     ne-eqb letter 0x45 p,
+    ne-eqb letter 0x54 t,
   ))

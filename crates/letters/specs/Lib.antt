@@ -7,4 +7,5 @@ pub mod Sheets
 pub mod SheetLaws
 pub mod Growths
 pub mod Texts
+pub mod Checks
 pub mod Letters

@@ -35,7 +35,7 @@ use Rattle.letters.specs.LookupLaws.{fits-refusal}
 
 -- HOW LONG A LINE IS
 
-fits-node : (c n : ℕ) → c < 256 → n < 200 → length (nodeLine c n) ≤ LINE
+pub fits-node : (c n : ℕ) → c < 256 → n < 200 → length (nodeLine c n) ≤ LINE
 unfolding nodeLine noLine words
 fits-node c n h k = simp length-append (omega (arith, decimal-length c 2 (omega arith), decimal-length n 2 (omega arith)))
 

@@ -36,7 +36,8 @@ small-told deep = no {c = 71} (omega arith)
 
 from-small : (bs : List ℕ) (n : ℕ) → Small (fromJson bs n)
 unfolding fromJson readJson
-from-small bs n = small-unless 1 _ (omega arith) (small-map _ (small-then (small-told (told bs (value LEVELS finished))) λ v. small-unless 72 _ (omega arith) Small.done))
+from-small bs n = small-unless 1 _ (omega arith) (small-map _ (small-then (small-told (told bs (value LEVELS finished))) λ v.
+    small-unless 72 _ (omega arith) Small.done))
 
 pub fits-text : (bs : List ℕ) → length (textLine bs) ≤ LINE
 unfolding textLine

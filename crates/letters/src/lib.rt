@@ -2,6 +2,7 @@
 ghost use Rattle.report.specs.Writing.{Wrote};
 ghost use Rattle.letters.specs.Letters.{letterLine};
 
+mod checks;
 mod growths;
 mod lines;
 mod lookups;
@@ -21,6 +22,7 @@ pub fn line(input: &[u8], text: &mut [u8]) -> usize
         0x52 => growths::growth_line(input, text),
         0x44 => texts::text_line(input, text),
         0x45 => texts::parsed_line(input, text),
+        0x54 => checks::types_line(input, text),
         _ => report::refusal(text, 0, 60),
     }
 }

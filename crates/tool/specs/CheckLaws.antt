@@ -83,7 +83,8 @@ checks-fit bs Cut = refusal-length 60 (omega arith)
 checks-fit bs (Whole f) = go (leb (2 + two (viewOf bs f) 0) (length (viewOf bs f)))
   where
     go : (p : Bool) → let rest = viewOf bs f in let n = two rest 0 in
-        length (cond p (judges (acceptsOf (sheetOf bs f) (planOf bs f) (part rest 2 n) (drop (2 + n) rest) (f .allowance) SCRATCH)) (says (refusalLine 60)) .line) ≤ 7
+        length (cond p (judges (acceptsOf (sheetOf bs f) (planOf bs f) (part rest 2 n) (drop (2 + n) rest) (f .allowance) SCRATCH))
+        (says (refusalLine 60)) .line) ≤ 7
     go true = yes-length _ (accepts-small _ _ _ _ _ _)
     go false = refusal-length 60 (omega arith)
 

@@ -1,5 +1,5 @@
 -- The answer of the check, as the code gives it; and what is known where it is given.
-use mathlib.Core.Path.{_≡_, refl, ap, _∙_}
+use mathlib.Core.Path.{_≡_, refl, sym, ap, _∙_}
 use mathlib.Core.Option.{Option, none, some}
 use mathlib.Core.List.{List}
 use Prim.Native.Nat.{ℕ, zero, suc, _+_, _*_, _≤_, _<_}
@@ -8,16 +8,17 @@ use native.Mathlib.Omega.{arith}
 use lib.Seq.{getD-take, getD-drop}
 use lib.ListN.{length, getD, drop, length-take}
 use borrow.Author.Tests.{ltb-false}
-use Rattle.value.specs.Result.{refusal}
+use Rattle.value.specs.Result.{ok, refusal}
 use Rattle.sheet.specs.Sheet.{Sheet, readSheet}
 use Rattle.sheet.specs.Table.{tableOf}
-use Rattle.sheet.specs.Laws.{Reads, Ranges, table-refused}
+use Rattle.sheet.specs.Laws.{Reads, Ranges, sheet-ranges, table-refused}
 use Rattle.sheet.specs.declared.Table.{Table}
 use Rattle.typing.specs.Numbers.{PAST}
 use Rattle.typing.specs.Types.{Ty, truths}
 use Rattle.typing.specs.Fits.{Section, sectionOf}
 use Rattle.typing.specs.Check.{apart, readAll, threes, many, lentOf, twice, unfit, lowest, Verdict, passes, refused, refusedAt, unlessAt, checkSheet, onTypes, onSheet, check}
-use Rattle.typing.specs.CheckLaws.{OnceBelow, Lowest, no-such, lowest-is}
+use Rattle.typing.specs.CheckLaws.{OnceBelow, Lowest, no-such, lowest-is, Says, all-right, used-twice, not-right}
+use Rattle.typing.specs.Calls.{Judges, no-sheet, no-types, judged, check-judges}
 use Rattle.typing.specs.Written.{types-read}
 use Rattle.types.specs.Slots.{At, Laid, lentBelow, Slotted}
 use Rattle.types.specs.SlotsLaws.{clamp-before, clamp-in, clamp-past}
@@ -31,6 +32,17 @@ unfoldable pub checked : Verdict → Checked
 checked passes = Answer.Passes
 checked (refused c) = Answer.Refused c
 checked (refusedAt c n) = Answer.At c n
+
+-- the number of each case in document 02, 0 for a sheet that passes; and the node that is told beside it
+unfoldable pub codeOf : Checked → ℕ
+codeOf Answer.Passes = 0
+codeOf (Answer.Refused c) = c
+codeOf (Answer.At c n) = c
+
+unfoldable pub nodeTold : Checked → ℕ
+nodeTold Answer.Passes = 0
+nodeTold (Answer.Refused c) = 0
+nodeTold (Answer.At c n) = n
 
 -- WHERE TYPES STAND
 
@@ -212,3 +224,18 @@ module _ {sheet : List ℕ} {t : Table} {sh : Sheet} (r : Reads sheet t sh) wher
           go : (o : Option ℕ) → Found.Nothing ≡ lowestIn o → Answer.Passes ≡ checked (unlessAt 81 none (unlessAt 82 o passes))
           go none e = refl
           go (some m) e = apart (cc)
+
+-- a node that is told is one of the sheet's
+pub told-inside : (sheet types : List ℕ) {q : Checked} → q ≡ checked (check sheet types) → {c n : ℕ} → q ≡ Answer.At c n → n < 200
+unfolding checked
+told-inside sheet types e {c} {n} f = go (check-judges sheet types) (sym e ∙ f)
+  where
+    says : (sh : Sheet) → readSheet sheet ≡ ok sh → {l : _} {v : Verdict} → Says sh l v → checked v ≡ Answer.At c n → n < 200
+    says sh r (all-right o p) g = let z : _≡_ {A = ℕ} 0 1 = cc in absurd (omega arith)
+    says sh r (used-twice {n = m} a b o) g = let z : m ≡ n = cc in omega (arith, sheet-ranges sheet r .few-nodes)
+    says sh r (not-right {n = m} a o u b) g = let z : m ≡ n = cc in omega (arith, sheet-ranges sheet r .few-nodes)
+
+    go : {v : Verdict} → Judges sheet types v → checked v ≡ Answer.At c n → n < 200
+    go (no-sheet r) g = let z : _≡_ {A = ℕ} 0 1 = cc in absurd (omega arith)
+    go (no-types sh r q) g = let z : _≡_ {A = ℕ} 0 1 = cc in absurd (omega arith)
+    go (judged sh l r q y) g = says sh r y g

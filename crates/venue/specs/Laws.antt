@@ -179,8 +179,9 @@ old-alike sheet old old′ view new allowance scratch {sh} {μ} {μ′} es eo eo
     last (refusal c) = refl
 
     go : (r : Result (List Value))
-        → (andThen r λ _. andThen (orCode 85 (readPlan (sh .k) new)) λ ν. andThen (result (getWalk allowance sh ν)) λ v. ok (sameBytes (encode v) view && kept sh μ ν))
-        ≡ (andThen r λ _. andThen (orCode 85 (readPlan (sh .k) new)) λ ν. andThen (result (getWalk allowance sh ν)) λ v. ok (sameBytes (encode v) view && kept sh μ′ ν))
+        → (andThen r λ _. andThen (orCode 85 (readPlan (sh .k) new)) λ ν. andThen (result (getWalk allowance sh ν)) λ v.
+        ok (sameBytes (encode v) view && kept sh μ ν)) ≡ (andThen r λ _. andThen (orCode 85 (readPlan (sh .k) new)) λ ν.
+        andThen (result (getWalk allowance sh ν)) λ v. ok (sameBytes (encode v) view && kept sh μ′ ν))
     go (ok vs) = last (orCode 85 (readPlan (sh .k) new))
     go (refusal c) = refl
 

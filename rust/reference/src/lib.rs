@@ -1,14 +1,15 @@
-//! Document 01, "House sheets, plans and venue lists", in plain safe Rust, with requests 1 (the node 1C), 2 (the
-//! starts of a plan's values), 4 (numbers over 65,535: the kind of value 06 and the node 1D), 5 (defaults of a list case that take
-//! after the list sent), 7 (two sheets joined), 8 (which variables a put wrote), 9 (why a call is refused), 10 (plans made by a
-//! venue's own system), 11 (lists as JSON), 12 (one numbering for a sheet file) and 14 (how much longer the list can get) of document 02,
-//! "Requests after the base version".
+//! Document 01, "House sheets, plans and venue lists", in plain safe Rust, with these requests of document 02, "Requests after the base
+//! version": 1 (the node 1C), 2 (the starts of a plan's values), 4 (numbers over 65,535: the kind of value 06 and the node 1D), 5 (defaults of
+//! a list case that take after the list sent), 6 (the check of a sheet by types), 7 (two sheets joined), 8 (which variables a put wrote),
+//! 9 (why a call is refused), 10 (plans made by a venue's own system), 11 (lists as JSON), 12 (one numbering for a sheet file) and 14 (how
+//! much longer the list can get).
 //!
 //! It was written from the papers and shares no line with the Rattle code, so that where the two agree on a job, two readings of the
 //! papers agree. Its tests and the benchmark's baseline are its only uses: programs use the crate `lens`.
 //!
-//! [`get`], [`put`], [`load`], [`put_starts`], [`put_written`] and the tools ([`number`], [`join`], [`growth`], [`check_plan`],
-//! [`to_json`], [`from_json`]) work in the caller's buffers exactly as the archive's functions do, and answer in the same form, which [`answer`] takes apart.
+//! [`get`], [`put`], [`load`], [`put_starts`], [`put_written`] and the tools ([`number`], [`join`], [`growth`], [`check_plan`], [`to_json`],
+//! [`from_json`], [`check_types`]) work in the caller's buffers exactly as the archive's functions do, and answer in the same form, which
+//! [`answer`] takes apart.
 
 #![forbid(unsafe_code)]
 
@@ -23,6 +24,7 @@ mod plan;
 mod record;
 mod sheet;
 pub mod tool;
+mod types;
 mod value;
 pub mod vectors;
 mod walk;
@@ -34,6 +36,7 @@ pub use join::join;
 pub use json::{from_json, to_json};
 pub use numbering::number;
 pub use plan::{find, from_front, part};
+pub use types::check_types;
 
 use answer::{made, Success};
 use sheet::Sheet;

@@ -29,6 +29,8 @@ pub enum Tool {
     ToJson { value: Vec<u8> },
     /// 45: a value read from JSON.
     FromJson { text: Vec<u8> },
+    /// 54: a sheet checked by types.
+    Types { sheet: Vec<u8>, types: Vec<u8> },
 }
 
 /// What a call gives.
@@ -51,6 +53,8 @@ pub enum Given {
     Growth(usize),
     Verdict(bool),
     Text(String),
+    /// Nothing: the sheet passed.
+    Passed,
 }
 
 impl Tool {
@@ -91,6 +95,10 @@ impl Tool {
             }
             0x44 => Some(Tool::ToJson { value: fields.to_vec() }),
             0x45 => Some(Tool::FromJson { text: fields.to_vec() }),
+            0x54 => {
+                let (sheet, types) = counted(fields)?;
+                Some(Tool::Types { sheet: sheet.to_vec(), types: types.to_vec() })
+            }
             0x43 => {
                 let Job { sheet, plan, view, allowance } = Job::put(fields)?;
                 let fields = view?;
@@ -154,6 +162,10 @@ impl Tool {
                 let length = unpacked(crate::from_json(text, &mut out))?;
                 Ok(Given::Bytes(out[..length].to_vec()))
             }
+            Tool::Types { sheet, types } => {
+                unpacked(crate::check_types(sheet, types))?;
+                Ok(Given::Passed)
+            }
             Tool::Growth { sheet, variable } => Ok(Given::Growth(unpacked(crate::growth(sheet, *variable))?)),
         }
     }
@@ -169,7 +181,7 @@ pub fn printed(input: &[u8], run: impl Fn(&Tool) -> Result<Given, NodeRefusal>) 
         Ok(Given::Growth(growth)) => format!("ok {growth}"),
         Ok(Given::Verdict(yes)) => format!("ok {}", if yes { "yes" } else { "no" }),
         Ok(Given::Text(text)) => format!("ok {text}"),
-        Ok(Given::Why(Ok(()))) => "ok".to_string(),
+        Ok(Given::Passed | Given::Why(Ok(()))) => "ok".to_string(),
         Ok(Given::Why(Err(explanation))) => explanation.line(),
         Err(NodeRefusal { refusal, node: None }) => format!("no {refusal}"),
         Err(NodeRefusal { refusal, node: Some(node) }) => format!("no {refusal} {node}"),

@@ -20,6 +20,8 @@ mod sheets;
 mod starts;
 mod switches;
 mod tools;
+mod typed;
+mod types;
 mod undone;
 mod values;
 mod why;

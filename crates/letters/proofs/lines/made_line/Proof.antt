@@ -13,7 +13,8 @@ returns c =
     let said = c .before .before in
     let part = said .before .before in
     let told = part .before .before .before in
-    wrote-text (said .plain-line .ensures) (ap (λ bs. okLine (bs ∷ [])) (part .part-at .ensures) ∙ made-plain _ (told .made .given .1) (part .before .if1 .taken))
+    wrote-text (said .plain-line .ensures)
+    (ap (λ bs. okLine (bs ∷ [])) (part .part-at .ensures) ∙ made-plain _ (told .made .given .1) (part .before .if1 .taken))
 
 returns-2 : tie.Need-returns-2
 returns-2 c =
