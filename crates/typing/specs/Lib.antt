@@ -11,3 +11,5 @@ pub mod CheckLaws
 pub mod Walks
 pub mod Calls
 pub mod Examples
+pub mod Widths
+pub mod Never
