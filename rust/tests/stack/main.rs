@@ -16,12 +16,14 @@ fn lent() -> Lent {
     Lent { out: vec![0; raw::PUT_OUT], scratch: vec![0; raw::SCRATCH], starts: [0; raw::STARTS_MAX] }
 }
 
-/// The tools that take no job: the sheet numbered, joined with itself and asked for its growth, its plan judged, and lists 48 deep as JSON.
+/// The tools that take no job: the sheet numbered, joined with itself, asked for its growth and checked by types, its plan judged, and lists 48
+/// deep as JSON.
 fn run_tools(job: &Job, lent: &mut Lent) {
     let Lent { out, scratch, .. } = lent;
     raw::number(&job.sheet, out);
     raw::join(&job.sheet, &job.sheet, out);
     raw::growth(&job.sheet, 0);
+    raw::check_types(&job.sheet, &[0x30; 241]);
     raw::check_plan(&job.sheet, &job.plan, job.view.as_ref().unwrap_or(&job.plan), &job.plan, job.allowance, scratch);
     raw::to_json(&[[3; 47].as_slice(), &[2; 48]].concat(), out);
     raw::from_json(&[[b'['; 48], [b']'; 48]].concat(), out);
