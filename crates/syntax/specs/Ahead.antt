@@ -10,8 +10,9 @@ use lib.ListN.{length, getD, length-append, length-map}
 use lib.Seq.{getD-append-add}
 use borrow.Author.Tests.{ne-eqb}
 use Rattle.syntax.specs.Quoted.{bytes}
-use Rattle.syntax.specs.Tokens.{Token, word, digits, hash, mark, Class, blank, letter, digit, dash, sharp, other, classOf, Mode, between, comment, dashed, inWord}
-use Rattle.syntax.specs.Tokens.{inDigits, inHash, into, Act, begin, onWord, onDigits, arrow, act, last, tokens, held, places}
+use Rattle.syntax.specs.Tokens.{Token, word, digits, hash, mark, Class, blank, letter, digit, dash, sharp, other, classOf, Mode, between}
+use Rattle.syntax.specs.Tokens.{comment, dashed, inWord, inDigits, inHash, into, Act, begin, onWord, onDigits, arrow, act, last, tokens, held}
+use Rattle.syntax.specs.Tokens.{places}
 use Rattle.syntax.specs.Laid.{isLetter, isDigit, letters, numerals, shuts, of-digit, of-letter}
 
 -- as many places as tokens
@@ -192,7 +193,8 @@ module _ (t : List ℕ → Bool → Token) (m : List ℕ → Mode) (acts : (w : 
 
   digits-run : (p place : ℕ) (w cs s : List ℕ) → allIn isDigit cs ≡ true → digitFirst s ≡ false → p + length cs - held (m (w ++ cs)) ≡ place
       → Meets p (m w) (cs ++ s) (t (w ++ cs) (letterFirst s)) place (p + length cs) s
-  digits-run p place w cs s h k e = run m isDigit digits-grow (t (w ++ cs) (letterFirst s)) p place w cs s h (rw e at (digits-end (p + length cs) (w ++ cs) s k))
+  digits-run p place w cs s h k e = run m isDigit digits-grow (t (w ++ cs) (letterFirst s)) p place w cs s h
+      (rw e at (digits-end (p + length cs) (w ++ cs) s k))
 
 digits-acts : (w : List ℕ) (c : ℕ) → act (inDigits w) c ≡ onDigits digits inDigits (classOf c) c w
 unfolding act
@@ -271,7 +273,8 @@ place-ahead {text} {s} {p} h =
     ∙ ap (λ (i : ℕ). getD (h .left ++ places p between s) i (length text)) e
     ∙ getD-append-add (h .left) (places p between s) 0 (length text)
 
-pub place-met : {text s : List ℕ} {p place q : ℕ} {t : Token} {s′ : List ℕ} → Here text p between s → Meets p between s t place q s′ → placeAt text (length (tokens between s)) ≡ place
+pub place-met : {text s : List ℕ} {p place q : ℕ} {t : Token} {s′ : List ℕ} → Here text p between s → Meets p between s t place q s′
+    → placeAt text (length (tokens between s)) ≡ place
 place-met {text} h x = place-ahead h ∙ ap (λ (ps : List ℕ). getD ps 0 (length text)) (x .there)
 
 pub place-end : {text : List ℕ} {p : ℕ} → Here text p between [] → placeAt text 0 ≡ length text

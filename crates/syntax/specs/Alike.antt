@@ -11,10 +11,11 @@ use Rattle.sheet.specs.declared.Node.{Node}
 use Rattle.sheet.specs.Sheet.{Sheet}
 use Rattle.syntax.specs.Quoted.{bytes}
 use Rattle.syntax.specs.Tokens.{Token, first, rest, wordOf, markOf, same}
-use Rattle.syntax.specs.Reader.{Out, ok, fault, _>>=_, Name, Scope, known, variable, Begin, nothing, aFalse, aTrue, aLet, aCase, anEach, aPair, aList, aName, aHash}
-use Rattle.syntax.specs.Reader.{aNumber, beginOf, Behind, aComma, aBar, anEnd, noneOf, behindOf, Branch, truths, lists, neither, branchOf, Part, whole, more, Reader}
-use Rattle.syntax.specs.Reader.{room, begun, constant, pairOf, behind, back, frontOf, listBy, listOf, letIn, amountBy, amountOf, truthCase, listCase, branches, caseOf}
-use Rattle.syntax.specs.Reader.{callOf, eachOf, named, shaped, parted, read, plan, Sections, section, sections, textRead, number}
+use Rattle.syntax.specs.Reader.{Out, ok, fault, _>>=_, Name, Scope, known, variable, Begin, nothing, aFalse, aTrue, aLet, aCase, anEach, aPair}
+use Rattle.syntax.specs.Reader.{aList, aName, aHash, aNumber, beginOf, Behind, aComma, aBar, anEnd, noneOf, behindOf, Branch, truths, lists}
+use Rattle.syntax.specs.Reader.{neither, branchOf, Part, whole, more, Reader, room, begun, constant, pairOf, behind, back, frontOf, listBy}
+use Rattle.syntax.specs.Reader.{listOf, letIn, amountBy, amountOf, truthCase, listCase, branches, caseOf, callOf, eachOf, named, shaped, parted}
+use Rattle.syntax.specs.Reader.{read, plan, Sections, section, sections, textRead, number}
 
 pub data Alike {A : Type 0} (R : A → A → Type 0) : Out A → Out A → Type 0 where
   both : {a b : A} → R a b → Alike R (ok a) (ok b)
@@ -224,7 +225,8 @@ module _ (r r′ : Name → Option ℕ) where
       alike-read _ _ (s whole _ (suc n + length b) ts₇) λ e f ts₈ l′.
       both (like (one (app l (app l′ nil)))))
 
-  alike-shaped : (rd rd′ : Reader) → Same rd rd′ → (sc : Scope) (n : ℕ) (ts : List Token) (b : Begin) → Alike Like (shaped r rd sc n ts b) (shaped r′ rd′ sc n ts b)
+  alike-shaped : (rd rd′ : Reader) → Same rd rd′ → (sc : Scope) (n : ℕ) (ts : List Token) (b : Begin)
+      → Alike Like (shaped r rd sc n ts b) (shaped r′ rd′ sc n ts b)
   unfolding shaped amountOf
   alike-shaped rd rd′ s sc n ts nothing = left
   alike-shaped rd rd′ s sc n ts aFalse = both (like (one nil))
@@ -239,7 +241,8 @@ module _ (r r′ : Name → Option ℕ) where
   alike-shaped rd rd′ s sc n ts (aNumber ds b) =
       alike-same _ _ _ λ v. alike-amount rd rd′ s sc n (same (markOf (first (rest ts))) (bytes "+")) (leb v 65535) (rest ts) v
 
-  alike-begun : (n : ℕ) (ts : List Token) (b : Begin) (f g : Begin → Out (List Node × List Token)) → Alike Like (f b) (g b) → Alike Like (begun n ts b f) (begun n ts b g)
+  alike-begun : (n : ℕ) (ts : List Token) (b : Begin) (f g : Begin → Out (List Node × List Token)) → Alike Like (f b) (g b)
+      → Alike Like (begun n ts b f) (begun n ts b g)
   unfolding begun
   alike-begun n ts nothing f g h = left
   alike-begun n ts aFalse f g h = alike-room n ts _ _ h
@@ -297,8 +300,10 @@ module _ (r r′ : Name → Option ℕ) where
       go : ((ms : List Name) (m : ℕ) (us : List Token) → Alike Count (sections r k ms m us) (sections r′ k ms m us))
           → (x y : (Name × List Node) × List Token) → Section x y
           → Alike Count
-          (sections r k (x .0 .0 ∷ ns) (n + length (x .0 .1)) (x .1) >>= λ q. ok (record { names = q .names; roots = n ∷ q .roots; nodes = x .0 .1 ++ q .nodes }))
-          (sections r′ k (y .0 .0 ∷ ns) (n + length (y .0 .1)) (y .1) >>= λ q. ok (record { names = q .names; roots = n ∷ q .roots; nodes = y .0 .1 ++ q .nodes }))
+          (sections r k (x .0 .0 ∷ ns) (n + length (x .0 .1)) (x .1) >>= λ q. ok
+          (record { names = q .names; roots = n ∷ q .roots; nodes = x .0 .1 ++ q .nodes }))
+          (sections r′ k (y .0 .0 ∷ ns) (n + length (y .0 .1)) (y .1) >>= λ q. ok
+          (record { names = q .names; roots = n ∷ q .roots; nodes = y .0 .1 ++ q .nodes }))
       go ih x y (alike-nodes {w} {a} {b} {ts = us} l) = rw (as-long l) (alike _ _ (ih (w ∷ ns) (n + length b) us) λ p q e. both e)
 
   pub text-alike : (ts : List Token) → Alike (λ x y. length (x .0) ≡ length (y .0)) (textRead r ts) (textRead r′ ts)

@@ -1,15 +1,16 @@
 -- Worked texts of GRAMMAR.md with their bytes, and faults with their places.
 use mathlib.Core.Path.{_≡_, refl}
-use mathlib.Core.List.{List, [], _∷_}
+use mathlib.Core.List.{List, [], _∷_, _++_}
 use Prim.Native.Nat.{ℕ}
 use Rattle.sheet.specs.Kinds.{written}
 use Rattle.sheet.specs.Rows.{sheetWritten}
 use Rattle.syntax.specs.Quoted.{bytes}
 use Rattle.syntax.specs.Tokens.{classOf, begin, onWord, onDigits, act, last, tokens, held, places, first, rest, wordOf, markOf, same}
-use Rattle.syntax.specs.Reader.{_>>=_, find, isName, symbol, keyword, bind, sectionName, known, value, zeroFirst, valued, number, byNumber, variableBy, variable}
-use Rattle.syntax.specs.Reader.{testBy, test, wordBegin, beginOf, behindOf, branchOf, room, begun, constant, pairOf, behind, back, frontOf, listBy, listOf, letIn}
-use Rattle.syntax.specs.Reader.{amountBy, amountOf, truthCase, listCase, branches, caseOf, callOf, eachOf, named, shaped, parted, read, plan, unknown, section}
-use Rattle.syntax.specs.Reader.{sections, textRead, sheetRead, placed, sheetOf, Said, says, refused}
+use Rattle.syntax.specs.Reader.{_>>=_, find, isName, symbol, keyword, bind, sectionName, known, value, zeroFirst, valued, number, byNumber}
+use Rattle.syntax.specs.Reader.{variableBy, variable, testBy, test, wordBegin, beginOf, behindOf, branchOf, room, begun, constant, pairOf}
+use Rattle.syntax.specs.Reader.{behind, back, frontOf, listBy, listOf, letIn, amountBy, amountOf, truthCase, listCase, branches, caseOf, callOf}
+use Rattle.syntax.specs.Reader.{eachOf, named, shaped, parted, read, plan, unknown, section, sections, textRead, sheetRead, placed, sheetOf}
+use Rattle.syntax.specs.Reader.{Said, says, refused}
 
 -- (all that a reading computes with)
 run : List ℕ → Said
@@ -20,8 +21,17 @@ unfolding classOf begin onWord onDigits act last tokens held places first rest w
     sections textRead sheetRead placed sheetOf written sheetWritten
 run t = sheetOf t
 
-joined : sheetOf (bytes "-- 4. Two blocks joined: the list has the seats of both in one row.\nplan first, second\nlist = join(first, second)\n\nsection join(block, tail) =\n  case block of\n    []            -> tail\n    [seat | rest] -> [seat | join(rest, tail)] with members\n      default seat = false, rest = []\n  end\n")
-    ≡ says (0x01 ∷ 0x02 ∷ 0x00 ∷ 0x20 ∷ 0x01 ∷ 0x1A ∷ 0x00 ∷ 0x00 ∷ 0x01 ∷ 0x17 ∷ 0x02 ∷ 0x03 ∷ 0x00 ∷ 0x04 ∷ 0x02 ∷ 0x07 ∷ 0x08 ∷ 0x10 ∷ 0x00 ∷ 0x10 ∷ 0x01 ∷ 0x15 ∷ 0x05 ∷ 0x06 ∷ 0x10 ∷ 0x02 ∷ 0x1A ∷ 0x00 ∷ 0x03 ∷ 0x01 ∷ 0x11 ∷ 0x13 ∷ [])
+joined : sheetOf (bytes "-- 4. Two blocks joined: the list has the seats of both in one row.\n"
+    ++ bytes "plan first, second\n"
+    ++ bytes "list = join(first, second)\n\n"
+    ++ bytes "section join(block, tail) =\n"
+    ++ bytes "  case block of\n"
+    ++ bytes "    []            -> tail\n"
+    ++ bytes "    [seat | rest] -> [seat | join(rest, tail)] with members\n"
+    ++ bytes "      default seat = false, rest = []\n"
+    ++ bytes "  end\n")
+    ≡ says (0x01 ∷ 0x02 ∷ 0x00 ∷ 0x20 ∷ 0x01 ∷ 0x1A ∷ 0x00 ∷ 0x00 ∷ 0x01 ∷ 0x17 ∷ 0x02 ∷ 0x03 ∷ 0x00 ∷ 0x04 ∷ 0x02 ∷ 0x07 ∷ 0x08 ∷ 0x10 ∷ 0x00 ∷ 0x10
+    ∷ 0x01 ∷ 0x15 ∷ 0x05 ∷ 0x06 ∷ 0x10 ∷ 0x02 ∷ 0x1A ∷ 0x00 ∷ 0x03 ∷ 0x01 ∷ 0x11 ∷ 0x13 ∷ [])
 unfolding run
 joined = refl
 
@@ -30,33 +40,83 @@ swapped : sheetOf (bytes "-- 2. A pair of name and number: the tour wants the nu
 unfolding run
 swapped = refl
 
-first-seat : sheetOf (bytes "-- 3. A block that may be empty: the tour sees its first seat alone.\nplan block\nlist =\n  case block of\n    []              -> []     with empty\n    [seat | others] -> [seat] with one\n      default seat = 1, others = [2]\n  end\n")
-    ≡ says (0x01 ∷ 0x01 ∷ 0x00 ∷ 0x17 ∷ 0x01 ∷ 0x02 ∷ 0x01 ∷ 0x03 ∷ 0x05 ∷ 0x06 ∷ 0x07 ∷ 0x10 ∷ 0x00 ∷ 0x13 ∷ 0x15 ∷ 0x04 ∷ 0x05 ∷ 0x10 ∷ 0x01 ∷ 0x13 ∷ 0x14 ∷ 0x00 ∷ 0x01 ∷ 0x15 ∷ 0x08 ∷ 0x09 ∷ 0x14 ∷ 0x00 ∷ 0x02 ∷ 0x13 ∷ [])
+first-seat : sheetOf (bytes "-- 3. A block that may be empty: the tour sees its first seat alone.\n"
+    ++ bytes "plan block\n"
+    ++ bytes "list =\n"
+    ++ bytes "  case block of\n"
+    ++ bytes "    []              -> []     with empty\n"
+    ++ bytes "    [seat | others] -> [seat] with one\n"
+    ++ bytes "      default seat = 1, others = [2]\n"
+    ++ bytes "  end\n")
+    ≡ says (0x01 ∷ 0x01 ∷ 0x00 ∷ 0x17 ∷ 0x01 ∷ 0x02 ∷ 0x01 ∷ 0x03 ∷ 0x05 ∷ 0x06 ∷ 0x07 ∷ 0x10 ∷ 0x00 ∷ 0x13 ∷ 0x15 ∷ 0x04 ∷ 0x05 ∷ 0x10 ∷ 0x01 ∷ 0x13
+    ∷ 0x14 ∷ 0x00 ∷ 0x01 ∷ 0x15 ∷ 0x08 ∷ 0x09 ∷ 0x14 ∷ 0x00 ∷ 0x02 ∷ 0x13 ∷ [])
 unfolding run
 first-seat = refl
 
-old-plan : sheetOf (bytes "-- The old plan: whether a box is in use, and its seats if it is.\nplan used, seats\nlist = ( used,\n         case used of\n           false -> []    with empty\n           true  -> seats with members\n         end )\n")
+old-plan : sheetOf (bytes "-- The old plan: whether a box is in use, and its seats if it is.\n"
+    ++ bytes "plan used, seats\n"
+    ++ bytes "list = ( used,\n"
+    ++ bytes "         case used of\n"
+    ++ bytes "           false -> []    with empty\n"
+    ++ bytes "           true  -> seats with members\n"
+    ++ bytes "         end )\n")
     ≡ says (0x01 ∷ 0x02 ∷ 0x00 ∷ 0x16 ∷ 0x01 ∷ 0x02 ∷ 0x10 ∷ 0x00 ∷ 0x18 ∷ 0x03 ∷ 0x04 ∷ 0x01 ∷ 0x05 ∷ 0x02 ∷ 0x10 ∷ 0x00 ∷ 0x13 ∷ 0x10 ∷ 0x01 ∷ [])
 unfolding run
 old-plan = refl
 
-fees : sheetOf (bytes "-- 6. Prices with a fee of 250 pence, where the fee is wanted.\nplan prices, fee\nlist =\n  case fee of\n    false -> prices\n    true  -> charged(prices, fee)\n  end\n\nsection charged(prices, fee) =\n  case prices of\n    []              -> [] with empty\n    [ticket | rest] -> [ let (name, price) = ticket in (name, 250 + price) | charged(rest, fee) ] with members\n      default ticket = ([], 0), rest = []\n  end\n")
-    ≡ says (0x01 ∷ 0x02 ∷ 0x00 ∷ 0x20 ∷ 0x04 ∷ 0x18 ∷ 0x01 ∷ 0x02 ∷ 0x00 ∷ 0x03 ∷ 0x00 ∷ 0x10 ∷ 0x01 ∷ 0x10 ∷ 0x00 ∷ 0x1A ∷ 0x00 ∷ 0x00 ∷ 0x01 ∷ 0x17 ∷ 0x05 ∷ 0x06 ∷ 0x01 ∷ 0x07 ∷ 0x02 ∷ 0x0F ∷ 0x12 ∷ 0x10 ∷ 0x00 ∷ 0x13 ∷ 0x15 ∷ 0x08 ∷ 0x0E ∷ 0x19 ∷ 0x09 ∷ 0x0A ∷ 0x10 ∷ 0x02 ∷ 0x16 ∷ 0x0B ∷ 0x0C ∷ 0x10 ∷ 0x04 ∷ 0x1B ∷ 0x0D ∷ 0x00 ∷ 0xFA ∷ 0x10 ∷ 0x05 ∷ 0x1A ∷ 0x00 ∷ 0x03 ∷ 0x01 ∷ 0x16 ∷ 0x10 ∷ 0x11 ∷ 0x13 ∷ 0x14 ∷ 0x00 ∷ 0x00 ∷ 0x13 ∷ [])
+fees : sheetOf (bytes "-- 6. Prices with a fee of 250 pence, where the fee is wanted.\n"
+    ++ bytes "plan prices, fee\n"
+    ++ bytes "list =\n"
+    ++ bytes "  case fee of\n"
+    ++ bytes "    false -> prices\n"
+    ++ bytes "    true  -> charged(prices, fee)\n"
+    ++ bytes "  end\n\n"
+    ++ bytes "section charged(prices, fee) =\n"
+    ++ bytes "  case prices of\n"
+    ++ bytes "    []              -> [] with empty\n"
+    ++ bytes "    [ticket | rest] -> [ let (name, price) = ticket in (name, 250 + price) | charged(rest, fee) ] with members\n"
+    ++ bytes "      default ticket = ([], 0), rest = []\n"
+    ++ bytes "  end\n")
+    ≡ says (0x01 ∷ 0x02 ∷ 0x00 ∷ 0x20 ∷ 0x04 ∷ 0x18 ∷ 0x01 ∷ 0x02 ∷ 0x00 ∷ 0x03 ∷ 0x00 ∷ 0x10 ∷ 0x01 ∷ 0x10 ∷ 0x00 ∷ 0x1A ∷ 0x00 ∷ 0x00 ∷ 0x01 ∷ 0x17
+    ∷ 0x05 ∷ 0x06 ∷ 0x01 ∷ 0x07 ∷ 0x02 ∷ 0x0F ∷ 0x12 ∷ 0x10 ∷ 0x00 ∷ 0x13 ∷ 0x15 ∷ 0x08 ∷ 0x0E ∷ 0x19 ∷ 0x09 ∷ 0x0A ∷ 0x10 ∷ 0x02 ∷ 0x16 ∷ 0x0B ∷
+    0x0C ∷ 0x10 ∷ 0x04 ∷ 0x1B ∷ 0x0D ∷ 0x00 ∷ 0xFA ∷ 0x10 ∷ 0x05 ∷ 0x1A ∷ 0x00 ∷ 0x03 ∷ 0x01 ∷ 0x16 ∷ 0x10 ∷ 0x11 ∷ 0x13 ∷ 0x14 ∷ 0x00 ∷ 0x00 ∷ 0x13 ∷ [])
 unfolding run
 fees = refl
 
-long-row : sheetOf (bytes "-- 7. Each seat of a long row: numbers from 101, prices not shown; a new seat costs 500.\nplan row\nlist = each shown(row, row) default (0, 500)\n\nsection shown(seat, _) = let (number, _) = seat in 100 + number\n")
-    ≡ says (0x01 ∷ 0x01 ∷ 0x00 ∷ 0x20 ∷ 0x05 ∷ 0x1C ∷ 0x01 ∷ 0x00 ∷ 0x00 ∷ 0x02 ∷ 0x10 ∷ 0x00 ∷ 0x16 ∷ 0x03 ∷ 0x04 ∷ 0x14 ∷ 0x00 ∷ 0x00 ∷ 0x14 ∷ 0x01 ∷ 0xF4 ∷ 0x19 ∷ 0x06 ∷ 0x07 ∷ 0x10 ∷ 0x00 ∷ 0x1B ∷ 0x08 ∷ 0x00 ∷ 0x64 ∷ 0x10 ∷ 0x02 ∷ [])
+long-row : sheetOf (bytes "-- 7. Each seat of a long row: numbers from 101, prices not shown; a new seat costs 500.\n"
+    ++ bytes "plan row\n"
+    ++ bytes "list = each shown(row, row) default (0, 500)\n\n"
+    ++ bytes "section shown(seat, _) = let (number, _) = seat in 100 + number\n")
+    ≡ says (0x01 ∷ 0x01 ∷ 0x00 ∷ 0x20 ∷ 0x05 ∷ 0x1C ∷ 0x01 ∷ 0x00 ∷ 0x00 ∷ 0x02 ∷ 0x10 ∷ 0x00 ∷ 0x16 ∷ 0x03 ∷ 0x04 ∷ 0x14 ∷ 0x00 ∷ 0x00 ∷ 0x14 ∷ 0x01
+    ∷ 0xF4 ∷ 0x19 ∷ 0x06 ∷ 0x07 ∷ 0x10 ∷ 0x00 ∷ 0x1B ∷ 0x08 ∷ 0x00 ∷ 0x64 ∷ 0x10 ∷ 0x02 ∷ [])
 unfolding run
 long-row = refl
 
-groups : sheetOf (bytes "-- 8. Prices for groups: a deposit, then price and size of each group, its leader counted too.\nplan groups\nlist = (100000, each offer(groups, groups) default (10, 70000))\n\nsection offer(group, _) = let (size, price) = group in (price, 1 + size)\n")
-    ≡ says (0x01 ∷ 0x01 ∷ 0x00 ∷ 0x20 ∷ 0x07 ∷ 0x16 ∷ 0x01 ∷ 0x02 ∷ 0x1D ∷ 0x00 ∷ 0x01 ∷ 0x86 ∷ 0xA0 ∷ 0x1C ∷ 0x03 ∷ 0x00 ∷ 0x00 ∷ 0x04 ∷ 0x10 ∷ 0x00 ∷ 0x16 ∷ 0x05 ∷ 0x06 ∷ 0x14 ∷ 0x00 ∷ 0x0A ∷ 0x1D ∷ 0x00 ∷ 0x01 ∷ 0x11 ∷ 0x70 ∷ 0x19 ∷ 0x08 ∷ 0x09 ∷ 0x10 ∷ 0x00 ∷ 0x16 ∷ 0x0A ∷ 0x0B ∷ 0x10 ∷ 0x03 ∷ 0x1B ∷ 0x0C ∷ 0x00 ∷ 0x01 ∷ 0x10 ∷ 0x02 ∷ [])
+groups : sheetOf (bytes "-- 8. Prices for groups: a deposit, then price and size of each group, its leader counted too.\n"
+    ++ bytes "plan groups\n"
+    ++ bytes "list = (100000, each offer(groups, groups) default (10, 70000))\n\n"
+    ++ bytes "section offer(group, _) = let (size, price) = group in (price, 1 + size)\n")
+    ≡ says (0x01 ∷ 0x01 ∷ 0x00 ∷ 0x20 ∷ 0x07 ∷ 0x16 ∷ 0x01 ∷ 0x02 ∷ 0x1D ∷ 0x00 ∷ 0x01 ∷ 0x86 ∷ 0xA0 ∷ 0x1C ∷ 0x03 ∷ 0x00 ∷ 0x00 ∷ 0x04 ∷ 0x10 ∷ 0x00
+    ∷ 0x16 ∷ 0x05 ∷ 0x06 ∷ 0x14 ∷ 0x00 ∷ 0x0A ∷ 0x1D ∷ 0x00 ∷ 0x01 ∷ 0x11 ∷ 0x70 ∷ 0x19 ∷ 0x08 ∷ 0x09 ∷ 0x10 ∷ 0x00 ∷ 0x16 ∷ 0x0A ∷ 0x0B ∷ 0x10 ∷
+    0x03 ∷ 0x1B ∷ 0x0C ∷ 0x00 ∷ 0x01 ∷ 0x10 ∷ 0x02 ∷ [])
 unfolding run
 groups = refl
 
-opened : sheetOf (bytes "-- 9. A row that is opened: the opening price of a new seat is the price in the list sent.\nplan row\nlist = prices(row, row)\n\nsection prices(row, _) =\n  case row of\n    []            -> [] with empty\n    [seat | rest] -> [ let (price, _) = seat in price | prices(rest, rest) ] with members\n      default seat = ( case sent of [] -> 0 [price | _] -> price default price = 0, _ = [] end\n                     , case sent of [] -> 0 [price | _] -> price default price = 0, _ = [] end ),\n              rest = []\n  end\n")
-    ≡ says (0x01 ∷ 0x01 ∷ 0x00 ∷ 0x20 ∷ 0x01 ∷ 0x1A ∷ 0x00 ∷ 0x00 ∷ 0x00 ∷ 0x17 ∷ 0x02 ∷ 0x03 ∷ 0x01 ∷ 0x04 ∷ 0x02 ∷ 0x09 ∷ 0x16 ∷ 0x10 ∷ 0x00 ∷ 0x13 ∷ 0x15 ∷ 0x05 ∷ 0x08 ∷ 0x19 ∷ 0x06 ∷ 0x07 ∷ 0x10 ∷ 0x02 ∷ 0x10 ∷ 0x04 ∷ 0x1A ∷ 0x00 ∷ 0x03 ∷ 0x03 ∷ 0x16 ∷ 0x0A ∷ 0x10 ∷ 0x17 ∷ 0x0B ∷ 0x0C ∷ 0x00 ∷ 0x0D ∷ 0x00 ∷ 0x0E ∷ 0x0F ∷ 0x10 ∷ 0x00 ∷ 0x14 ∷ 0x00 ∷ 0x00 ∷ 0x10 ∷ 0x01 ∷ 0x14 ∷ 0x00 ∷ 0x00 ∷ 0x13 ∷ 0x17 ∷ 0x11 ∷ 0x12 ∷ 0x00 ∷ 0x13 ∷ 0x00 ∷ 0x14 ∷ 0x15 ∷ 0x10 ∷ 0x00 ∷ 0x14 ∷ 0x00 ∷ 0x00 ∷ 0x10 ∷ 0x01 ∷ 0x14 ∷ 0x00 ∷ 0x00 ∷ 0x13 ∷ 0x13 ∷ [])
+opened : sheetOf (bytes "-- 9. A row that is opened: the opening price of a new seat is the price in the list sent.\n"
+    ++ bytes "plan row\n"
+    ++ bytes "list = prices(row, row)\n\n"
+    ++ bytes "section prices(row, _) =\n"
+    ++ bytes "  case row of\n"
+    ++ bytes "    []            -> [] with empty\n"
+    ++ bytes "    [seat | rest] -> [ let (price, _) = seat in price | prices(rest, rest) ] with members\n"
+    ++ bytes "      default seat = ( case sent of [] -> 0 [price | _] -> price default price = 0, _ = [] end\n"
+    ++ bytes "                     , case sent of [] -> 0 [price | _] -> price default price = 0, _ = [] end ),\n"
+    ++ bytes "              rest = []\n"
+    ++ bytes "  end\n")
+    ≡ says (0x01 ∷ 0x01 ∷ 0x00 ∷ 0x20 ∷ 0x01 ∷ 0x1A ∷ 0x00 ∷ 0x00 ∷ 0x00 ∷ 0x17 ∷ 0x02 ∷ 0x03 ∷ 0x01 ∷ 0x04 ∷ 0x02 ∷ 0x09 ∷ 0x16 ∷ 0x10 ∷ 0x00 ∷ 0x13
+    ∷ 0x15 ∷ 0x05 ∷ 0x08 ∷ 0x19 ∷ 0x06 ∷ 0x07 ∷ 0x10 ∷ 0x02 ∷ 0x10 ∷ 0x04 ∷ 0x1A ∷ 0x00 ∷ 0x03 ∷ 0x03 ∷ 0x16 ∷ 0x0A ∷ 0x10 ∷ 0x17 ∷ 0x0B ∷ 0x0C ∷
+    0x00 ∷ 0x0D ∷ 0x00 ∷ 0x0E ∷ 0x0F ∷ 0x10 ∷ 0x00 ∷ 0x14 ∷ 0x00 ∷ 0x00 ∷ 0x10 ∷ 0x01 ∷ 0x14 ∷ 0x00 ∷ 0x00 ∷ 0x13 ∷ 0x17 ∷ 0x11 ∷ 0x12 ∷ 0x00 ∷
+    0x13 ∷ 0x00 ∷ 0x14 ∷ 0x15 ∷ 0x10 ∷ 0x00 ∷ 0x14 ∷ 0x00 ∷ 0x00 ∷ 0x10 ∷ 0x01 ∷ 0x14 ∷ 0x00 ∷ 0x00 ∷ 0x13 ∷ 0x13 ∷ [])
 unfolding run
 opened = refl
 

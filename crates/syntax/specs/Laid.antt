@@ -145,7 +145,8 @@ unfolding tokens last shuts
 end-word w [] h = refl
 end-word w (c ∷ s) h = step-word w c s (classOf c) refl h
 
-on-word : (w : List ℕ) (c : ℕ) (s : List ℕ) (k : Class) → classOf c ≡ k → isLetter k || isDigit k ≡ true → tokens (inWord w) (c ∷ s) ≡ tokens (inWord (w ++ c ∷ [])) s
+on-word : (w : List ℕ) (c : ℕ) (s : List ℕ) (k : Class) → classOf c ≡ k → isLetter k || isDigit k ≡ true → tokens (inWord w) (c ∷ s)
+    ≡ tokens (inWord (w ++ c ∷ [])) s
 unfolding tokens act onWord
 on-word w c s letter e h = rw e
 on-word w c s digit e h = rw e

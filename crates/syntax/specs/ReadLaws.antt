@@ -18,13 +18,14 @@ use Rattle.sheet.specs.Rows.{Small, Every}
 use Rattle.preorder.specs.Numbering.{gathered, nodeOf, metFrom}
 use Rattle.syntax.specs.Quoted.{bytes}
 use Rattle.syntax.specs.Tokens.{Token, word, digits, hash, mark, arrow, first, rest, wordOf, markOf, same}
-use Rattle.syntax.specs.Reader.{Out, ok, fault, _>>=_, Name, Scope, scope, find, wild, sent, tests, isName, symbol, keyword, bind, sectionName, known, number}
-use Rattle.syntax.specs.Reader.{variableBy, variable, testBy, test, wordBegin, beginOf, behindOf, branchOf, Part, whole, more, Nodes, Reader, room, begun, constant}
-use Rattle.syntax.specs.Reader.{pairOf, behind, back, frontOf, listBy, listOf, letIn, amountBy, amountOf, truthCase, listCase, branches, caseOf, callOf, eachOf}
-use Rattle.syntax.specs.Reader.{named, shaped, parted, read}
-use Rattle.syntax.specs.Printer.{Piece, gap, sign, unlessPlain, tokensIn, decimal, partName, Reach, reach, called, wide, variableSaid, testName, testSaid, TailOf}
-use Rattle.syntax.specs.Printer.{aFront, theEnd, another, Where, alone, inList, Speaker, spoken, tailed, plainNode, said}
-use Rattle.syntax.specs.NameLaws.{same-self, number-decimal, hash-decimal, called-is, called-wild, part-is, called-apart, part-apart, stack, find-in, find-new}
+use Rattle.syntax.specs.Reader.{Out, ok, fault, _>>=_, Name, Scope, scope, find, wild, sent, tests, isName, symbol, keyword, bind, sectionName}
+use Rattle.syntax.specs.Reader.{known, number, variableBy, variable, testBy, test, wordBegin, beginOf, behindOf, branchOf, Part, whole, more}
+use Rattle.syntax.specs.Reader.{Nodes, Reader, room, begun, constant, pairOf, behind, back, frontOf, listBy, listOf, letIn, amountBy, amountOf}
+use Rattle.syntax.specs.Reader.{truthCase, listCase, branches, caseOf, callOf, eachOf, named, shaped, parted, read}
+use Rattle.syntax.specs.Printer.{Piece, gap, sign, unlessPlain, tokensIn, decimal, partName, Reach, reach, called, wide, variableSaid, testName}
+use Rattle.syntax.specs.Printer.{testSaid, TailOf, aFront, theEnd, another, Where, alone, inList, Speaker, spoken, tailed, plainNode, said}
+use Rattle.syntax.specs.NameLaws.{same-self, number-decimal, hash-decimal, called-is, called-wild, part-is, called-apart, part-apart, stack}
+use Rattle.syntax.specs.NameLaws.{find-in, find-new}
 
 -- STEPS
 
@@ -181,7 +182,8 @@ module _ (sh : Sheet) (ρ ψ : ℕ → ℕ) (resolve : Name → Option ℕ) wher
   in-parts l [] = refl
   in-parts l (n ∷ ns) = ap (λ (z : List Node). met l n ++ z) (in-parts l ns) ∙ sym (map-append anew (metFrom l sh n) (gathered (metFrom l sh) ns))
 
-  done : (l : ℕ) (ns : List ℕ) (k : List Token) {x y : Node} → x ≡ y → _≡_ {A = Nodes} (ok (x ∷ parts l ns, k)) (ok (y ∷ map anew (gathered (metFrom l sh) ns), k))
+  done : (l : ℕ) (ns : List ℕ) (k : List Token) {x y : Node} → x ≡ y
+      → _≡_ {A = Nodes} (ok (x ∷ parts l ns, k)) (ok (y ∷ map anew (gathered (metFrom l sh) ns), k))
   done l ns k {x} {y} e = ap (λ (z : Node). ok (z ∷ parts l ns, k)) e ∙ ap (λ (z : List Node). ok (y ∷ z, k)) (in-parts l ns)
 
   module _ (l f m : ℕ) (h : m < 200) (p : Bool) (r : Reach) (i lost : ℕ) (k : List Piece) where
@@ -243,7 +245,8 @@ module _ (sh : Sheet) (ρ ψ : ℕ → ℕ) (resolve : Name → Option ℕ) wher
         (then _ (cb .tail p r i lost k) (done l (a ∷ b ∷ []) (tokensIn k) (rw (ca .number, cb .number))))))
 
     read-split : (a b : ℕ) → AllReady l f (suc m) (a ∷ b ∷ []) → quiet (tokensIn k) ≡ true → Reads (Split a b)
-    unfolding parted begun beginOf wordBegin shaped isName find letIn symbol keyword same first rest tokensIn wordOf markOf spoken stack children renumber ofKind formOf
+    unfolding parted begun beginOf wordBegin shaped isName find letIn symbol keyword same first rest tokensIn wordOf markOf spoken stack children
+        renumber ofKind formOf
     read-split a b (ca, (cb, u)) q =
         room-ok _ _ h
         (then _ refl
@@ -267,7 +270,8 @@ module _ (sh : Sheet) (ρ ψ : ℕ → ℕ) (resolve : Name → Option ℕ) wher
         (then _ (variable-read r lost y _ hy)
         (then _ refl refl))))))
 
-    read-each : (a c x b : ℕ) → resolve (partName c) ≡ some (ψ c) → x < 256 → AllReady l f (suc m) (a ∷ b ∷ []) → quiet (tokensIn k) ≡ true → Reads (Each a c x b)
+    read-each : (a c x b : ℕ) → resolve (partName c) ≡ some (ψ c) → x < 256 → AllReady l f (suc m) (a ∷ b ∷ []) → quiet (tokensIn k) ≡ true
+        → Reads (Each a c x b)
     unfolding parted begun beginOf wordBegin shaped isName find eachOf symbol keyword same first rest tokensIn wordOf markOf spoken stack children
         renumber ofKind formOf
     read-each a c x b e hx (ca, (cb, u)) q =
@@ -283,7 +287,8 @@ module _ (sh : Sheet) (ρ ψ : ℕ → ℕ) (resolve : Name → Option ℕ) wher
         (then _ (cb .whole (reach 0 false) _ 42 k q) (done l (a ∷ b ∷ []) (tokensIn k) (rw (ca .number, cb .number))))))))))))
 
     read-truth : (s a t b u : ℕ) → t ≤ 6 → u ≤ 6 → AllReady l f (suc m) (s ∷ a ∷ b ∷ []) → Reads (TruthCase s a t b u)
-    unfolding parted begun beginOf wordBegin shaped isName find caseOf branches branchOf truthCase symbol keyword same first rest tokensIn wordOf markOf spoken children
+    unfolding parted begun beginOf wordBegin shaped isName find caseOf branches branchOf truthCase symbol keyword same first rest tokensIn wordOf
+        markOf spoken children
         renumber ofKind formOf
     read-truth s a t b u ht hu (cs, (ca, (cb, z))) =
         room-ok _ _ h
@@ -299,7 +304,8 @@ module _ (sh : Sheet) (ρ ψ : ℕ → ℕ) (resolve : Name → Option ℕ) wher
         (then _ refl (done l (s ∷ a ∷ b ∷ []) (tokensIn k) (rw (cs .number, ca .number, cb .number)))))))))))))
 
     read-list : (s a t b u d e : ℕ) → t ≤ 6 → u ≤ 6 → AllReady l f (suc m) (s ∷ a ∷ b ∷ d ∷ e ∷ []) → Reads (ListCase s a t b u d e)
-    unfolding parted begun beginOf wordBegin shaped isName find caseOf branches branchOf listCase symbol keyword same first rest tokensIn wordOf markOf spoken stack called
+    unfolding parted begun beginOf wordBegin shaped isName find caseOf branches branchOf listCase symbol keyword same first rest tokensIn wordOf
+        markOf spoken stack called
         children renumber ofKind formOf
     read-list s a t b u d e ht hu (cs, (ca, (cb, (cd, (ce, z))))) =
         room-ok _ _ h
@@ -349,7 +355,8 @@ module _ (sh : Sheet) (ρ ψ : ℕ → ℕ) (resolve : Name → Option ℕ) wher
 
     -- and as the rest of a list
     abbrev Ends : (q : Bool) → Node → Type 0
-    Ends q n = parted resolve (read resolve f) whole (scopeOf r lost) m (tokensIn (spoken (said sh l) (plainNode sh) q r (i + 2) n (gap (unlessPlain p) ∷ sign (bytes "]") ∷ k)))
+    Ends q n = parted resolve (read resolve f) whole (scopeOf r lost) m
+        (tokensIn (spoken (said sh l) (plainNode sh) q r (i + 2) n (gap (unlessPlain p) ∷ sign (bytes "]") ∷ k)))
         ≡ ok (renumber ρ ψ n ∷ map anew (gathered (metFrom l sh) (children n)), mark (bytes "]") ∷ tokensIn k)
 
     pub read-tail : (q : Bool) {n : Node} (t : TailOf n) → AllReady l f (suc m) (children n) → Ends q n

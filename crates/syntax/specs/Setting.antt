@@ -16,11 +16,12 @@ use Rattle.preorder.specs.Numbering.{nodeOf}
 use Rattle.syntax.specs.Quoted.{bytes}
 use Rattle.syntax.specs.Tokens.{Token, word, digits, hash, mark, blank, letter, digit, dash, other, classOf, arrow, same}
 use Rattle.syntax.specs.Reader.{Name, sent}
-use Rattle.syntax.specs.Printer.{Piece, tok, gap, tokensIn, the, sign, space, line, orLine, unlessPlain, decimal, suffix, nameOf, partName, Reach, reach, called}
-use Rattle.syntax.specs.Printer.{variableSaid, binder, wide, testName, testSaid, TailOf, aFront, theEnd, another, tailOf, alone, inList, Speaker, bodySaid, spoken}
-use Rattle.syntax.specs.Printer.{tailed, plainNode, said, rootSaid, planSaid, sectionsSaid, sheetSaid}
+use Rattle.syntax.specs.Printer.{Piece, tok, gap, tokensIn, the, sign, space, line, orLine, unlessPlain, decimal, suffix, nameOf, partName}
+use Rattle.syntax.specs.Printer.{Reach, reach, called, variableSaid, binder, wide, testName, testSaid, TailOf, aFront, theEnd, another, tailOf}
+use Rattle.syntax.specs.Printer.{alone, inList, Speaker, bodySaid, spoken, tailed, plainNode, said, rootSaid, planSaid, sectionsSaid, sheetSaid}
 use Rattle.syntax.specs.NameLaws.{same-true, Digit, decimal-digits, suffix-digits, some-digit}
-use Rattle.syntax.specs.Laid.{isLetter, isDigit, isOther, isBlank, letters, numerals, good, spelled, shuts, isMark, Laid, nothing, gap as aGap, token, of-blank, of-other}
+use Rattle.syntax.specs.Laid.{isLetter, isDigit, isOther, isBlank, letters, numerals, good, spelled, shuts, isMark, Laid, nothing, gap as aGap}
+use Rattle.syntax.specs.Laid.{token, of-blank, of-other}
 
 unfoldable pub textIn : List Piece → List ℕ
 textIn [] = []
@@ -264,7 +265,9 @@ module _ (say : Speaker) (plain : ℕ → Bool) (fits : Fits say) where
   fit-spoken p r i (ListCase s e t n u d d′) h =
       let x = called-good (r .isSent) (r .count) in
       let y = called-good (r .isSent) (suc (r .count)) in
-      tkn refl (spc (sa r (i + 2) s (spc (tkn refl (lin (i + 2) (sgn refl (sgn refl (pad (length (called (r .isSent) (r .count)) + length (called (r .isSent) (suc (r .count))) + 4) (sgn refl (bdy r (i + 4) e (tst t (
+      tkn refl (spc (sa r (i + 2) s (spc
+      (tkn refl (lin (i + 2) (sgn refl
+      (sgn refl (pad (length (called (r .isSent) (r .count)) + length (called (r .isSent) (suc (r .count))) + 4) (sgn refl (bdy r (i + 4) e (tst t (
       lin (i + 2) (sgn refl (tkn x (spc (sgn refl (spc (tkn y (sgn refl (spc (sgn refl (bdy (wide r) (i + 4) n (tst u (
       lin (i + 4) (tkn refl (spc (tkn x (spc (sgn refl (bdy (reach 1 true) (i + 6) d (
       sgn refl (spc (tkn y (spc (sgn refl (bdy (reach 1 true) (i + 6) d′ (lin i (tkn refl h))))))))))))))))))))))))))))))))))))))

@@ -24,9 +24,10 @@ use Rattle.preorder.specs.Uses.{lowestTwice, all-once}
 use Rattle.preorder.specs.NumberAnswer.{Answer, done, refused, twice}
 use Rattle.syntax.specs.Quoted.{bytes}
 use Rattle.syntax.specs.Tokens.{Token, word, digits, hash, mark}
-use Rattle.syntax.specs.Printer.{Piece, tok, gap, the, sign, space, line, orLine, unlessPlain, dec, decimal, suffix, nameOf, partName, Reach, reach, called, wide}
-use Rattle.syntax.specs.Printer.{variableSaid, testName, testSaid, TailOf, aFront, theEnd, another, tailOf, noCase, allPlain, plainFrom, alone, inList, Speaker}
-use Rattle.syntax.specs.Printer.{bodySaid, spoken, tailed, plainNode, said, rootSaid, planSaid, sectionsSaid, sheetSaid}
+use Rattle.syntax.specs.Printer.{Piece, tok, gap, the, sign, space, line, orLine, unlessPlain, dec, decimal, suffix, nameOf, partName, Reach}
+use Rattle.syntax.specs.Printer.{reach, called, wide, variableSaid, testName, testSaid, TailOf, aFront, theEnd, another, tailOf, noCase}
+use Rattle.syntax.specs.Printer.{allPlain, plainFrom, alone, inList, Speaker, bodySaid, spoken, tailed, plainNode, said, rootSaid, planSaid}
+use Rattle.syntax.specs.Printer.{sectionsSaid, sheetSaid}
 use Rattle.syntax.specs.NameLaws.{limit, small-dec, large-dec}
 use Rattle.syntax.specs.Laid.{spelled}
 use Rattle.syntax.specs.Setting.{textIn}
@@ -50,7 +51,8 @@ unfolding dec limit
 dec-short d zero n acc h = omega arith
 dec-short d (suc f) n acc h = go d h (decLt n 10) (λ e. dec-short e f (n / 10) ((48 + n % 10) ∷ acc))
   where
-    go : (d : ℕ) → n < 10 * limit d → Dec (n < 10) → ((e : ℕ) → n / 10 < 10 * limit e → length (dec f (n / 10) ((48 + n % 10) ∷ acc)) ≤ suc e + suc (length acc))
+    go : (d : ℕ) → n < 10 * limit d → Dec (n < 10)
+        → ((e : ℕ) → n / 10 < 10 * limit e → length (dec f (n / 10) ((48 + n % 10) ∷ acc)) ≤ suc e + suc (length acc))
         → length (dec (suc f) n acc) ≤ suc d + length acc
     go d h (yes s) i = rw (small-dec f n acc s) (omega arith)
     go zero h (no s) i = absurd (omega arith)
@@ -164,7 +166,8 @@ module _ (sh : Sheet) where
     abbrev Fits : Node → Type 0
     Fits n = Within (gap (orLine p (bytes " ") j) ∷ spoken (said sh l) (plainNode sh) p r i n k) (18 + 75 * length (gathered (metFrom l sh) (children n)) + b)
 
-    sa : {n : ℕ} (r : Reach) (i : ℕ) → r .count + 2 * l ≤ 2500 → Short l n → {k : List Piece} {b : ℕ} → Within k b → Within (said sh l alone r i n k) (cost l n + b)
+    sa : {n : ℕ} (r : Reach) (i : ℕ) → r .count + 2 * l ≤ 2500 → Short l n → {k : List Piece} {b : ℕ} → Within k b
+        → Within (said sh l alone r i n k) (cost l n + b)
     sa r i h c w = behind (c .one r i 0 h w)
 
     short-var : (x : ℕ) → x < 256 → p ≡ true → Fits (Var x)
@@ -195,7 +198,8 @@ module _ (sh : Sheet) where
     unfolding spoken children spelled
     short-call c x y hc hx hy e =
         rw e
-        (to (gp (tk (tk (tk (tk (gp (tk (tk w)))))))) (omega (arith, part-short c hc, variable-short r x (omega arith) hx, variable-short r y (omega arith) hy)))
+        (to (gp (tk (tk (tk (tk (gp (tk (tk w))))))))
+        (omega (arith, part-short c hc, variable-short r x (omega arith) hx, variable-short r y (omega arith) hy)))
 
     short-add : (a v : ℕ) → v ≤ 65535 → AllShort l (a ∷ []) → Fits (Add a v)
     unfolding spoken children spelled limit
@@ -207,13 +211,30 @@ module _ (sh : Sheet) where
     unfolding spoken children spelled
     short-pair a c (ca, (cc′, u)) =
         to (gp (tk (gp (sa r (i + 2) (omega arith) ca (gp (tk (gp (sa r (i + 2) (omega arith) cc′ (gp (tk w))))))))))
-        (omega (arith, or-short p j, or-none p i, unless-short p, ca .some, cc′ .some, length-append (metFrom l sh a) (metFrom l sh c ++ []), length-append (metFrom l sh c) []))
+        (omega (
+          arith,
+          or-short p j,
+          or-none p i,
+          unless-short p,
+          ca .some,
+          cc′ .some,
+          length-append (metFrom l sh a) (metFrom l sh c ++ []),
+          length-append (metFrom l sh c) [],
+        ))
 
     short-front : (a c : ℕ) → AllShort l (a ∷ c ∷ []) → Fits (Front a c)
     unfolding spoken children spelled
     short-front a c (ca, (cc′, u)) =
         to (gp (tk (gp (sa r (i + 2) (omega arith) ca (cc′ .listed p r i (omega arith) w)))))
-        (omega (arith, or-short p j, unless-short p, ca .some, cc′ .some, length-append (metFrom l sh a) (metFrom l sh c ++ []), length-append (metFrom l sh c) []))
+        (omega (
+          arith,
+          or-short p j,
+          unless-short p,
+          ca .some,
+          cc′ .some,
+          length-append (metFrom l sh a) (metFrom l sh c ++ []),
+          length-append (metFrom l sh c) [],
+        ))
 
     short-split : (a c : ℕ) → AllShort l (a ∷ c ∷ []) → Fits (Split a c)
     unfolding spoken children spelled
@@ -316,7 +337,8 @@ module _ (sh : Sheet) where
   -- the rest of a list
   short-tail : (l : ℕ) (p q : Bool) (r : Reach) (i : ℕ) → r .count + 2 * suc l ≤ 2500 → {k : List Piece} {b : ℕ} → Within k b → {n : Node} (t : TailOf n)
       → AllShort l (children n)
-      → Within (spoken (said sh l) (plainNode sh) q r (i + 2) n (gap (unlessPlain p) ∷ sign (bytes "]") ∷ k)) (18 + 75 * length (gathered (metFrom l sh) (children n)) + (1 + (1 + b)))
+      → Within (spoken (said sh l) (plainNode sh) q r (i + 2) n (gap (unlessPlain p) ∷ sign (bytes "]") ∷ k))
+      (18 + 75 * length (gathered (metFrom l sh) (children n)) + (1 + (1 + b)))
       → Within (tailed (said sh l) (plainNode sh) p q r i t k) (37 + (18 + 75 * length (gathered (metFrom l sh) (children n)) + b))
   unfolding tailed children spelled
   short-tail l p q r i few w (aFront {a = x} {b = y}) (cx, (cy, u)) e =
@@ -371,7 +393,8 @@ module _ (sh : Sheet) where
     sections-short i [] h e = to (gp (all [])) (unfold size in omega arith)
     sections-short i (n ∷ ns) h e =
         let c = all-short N n (e .0) (omega arith) in
-        to (gp (tk (gp (tk (tk (tk (tk (gp (tk (tk (gp (tk (root-short (reach 2 false) n (e .0) (omega arith) (sections-short (suc i) ns (omega arith) (e .1)))))))))))))))
+        to (gp (tk (gp (tk (tk (tk (tk (gp
+        (tk (tk (gp (tk (root-short (reach 2 false) n (e .0) (omega arith) (sections-short (suc i) ns (omega arith) (e .1)))))))))))))))
         (omega (
           arith,
           part-short i (omega arith),
@@ -397,7 +420,8 @@ module _ (sh : Sheet) where
     unfolding sheetSaid spelled order roots
     sheet-short h =
         let c = all-short N (sh .root) (rg .root) (omega arith) in
-        to (tk (gp (plan-short 0 (pred (sh .k)) (omega (arith, rg .few-variables, rg .some-variable)) (gp (tk (gp (tk (root-short (reach (sh .k) false) (sh .root) (rg .root) (rg .few-variables)
+        to (tk (gp (plan-short 0 (pred (sh .k)) (omega (arith, rg .few-variables, rg .some-variable))
+        (gp (tk (gp (tk (root-short (reach (sh .k) false) (sh .root) (rg .root) (rg .few-variables)
         (sections-short 0 (sh .sections) (omega (arith, rg .few-sections)) roots-all)))))))))
         (omega (arith, rg .few-variables, rg .some-variable, c .some, length-append (metFrom N sh (sh .root)) (gathered (metFrom N sh) (sh .sections))))
 

@@ -15,12 +15,13 @@ use Rattle.sheet.specs.Kinds.{row, children}
 use Rattle.sheet.specs.Sheet.{Sheet}
 use Rattle.syntax.specs.Quoted.{bytes}
 use Rattle.syntax.specs.Tokens.{Token, word, digits, hash, mark, arrow, first, rest, wordOf, markOf, same}
-use Rattle.syntax.specs.Reader.{Out, ok, fault, _>>=_, Name, Scope, scope, find, wild, sent, tests, isName, symbol, keyword, bind, sectionName, known, Valued, is}
-use Rattle.syntax.specs.Reader.{over, value, zeroFirst, valued, number, byNumber, variableBy, variable, testBy, test, Begin, nothing, aFalse, aTrue, aLet, aCase}
-use Rattle.syntax.specs.Reader.{anEach, aPair, aList, aName, aHash, aNumber, beginOf, Behind, aComma, aBar, anEnd, noneOf, behindOf, Branch, truths, lists, neither}
-use Rattle.syntax.specs.Reader.{branchOf, Part, whole, more, Reader, room, begun, constant, pairOf, behind, back, frontOf, listBy, listOf, letIn, amountBy}
-use Rattle.syntax.specs.Reader.{amountOf, truthCase, listCase, branches, caseOf, callOf, eachOf, named, shaped, parted, read, plan, Sections, unknown, section}
-use Rattle.syntax.specs.Reader.{sections, textRead}
+use Rattle.syntax.specs.Reader.{Out, ok, fault, _>>=_, Name, Scope, scope, find, wild, sent, tests, isName, symbol, keyword, bind, sectionName}
+use Rattle.syntax.specs.Reader.{known, Valued, is, over, value, zeroFirst, valued, number, byNumber, variableBy, variable, testBy, test, Begin}
+use Rattle.syntax.specs.Reader.{nothing, aFalse, aTrue, aLet, aCase, anEach, aPair, aList, aName, aHash, aNumber, beginOf, Behind, aComma, aBar}
+use Rattle.syntax.specs.Reader.{anEnd, noneOf, behindOf, Branch, truths, lists, neither, branchOf, Part, whole, more, Reader, room, begun}
+use Rattle.syntax.specs.Reader.{constant, pairOf, behind, back, frontOf, listBy, listOf, letIn, amountBy, amountOf, truthCase, listCase}
+use Rattle.syntax.specs.Reader.{branches, caseOf, callOf, eachOf, named, shaped, parted, read, plan, Sections, unknown, section, sections}
+use Rattle.syntax.specs.Reader.{textRead}
 use Rattle.syntax.specs.Trees.{AllKeep, Trees, Tree, join, above, roots-inside}
 use Rattle.syntax.specs.Trees.{none as noTrees}
 
@@ -149,7 +150,8 @@ module _ (sc : Scope) (n : ℕ) (few : Few sc n) (h : n < 200) where
 
 pub test-sound : (bare after′ : ℕ) (ts : List Token) → After (λ x. x .0 .0 ≤ 6) (test bare after′ ts)
 unfolding test
-test-sound bare after′ ts = after-cond (same (wordOf (first ts)) (bytes "with")) (λ e. by (find tests (wordOf (first (rest ts)))) refl) (λ e. fine (omega arith))
+test-sound bare after′ ts = after-cond (same (wordOf (first ts)) (bytes "with")) (λ e. by (find tests (wordOf (first (rest ts)))) refl)
+    (λ e. fine (omega arith))
   where
     by : (o : Option ℕ) → find tests (wordOf (first (rest ts))) ≡ o → After (λ x. x .0 .0 ≤ 6) (testBy o (length (rest ts)) (rest (rest ts)) after′)
     by none e = unfold testBy in bad
@@ -281,7 +283,8 @@ module _ (S : ℕ) where
         after _ (any _) λ vs₁ w₁.
         fine (
           above
-              (ListCase (suc n) i (t .0 .0) (i + length (b .0)) (u .0 .0) (i + length (b .0) + length (c .0)) (i + length (b .0) + length (c .0) + length (d .0)))
+              (ListCase (suc n) i (t .0 .0) (i + length (b .0)) (u .0 .0) (i + length (b .0) + length (c .0))
+              (i + length (b .0) + length (c .0) + length (d .0)))
               (tt, (tt, (ht, (tt, (hu, (tt, (tt, tt))))))) (join ta (join tb (join tc (join td (join te noTrees))))),
           simp length-append (omega arith),
         )
@@ -350,7 +353,8 @@ module _ (S : ℕ) where
       shaped-sound (aHash ds b) ts = var-sound ts
       shaped-sound (aNumber ds b) ts = after _ (number-sound 4294967295 60 (length ts) 0 ds b) λ v hv. amount-sound rd s sc n few h (rest ts) v hv
 
-    begun-sound : (n : ℕ) (ts : List Token) (b : Begin) (f : Begin → Out (List Node × List Token)) → ((n ≡ 200 → ⊥) → After (Good n) (f b)) → After (Good n) (begun n ts b f)
+    begun-sound : (n : ℕ) (ts : List Token) (b : Begin) (f : Begin → Out (List Node × List Token)) → ((n ≡ 200 → ⊥) → After (Good n) (f b))
+        → After (Good n) (begun n ts b f)
     unfolding begun
     begun-sound n ts nothing f g = bad
     begun-sound n ts aFalse f g = after-room n ts _ g
@@ -376,7 +380,8 @@ module _ (S : ℕ) where
 
     -- THE WHOLE TEXT
 
-    section-sound : (names : List Name) (m : ℕ) (ts : List Token) → m ≤ 200 → After (λ x. Tree S m (x .0 .1) × (m + length (x .0 .1) ≤ 200)) (section resolve names m ts)
+    section-sound : (names : List Name) (m : ℕ) (ts : List Token) → m ≤ 200
+        → After (λ x. Tree S m (x .0 .1) × (m + length (x .0 .1) ≤ 200)) (section resolve names m ts)
     unfolding section
     section-sound names m ts k =
         after _ (any _) λ w u₁.
@@ -406,12 +411,14 @@ module _ (S : ℕ) where
         let z : length (r .names) ≡ length names + suc (length (r .roots)) = omega arith in
         fine (join ta tr, simp length-append (omega arith), z, omega arith)
 
-    plan-sound : (left : ℕ) (names : List Name) (ts : List Token) → After (λ x. (1 ≤ length (x .0)) × (length (x .0) ≤ length names + left)) (plan left names ts)
+    plan-sound : (left : ℕ) (names : List Name) (ts : List Token) → After (λ x. (1 ≤ length (x .0)) × (length (x .0) ≤ length names + left))
+        (plan left names ts)
     unfolding plan
     plan-sound zero names ts = after-cond (isName (wordOf (first ts)) || same (wordOf (first ts)) wild) (λ e. bad) (λ e. bad)
     plan-sound (suc left) names ts =
         after _ (any _) λ w u.
-        after-cond (same (markOf (first (w .1))) (bytes ",")) (λ e. wider (length names) (plan-sound left (w .0 ∷ names) (rest (w .1)))) (λ e. fine (omega arith, omega arith))
+        after-cond (same (markOf (first (w .1))) (bytes ",")) (λ e. wider (length names) (plan-sound left (w .0 ∷ names) (rest (w .1))))
+        (λ e. fine (omega arith, omega arith))
       where
         wider : {o : Out (List Name × List Token)} (l : ℕ) → After (λ x. (1 ≤ length (x .0)) × (length (x .0) ≤ suc l + left)) o
             → After (λ x. (1 ≤ length (x .0)) × (length (x .0) ≤ l + suc left)) o

@@ -19,12 +19,13 @@ use Rattle.preorder.specs.Numbering.{gathered, nodeOf, metFrom, roots, order, n
 use Rattle.preorder.specs.NumberingLaws.{Once, uses, order-short, places-count}
 use Rattle.syntax.specs.Quoted.{bytes}
 use Rattle.syntax.specs.Tokens.{Token, word, mark, first, rest, wordOf, markOf, same}
-use Rattle.syntax.specs.Reader.{Out, ok, _>>=_, Name, scope, find, symbol, keyword, bind, sectionName, whole, more, read, back, plan, Sections, unknown, section}
-use Rattle.syntax.specs.Reader.{sections, textRead, sheetRead}
-use Rattle.syntax.specs.Printer.{Piece, gap, the, sign, space, unlessPlain, tokensIn, partName, Reach, reach, called, TailOf, aFront, theEnd, another, tailOf}
-use Rattle.syntax.specs.Printer.{Speaker, tailed, alone, plainNode, said, rootSaid, planSaid, sectionsSaid, sheetSaid}
+use Rattle.syntax.specs.Reader.{Out, ok, _>>=_, Name, scope, find, symbol, keyword, bind, sectionName, whole, more, read, back, plan, Sections}
+use Rattle.syntax.specs.Reader.{unknown, section, sections, textRead, sheetRead}
+use Rattle.syntax.specs.Printer.{Piece, gap, the, sign, space, unlessPlain, tokensIn, partName, Reach, reach, called, TailOf, aFront, theEnd}
+use Rattle.syntax.specs.Printer.{another, tailOf, Speaker, tailed, alone, plainNode, said, rootSaid, planSaid, sectionsSaid, sheetSaid}
 use Rattle.syntax.specs.NameLaws.{called-apart, part-apart, stack, stack-length, find-in, find-new}
-use Rattle.syntax.specs.ReadLaws.{then, keyword-read, quiet, scopeOf, bind-read, section-named, opens, anew, met, Whole, Ready, AllReady, read-node, read-tail}
+use Rattle.syntax.specs.ReadLaws.{then, keyword-read, quiet, scopeOf, bind-read, section-named, opens, anew, met, Whole, Ready, AllReady}
+use Rattle.syntax.specs.ReadLaws.{read-node, read-tail}
 
 -- NUMBERS one behind the other
 abbrev pub Numbers : (ℕ → ℕ) → ℕ → List ℕ → Type 0
@@ -67,7 +68,8 @@ module _ {sh : Sheet} (r : Ranges sh) (smalls : (n : ℕ) → n < length (sh .no
       let z = c .0 in (
         ih m n (z .inside) (omega arith) (numbers-front ρ m (metFrom l sh n) (gathered (metFrom l sh) ns) h) (omega arith),
         rw (length-map (metFrom l sh n))
-            (kids-ready l f (m + length (metFrom l sh n)) own ih deep ns (c .1) (numbers-behind ρ m (metFrom l sh n) (gathered (metFrom l sh) ns) h) (omega arith)),
+            (kids-ready l f (m + length (metFrom l sh n)) own ih deep ns (c .1) (numbers-behind ρ m (metFrom l sh n) (gathered (metFrom l sh) ns) h)
+            (omega arith)),
       )
 
   pub all-ready : (l f : ℕ) → l ≤ f → Fine l f
@@ -81,9 +83,11 @@ module _ {sh : Sheet} (r : Ranges sh) (smalls : (n : ℕ) → n < length (sh .no
       ready c = record {
         number = i .0;
         whole = λ s j lost k q.
-            read-node sh ρ ψ resolve l f m (omega arith) (plainNode sh n) s j lost k n N (length (sh .sections)) (nodeOf sh n) (r .node n h) (smalls n h) resolved c q;
+            read-node sh ρ ψ resolve l f m (omega arith) (plainNode sh n) s j lost k n N (length (sh .sections)) (nodeOf sh n) (r .node n h)
+            (smalls n h) resolved c q;
         tail = λ p s j lost k. read-tail sh ρ ψ resolve l f m (omega arith) p s j lost k (plainNode sh n) (tailOf (nodeOf sh n)) c
-            (read-node sh ρ ψ resolve l f m (omega arith) (plainNode sh n) s (j + 2) lost (gap (unlessPlain p) ∷ sign (bytes "]") ∷ k) n N (length (sh .sections))
+            (read-node sh ρ ψ resolve l f m (omega arith) (plainNode sh n) s (j + 2) lost (gap (unlessPlain p) ∷ sign (bytes "]") ∷ k) n N
+            (length (sh .sections))
             (nodeOf sh n) (r .node n h) (smalls n h) resolved c refl);
         opens = λ s j k. opens (said sh l) (plainNode sh) (plainNode sh n) s j (nodeOf sh n) k;
         quiets = λ p s j k. tail-quiet (said sh l) (plainNode sh) p (plainNode sh n) s j (tailOf (nodeOf sh n)) k;
@@ -140,7 +144,8 @@ module _ {sh : Sheet} (r : Ranges sh) (smalls : (n : ℕ) → n < length (sh .no
       (numbers-behind ρ m (metFrom N sh n) (gathered (metFrom N sh) ns) g) (omega arith) s)
     where
       go : Ready sh ρ ψ resolve N 200 m n
-          → sections resolve left (stack partName (suc i)) (m + length (metFrom N sh n)) (tokensIn (sectionsSaid sh (suc i) ns)) ≡ ok (found (suc i) (m + length (metFrom N sh n)) ns)
+          → sections resolve left (stack partName (suc i)) (m + length (metFrom N sh n)) (tokensIn (sectionsSaid sh (suc i) ns))
+          ≡ ok (found (suc i) (m + length (metFrom N sh n)) ns)
           → sections resolve (suc left) (stack partName i) m (tokensIn (sectionsSaid sh i (n ∷ ns))) ≡ ok (found i m (n ∷ ns))
       go c e =
           then _ (keyword-read (bytes "section") 6 _)
@@ -197,7 +202,8 @@ module _ {sh : Sheet} (r : Ranges sh) (smalls : (n : ℕ) → n < length (sh .no
       (sections-read r smalls ρ ψ resolve resolved 8 0 (0 + length (metFrom N sh (sh .root))) (sh .sections) (r .few-sections) roots-all
       (numbers-behind ρ 0 (metFrom N sh (sh .root)) (gathered (metFrom N sh) (sh .sections)) g) (omega arith) (r .few-nodes))
 
-  pub text-read : Numbers ρ 0 (order sh) → length (order sh) ≤ 200 → textRead resolve (tokensIn (sheetSaid sh)) ≡ ok (stack partName (length (sh .sections)), laid)
+  pub text-read : Numbers ρ 0 (order sh) → length (order sh) ≤ 200 → textRead resolve (tokensIn (sheetSaid sh))
+      ≡ ok (stack partName (length (sh .sections)), laid)
   unfolding textRead sheetSaid tokensIn order roots symbol keyword same first rest wordOf markOf
   text-read g b =
       let N = length (sh .nodes) in

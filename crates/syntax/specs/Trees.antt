@@ -95,7 +95,8 @@ module _ (sh : Sheet) where
   unfolding metFrom count
   met-node l m x b e q = rw e (ap (λ (z : List ℕ). m ∷ z) q)
 
-  pub met-trees : (l : ℕ) {S m : ℕ} {cs : List ℕ} {ns : List Node} → Trees S m cs ns → length ns ≤ l → At sh m ns → gathered (metFrom l sh) cs ≡ count m (length ns)
+  pub met-trees : (l : ℕ) {S m : ℕ} {cs : List ℕ} {ns : List Node} → Trees S m cs ns → length ns ≤ l → At sh m ns → gathered (metFrom l sh) cs
+      ≡ count m (length ns)
   unfolding count
   met-trees l none h a = refl
   met-trees zero (more x f t u) h a = absurd (omega arith)
@@ -113,7 +114,8 @@ module _ (sh : Sheet) where
 -- IN RANGE
 
 module _ (S N own : ℕ) where
-  role-ranged : (r : Role) (v : ℕ) (fs : List Field) → Keeps S r v → Every (Child N own) (pick aNode ((r of v) ∷ fs)) → Fits N S own r v × Every (Child N own) (pick aNode fs)
+  role-ranged : (r : Role) (v : ℕ) (fs : List Field) → Keeps S r v → Every (Child N own) (pick aNode ((r of v) ∷ fs))
+      → Fits N S own r v × Every (Child N own) (pick aNode fs)
   role-ranged aNode v fs h s = (s .0, s .1)
   role-ranged aSection v fs h s = (h, s)
   role-ranged aVariable v fs h s = (tt, s)
@@ -129,7 +131,8 @@ module _ (S N own : ℕ) where
   unfolding children
   node-ranged x h c = all-ranged (row x .body) h c
 
-pub trees-ranged : {S m : ℕ} {cs : List ℕ} {ns : List Node} (N : ℕ) → Trees S m cs ns → m + length ns ≤ N → (i : ℕ) → i < length ns → Ranged N S (m + i) (getD ns i False)
+pub trees-ranged : {S m : ℕ} {cs : List ℕ} {ns : List Node} (N : ℕ) → Trees S m cs ns → m + length ns ≤ N → (i : ℕ) → i < length ns
+    → Ranged N S (m + i) (getD ns i False)
 trees-ranged N none h i l = absurd (omega arith)
 trees-ranged {S} N (more {m} {cs} {below} {others} x f t u) h zero l =
     let q = length-append below others in
@@ -161,7 +164,8 @@ trees-keep (more x f t u) zero l = f
 trees-keep {S} (more {m} {cs} {below} {others} x f t u) (suc i) l = go (decLt i (length below)) (λ h. trees-keep t i h) (λ h. trees-keep u (i - length below) h)
   where
     go : Dec (i < length below) → (i < length below → AllKeep S (row (getD below i False) .body))
-        → (i - length below < length others → AllKeep S (row (getD others (i - length below) False) .body)) → AllKeep S (row (getD (below ++ others) i False) .body)
+        → (i - length below < length others → AllKeep S (row (getD others (i - length below) False) .body))
+        → AllKeep S (row (getD (below ++ others) i False) .body)
     go (yes k) a b = rw (List·getD-append below others False i k) (a k)
     go (no k) a b =
         let q = length-append below others in
@@ -265,7 +269,8 @@ module _ {sh : Sheet} (t : Trees (length (sh .sections)) 0 (0 ∷ sh .sections) 
 
   in-order : order sh ≡ count 0 (length (sh .nodes))
   unfolding order roots
-  in-order = ap (λ (n : ℕ). gathered (metFrom (length (sh .nodes)) sh) (n ∷ sh .sections)) main ∙ (met-trees sh (length (sh .nodes)) t (omega arith) (λ i h. ap (nodeOf sh) (zero-add i)))
+  in-order = ap (λ (n : ℕ). gathered (metFrom (length (sh .nodes)) sh) (n ∷ sh .sections)) main ∙
+      (met-trees sh (length (sh .nodes)) t (omega arith) (λ i h. ap (nodeOf sh) (zero-add i)))
 
   pub trees-still : numbered sh ≡ sh
   trees-still = numbered-still trees-ranges in-order
