@@ -1,0 +1,4 @@
+pub mod Lexing
+pub mod Cursor
+pub mod Names
+pub mod Expect

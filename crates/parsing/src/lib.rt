@@ -1,0 +1,5 @@
+//! Sheets written as text, read from the left.
+mod cursor;
+mod expect;
+mod lexer;
+mod names;
