@@ -40,12 +40,23 @@ pub fault-told : {s : List ℕ} {X : Type 0} {Q : X → Cursor → Type 0} (c : 
     → Told s Q (fault code left inside d) (faultAt c code at d)
 fault-told c code left inside d at h e = off h refl e refl
 
--- a fault is handed on
+-- a fault is handed on: its number, place and detail
+pub record Fault (c r : Cursor) : Type 0 where
+  pub code-is : r .code ≡ c .code
+  pub at-is : r .at ≡ c .at
+  pub detail-is : r .detail ≡ c .detail
+
+pub fault-same : (c : Cursor) → Fault c c
+fault-same c = record { code-is = refl; at-is = refl; detail-is = refl }
+
 abbrev pub Carries : Cursor → Cursor → Type 0
-Carries c r = (c .code ≡ 0 → ⊥) → r ≡ c
+Carries c r = (c .code ≡ 0 → ⊥) → Fault c r
 
 pub carries-then : {a b c : Cursor} → Carries a b → Carries b c → Carries a c
-carries-then f g h = g (λ q. h (ap (λ (x : Cursor). x .code) (sym (f h)) ∙ q)) ∙ f h
+carries-then {a} {b} {c} f g h =
+    let x = f h in
+    let y = g (λ q. h (sym (x .code-is) ∙ q)) in
+    record { code-is = y .code-is ∙ x .code-is; at-is = y .at-is ∙ x .at-is; detail-is = y .detail-is ∙ x .detail-is }
 
 -- ONE STEP of reading, from a cursor to the next
 pub record Goes (s : List ℕ) {X : Type 0} (Q : X → Cursor → Type 0) (f : List Token → Out X) (c r : Cursor) : Type 0 where
@@ -59,5 +70,5 @@ pub told-then : {s : List ℕ} {X Y : Type 0} {Q : X → Cursor → Type 0} {S :
 unfolding _>>=_
 told-then f (on {x} e q) k g = g x e q
 told-then {s} {S = S} {c = c} {r = r} f (off {n} {left} {inside} {d} h e p t) k g =
-    let same : r ≡ c = k (λ z. omega arith) in
-    rw same (off h e p t)
+    let w = k (λ z. omega arith) in
+    off h (w .code-is ∙ e) (w .at-is ∙ p) (w .detail-is ∙ t)

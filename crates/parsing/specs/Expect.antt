@@ -18,7 +18,7 @@ use Rattle.syntax.specs.Laid.{isDigit, isLetter}
 use Rattle.syntax.specs.Tokens.{isBlank as isBlank′, isLetter as isLetter′}
 use Rattle.syntax.specs.Ahead.{allIn, letterFirst, placeAt}
 use Rattle.parsing.specs.Lexing.{Between, ahead, part, part-first, part-length, at-byte, and-true, codeOf, tokenAt, Shape, Next}
-use Rattle.parsing.specs.Cursor.{faultAt, behind, Told, on, off, fault-told, Behind, With, Carries, Goes, told-then}
+use Rattle.parsing.specs.Cursor.{faultAt, behind, Told, on, off, fault-told, Behind, With, fault-same, Carries, Goes, told-then}
 use Rattle.parsing.specs.Names.{part-at, word-is, word-none, same-none, name-read, nameAt, stackOf, Found, same-sym}
 use Rattle.parsing.specs.declared.cursor.Cursor.{Cursor}
 use Rattle.parsing.specs.declared.lexer.Lexeme.{Lexeme}
@@ -121,7 +121,7 @@ module _ {s : List ℕ} (c : Cursor) {t : Lexeme} (n : Next s (c .at) t) where
 
 -- a fault is handed on
 pub goes-on : {s : List ℕ} {X : Type 0} {Q : X → Cursor → Type 0} (f : List Token → Out X) (c : Cursor) → (c .code ≡ 0 → ⊥) → Goes s Q f c c
-goes-on f c h = record { same = refl; carries = λ q. refl; told = λ e b. absurd (h e) }
+goes-on f c h = record { same = refl; carries = λ q. fault-same c; told = λ e b. absurd (h e) }
 
 -- what a step answers, behind the test for a fault
 pub goes : {s : List ℕ} {X : Type 0} {Q : X → Cursor → Type 0} (f : List Token → Out X) {c r : Cursor} → c .code ≡ 0 → r .count ≡ c .count
@@ -135,7 +135,7 @@ pub record Again (s : List ℕ) (place detail : ℕ) (c r : Cursor) : Type 0 whe
   pub told : c .code ≡ 0 → Between s (c .at) → 0 < length (nameAt s place) → Told s (Behind s) (keyword (nameAt s place) detail (ahead s (c .at))) r
 
 pub again-on : (s : List ℕ) (place detail : ℕ) (c : Cursor) → (c .code ≡ 0 → ⊥) → Again s place detail c c
-again-on s place detail c h = record { same = refl; carries = λ q. refl; told = λ e b. absurd (h e) }
+again-on s place detail c h = record { same = refl; carries = λ q. fault-same c; told = λ e b. absurd (h e) }
 
 module _ {s : List ℕ} {c : Cursor} {t : Lexeme} (place d : ℕ) (n : Next s (c .at) t) (z : c .code ≡ 0) where
   pub again-none : (t .kind ≡ 97 → ⊥) → Again s place d c (faultAt c 90 (t .at) d)
@@ -176,7 +176,7 @@ pub record Binds (s names : List ℕ) (base many : ℕ) (c : Cursor) (names′ :
   pub told : c .code ≡ 0 → Between s (c .at) → Told s (With s (Named s names′ (base + many))) (bind (stackOf s names base many) (ahead s (c .at))) r
 
 pub binds-on : (s names : List ℕ) (base many : ℕ) (c : Cursor) → (c .code ≡ 0 → ⊥) → Binds s names base many c names c
-binds-on s names base many c h = record { same = refl; carries = λ q. refl; long = refl; kept = refl; told = λ e b. absurd (h e) }
+binds-on s names base many c h = record { same = refl; carries = λ q. fault-same c; long = refl; kept = refl; told = λ e b. absurd (h e) }
 
 module _ {s names : List ℕ} (base many : ℕ) {c : Cursor} {t : Lexeme} (n : Next s (c .at) t) (z : c .code ≡ 0) where
   binds-fault : {code d : ℕ} → (Between s (c .at) → Told s (With s (Named s names (base + many))) (bind (stackOf s names base many) (ahead s (c .at))) (faultAt c code (t .at) d))
@@ -442,7 +442,7 @@ module _ {s : List ℕ} (names : List ℕ) (sc : Names) (c : Cursor) {t : Lexeme
 
   pub variable-hash : {r : Cursor} → t .kind ≡ 35 → ByNumber s t c r → Variable r
   unfolding tokenAt variableBy
-  variable-hash {r} e w = as-variable (w .same) (λ b. rw e (told-then _ (w .told (length (ahead s (c .at))) (n .place b)) (λ q. refl)
+  variable-hash {r} e w = as-variable (w .same) (λ b. rw e (told-then _ (w .told (length (ahead s (c .at))) (n .place b)) (λ q. fault-same _)
       (λ x p v. on p (record {
         stands = record { here = rw (v .is-behind) (n .here b); tokens = rw (v .is-behind) (n .behind) };
         value = record {
@@ -544,7 +544,7 @@ module _ {s : List ℕ} (table : List ℕ) (c : Cursor) {t : Lexeme} (n : Next s
   unfolding calleeOf sectionName
   callee-read {r} e w = goes _ z (w .same) (λ b. rw (n .token, e)
       (told-then {Q = λ x a. (x .0 ≡ wordOf (tokenAt s t)) × Behind s (x .1) a} _ (on {r = behind c (t .end) 0 0} refl (refl, over-it c n 0 0 b)) (λ q. absurd (q refl))
-      (λ x p v. rw (v .0) (told-then {Q = λ y a. Resolved (behind c (t .end) 0 0) y a} _ (w .told (length (ahead s (c .at))) (n .place b)) (λ q. refl)
+      (λ x p v. rw (v .0) (told-then {Q = λ y a. Resolved (behind c (t .end) 0 0) y a} _ (w .told (length (ahead s (c .at))) (n .place b)) (λ q. fault-same _)
       (λ y q u.
       let h : Between s (r .at) = rw (u .stays) (v .1 .here) in
       let l : x .1 ≡ ahead s (r .at) = rw (u .stays) (v .1 .tokens) in
