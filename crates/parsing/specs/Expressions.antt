@@ -60,19 +60,19 @@ beginBy (suc (suc (suc (suc (suc (suc (suc (suc zero)))))))) w b = aName w
 beginBy (suc (suc (suc (suc (suc (suc (suc (suc (suc zero))))))))) w b = aHash w b
 beginBy (suc (suc (suc (suc (suc (suc (suc (suc (suc (suc n)))))))))) w b = aNumber w b
 
-unfoldable bytesIn : Token → List ℕ
+unfoldable pub bytesIn : Token → List ℕ
 bytesIn (word w) = w
 bytesIn (digits w b) = w
 bytesIn (hash w b) = w
 bytesIn (mark w) = w
 
-unfoldable behindIt : Token → Bool
+unfoldable pub behindIt : Token → Bool
 behindIt (word w) = false
 behindIt (digits w b) = b
 behindIt (hash w b) = b
 behindIt (mark w) = false
 
-begin-coded : (t : Token) → beginOf t ≡ beginBy (beginCode (beginOf t)) (bytesIn t) (behindIt t)
+pub begin-coded : (t : Token) → beginOf t ≡ beginBy (beginCode (beginOf t)) (bytesIn t) (behindIt t)
 unfolding beginOf wordBegin beginCode beginBy bytesIn behindIt
 begin-coded (word w) = go (isName w) (same w (bytes "false")) (same w (bytes "true")) (same w (bytes "let")) (same w (bytes "case")) (same w (bytes "each"))
   where

@@ -4,3 +4,9 @@ pub mod Names
 pub mod Expect
 pub mod Nodes
 pub mod Expressions
+pub mod Constructs
+pub mod ConstructLaws
+pub mod Whole
+pub mod Answer
+pub mod Small
+pub mod Calls

@@ -1,13 +1,17 @@
 -- NODES IN SLOTS: node n has the eight bytes from 8 n on, and its record stands at their front.
 use mathlib.Core.Path.{_≡_, refl, sym, ap, _∙_}
-use mathlib.Core.List.{List, [], _∷_, _++_, append-assoc}
+use mathlib.Core.List.{List, [], _∷_, _++_, append-assoc, append-nil}
 use Prim.Native.Nat.{ℕ, zero, suc, _+_, _*_, _-_, _≤_, _<_}
 use native.Mathlib.Omega.{arith}
 use native.Mathlib.Numerals.{add-one}
 use lib.ListN.{length, getD, take, drop, set, length-drop, length-take}
-use lib.Seq.{sets, sets-eq, take-nil, take-suc, take-all, take-at, drop-at, drop-set-lt, length-sets, take-take, length-take-le}
+use lib.Seq.{sets, sets-eq, take-nil, take-suc, take-all, getD-take, getD-drop, take-at, drop-at, drop-set-lt, length-sets, take-take, length-take-le}
+use Rattle.report.specs.Writing.{Wrote, wrote-text, wrote-then}
 use Rattle.sheet.specs.declared.Node.{Node}
-use Rattle.sheet.specs.Kinds.{width, written}
+use Rattle.sheet.specs.Kinds.{Row, row, formOf, sizes, roles, width, bodyWidth, written}
+use Rattle.sheet.specs.Table.{kindWidth, formWidth}
+use Rattle.sheet.specs.Rows.{allWritten, width-8}
+use Rattle.sheet.specs.declared.Node.the-variants as node
 
 abbrev pub slot : List ℕ → ℕ → List ℕ
 slot s n = take 8 (drop (8 * n) s)
@@ -121,3 +125,87 @@ storing-more {s} {n} {row} {i} {s′} l k h =
 
 pub storing-all : {s : List ℕ} {n : ℕ} {row : List ℕ} {i : ℕ} {s′ : List ℕ} → length row ≡ 8 → Storing s n row i s′ → 8 ≤ i → s′ ≡ sets s (8 * n) row
 storing-all {s} {n} {row} {i} l k h = k .so-far ∙ ap (sets s (8 * n)) (take-all i row (omega arith))
+
+-- WRITTEN OUT: the record at the front of a slot, by its kind
+unfoldable pub recordIn : List ℕ → ℕ → List ℕ
+recordIn s n = take (kindWidth (getD s (8 * n) 0)) (drop (8 * n) s)
+
+-- those of so many nodes, from n on
+unfoldable pub recordsFrom : List ℕ → ℕ → ℕ → List ℕ
+recordsFrom s n zero = []
+recordsFrom s n (suc k) = recordIn s n ++ recordsFrom s (suc n) k
+
+abbrev pub recordsIn : List ℕ → List ℕ → ℕ → List ℕ
+recordsIn s front k = front ++ recordsFrom s 0 k
+
+pub records-more : (s : List ℕ) (n k : ℕ) → recordsFrom s n (k + 1) ≡ recordsFrom s n k ++ recordIn s (n + k)
+unfolding recordsFrom
+records-more s n zero = let e : n + 0 ≡ n = omega arith in rw e (append-nil (recordIn s n))
+records-more s n (suc k) =
+    let e : suc k + 1 ≡ suc (k + 1) = omega arith in
+    let f : n + suc k ≡ suc n + k = omega arith in
+    rw (e, f) (ap (λ (l : List ℕ). recordIn s n ++ l) (records-more s (suc n) k) ∙ sym (append-assoc (recordIn s n) (recordsFrom s (suc n) k) (recordIn s (suc n + k))))
+
+-- the width of a kind is its nodes'
+kind-wide : (x : Node) → kindWidth (row x .kind) ≡ width x
+unfolding kindWidth formWidth formOf bodyWidth width
+kind-wide (node.Var x) = refl
+kind-wide node.False = refl
+kind-wide node.True = refl
+kind-wide node.Empty = refl
+kind-wide (node.Number n) = refl
+kind-wide (node.Front a b) = refl
+kind-wide (node.Pair a b) = refl
+kind-wide (node.ListCase a b t n u d e) = refl
+kind-wide (node.TruthCase a b t n u) = refl
+kind-wide (node.Split a b) = refl
+kind-wide (node.Call c x y) = refl
+kind-wide (node.Add n a) = refl
+kind-wide (node.Each a c x d) = refl
+kind-wide (node.Wide n) = refl
+
+some-width : (x : Node) → 0 < width x
+unfolding width
+some-width x = omega arith
+
+first-byte : (x : Node) → getD (written x) 0 0 ≡ row x .kind
+unfolding written
+first-byte x = refl
+
+record-written : (s : List ℕ) (n : ℕ) (x : Node) → Slot s n x → recordIn s n ≡ written x
+unfolding recordIn
+record-written s n x e =
+    let d = drop (8 * n) s in
+    let f : take (width x) d ≡ written x = sym (take-take (width x) 8 d (width-8 x)) ∙ e in
+    let z : 8 * n + 0 ≡ 8 * n = omega arith in
+    let k : getD s (8 * n) 0 ≡ row x .kind =
+    ap (λ (m : ℕ). getD s m 0) (sym z) ∙ sym (getD-drop (8 * n) s 0 0) ∙ sym (getD-take (width x) d 0 0 (some-width x)) ∙ ap (λ (l : List ℕ). getD l 0 0) f ∙ first-byte x in
+    rw (k, kind-wide x) f
+
+pub records-written : {s : List ℕ} {n : ℕ} {ns : List Node} → Slots s n ns → recordsFrom s n (length ns) ≡ allWritten ns
+unfolding recordsFrom
+records-written none = refl
+records-written {s} (more {n = n} {x = x} e w) = rw (record-written s n x e, records-written w)
+
+pub record-part : (s : List ℕ) (n : ℕ) {w : ℕ} → w ≡ kindWidth (getD s (8 * n) 0) → take (8 * n + w - 8 * n) (drop (8 * n) s) ≡ recordIn s n
+unfolding recordIn
+record-part s n {w} e =
+    let f : 8 * n + w - 8 * n ≡ w = omega arith in
+    ap (λ (k : ℕ). take k (drop (8 * n) s)) (f ∙ e)
+
+-- how far it is written
+pub record Written (s : List ℕ) (m k at : ℕ) (out out′ : List ℕ) (r : ℕ) : Type 0 where
+  pub few : k ≤ m
+  pub wrote : Wrote (recordsFrom s 0 k) at out out′ r
+
+pub written-first : {s : List ℕ} {m at : ℕ} {out out′ : List ℕ} {r : ℕ} → Wrote [] at out out′ r → Written s m 0 at out out′ r
+unfolding recordsFrom
+written-first w = record { few = omega arith; wrote = w }
+
+pub written-more : {s : List ℕ} {n k at : ℕ} {out out₁ out₂ : List ℕ} {m r : ℕ} → Written s n k at out out₁ m → Wrote (recordIn s k) m out₁ out₂ r → k < n → Written s n (k + 1) at out out₂ r
+written-more {s} {n} {k} w v h =
+    let z : 0 + k ≡ k = omega arith in
+    record { few = omega arith; wrote = wrote-text (wrote-then (w .wrote) v) (sym (records-more s 0 k ∙ ap (λ (n : ℕ). recordsFrom s 0 k ++ recordIn s n) z)) }
+
+pub written-all : {s : List ℕ} {k m at : ℕ} {out out′ : List ℕ} {r : ℕ} → Written s m k at out out′ r → m ≤ k → Wrote (recordsFrom s 0 m) at out out′ r
+written-all {s} {k} {m} w h = let f = w .few in let e : k ≡ m = omega arith in rw e at (w .wrote)

@@ -1,0 +1,44 @@
+-- `branch` meets its contract.
+-- Assumes nothing.
+use mathlib.Core.Path.{refl, sym, _∙_}
+use Prim.Native.Nat.{ℕ}
+use native.Mathlib.Omega.{arith}
+use borrow.Author.Needs.{needs}
+use Rattle.parsing.specs.ConstructLaws.{branch-parsed}
+use Rattle.parsing.proofs.expect.symbol.Reads as symbol-reads
+use Rattle.parsing.proofs.expr.branch.Reads as branch-reads
+use Rattle.parsing.proofs.expr.expr.Reads as expr-reads
+use Rattle.parsing.proofs.expr.+amount+back+branch+branches+case_of+default+each_of+expr+front+let_in+list+list_case+pair+shaped+truth_case as cycle
+use cycle.Lts-branch as lts
+use cycle.Proof.Frame.{branch, expr}
+use Rattle.parsing.proofs.Member.{AtMeasure, BelowMeasure, PlacesOf}
+
+abbrev claims : ℕ → lts.Claims
+claims t = (
+  symbol-reads.Asked,
+  symbol-reads.Learnt,
+  BelowMeasure expr t,
+  expr-reads.Post,
+)
+
+module _ (t : ℕ) where
+  abbrev At : PlacesOf branch lts.Claims → Type 0
+  At P = P (claims t) (AtMeasure branch t) branch-reads.Post
+
+  expr-requires : At lts.Need-expr-requires
+  expr-requires c κs =
+      let g = c .before .before in
+      let e = g .before .before .before .before .before in
+      let w = e .pre .1 in
+      let i = g .symbol .ensures .same in
+      (omega (arith, e .pre .0), record { table-few = w .table-few; names-long = w .names-long; slots-long = w .slots-long; few = let f = w .few in omega arith; low = let l = w .low in omega arith })
+
+  returns : At lts.Need-returns
+  returns c =
+      let x = c .before .before .before .before in
+      let g = x .before .before .before in
+      branch-parsed (g .symbol .ensures) (x .expr .ensures)
+
+pub branch-met : {M : Type 1} (t : ℕ) → lts.Closed (claims t) (AtMeasure branch t) branch-reads.Post M
+branch-met t = lts.spec (claims t) (AtMeasure branch t) branch-reads.Post
+    (λ c κs. search needs) (expr-requires t) (λ c. returns t c .below .long) (λ c. returns t c .kept .long) (returns t)

@@ -1,0 +1,103 @@
+-- `pair` meets its contract.
+-- Assumes nothing.
+use mathlib.Core.Path.{refl, sym, _∙_}
+use Prim.Native.Nat.{ℕ}
+use native.Mathlib.Omega.{arith}
+use borrow.Author.Needs.{needs}
+use Rattle.parsing.specs.ConstructLaws.{pair-parsed}
+use Rattle.parsing.proofs.cursor.enter.Reads as enter-reads
+use Rattle.parsing.proofs.nodes.store.Reads as store-reads
+use Rattle.parsing.proofs.expect.symbol.Reads as symbol-reads
+use Rattle.parsing.proofs.expr.expr.Reads as expr-reads
+use Rattle.parsing.proofs.expr.pair.Reads as pair-reads
+use Rattle.parsing.proofs.expr.+amount+back+branch+branches+case_of+default+each_of+expr+front+let_in+list+list_case+pair+shaped+truth_case as cycle
+use cycle.Lts-pair as lts
+use cycle.Proof.Frame.{expr, pair}
+use Rattle.parsing.proofs.Member.{AtMeasure, BelowMeasure, PlacesOf}
+
+abbrev claims : ℕ → lts.Claims
+claims t = (
+  enter-reads.Asked,
+  enter-reads.Learnt,
+  BelowMeasure expr t,
+  expr-reads.Post,
+  symbol-reads.Asked,
+  symbol-reads.Learnt,
+  store-reads.Asked,
+  store-reads.Learnt,
+)
+
+module _ (t : ℕ) where
+  abbrev At : PlacesOf pair lts.Claims → Type 0
+  At P = P (claims t) (AtMeasure pair t) pair-reads.Post
+
+  enter-requires : At lts.Need-enter-requires
+  enter-requires c κs =
+      let e = c .before .before .before .before .before .before in
+      e .pre .1 .free
+
+  expr-requires : At lts.Need-expr-requires
+  expr-requires c κs =
+      let n = c in
+      let e = n .before .before .before .before .before .before .before in
+      let w = e .pre .1 .ready in
+      let f = e .pre .1 .free in
+      rw (n .enter .ensures) (omega (arith, e .pre .0), record { table-few = w .table-few; names-long = w .names-long; slots-long = w .slots-long; few = omega arith; low = let l = w .low in omega arith })
+
+  expr-requires-2 : At lts.Need-expr-requires-2
+  expr-requires-2 c κs =
+      let g = c .before .before in
+      let x = g .before .before .before .before .before in
+      let n = x .before in
+      let e = n .before .before .before .before .before .before .before in
+      let w = e .pre .1 .ready in
+      let f = e .pre .1 .free in
+      let p = rw (n .enter .ensures) at (x .expr .ensures) in
+      let i = g .symbol .ensures .same in
+      let j = p .later in
+      (omega (arith, e .pre .0), record { table-few = w .table-few; names-long = p .below .long ∙ w .names-long; slots-long = p .kept .long ∙ w .slots-long; few = let k = p .few in omega arith; low = let l = w .low in omega arith })
+
+  add-first : At lts.Need-add-first
+  add-first c =
+      let e = c .before .before .before .before .before .before .before .before .before .before .before .before .before .before .before .before .before .before .before .before .before .before in
+      let f = e .pre .1 .free in omega arith
+
+  cast-first : At lts.Need-cast-first
+  cast-first c =
+      let e = c .before .before .before .before .before .before .before .before .before .before .before .before .before .before .before .before .before .before .before .before .before .before in
+      let f = e .pre .1 .free in omega arith
+
+  cast-second : At lts.Need-cast-second
+  cast-second c =
+      let y = c .before .before .before .before .before .before .before in
+      let g = y .before .before .before in
+      let x = g .before .before .before .before .before in
+      let i = g .symbol .ensures .same in let k = x .expr .ensures .few in omega arith
+
+  store-requires : At lts.Need-store-requires
+  store-requires c κs =
+      let y = c .before .before .before .before .before .before .before .before in
+      let x = y .before .before .before .before .before .before .before .before in
+      let e = x .before .before .before .before .before .before .before .before in
+      let w = e .pre .1 .ready in
+      let f = e .pre .1 .free in
+      let l = w .slots-long in
+      let i = x .expr .ensures .kept .long in
+      let j = y .expr2 .ensures .kept .long in
+      (refl, omega arith)
+
+  returns : At lts.Need-returns
+  returns c =
+      let s = c .before .before in
+      let h = s .before .before .before .before in
+      let y = h .before .before .before .before .before in
+      let g = y .before .before .before in
+      let x = g .before .before .before .before .before in
+      let n = x .before in
+      let e = n .before .before .before .before .before .before .before in
+      pair-parsed (e .pre .1) (rw (n .enter .ensures) at (x .expr .ensures)) (g .symbol .ensures) (y .expr2 .ensures) (h .symbol2 .ensures) (s .store .ensures)
+
+pub pair-met : {M : Type 1} (t : ℕ) → lts.Closed (claims t) (AtMeasure pair t) pair-reads.Post M
+pair-met t = lts.spec (claims t) (AtMeasure pair t) pair-reads.Post
+    (enter-requires t) (expr-requires t) (λ c κs. search needs) (expr-requires-2 t) (λ c κs. search needs) (add-first t) (cast-first t)
+    (cast-second t) (store-requires t) (λ c. returns t c .below .long) (λ c. returns t c .kept .long) (returns t)
