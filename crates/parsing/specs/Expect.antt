@@ -50,7 +50,7 @@ pub mark-is : (s : List ℕ) (t : Lexeme) → markOf (tokenAt s t) ≡ markAt (t
 unfolding tokenAt markAt
 mark-is s t = mark-by (eqb (t .kind) 97) (eqb (t .kind) 48) (eqb (t .kind) 35) (eqb (t .kind) 65) (eqb (t .kind) 90) _ _ _ [] _ _ (t .kind)
 
-mark-own : (m : ℕ) → isSymbol m ≡ true → same (markAt m) (marked m) ≡ true
+pub mark-own : (m : ℕ) → isSymbol m ≡ true → same (markAt m) (marked m) ≡ true
 unfolding markAt marked same
 mark-own m h =
     let a = and-true (not (eqb m 97)) _ h in
@@ -66,7 +66,7 @@ and-false : (b : Bool) → b && false ≡ false
 and-false true = refl
 and-false false = refl
 
-mark-other : (k m : ℕ) → (k ≡ m → ⊥) → same (markAt k) (marked m) ≡ false
+pub mark-other : (k m : ℕ) → (k ≡ m → ⊥) → same (markAt k) (marked m) ≡ false
 unfolding markAt marked same
 mark-other k m h = go (eqb k 97) (eqb k 48) (eqb k 35) (eqb k 65) (eqb k 90) (eqb m 65) refl refl
   where

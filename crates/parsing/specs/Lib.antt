@@ -4,3 +4,6 @@ pub mod Names
 pub mod Expect
 pub mod Nodes
 pub mod Expressions
+pub mod Constructs
+pub mod ConstructLaws
+pub mod Answer
