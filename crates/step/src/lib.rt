@@ -10,7 +10,8 @@ ghost use lib.Seq.{paste};
 ghost use Rattle.value.specs.Parts.{shapeOf, passesBytes, sameBytes};
 ghost use Rattle.answer.specs.Answer.{doneAs, refusedBy};
 ghost use Rattle.rules.specs.Numbers.{VARIABLES};
-ghost use Rattle.step.specs.Step.{When, frontTwo, pickedTwo, addedTwo, picked, inRoom, nowhere, noteOf, notedLen, notedBy, slotOf, placeOf, entryRefusal, fitsKind, fitOf, otherOf, choice, takeOf, TakenBy, apartOf, madeOf, judged, unfitRest, frontedAs};
+ghost use Rattle.step.specs.Step.{When, frontTwo, pickedTwo, addedTwo, picked, inRoom, nowhere, noteOf, notedLen, notedBy, slotOf, placeOf};
+ghost use Rattle.step.specs.Step.{entryRefusal, fitsKind, fitOf, otherOf, choice, takeOf, TakenBy, apartOf, madeOf, judged, unfitRest, frontedAs};
 use answer::done;
 use answer::is_refused;
 use answer::len_of;
@@ -327,7 +328,8 @@ pub fn slot_of(cell: usize) -> usize
 
 /// Copies a slice into the arena; nothing changes where it does not fit.
 pub fn store(arena: &mut [u8], at: usize, from: &[u8])
-    ensures { λ _. ⌜ When (at + length (now (from .entry)) ≤ length (now (arena .entry))) (now (arena .exit)) (paste (now (arena .entry)) at (now (from .entry)) (length (now (from .entry)))) (now (arena .entry)) ⌝ }
+    ensures { λ _. ⌜ When (at + length (now (from .entry)) ≤ length (now (arena .entry))) (now (arena .exit))
+        (paste (now (arena .entry)) at (now (from .entry)) (length (now (from .entry)))) (now (arena .entry)) ⌝ }
 {
     if arena.len() < at {
         return;
