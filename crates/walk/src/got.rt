@@ -50,7 +50,7 @@ pub fn bring(arena: &mut [u8], got: usize, top: usize) -> usize
     done(top, len, steps_of(got))
 }
 
-// Whether a test says yes to the value that stands from `start` to `end`. Most branches have the test 0, which asks nothing: no value is looked at then.
+// Whether a test says yes to the value that stands from `start` to `end`. The test 0 asks nothing, and no value is looked at for it.
 fn says(arena: &[u8], test: u8, start: usize, end: usize) -> bool
     requires { ⌜ (start ≤ end) × (end ≤ length (now arena)) ⌝ }
     ensures { λ r. ⌜ r ≡ passesBytes «test» (part (now (arena .entry)) start (end - start)) ⌝ }
