@@ -1,0 +1,2 @@
+//! Sheets as text: the printer (GRAMMAR.md, "The printer").
+mod pieces;
