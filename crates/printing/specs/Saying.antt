@@ -57,21 +57,22 @@ pub record Trailing (s starts plain : List ℕ) (n : ℕ) (w : Scope) : Type 0 w
   pub ready : Ready s starts plain n w
   pub shallower : w .indent ≤ 6 * n
 
+-- HOW A NODE IS SAID: alone; as the rest of a list, which has no case in it or has one; behind an arrow or an `=`; the same with a test behind it
+pub data Way : Type 0 where
+  Alone : Scope → Way
+  Rest : Bool → Scope → Way
+  Body : Scope → Way
+  Branch : Scope → ℕ → Way
+
+abbrev pub meant : Way → ℕ → Sheet → ℕ → List Piece → List Piece
+meant (Alone w) n sh l k = said sh l alone (reachOf w) (w .indent) n k
+meant (Rest p w) n sh l k = said sh l (inList p) (reachOf w) (w .indent) n k
+meant (Body w) n sh l k = bodySaid (said sh l) (plainNode sh) (reachOf w) (w .indent) n k
+meant (Branch w t) n sh l k = bodySaid (said sh l) (plainNode sh) (reachOf w) (w .indent) n (testSaid t k)
+
 -- WHAT THEY TELL: whatever the sheet is, and with whatever levels are enough for node n
-pub record Tells (s starts plain : List ℕ) (n : ℕ) (f : Sheet → ℕ → List Piece → List Piece) (i : ℕ) (b b′ : List ℕ) (r : ℕ) : Type 0 where
-  pub told : (sh : Sheet) → Known s starts plain sh → n < length (sh .nodes) → (l : ℕ) → length (sh .nodes) ≤ n + l → Says (f sh l) i b b′ r
-
-abbrev pub Alone : Scope → ℕ → Sheet → ℕ → List Piece → List Piece
-Alone w n sh l k = said sh l alone (reachOf w) (w .indent) n k
-
-abbrev pub Rest : Bool → Scope → ℕ → Sheet → ℕ → List Piece → List Piece
-Rest p w n sh l k = said sh l (inList p) (reachOf w) (w .indent) n k
-
-abbrev pub Body : Scope → ℕ → Sheet → ℕ → List Piece → List Piece
-Body w n sh l k = bodySaid (said sh l) (plainNode sh) (reachOf w) (w .indent) n k
-
-abbrev pub Branch : Scope → ℕ → ℕ → Sheet → ℕ → List Piece → List Piece
-Branch w n t sh l k = bodySaid (said sh l) (plainNode sh) (reachOf w) (w .indent) n (testSaid t k)
+pub record Tells (s starts plain : List ℕ) (n : ℕ) (x : Way) (i : ℕ) (b b′ : List ℕ) (r : ℕ) : Type 0 where
+  pub told : (sh : Sheet) → Known s starts plain sh → n < length (sh .nodes) → (l : ℕ) → length (sh .nodes) ≤ n + l → Says (meant x n sh l) i b b′ r
 
 module _ {s starts plain : List ℕ} {n : ℕ} {w : Scope} where
   pub ready-few : Ready s starts plain n w → n < 200
@@ -83,6 +84,6 @@ module _ {s starts plain : List ℕ} {n : ℕ} {w : Scope} where
       record { few = omega (arith, r .few); shallow = omega (arith, r .shallow) }
 
   -- the buffer is as long as it was
-  pub tells-long : {f : Sheet → ℕ → List Piece → List Piece} {i r : ℕ} {b b′ : List ℕ} → Ready s starts plain n w → Tells s starts plain n f i b b′ r
+  pub tells-long : {x : Way} {i r : ℕ} {b b′ : List ℕ} → Ready s starts plain n w → Tells s starts plain n x i b b′ r
       → length b′ ≡ length b
   tells-long q t = wrote-long (t .told (q .sheet) (q .known) (q .inside) (length (q .sheet .nodes)) (omega arith) .put)

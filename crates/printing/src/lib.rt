@@ -1,2 +1,3 @@
 //! Sheets as text: the printer (GRAMMAR.md, "The printer").
+mod nodes;
 mod pieces;

@@ -92,7 +92,7 @@ pub fn or_line(plain: bool, gap: &[u8], indent: usize, out: &mut [u8], at: usize
 }
 
 /// A mark, and a blank behind it where what it opens has a case in it.
-pub fn open(plain: bool, mark: u8, out: &mut [u8], at: usize) -> usize
+pub fn open_mark(plain: bool, mark: u8, out: &mut [u8], at: usize) -> usize
     ensures { λ r. ⌜ Wrote (mark ∷ unlessPlain plain) at (now (out .entry)) (now (out .exit)) r ⌝ }
 {
     let end = byte(out, at, mark);
@@ -103,7 +103,7 @@ pub fn open(plain: bool, mark: u8, out: &mut [u8], at: usize) -> usize
 }
 
 /// A mark, and a blank before it where what it closes has a case in it.
-pub fn close(plain: bool, mark: u8, out: &mut [u8], at: usize) -> usize
+pub fn close_mark(plain: bool, mark: u8, out: &mut [u8], at: usize) -> usize
     ensures { λ r. ⌜ Wrote (unlessPlain plain ++ (mark ∷ [])) at (now (out .entry)) (now (out .exit)) r ⌝ }
 {
     if plain {

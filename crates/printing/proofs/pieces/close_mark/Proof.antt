@@ -1,9 +1,9 @@
--- `close` meets its contract. Assumes nothing.
+-- `close_mark` meets its contract. Assumes nothing.
 use Rattle.report.specs.Writing.{wrote-then}
 use Rattle.printing.specs.Pieces.{close-flat, close-deep}
 use borrow.Author.Needs.{needs}
-use Rattle.printing.proofs.pieces.close.Statement.{statement}
-use Rattle.printing.proofs.pieces.close.Tie as tie
+use Rattle.printing.proofs.pieces.close_mark.Statement.{statement}
+use Rattle.printing.proofs.pieces.close_mark.Tie as tie
 
 returns : tie.Need-returns
 returns c =
@@ -18,6 +18,6 @@ returns-2 c =
     let deep = gap .before .before in
     close-deep (deep .before .before .args .plain) (deep .if1 .left) (wrote-then (gap .byte2 .ensures) (put .byte3 .ensures))
 
-pub close-spec : {M : Type 1} → statement M
-close-spec = tie.close (tie.spec (λ c κs. search needs) (λ c. search needs) returns (λ c κs. search needs) (λ c κs. search needs) (λ c. search needs)
+pub close-mark-spec : {M : Type 1} → statement M
+close-mark-spec = tie.close (tie.spec (λ c κs. search needs) (λ c. search needs) returns (λ c κs. search needs) (λ c κs. search needs) (λ c. search needs)
     returns-2)

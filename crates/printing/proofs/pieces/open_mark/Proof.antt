@@ -1,9 +1,9 @@
--- `open` meets its contract. Assumes nothing.
+-- `open_mark` meets its contract. Assumes nothing.
 use Rattle.report.specs.Writing.{wrote-then}
 use Rattle.printing.specs.Pieces.{open-flat, open-deep}
 use borrow.Author.Needs.{needs}
-use Rattle.printing.proofs.pieces.open.Statement.{statement}
-use Rattle.printing.proofs.pieces.open.Tie as tie
+use Rattle.printing.proofs.pieces.open_mark.Statement.{statement}
+use Rattle.printing.proofs.pieces.open_mark.Tie as tie
 
 returns : tie.Need-returns
 returns c =
@@ -17,5 +17,5 @@ returns-2 c =
     let put = deep .before .before .before in
     open-deep (put .before .before .before .args .plain) (deep .if1 .left) (wrote-then (put .byte .ensures) (gap .byte2 .ensures))
 
-pub open-spec : {M : Type 1} → statement M
-open-spec = tie.close (tie.spec (λ c κs. search needs) (λ c. search needs) returns (λ c κs. search needs) (λ c. search needs) returns-2)
+pub open-mark-spec : {M : Type 1} → statement M
+open-mark-spec = tie.close (tie.spec (λ c κs. search needs) (λ c. search needs) returns (λ c κs. search needs) (λ c. search needs) returns-2)
