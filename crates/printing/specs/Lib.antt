@@ -1,3 +1,6 @@
 pub mod Pieces
 pub mod Saying
 pub mod Telling
+pub mod Flat
+pub mod Whole
+pub mod Answer

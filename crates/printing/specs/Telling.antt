@@ -26,7 +26,7 @@ use Rattle.printing.specs.Pieces.{reachOf, testText, callText, bindersTe
 use Rattle.printing.specs.Saying.{Says, says-then, Known, Ready, Standing, Trailing, Way, Alone, Rest, Body, Branch, meant, Tells}
 
 -- a text that was written, as what is said
-says-text : (f : List Piece → List Piece) {t : List ℕ} {i r : ℕ} {b b′ : List ℕ} → Wrote t i b b′ r → ((k : List Piece) → textIn (f k) ≡ t ++ textIn k)
+pub says-text : (f : List Piece → List Piece) {t : List ℕ} {i r : ℕ} {b b′ : List ℕ} → Wrote t i b b′ r → ((k : List Piece) → textIn (f k) ≡ t ++ textIn k)
     → Says f i b b′ r
 says-text f {t} w e = record { text = t; put = w; is = e }
 
@@ -48,7 +48,7 @@ says-parts : (f : List Piece → List Piece) (t : List ℕ) (us : List (List ℕ
 says-parts f t us w e = record { text = joined t us; put = w; is = λ k. e k ∙ before-is t us (textIn k) }
 
 -- two ways to say the same
-says-as : {f g : List Piece → List Piece} {i r : ℕ} {b b′ : List ℕ} → Says f i b b′ r → ((k : List Piece) → textIn (g k) ≡ textIn (f k)) → Says g i b b′ r
+pub says-as : {f g : List Piece → List Piece} {i r : ℕ} {b b′ : List ℕ} → Says f i b b′ r → ((k : List Piece) → textIn (g k) ≡ textIn (f k)) → Says g i b b′ r
 says-as p e = record { text = p .text; put = p .put; is = λ k. e k ∙ p .is k }
 
 abbrev pub deeper : Scope → ℕ → Scope

@@ -27,8 +27,8 @@ use report::decimal;
 use sheet::Node;
 use sheet::node_at;
 
-// The node whose record starts at this byte of the sheet.
-fn record_at(sheet: &[u8], start: u16) -> Node
+/// The node whose record starts at this byte of the sheet.
+pub fn record_at(sheet: &[u8], start: u16) -> Node
     ensures { λ r. ⌜ r ≡ nodeAt (now (sheet .entry)) start ⌝ }
 {
     node_at(sheet, start as usize)
