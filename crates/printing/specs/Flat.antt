@@ -75,7 +75,8 @@ module _ {sh : Sheet} (r : Ranges sh) where
   levels zero m n h d e = absurd (omega arith)
   levels (suc l) zero n h d e = absurd (omega arith)
   levels (suc l) (suc m) n h d e = ap (λ z. noCase (nodeOf sh n) && z)
-      (all-same (plainFrom l sh) (plainFrom m sh) n (λ c g. levels l m c (g .inside) (omega (arith, g .above)) (omega (arith, g .above))) (children (nodeOf sh n))
+      (all-same (plainFrom l sh) (plainFrom m sh) n (λ c g. levels l m c (g .inside) (omega (arith, g .above)) (omega (arith, g .above))) (children
+      (nodeOf sh n))
       (children-in r n h))
 
 -- the marks from node n on

@@ -139,25 +139,29 @@ module _ {s starts plain : List ℕ} {n : ℕ} {w : Scope} {node : Node} {kind :
   abbrev flat : Bool
   flat = eqb (getD plain n 0) 1
 
-  pub pair-tells : {x y at m₁ m₂ m₃ m₄ m₅ : ℕ} {b b₁ b₂ b₃ b₄ b₅ : List ℕ} → node ≡ Pair x y → Wrote (40 ∷ unlessPlain flat) at b b₁ m₁ → Tells s starts plain x (Alone (deeper w 2)) m₁ b₁ b₂ m₂
+  pub pair-tells : {x y at m₁ m₂ m₃ m₄ m₅ : ℕ} {b b₁ b₂ b₃ b₄ b₅ : List ℕ} → node ≡ Pair x y → Wrote (40 ∷ unlessPlain flat) at b b₁ m₁
+      → Tells s starts plain x (Alone (deeper w 2)) m₁ b₁ b₂ m₂
       → Wrote (orLine flat [] (w .indent) ++ (44 ∷ 32 ∷ [])) m₂ b₂ b₃ m₃ → Tells s starts plain y (Alone (deeper w 2)) m₃ b₃ b₄ m₄
       → Wrote (unlessPlain flat ++ (41 ∷ [])) m₄ b₄ b₅ m₅ → Tells s starts plain n (Alone w) at b b₅ m₅
   unfolding spoken textIn spelled
   pair-tells e p₁ t₁ p₂ t₂ p₃ = tells-node (q .is ∙ e) λ sh k g l d. says-as
       (says-then (says-text (λ k. sign (bytes "(") ∷ gap (unlessPlain flat) ∷ k) p₁ (λ k. refl))
       (says-then (t₁ .told sh k (g .0 .inside) l (d _ (g .0)))
-      (says-then (says-parts (λ k. gap (orLine flat [] (w .indent)) ∷ sign (bytes ",") ∷ space ∷ k) (orLine flat [] (w .indent)) (bytes ", " ∷ []) p₂ (λ k. refl))
+      (says-then (says-parts (λ k. gap (orLine flat [] (w .indent)) ∷ sign (bytes ",") ∷ space ∷ k) (orLine flat [] (w .indent)) (bytes ", " ∷ []) p₂
+      (λ k. refl))
       (says-then (t₂ .told sh k (g .1 .0 .inside) l (d _ (g .1 .0)))
       (says-parts (λ k. gap (unlessPlain flat) ∷ sign (bytes ")") ∷ k) (unlessPlain flat) (bytes ")" ∷ []) p₃ (λ k. refl)))))) (λ k. refl)
 
-  pub front-tells : {x y at m₁ m₂ m₃ : ℕ} {b b₁ b₂ b₃ : List ℕ} → node ≡ Front x y → Wrote (91 ∷ unlessPlain flat) at b b₁ m₁ → Tells s starts plain x (Alone (deeper w 2)) m₁ b₁ b₂ m₂
+  pub front-tells : {x y at m₁ m₂ m₃ : ℕ} {b b₁ b₂ b₃ : List ℕ} → node ≡ Front x y → Wrote (91 ∷ unlessPlain flat) at b b₁ m₁
+      → Tells s starts plain x (Alone (deeper w 2)) m₁ b₁ b₂ m₂
       → Tells s starts plain y (Rest flat w) m₂ b₂ b₃ m₃ → Tells s starts plain n (Alone w) at b b₃ m₃
   unfolding spoken textIn spelled
   front-tells e p₁ t₁ t₂ = tells-node (q .is ∙ e) λ sh k g l d. says-as
       (says-then (says-text (λ k. sign (bytes "[") ∷ gap (unlessPlain flat) ∷ k) p₁ (λ k. refl))
       (says-then (t₁ .told sh k (g .0 .inside) l (d _ (g .0))) (t₂ .told sh k (g .1 .0 .inside) l (d _ (g .1 .0))))) (λ k. refl)
 
-  pub split-tells : {x y at m₁ m₂ m₃ m₄ m₅ : ℕ} {b b₁ b₂ b₃ b₄ b₅ : List ℕ} → node ≡ Split x y → Wrote (bindersText (reachOf w)) at b b₁ m₁ → Tells s starts plain x (Alone (deeper w 2)) m₁ b₁ b₂ m₂
+  pub split-tells : {x y at m₁ m₂ m₃ m₄ m₅ : ℕ} {b b₁ b₂ b₃ b₄ b₅ : List ℕ} → node ≡ Split x y → Wrote (bindersText (reachOf w)) at b b₁ m₁
+      → Tells s starts plain x (Alone (deeper w 2)) m₁ b₁ b₂ m₂
       → Wrote (bytes " in") m₂ b₂ b₃ m₃ → Wrote (orLine flat (bytes " ") (w .indent)) m₃ b₃ b₄ m₄
       → Tells s starts plain y (Alone (wider w)) m₄ b₄ b₅ m₅ → Tells s starts plain n (Alone w) at b b₅ m₅
   unfolding spoken textIn spelled bindersText
@@ -178,12 +182,14 @@ module _ {s starts plain : List ℕ} {n : ℕ} {w : Scope} {node : Node} {kind :
       (says-then (says-text (λ k. space ∷ sign (bytes "+") ∷ space ∷ k) p₂ (λ k. refl))
       (t₁ .told sh k (g .0 .inside) l (d _ (g .0))))) (λ k. rw (decimal-is v))
 
-  pub each-tells : {x c u y at m₁ m₂ m₃ m₄ : ℕ} {b b₁ b₂ b₃ b₄ : List ℕ} → node ≡ Each x c u y → Wrote (eachText c) at b b₁ m₁ → Tells s starts plain x (Alone (deeper w 2)) m₁ b₁ b₂ m₂
+  pub each-tells : {x c u y at m₁ m₂ m₃ m₄ : ℕ} {b b₁ b₂ b₃ b₄ : List ℕ} → node ≡ Each x c u y → Wrote (eachText c) at b b₁ m₁
+      → Tells s starts plain x (Alone (deeper w 2)) m₁ b₁ b₂ m₂
       → Wrote (withText (reachOf w) u) m₂ b₂ b₃ m₃
       → Tells s starts plain y (Alone (record { count = 0; sent = false; indent = w .indent + 2 })) m₃ b₃ b₄ m₄ → Tells s starts plain n (Alone w) at b b₄ m₄
   unfolding spoken textIn spelled eachText withText
   each-tells {c = c} {u} e p₁ t₁ p₂ t₂ = tells-node (q .is ∙ e) λ sh k g l d. says-as
-      (says-then (says-parts (λ k. the (bytes "each") ∷ space ∷ the (partName c) ∷ sign (bytes "(") ∷ k) (bytes "each ") (partName c ∷ bytes "(" ∷ []) p₁ (λ k. refl))
+      (says-then (says-parts (λ k. the (bytes "each") ∷ space ∷ the (partName c) ∷ sign (bytes "(") ∷ k) (bytes "each ") (partName c ∷ bytes "(" ∷ []) p₁
+      (λ k. refl))
       (says-then (t₁ .told sh k (g .0 .inside) l (d _ (g .0)))
       (says-then (says-parts (λ k. sign (bytes ",") ∷ space ∷ tok (variableSaid (reachOf w) u) ∷ sign (bytes ")") ∷ space ∷ the (bytes "default") ∷ space ∷ k)
       (bytes ", ") (spelled (variableSaid (reachOf w) u) ∷ bytes ") default " ∷ []) p₂ (λ k. refl))
@@ -199,9 +205,11 @@ module _ {s starts plain : List ℕ} {n : ℕ} {w : Scope} {node : Node} {kind :
       (says-then (says-text (λ k. the (bytes "case") ∷ space ∷ k) p₁ (λ k. refl))
       (says-then (t₁ .told sh k (g .0 .inside) l (d _ (g .0)))
       (says-then (says-text (λ k. space ∷ the (bytes "of") ∷ k) p₂ (λ k. refl))
-      (says-then (says-parts (λ k. gap (line (w .indent + 2)) ∷ the (bytes "false") ∷ space ∷ sign arrow ∷ k) (line (w .indent + 2)) (bytes "false ->" ∷ []) p₃ (λ k. refl))
+      (says-then (says-parts (λ k. gap (line (w .indent + 2)) ∷ the (bytes "false") ∷ space ∷ sign arrow ∷ k) (line (w .indent + 2)) (bytes "false ->"
+      ∷ []) p₃ (λ k. refl))
       (says-then (t₂ .told sh k (g .1 .0 .inside) l (d _ (g .1 .0)))
-      (says-then (says-parts (λ k. gap (line (w .indent + 2)) ∷ the (bytes "true") ∷ gap (bytes "  ") ∷ sign arrow ∷ k) (line (w .indent + 2)) (bytes "true  ->" ∷ []) p₄
+      (says-then (says-parts (λ k. gap (line (w .indent + 2)) ∷ the (bytes "true") ∷ gap (bytes "  ") ∷ sign arrow ∷ k) (line (w .indent + 2))
+      (bytes "true  ->" ∷ []) p₄
       (λ k. refl))
       (says-then (t₃ .told sh k (g .1 .1 .1 .0 .inside) l (d _ (g .1 .1 .1 .0)))
       (says-parts (λ k. gap (line (w .indent)) ∷ the (bytes "end") ∷ k) (line (w .indent)) (bytes "end" ∷ []) p₅ (λ k. refl))))))))) (λ k. refl)
@@ -233,11 +241,16 @@ module _ {s starts plain : List ℕ} {n : ℕ} {w : Scope} {node : Node} {kind :
       (says-then (t₄ .told sh k (g .1 .1 .1 .1 .1 .0 .inside) l (d _ (g .1 .1 .1 .1 .1 .0)))
       (says-then (says-parts (λ k. sign (bytes ",") ∷ space ∷ the y₁ ∷ space ∷ sign (bytes "=") ∷ k) (bytes ", ") (y₁ ∷ bytes " =" ∷ []) p₅ (λ k. refl))
       (says-then (t₅ .told sh k (g .1 .1 .1 .1 .1 .1 .0 .inside) l (d _ (g .1 .1 .1 .1 .1 .1 .0)))
-      (says-parts (λ k. gap (line (w .indent)) ∷ the (bytes "end") ∷ k) (line (w .indent)) (bytes "end" ∷ []) p₆ (λ k. refl)))))))))))) (λ k. rw (add-one (w .count), plus-two (w .count)))
+      (says-parts (λ k. gap (line (w .indent)) ∷ the (bytes "end") ∷ k) (line (w .indent)) (bytes "end" ∷ []) p₆ (λ k. refl)))))))))))) (λ k. rw (
+        add-one
+            (w .count),
+        plus-two (w .count),
+      ))
 
 -- A NODE THAT NAMES NONE
 module _ {s starts plain : List ℕ} {n : ℕ} {w : Scope} {at r : ℕ} {b b′ : List ℕ} where
-  pub var-tells : {x : ℕ} → nodeAt s (getD starts n 0) ≡ Var x → Wrote (spelled (variableSaid (reachOf w) x)) at b b′ r → Tells s starts plain n (Alone w) at b b′ r
+  pub var-tells : {x : ℕ} → nodeAt s (getD starts n 0) ≡ Var x → Wrote (spelled (variableSaid (reachOf w) x)) at b b′ r
+      → Tells s starts plain n (Alone w) at b b′ r
   unfolding spoken textIn
   var-tells e p = tells-node e λ sh k g l d. says-text _ p (λ k. refl)
 
@@ -261,7 +274,8 @@ module _ {s starts plain : List ℕ} {n : ℕ} {w : Scope} {at r : ℕ} {b b′ 
   unfolding spoken textIn spelled
   wide-tells {v} e p = tells-node e λ sh k g l d. says-text _ p (λ k. rw (decimal-is v))
 
-  pub call-tells : {c x y : ℕ} → nodeAt s (getD starts n 0) ≡ Call c x y → Wrote (callText (reachOf w) c x y) at b b′ r → Tells s starts plain n (Alone w) at b b′ r
+  pub call-tells : {c x y : ℕ} → nodeAt s (getD starts n 0) ≡ Call c x y → Wrote (callText (reachOf w) c x y) at b b′ r
+      → Tells s starts plain n (Alone w) at b b′ r
   unfolding spoken textIn spelled callText
   call-tells {c} {x} {y} e p = tells-node e λ sh k g l d. says-parts _ (partName c)
       (bytes "(" ∷ spelled (variableSaid (reachOf w) x) ∷ bytes ", " ∷ spelled (variableSaid (reachOf w) y) ∷ bytes ")" ∷ []) p (λ k. refl)
@@ -314,5 +328,6 @@ module _ {s starts plain : List ℕ} {n : ℕ} {w : Scope} (p : Bool) where
       (says-then (t₃ .told sh k h (suc l) d)
       (says-parts (λ k. gap (unlessPlain p) ∷ sign (bytes "]") ∷ k) (unlessPlain p) (bytes "]" ∷ []) t₄ (λ k. refl)))))
       (λ k. ap (λ (t : TailOf x). textIn (tailed (said sh l) (plainNode sh) p (plainNode sh n) (reachOf w) (w .indent) t k)) z
-      ∙ ap (λ (v : Node). orLine p (bytes " ") (w .indent) ++ (124 ∷ 32 ∷ textIn (spoken (said sh l) (plainNode sh) (plainNode sh n) (reachOf w) (w .indent + 2) v
+      ∙ ap (λ (v : Node). orLine p (bytes " ") (w .indent) ++ (124 ∷ 32 ∷ textIn (spoken (said sh l) (plainNode sh) (plainNode sh n) (reachOf w)
+      (w .indent + 2) v
       (gap (unlessPlain p) ∷ sign (bytes "]") ∷ k)))) (sym y))

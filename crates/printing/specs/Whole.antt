@@ -14,7 +14,8 @@ use Rattle.sheet.specs.Table.{sectionAt}
 use Rattle.sheet.specs.Laws.{Reads, Ranges}
 use Rattle.syntax.specs.Quoted.{bytes}
 use Rattle.syntax.specs.Laid.{spelled}
-use Rattle.syntax.specs.Printer.{Piece, tok, gap, the, sign, space, partName, called, reach, rootSaid, planSaid, sectionsSaid, sheetSaid, nameOf, suffix, decimal}
+use Rattle.syntax.specs.Printer.{Piece, tok, gap, the, sign, space, partName, called}
+use Rattle.syntax.specs.Printer.{reach, rootSaid, planSaid, sectionsSaid, sheetSaid, nameOf, suffix, decimal}
 use Rattle.syntax.specs.Setting.{textIn}
 use Rattle.syntax.specs.Texts.{textOf}
 use Rattle.printing.specs.declared.pieces.Scope.{Scope}
@@ -105,7 +106,8 @@ plan-next : {j at m₁ m₂ r : ℕ} {b b₁ b₂ b₃ : List ℕ} → Planned j
 unfolding textIn spelled
 plan-next {j} p w v = record {
   said = says-as
-      (says-then (p .said) (says-then (says-text (λ k. sign (bytes ",") ∷ space ∷ k) w (λ k. refl)) (says-text (λ k. the (called false (suc j)) ∷ k) v (λ k. refl))))
+      (says-then (p .said) (says-then (says-text (λ k. sign (bytes ",") ∷ space ∷ k) w (λ k. refl)) (says-text (λ k. the (called false (suc j)) ∷ k) v
+      (λ k. refl))))
       (λ k. let z : 0 + suc j ≡ suc j = omega arith in
       ap (λ (l : List Piece). textIn (the (bytes "plan") ∷ space ∷ l))
       (plan-last 0 j k ∙ ap (λ (n : ℕ). planSaid 0 j (sign (bytes ",") ∷ space ∷ the (called false n) ∷ k)) z));

@@ -29,8 +29,12 @@ loop-again c =
     let mark = put .before .before .before .before in
     let test = mark .before .before .before in
     let head = test .before in
-    let i = head .loop .inv in
-    (omega (arith, i .0), omega (arith, i .0, test .loop-test .taken), λ b w. plan-more (head .loop .i) (i .0) (i .2 b w) (mark .bytes2 .ensures) (put .name .ensures))
+    let i = head .loop .inv in (
+      omega (arith, i .0),
+      omega (arith, i .0, test .loop-test .taken),
+      λ b w. plan-more (head .loop .i) (i .0) (i .2 b w) (mark .bytes2 .ensures)
+          (put .name .ensures),
+    )
 
 returns : tie.Need-returns Inv-loop μ-loop
 returns c =

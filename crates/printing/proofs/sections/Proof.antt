@@ -31,8 +31,11 @@ loop-again c =
     let root = put .before .before in
     let line = root .before .before .before in
     let test = line .before .before in
-    let i = test .before .loop .inv in
-    (omega (arith, i .0, test .loop-test .taken), sections-more (i .1) (test .loop-test .taken) (line .head .ensures) (root .section-root .ensures) (put .body .ensures))
+    let i = test .before .loop .inv in (
+      omega (arith, i .0, test .loop-test .taken),
+      sections-more (i .1) (test .loop-test .taken) (line .head .ensures) (root .section-root .ensures)
+          (put .body .ensures),
+    )
 
 returns : tie.Need-returns Inv-loop μ-loop
 returns c = let i = c .before .loop .inv in sections-all (i .1) (i .0) (c .loop-test .left)

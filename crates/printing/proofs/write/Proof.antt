@@ -49,5 +49,5 @@ returns c =
 pub write-spec : {M : Type 1} → statement M
 write-spec = tie.close (tie.spec (λ c κs. omega (arith, fine-sizes (c .before .before .pre) .nodes)) (λ c κs. search needs) (λ c. search needs)
     (λ c κs. search needs) body-requires sections-requires (λ c κs. search needs)
-    (λ c. prints-long (fine-read (entry (c .before .before .before .before .before .before .before .before .before .before .before .before .before .before .before .before .before .before .before .before .before .before .before .before .before .before) .pre) .1) (returns c))
+    (λ c. prints-long (fine-read (entry (marked (planned (begun (listed (c .before .before .before .before .before .before))))) .pre) .1) (returns c))
     returns)

@@ -29,5 +29,7 @@ mod TruthCase
 
 pub +add+body+branch+each+front+list-case+list-rest+pair+say+split+truth-case-spec : {M : Type 1} → statement M
 +add+body+branch+each+front+list-case+list-rest+pair+say+split+truth-case-spec = close
-    (add .measure) (body .measure) (branch .measure) (each .measure) (front .measure) (list-case .measure) (list-rest .measure) (pair .measure) (say .measure) (split .measure) (truth-case .measure)
-    (λ t. add-met t) (λ t. body-met t) (λ t. branch-met t) (λ t. each-met t) (λ t. front-met t) (λ t. list-case-met t) (λ t. list-rest-met t) (λ t. pair-met t) (λ t. say-met t) (λ t. split-met t) (λ t. truth-case-met t)
+    (add .measure) (body .measure) (branch .measure) (each .measure) (front .measure) (list-case .measure) (list-rest .measure) (pair .measure)
+    (say .measure) (split .measure) (truth-case .measure)
+    (λ t. add-met t) (λ t. body-met t) (λ t. branch-met t) (λ t. each-met t) (λ t. front-met t) (λ t. list-case-met t) (λ t. list-rest-met t)
+    (λ t. pair-met t) (λ t. say-met t) (λ t. split-met t) (λ t. truth-case-met t)

@@ -13,7 +13,8 @@ returns c =
     let mark = second .before .before .before .before .before in
     let first = mark .before .before .before .before .before in
     let word = first .before .before .before .before in
-    wrote-then (word .bytes .ensures) (wrote-then (first .name .ensures) (wrote-then (mark .bytes2 .ensures) (wrote-then (second .name2 .ensures) (end .bytes3 .ensures))))
+    wrote-then (word .bytes .ensures) (wrote-then (first .name .ensures) (wrote-then (mark .bytes2 .ensures) (wrote-then (second .name2 .ensures)
+    (end .bytes3 .ensures))))
 
 pub binders-spec : {M : Type 1} → statement M
 binders-spec = tie.close (tie.spec (λ c. search needs) (λ c κs. search needs) (λ c κs. search needs) (λ c. search needs) (λ c κs. search needs)

@@ -14,7 +14,8 @@ returns c =
     let first = mark .before .before .before .before .before in
     let bracket = first .before .before .before .before in
     let section = bracket .before .before .before .before in
-    wrote-then (section .part .ensures) (wrote-then (bracket .byte .ensures) (wrote-then (first .variable .ensures) (wrote-then (mark .bytes .ensures) (wrote-then (second .variable2 .ensures) (end .byte2 .ensures)))))
+    wrote-then (section .part .ensures) (wrote-then (bracket .byte .ensures) (wrote-then (first .variable .ensures) (wrote-then (mark .bytes .ensures)
+    (wrote-then (second .variable2 .ensures) (end .byte2 .ensures)))))
 
 pub call-spec : {M : Type 1} → statement M
 call-spec = tie.close (tie.spec (λ c κs. search needs) (λ c κs. search needs) (λ c κs. search needs) (λ c. search needs) (λ c κs. search needs)

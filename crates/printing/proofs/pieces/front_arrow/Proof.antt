@@ -14,7 +14,8 @@ returns c =
     let first = mark .before .before .before .before .before in
     let bracket = first .before .before .before .before in
     let feed = bracket .before .before .before .before in
-    wrote-then (feed .line .ensures) (wrote-then (bracket .byte .ensures) (wrote-then (first .name .ensures) (wrote-then (mark .bytes .ensures) (wrote-then (second .name2 .ensures) (end .bytes2 .ensures)))))
+    wrote-then (feed .line .ensures) (wrote-then (bracket .byte .ensures) (wrote-then (first .name .ensures) (wrote-then (mark .bytes .ensures)
+    (wrote-then (second .name2 .ensures) (end .bytes2 .ensures)))))
 
 pub front-arrow-spec : {M : Type 1} → statement M
 front-arrow-spec = tie.close (tie.spec (λ c. search needs) (λ c κs. search needs) (λ c κs. search needs) (λ c κs. search needs) (λ c. search needs)

@@ -19,7 +19,8 @@ returns-2 c =
 returns-3 : tie.Need-returns-3
 returns-3 c =
     let letter = c .before .before .before in
-    wrote-text (letter .byte2 .ensures) (sym (name-first (letter .before .before .before .before .args .sent) _ (letter .before .before .if1 .left) (c .if3 .taken)))
+    wrote-text (letter .byte2 .ensures) (sym (name-first (letter .before .before .before .before .args .sent) _ (letter .before .before .if1 .left)
+    (c .if3 .taken)))
 
 returns-4 : tie.Need-returns-4
 returns-4 c =

@@ -35,7 +35,8 @@ returns-7 : tie.Need-returns-7
 returns-7 c =
     let five = c .before .before .before .before .before in
     wrote-text (c .before .before .bytes6 .ensures)
-    (sym (test-many _ (five .before .before .before .before .before .if1 .left) (five .before .before .before .before .if2 .left) (five .before .before .before .if3 .left) (five .before .before .if4 .left) (five .before .if5 .left) (five .if6 .left)))
+    (sym (test-many _ (five .before .before .before .before .before .if1 .left) (five .before .before .before .before .if2 .left)
+    (five .before .before .before .if3 .left) (five .before .before .if4 .left) (five .before .if5 .left) (five .if6 .left)))
 
 pub test-spec : {M : Type 1} → statement M
 test-spec = tie.close (tie.spec (λ c κs. search needs) (λ c. search needs) returns (λ c. search needs) (λ c κs. search needs) (λ c. search needs)

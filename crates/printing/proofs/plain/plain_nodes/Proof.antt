@@ -23,7 +23,9 @@ element-copy-out-record-at : tie.Need-element-copy-out-record-at Inv-loop μ-loo
 element-copy-out-record-at c = let head = c .before in omega (arith, head .loop .inv .0, head .before .before .pre, c .loop-test .taken)
 
 array-write-plain : tie.Need-array-write-plain Inv-loop μ-loop
-array-write-plain c = let head = c .before .before .before .before .before .before in omega (arith, head .loop .inv .0, head .loop .inv .1, head .before .before .pre)
+array-write-plain c =
+    let head = c .before .before .before .before .before .before in
+    omega (arith, head .loop .inv .0, head .loop .inv .1, head .before .before .pre)
 
 loop-again : tie.Need-loop-again Inv-loop μ-loop
 loop-again c =

@@ -151,7 +151,9 @@ list-case-met t = lts.spec (claims t) (AtMeasure list-case t) list-case-reads.Po
     (λ c κs. ready-bounded (entry t (word t (subject t (empty-arrowed t (empty t (c .before .before .before))))) .pre .1 .ready)) (branch-requires-2 t)
     (λ c κs. ready-bounded (entry t (word t (subject t (empty-arrowed t (empty t (front-arrowed t (front t (c .before .before .before))))))) .pre .1 .ready))
     (body-requires t)
-    (λ c κs. ready-bounded (entry t (word t (subject t (empty-arrowed t (empty t (front-arrowed t (front t (first-named t (first t (c .before .before .before))))))))) .pre .1 .ready))
+    (λ c κs. ready-bounded (entry t (word t (subject t (empty-arrowed t (empty t (front-arrowed t (front t (first-named t (first t
+    (c .before .before .before))))))))) .pre .1 .ready))
     (body-requires-2 t) (λ c. search needs) (λ c κs. search needs)
-    (λ c. tells-long (entry t (word t (subject t (empty-arrowed t (empty t (front-arrowed t (front t (first-named t (first t (rest-named t (rest t (ended t (c .before .before)))))))))))) .pre .1 .ready) (returns-2 t c))
+    (λ c. tells-long (entry t (word t (subject t (empty-arrowed t (empty t (front-arrowed t (front t (first-named t (first t (rest-named t (rest t
+    (ended t (c .before .before)))))))))))) .pre .1 .ready) (returns-2 t c))
     (returns-2 t)

@@ -108,5 +108,6 @@ truth-case-met t = lts.spec (claims t) (AtMeasure truth-case t) truth-case-reads
     (λ c κs. search needs) (branch-requires t)
     (λ c. omega (arith, ready-bounded (entry t (word t (subject t (of t (no-arrow t (no t (c .before .before .before)))))) .pre .1 .ready)))
     (λ c. search needs) (λ c κs. search needs) (branch-requires-2 t) (λ c. search needs) (λ c κs. search needs)
-    (λ c. tells-long (entry t (word t (subject t (of t (no-arrow t (no t (yes-arrow t (yes t (ended t (c .before .before))))))))) .pre .1 .ready) (returns-2 t c))
+    (λ c. tells-long (entry t (word t (subject t (of t (no-arrow t (no t (yes-arrow t (yes t (ended t (c .before .before))))))))) .pre .1 .ready)
+    (returns-2 t c))
     (returns-2 t)
