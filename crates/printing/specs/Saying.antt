@@ -2,17 +2,20 @@
 use mathlib.Core.Path.{_≡_, refl, sym, ap, _∙_}
 use mathlib.Core.Bool.{Bool, true, false}
 use mathlib.Core.List.{List, [], _∷_, _++_, append-assoc}
-use Prim.Native.Nat.{ℕ, zero, suc, _+_, _*_, _≤_, _<_}
+use Prim.Native.Nat.{ℕ, zero, suc, pred, _+_, _*_, _≤_, _<_}
 use native.Mathlib.Omega.{arith}
 use lib.Dec.{eqb}
 use lib.ListN.{length, getD}
 use Rattle.report.specs.Writing.{Wrote, wrote-then, wrote-long}
 use Rattle.sheet.specs.declared.Node.{Node}
+use Rattle.sheet.specs.declared.Node.the-variants.{Var, False, True, Empty, Number, Front, Pair, ListCase, TruthCase, Split, Call, Add, Each, Wide}
 use Rattle.sheet.specs.Kinds.{row}
 use Rattle.sheet.specs.Sheet.{Sheet}
 use Rattle.sheet.specs.Table.{nodeAt}
 use Rattle.sheet.specs.Laws.{Ranges, Ranged, Child}
 use Rattle.preorder.specs.Numbering.{nodeOf}
+use Rattle.syntax.specs.Quoted.{bytes}
+use Rattle.syntax.specs.Printer.{Reach, reach, gap, the, sign, space, line, called}
 use Rattle.syntax.specs.Printer.{Piece, Speaker, alone, inList, bodySaid, spoken, tailed, tailOf, testSaid, plainNode, said}
 use Rattle.syntax.specs.Setting.{textIn}
 use Rattle.printing.specs.declared.pieces.Scope.{Scope}
@@ -57,18 +60,42 @@ pub record Trailing (s starts plain : List ℕ) (n : ℕ) (w : Scope) : Type 0 w
   pub ready : Ready s starts plain n w
   pub shallower : w .indent ≤ 6 * n
 
--- HOW A NODE IS SAID: alone; as the rest of a list, which has no case in it or has one; behind an arrow or an `=`; the same with a test behind it
+-- what the definition says of a case on a list from its defaults on; nothing of another node
+unfoldable pub defaultsSaid : Speaker → (ℕ → Bool) → Reach → ℕ → Node → List Piece → List Piece
+defaultsSaid say plain r i (Var x) k = k
+defaultsSaid say plain r i False k = k
+defaultsSaid say plain r i True k = k
+defaultsSaid say plain r i Empty k = k
+defaultsSaid say plain r i (Number n) k = k
+defaultsSaid say plain r i (Front a b) k = k
+defaultsSaid say plain r i (Pair a b) k = k
+defaultsSaid say plain r i (ListCase s e te n tn df dr) k =
+    gap (line (i + 4)) ∷ the (bytes "default") ∷ space ∷ the (called (r .isSent) (r .count)) ∷ space ∷ sign (bytes "=")
+    ∷ bodySaid say plain (reach 1 true) (i + 6) df (
+    sign (bytes ",") ∷ space ∷ the (called (r .isSent) (suc (r .count))) ∷ space ∷ sign (bytes "=") ∷ bodySaid say plain (reach 1 true) (i + 6) dr (
+    gap (line i) ∷ the (bytes "end") ∷ k))
+defaultsSaid say plain r i (TruthCase s f tf t tu) k = k
+defaultsSaid say plain r i (Split s n) k = k
+defaultsSaid say plain r i (Call c x y) k = k
+defaultsSaid say plain r i (Add n a) k = k
+defaultsSaid say plain r i (Each s c x d) k = k
+defaultsSaid say plain r i (Wide n) k = k
+
+-- HOW A NODE IS SAID: alone; as the rest of a list, which has no case in it or has one; behind an arrow or an `=`; the same with a test behind it;
+-- a case on a list, from its defaults on
 pub data Way : Type 0 where
   Alone : Scope → Way
   Rest : Bool → Scope → Way
   Body : Scope → Way
   Branch : Scope → ℕ → Way
+  Defaults : Scope → Node → Way
 
 abbrev pub meant : Way → ℕ → Sheet → ℕ → List Piece → List Piece
 meant (Alone w) n sh l k = said sh l alone (reachOf w) (w .indent) n k
 meant (Rest p w) n sh l k = said sh l (inList p) (reachOf w) (w .indent) n k
 meant (Body w) n sh l k = bodySaid (said sh l) (plainNode sh) (reachOf w) (w .indent) n k
 meant (Branch w t) n sh l k = bodySaid (said sh l) (plainNode sh) (reachOf w) (w .indent) n (testSaid t k)
+meant (Defaults w x) n sh l k = defaultsSaid (said sh (pred l)) (plainNode sh) (reachOf w) (w .indent) x k
 
 -- WHAT THEY TELL: whatever the sheet is, and with whatever levels are enough for node n
 pub record Tells (s starts plain : List ℕ) (n : ℕ) (x : Way) (i : ℕ) (b b′ : List ℕ) (r : ℕ) : Type 0 where

@@ -11,6 +11,7 @@ use Rattle.report.specs.Text.{decimalOf}
 use Rattle.report.specs.Writing.{Wrote, wrote-text}
 use Rattle.sheet.specs.declared.Node.{Node}
 use Rattle.sheet.specs.declared.Node.the-variants.{Var, False, True, Empty, Number, Front, Pair, ListCase, TruthCase, Split, Call, Add, Each, Wide}
+use Rattle.sheet.specs.Kinds.{row}
 use Rattle.sheet.specs.Sheet.{Sheet}
 use Rattle.sheet.specs.Table.{nodeAt}
 use Rattle.sheet.specs.Laws.{Ranges, Ranged, Child}
@@ -23,7 +24,7 @@ use Rattle.syntax.specs.Printer.{alone, inList, bodySaid, spoken, tailed, TailO
 use Rattle.syntax.specs.Setting.{textIn}
 use Rattle.printing.specs.declared.pieces.Scope.{Scope}
 use Rattle.printing.specs.Pieces.{reachOf, testText, callText, bindersText, emptyText, frontText, firstText, restText, eachText, withText, decimal-is}
-use Rattle.printing.specs.Saying.{Says, says-then, Known, Ready, Standing, Trailing, Way, Alone, Rest, Body, Branch, meant, Tells}
+use Rattle.printing.specs.Saying.{Says, says-then, Known, Ready, Standing, Trailing, Way, Alone, Rest, Body, Branch, Defaults, defaultsSaid, meant, Tells}
 
 -- a text that was written, as what is said
 pub says-text : (f : List Piece → List Piece) {t : List ℕ} {i r : ℕ} {b b′ : List ℕ} → Wrote t i b b′ r → ((k : List Piece) → textIn (f k) ≡ t ++ textIn k)
@@ -100,21 +101,26 @@ module _ {s starts plain : List ℕ} {n : ℕ} {w : Scope} where
 
   module _ {at r : ℕ} {b b′ : List ℕ} where
     -- the node itself, with one level less for what it names
-    pub tells-node : {x : Node} → nodeAt s (getD starts n 0) ≡ x
-        → ((sh : Sheet) → Known s starts plain sh → Ranged (length (sh .nodes)) (length (sh .sections)) n x → (l : ℕ)
-        → ((c : ℕ) → Child (length (sh .nodes)) n c → length (sh .nodes) ≤ c + l)
+    tells-deep : {x : Node} → nodeAt s (getD starts n 0) ≡ x
+        → ((sh : Sheet) → Known s starts plain sh → n < length (sh .nodes) → (l : ℕ) → length (sh .nodes) ≤ n + suc l
         → Says (spoken (said sh l) (plainNode sh) (eqb (getD plain n 0) 1) (reachOf w) (w .indent) x) at b b′ r)
         → Tells s starts plain n (Alone w) at b b′ r
     unfolding said
-    tells-node {x} e f = record { told = go }
+    tells-deep {x} e f = record { told = go }
       where
         go : (sh : Sheet) → Known s starts plain sh → n < length (sh .nodes) → (l : ℕ) → length (sh .nodes) ≤ n + l → Says (meant (Alone w) n sh l) at b b′ r
         go sh k h zero d = absurd (omega arith)
         go sh k h (suc l) d =
             let z : nodeOf sh n ≡ x = sym (k .node n h) ∙ e in
             subst (λ (y : Node). Says (spoken (said sh l) (plainNode sh) (plainNode sh n) (reachOf w) (w .indent) y) at b b′ r) (sym z)
-            (subst (λ (p : Bool). Says (spoken (said sh l) (plainNode sh) p (reachOf w) (w .indent) x) at b b′ r) (k .flat n h)
-            (f sh k (ranged k h e) l (λ c g. omega (arith, g .above))))
+            (subst (λ (p : Bool). Says (spoken (said sh l) (plainNode sh) p (reachOf w) (w .indent) x) at b b′ r) (k .flat n h) (f sh k h l d))
+
+    pub tells-node : {x : Node} → nodeAt s (getD starts n 0) ≡ x
+        → ((sh : Sheet) → Known s starts plain sh → Ranged (length (sh .nodes)) (length (sh .sections)) n x → (l : ℕ)
+        → ((c : ℕ) → Child (length (sh .nodes)) n c → length (sh .nodes) ≤ c + l)
+        → Says (spoken (said sh l) (plainNode sh) (eqb (getD plain n 0) 1) (reachOf w) (w .indent) x) at b b′ r)
+        → Tells s starts plain n (Alone w) at b b′ r
+    tells-node e f = tells-deep e λ sh k h l d. f sh k (ranged k h e) l (λ c g. omega (arith, g .above))
 
     -- the rest of a list
     pub tells-rest : (p : Bool) {x : Node} → nodeAt s (getD starts n 0) ≡ x
@@ -214,38 +220,59 @@ module _ {s starts plain : List ℕ} {n : ℕ} {w : Scope} {node : Node} {kind :
       (says-then (t₃ .told sh k (g .1 .1 .1 .0 .inside) l (d _ (g .1 .1 .1 .0)))
       (says-parts (λ k. gap (line (w .indent)) ∷ the (bytes "end") ∷ k) (line (w .indent)) (bytes "end" ∷ []) p₅ (λ k. refl))))))))) (λ k. refl)
 
-  pub list-tells : {x y t z u d₁ d₂ at m₁ m₂ m₃ m₄ m₅ m₆ m₇ m₈ m₉ m₁₀ m₁₁ : ℕ} {b b₁ b₂ b₃ b₄ b₅ b₆ b₇ b₈ b₉ b₁₀ b₁₁ : List ℕ}
-      → node ≡ ListCase x y t z u d₁ d₂
+  -- the defaults
+  pub defaults-tells : {x y t z u d₁ d₂ at m₁ m₂ m₃ m₄ m₅ : ℕ} {b b₁ b₂ b₃ b₄ b₅ : List ℕ} → node ≡ ListCase x y t z u d₁ d₂
+      → Wrote (firstText (reachOf w) (w .indent)) at b b₁ m₁ → Tells s starts plain d₁ (Body (sent-in (w .indent + 6))) m₁ b₁ b₂ m₂
+      → Wrote (restText (reachOf w)) m₂ b₂ b₃ m₃ → Tells s starts plain d₂ (Body (sent-in (w .indent + 6))) m₃ b₃ b₄ m₄
+      → Wrote (line (w .indent) ++ bytes "end") m₄ b₄ b₅ m₅ → Tells s starts plain n (Defaults w node) at b b₅ m₅
+  unfolding defaultsSaid textIn spelled firstText restText
+  defaults-tells {x} {y} {t} {z} {u} {d₁} {d₂} {at} {m₅ = m₅} {b} {b₅ = b₅} e p₁ t₁ p₂ t₂ p₃ = record { told = go }
+    where
+      go : (sh : Sheet) → Known s starts plain sh → n < length (sh .nodes) → (l : ℕ) → length (sh .nodes) ≤ n + l
+          → Says (meant (Defaults w node) n sh l) at b b₅ m₅
+      go sh k h zero d = absurd (omega arith)
+      go sh k h (suc l) d =
+          let g = ranged k h (q .is ∙ e) in
+          let first = g .1 .1 .1 .1 .1 .0 in
+          let rest = g .1 .1 .1 .1 .1 .1 .0 in
+          subst (λ (v : Node). Says (λ k. defaultsSaid (said sh l) (plainNode sh) (reachOf w) (w .indent) v k) at b b₅ m₅) (sym e)
+          (says-as
+          (says-then (says-parts (λ k. gap (line (w .indent + 4)) ∷ the (bytes "default") ∷ space ∷ the (called (w .sent) (w .count)) ∷ space ∷ sign
+          (bytes "=") ∷ k)
+          (line (w .indent + 4)) (bytes "default " ∷ called (w .sent) (w .count) ∷ bytes " =" ∷ []) p₁ (λ k. refl))
+          (says-then (t₁ .told sh k (first .inside) l (omega (arith, first .above)))
+          (says-then (says-parts (λ k. sign (bytes ",") ∷ space ∷ the (called (w .sent) (w .count + 1)) ∷ space ∷ sign (bytes "=") ∷ k) (bytes ", ")
+          (called (w .sent) (w .count + 1) ∷ bytes " =" ∷ []) p₂ (λ k. refl))
+          (says-then (t₂ .told sh k (rest .inside) l (omega (arith, rest .above)))
+          (says-parts (λ k. gap (line (w .indent)) ∷ the (bytes "end") ∷ k) (line (w .indent)) (bytes "end" ∷ []) p₃ (λ k. refl))))))
+          (λ k. rw (add-one (w .count))))
+
+  -- the same node by another name
+  pub standing-as : {x : Node} → node ≡ x → Standing s starts plain n w x kind
+  standing-as e = record { ready = q .ready; is = q .is ∙ e; of-kind = sym (ap (λ y. row y .kind) e) ∙ q .of-kind }
+
+  pub list-tells : {x y t z u d₁ d₂ at m₁ m₂ m₃ m₄ m₅ m₆ m₇ : ℕ} {b b₁ b₂ b₃ b₄ b₅ b₆ b₇ : List ℕ} → node ≡ ListCase x y t z u d₁ d₂
       → Wrote (bytes "case ") at b b₁ m₁ → Tells s starts plain x (Alone (deeper w 2)) m₁ b₁ b₂ m₂
       → Wrote (emptyText (reachOf w) (w .indent)) m₂ b₂ b₃ m₃ → Tells s starts plain y (Branch (deeper w 4) t) m₃ b₃ b₄ m₄
       → Wrote (frontText (reachOf w) (w .indent)) m₄ b₄ b₅ m₅ → Tells s starts plain z (Branch (deeper (wider w) 4) u) m₅ b₅ b₆ m₆
-      → Wrote (firstText (reachOf w) (w .indent)) m₆ b₆ b₇ m₇ → Tells s starts plain d₁ (Body (sent-in (w .indent + 6))) m₇ b₇ b₈ m₈
-      → Wrote (restText (reachOf w)) m₈ b₈ b₉ m₉ → Tells s starts plain d₂ (Body (sent-in (w .indent + 6))) m₉ b₉ b₁₀ m₁₀
-      → Wrote (line (w .indent) ++ bytes "end") m₁₀ b₁₀ b₁₁ m₁₁ → Tells s starts plain n (Alone w) at b b₁₁ m₁₁
-  unfolding spoken textIn spelled emptyText frontText firstText restText
-  list-tells e p₁ t₁ p₂ t₂ p₃ t₃ p₄ t₄ p₅ t₅ p₆ = tells-node (q .is ∙ e) λ sh k g l d.
+      → Tells s starts plain n (Defaults w (ListCase x y t z u d₁ d₂)) m₆ b₆ b₇ m₇ → Tells s starts plain n (Alone w) at b b₇ m₇
+  unfolding spoken textIn spelled emptyText frontText defaultsSaid
+  list-tells e p₁ t₁ p₂ t₂ p₃ t₃ t₄ = tells-deep (q .is ∙ e) λ sh k h l d.
+      let g = ranged k h (q .is ∙ e) in
       let x₁ = called (w .sent) (w .count) in
       let y₁ = called (w .sent) (w .count + 1) in
       says-as
       (says-then (says-text (λ k. the (bytes "case") ∷ space ∷ k) p₁ (λ k. refl))
-      (says-then (t₁ .told sh k (g .0 .inside) l (d _ (g .0)))
+      (says-then (t₁ .told sh k (g .0 .inside) l (omega (arith, g .0 .above)))
       (says-then (says-parts (λ k. space ∷ the (bytes "of") ∷ gap (line (w .indent + 2)) ∷ sign (bytes "[") ∷ sign (bytes "]")
       ∷ gap (replicate (length x₁ + length y₁ + 4) 32) ∷ sign arrow ∷ k)
       (bytes " of") (line (w .indent + 2) ∷ bytes "[]" ∷ replicate (length x₁ + length y₁ + 4) 32 ∷ bytes "->" ∷ []) p₂ (λ k. refl))
-      (says-then (t₂ .told sh k (g .1 .0 .inside) l (d _ (g .1 .0)))
+      (says-then (t₂ .told sh k (g .1 .0 .inside) l (omega (arith, g .1 .0 .above)))
       (says-then (says-parts (λ k. gap (line (w .indent + 2)) ∷ sign (bytes "[") ∷ the x₁ ∷ space ∷ sign (bytes "|") ∷ space ∷ the y₁ ∷ sign (bytes "]") ∷ space
       ∷ sign arrow ∷ k) (line (w .indent + 2)) (bytes "[" ∷ x₁ ∷ bytes " | " ∷ y₁ ∷ bytes "] ->" ∷ []) p₃ (λ k. refl))
-      (says-then (t₃ .told sh k (g .1 .1 .1 .0 .inside) l (d _ (g .1 .1 .1 .0)))
-      (says-then (says-parts (λ k. gap (line (w .indent + 4)) ∷ the (bytes "default") ∷ space ∷ the x₁ ∷ space ∷ sign (bytes "=") ∷ k)
-      (line (w .indent + 4)) (bytes "default " ∷ x₁ ∷ bytes " =" ∷ []) p₄ (λ k. refl))
-      (says-then (t₄ .told sh k (g .1 .1 .1 .1 .1 .0 .inside) l (d _ (g .1 .1 .1 .1 .1 .0)))
-      (says-then (says-parts (λ k. sign (bytes ",") ∷ space ∷ the y₁ ∷ space ∷ sign (bytes "=") ∷ k) (bytes ", ") (y₁ ∷ bytes " =" ∷ []) p₅ (λ k. refl))
-      (says-then (t₅ .told sh k (g .1 .1 .1 .1 .1 .1 .0 .inside) l (d _ (g .1 .1 .1 .1 .1 .1 .0)))
-      (says-parts (λ k. gap (line (w .indent)) ∷ the (bytes "end") ∷ k) (line (w .indent)) (bytes "end" ∷ []) p₆ (λ k. refl)))))))))))) (λ k. rw (
-        add-one
-            (w .count),
-        plus-two (w .count),
-      ))
+      (says-then (t₃ .told sh k (g .1 .1 .1 .0 .inside) l (omega (arith, g .1 .1 .1 .0 .above)))
+      (t₄ .told sh k h (suc l) d)))))))
+      (λ k. rw (add-one (w .count), plus-two (w .count)))
 
 -- A NODE THAT NAMES NONE
 module _ {s starts plain : List ℕ} {n : ℕ} {w : Scope} {at r : ℕ} {b b′ : List ℕ} where

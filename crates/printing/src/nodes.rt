@@ -5,7 +5,7 @@ ghost use Prim.Native.Nat.{_+_};
 ghost use lib.ListN.{getD};
 ghost use Rattle.sheet.specs.Table.{nodeAt};
 ghost use Rattle.sheet.specs.Kinds.{row};
-ghost use Rattle.printing.specs.Saying.{Ready, Standing, Trailing, Tells, Alone, Body, Branch, Rest};
+ghost use Rattle.printing.specs.Saying.{Ready, Standing, Trailing, Tells, Alone, Body, Branch, Rest, Defaults};
 use crate::pieces::Scope;
 use crate::pieces::binders;
 use crate::pieces::call;
@@ -210,8 +210,7 @@ fn list_case(
         empty_test,
         front,
         front_test,
-        first,
-        rest,
+        ..
     } = node
     else {
         return at;
@@ -222,18 +221,38 @@ fn list_case(
     under.indent += 4;
     let mut wide = under;
     wide.count += 2;
-    let sent = Scope {
-        count: 1,
-        sent: true,
-        indent: scope.indent + 6,
-    };
     let mut end = bytes(out, at, b"case ");
     end = say(sheet, table, plain, subject, inner, out, end);
     end = empty_arrow(scope, out, end);
     end = branch(sheet, table, plain, empty, empty_test, under, out, end);
     end = front_arrow(scope, out, end);
     end = branch(sheet, table, plain, front, front_test, wide, out, end);
-    end = first_default(scope, out, end);
+    defaults(sheet, table, plain, n, node, scope, out, end)
+}
+
+// The two defaults of a case on a list, and its end.
+fn defaults(
+    sheet: &[u8],
+    table: &[u16; 200],
+    plain: &[u8; 200],
+    n: usize,
+    node: Node,
+    scope: Scope,
+    out: &mut [u8],
+    at: usize,
+) -> usize
+    requires { ⌜ Standing (now sheet) (now table) (now plain) n scope node 23 ⌝ }
+    ensures { λ r. ⌜ Tells (now (sheet .entry)) (now (table .entry)) (now (plain .entry)) n (Defaults scope node) at (now (out .entry)) (now (out .exit)) r ⌝ }
+{
+    let Node::ListCase { first, rest, .. } = node else {
+        return at;
+    };
+    let sent = Scope {
+        count: 1,
+        sent: true,
+        indent: scope.indent + 6,
+    };
+    let mut end = first_default(scope, out, at);
     end = body(sheet, table, plain, first, sent, out, end);
     end = rest_default(scope, out, end);
     end = body(sheet, table, plain, rest, sent, out, end);

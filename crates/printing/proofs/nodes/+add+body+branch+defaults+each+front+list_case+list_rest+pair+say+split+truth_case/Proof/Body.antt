@@ -8,7 +8,7 @@ use Rattle.printing.specs.Telling.{body-tells}
 use Rattle.printing.proofs.nodes.body.Reads as body-reads
 use Rattle.printing.proofs.pieces.or_line.Reads as or-line-reads
 use Rattle.printing.proofs.nodes.say.Reads as say-reads
-use Rattle.printing.proofs.nodes.+add+body+branch+each+front+list_case+list_rest+pair+say+split+truth_case as cycle
+use Rattle.printing.proofs.nodes.+add+body+branch+defaults+each+front+list_case+list_rest+pair+say+split+truth_case as cycle
 use cycle.Lts-body as lts
 use cycle.Proof.Frame.{body, say}
 use Rattle.printing.proofs.Member.{AtMeasure, BelowMeasure, PlacesOf}

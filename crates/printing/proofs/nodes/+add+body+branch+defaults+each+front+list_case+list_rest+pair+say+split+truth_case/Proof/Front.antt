@@ -10,7 +10,7 @@ use Rattle.printing.proofs.nodes.front.Reads as front-reads
 use Rattle.printing.proofs.nodes.list_rest.Reads as list-rest-reads
 use Rattle.printing.proofs.pieces.open_mark.Reads as open-mark-reads
 use Rattle.printing.proofs.nodes.say.Reads as say-reads
-use Rattle.printing.proofs.nodes.+add+body+branch+each+front+list_case+list_rest+pair+say+split+truth_case as cycle
+use Rattle.printing.proofs.nodes.+add+body+branch+defaults+each+front+list_case+list_rest+pair+say+split+truth_case as cycle
 use cycle.Lts-front as lts
 use cycle.Proof.Frame.{front, list-rest, say}
 use Rattle.printing.proofs.Member.{AtMeasure, BelowMeasure, PlacesOf}

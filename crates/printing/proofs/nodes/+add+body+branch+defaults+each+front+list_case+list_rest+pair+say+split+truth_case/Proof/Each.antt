@@ -10,7 +10,7 @@ use Rattle.printing.proofs.nodes.each.Reads as each-reads
 use Rattle.printing.proofs.pieces.each_default.Reads as each-default-reads
 use Rattle.printing.proofs.pieces.each_open.Reads as each-open-reads
 use Rattle.printing.proofs.nodes.say.Reads as say-reads
-use Rattle.printing.proofs.nodes.+add+body+branch+each+front+list_case+list_rest+pair+say+split+truth_case as cycle
+use Rattle.printing.proofs.nodes.+add+body+branch+defaults+each+front+list_case+list_rest+pair+say+split+truth_case as cycle
 use cycle.Lts-each as lts
 use cycle.Proof.Frame.{each, say}
 use Rattle.printing.proofs.Member.{AtMeasure, BelowMeasure, PlacesOf}

@@ -11,7 +11,7 @@ use Rattle.report.proofs.bytes.Reads as bytes-reads
 use Rattle.printing.proofs.pieces.on_line.Reads as on-line-reads
 use Rattle.printing.proofs.nodes.say.Reads as say-reads
 use Rattle.printing.proofs.nodes.truth_case.Reads as truth-case-reads
-use Rattle.printing.proofs.nodes.+add+body+branch+each+front+list_case+list_rest+pair+say+split+truth_case as cycle
+use Rattle.printing.proofs.nodes.+add+body+branch+defaults+each+front+list_case+list_rest+pair+say+split+truth_case as cycle
 use cycle.Lts-truth_case as lts
 use cycle.Proof.Frame.{branch, say, truth-case}
 use Rattle.printing.proofs.Member.{AtMeasure, BelowMeasure, PlacesOf}

@@ -17,7 +17,7 @@ use Rattle.printing.proofs.nodes.list_rest.Reads as list-rest-reads
 use Rattle.printing.proofs.pieces.or_line.Reads as or-line-reads
 use Rattle.printing.proofs.nodes.record_at.Reads as record-at-reads
 use Rattle.printing.proofs.nodes.say.Reads as say-reads
-use Rattle.printing.proofs.nodes.+add+body+branch+each+front+list_case+list_rest+pair+say+split+truth_case as cycle
+use Rattle.printing.proofs.nodes.+add+body+branch+defaults+each+front+list_case+list_rest+pair+say+split+truth_case as cycle
 use cycle.Lts-list_rest as lts
 use cycle.Proof.Frame.{list-rest, say}
 use Rattle.printing.proofs.Member.{AtMeasure, BelowMeasure, PlacesOf}

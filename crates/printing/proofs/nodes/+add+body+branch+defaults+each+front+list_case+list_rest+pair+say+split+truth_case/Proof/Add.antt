@@ -10,7 +10,7 @@ use Rattle.printing.proofs.nodes.add.Reads as add-reads
 use Rattle.report.proofs.bytes.Reads as bytes-reads
 use Rattle.report.proofs.decimal.Reads as decimal-reads
 use Rattle.printing.proofs.nodes.say.Reads as say-reads
-use Rattle.printing.proofs.nodes.+add+body+branch+each+front+list_case+list_rest+pair+say+split+truth_case as cycle
+use Rattle.printing.proofs.nodes.+add+body+branch+defaults+each+front+list_case+list_rest+pair+say+split+truth_case as cycle
 use cycle.Lts-add as lts
 use cycle.Proof.Frame.{add, say}
 use Rattle.printing.proofs.Member.{AtMeasure, BelowMeasure, PlacesOf}

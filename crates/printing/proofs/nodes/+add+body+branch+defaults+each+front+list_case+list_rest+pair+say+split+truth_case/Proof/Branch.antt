@@ -8,7 +8,7 @@ use Rattle.printing.specs.Telling.{branch-tells}
 use Rattle.printing.proofs.nodes.body.Reads as body-reads
 use Rattle.printing.proofs.nodes.branch.Reads as branch-reads
 use Rattle.printing.proofs.pieces.test.Reads as test-reads
-use Rattle.printing.proofs.nodes.+add+body+branch+each+front+list_case+list_rest+pair+say+split+truth_case as cycle
+use Rattle.printing.proofs.nodes.+add+body+branch+defaults+each+front+list_case+list_rest+pair+say+split+truth_case as cycle
 use cycle.Lts-branch as lts
 use cycle.Proof.Frame.{body, branch}
 use Rattle.printing.proofs.Member.{AtMeasure, BelowMeasure, PlacesOf}

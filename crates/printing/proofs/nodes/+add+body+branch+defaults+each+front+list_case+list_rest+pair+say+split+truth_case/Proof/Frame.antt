@@ -1,5 +1,6 @@
 -- The printer's functions of nodes: what a node names stands behind it, so that fewer nodes are left at each call. A node as the rest of a list, or behind an
--- arrow, stands above the node alone, and a branch above both; a function of one kind of node stands below the node alone.
+-- arrow, stands above the node alone, and a branch above both; a function of one kind of node stands below the node alone, and its
+-- defaults below a case.
 -- Assumes nothing.
 use Prim.Native.Nat.{_+_, _-_, _*_}
 use Rattle.printing.proofs.Member.{Member}
@@ -9,6 +10,8 @@ use Rattle.printing.proofs.nodes.body.Reads as body-reads
 use Rattle.printing.proofs.nodes.body.Kinds as body-kinds
 use Rattle.printing.proofs.nodes.branch.Reads as branch-reads
 use Rattle.printing.proofs.nodes.branch.Kinds as branch-kinds
+use Rattle.printing.proofs.nodes.defaults.Reads as defaults-reads
+use Rattle.printing.proofs.nodes.defaults.Kinds as defaults-kinds
 use Rattle.printing.proofs.nodes.each.Reads as each-reads
 use Rattle.printing.proofs.nodes.each.Kinds as each-kinds
 use Rattle.printing.proofs.nodes.front.Reads as front-reads
@@ -51,6 +54,15 @@ branch = record {
   gives = branch-kinds.r;
   measure = λ κs a. 4 * (200 - a .1 .1 .1 .0) + 3;
   pre = branch-reads.Pre;
+}
+
+abbrev pub defaults : Member
+defaults = record {
+  lifetimes = 4;
+  takes = defaults-kinds.ps;
+  gives = defaults-kinds.r;
+  measure = λ κs a. 4 * (200 - a .1 .1 .1 .0) - 1;
+  pre = defaults-reads.Pre;
 }
 
 abbrev pub each : Member

@@ -11,7 +11,7 @@ use Rattle.printing.proofs.pieces.comma.Reads as comma-reads
 use Rattle.printing.proofs.pieces.open_mark.Reads as open-mark-reads
 use Rattle.printing.proofs.nodes.pair.Reads as pair-reads
 use Rattle.printing.proofs.nodes.say.Reads as say-reads
-use Rattle.printing.proofs.nodes.+add+body+branch+each+front+list_case+list_rest+pair+say+split+truth_case as cycle
+use Rattle.printing.proofs.nodes.+add+body+branch+defaults+each+front+list_case+list_rest+pair+say+split+truth_case as cycle
 use cycle.Lts-pair as lts
 use cycle.Proof.Frame.{pair, say}
 use Rattle.printing.proofs.Member.{AtMeasure, BelowMeasure, PlacesOf}

@@ -11,7 +11,7 @@ use Rattle.report.proofs.bytes.Reads as bytes-reads
 use Rattle.printing.proofs.pieces.or_line.Reads as or-line-reads
 use Rattle.printing.proofs.nodes.say.Reads as say-reads
 use Rattle.printing.proofs.nodes.split.Reads as split-reads
-use Rattle.printing.proofs.nodes.+add+body+branch+each+front+list_case+list_rest+pair+say+split+truth_case as cycle
+use Rattle.printing.proofs.nodes.+add+body+branch+defaults+each+front+list_case+list_rest+pair+say+split+truth_case as cycle
 use cycle.Lts-split as lts
 use cycle.Proof.Frame.{say, split}
 use Rattle.printing.proofs.Member.{AtMeasure, BelowMeasure, PlacesOf}

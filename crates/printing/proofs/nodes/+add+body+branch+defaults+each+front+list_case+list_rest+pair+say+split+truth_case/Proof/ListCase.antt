@@ -4,21 +4,18 @@ use Prim.Native.Nat.{ℕ}
 use native.Mathlib.Omega.{arith}
 use borrow.Author.Needs.{needs}
 use Rattle.printing.specs.Saying.{ready-few, ready-bounded, tells-long}
-use Rattle.printing.specs.Telling.{kids, next-ready, list-tells}
+use Rattle.printing.specs.Telling.{kids, next-ready, standing-as, list-tells}
 use Rattle.printing.proofs.Tags.{not-list-case}
-use Rattle.printing.proofs.nodes.body.Reads as body-reads
 use Rattle.printing.proofs.nodes.branch.Reads as branch-reads
 use Rattle.report.proofs.bytes.Reads as bytes-reads
+use Rattle.printing.proofs.nodes.defaults.Reads as defaults-reads
 use Rattle.printing.proofs.pieces.empty_arrow.Reads as empty-arrow-reads
-use Rattle.printing.proofs.pieces.first_default.Reads as first-default-reads
 use Rattle.printing.proofs.pieces.front_arrow.Reads as front-arrow-reads
 use Rattle.printing.proofs.nodes.list_case.Reads as list-case-reads
-use Rattle.printing.proofs.pieces.on_line.Reads as on-line-reads
-use Rattle.printing.proofs.pieces.rest_default.Reads as rest-default-reads
 use Rattle.printing.proofs.nodes.say.Reads as say-reads
-use Rattle.printing.proofs.nodes.+add+body+branch+each+front+list_case+list_rest+pair+say+split+truth_case as cycle
+use Rattle.printing.proofs.nodes.+add+body+branch+defaults+each+front+list_case+list_rest+pair+say+split+truth_case as cycle
 use cycle.Lts-list_case as lts
-use cycle.Proof.Frame.{body, branch, list-case, say}
+use cycle.Proof.Frame.{branch, defaults, list-case, say}
 use Rattle.printing.proofs.Member.{AtMeasure, BelowMeasure, PlacesOf}
 
 abbrev claims : ℕ → lts.Claims
@@ -33,26 +30,20 @@ claims t = (
   branch-reads.Post,
   front-arrow-reads.Asked,
   front-arrow-reads.Learnt,
-  first-default-reads.Asked,
-  first-default-reads.Learnt,
-  BelowMeasure body t,
-  body-reads.Post,
-  rest-default-reads.Asked,
-  rest-default-reads.Learnt,
-  on-line-reads.Asked,
-  on-line-reads.Learnt,
+  BelowMeasure defaults t,
+  defaults-reads.Post,
 )
 
 module _ (t : ℕ) where
   abbrev At : PlacesOf list-case lts.Claims → Type 0
   At P = P (claims t) (AtMeasure list-case t) list-case-reads.Post
 
-  -- PLACES: the function's entry; `case` is written, the subject, each arrow and its branch, each default, `end`
+  -- PLACES: the function's entry; `case` is written, the subject, each arrow and its branch, the rest
   abbrev entry : At lts.After-known-told → At lts.Start
   entry c = c .before .before .before .before .before
 
   abbrev word : At lts.After-bytes → At lts.After-known-told
-  word c = c .before .before .before .before .before .before .before
+  word c = c .before .before .before .before .before .before
 
   abbrev subject : At lts.After-say → At lts.After-bytes
   subject c = c .before .before .before .before
@@ -69,20 +60,8 @@ module _ (t : ℕ) where
   abbrev front : At lts.After-branch2 → At lts.After-front-arrow
   front c = c .before .before .before .before
 
-  abbrev first-named : At lts.After-first-default → At lts.After-branch2
-  first-named c = c .before .before .before .before
-
-  abbrev first : At lts.After-body → At lts.After-first-default
-  first c = c .before .before .before .before
-
-  abbrev rest-named : At lts.After-rest-default → At lts.After-body
-  rest-named c = c .before .before .before .before
-
-  abbrev rest : At lts.After-body2 → At lts.After-rest-default
-  rest c = c .before .before .before .before
-
-  abbrev ended : At lts.After-on-line → At lts.After-body2
-  ended c = c .before .before .before .before .before
+  abbrev ended : At lts.After-defaults → At lts.After-branch2
+  ended c = c .before .before .before .before
 
   -- NEEDS
   returns : At lts.Need-returns
@@ -109,51 +88,33 @@ module _ (t : ℕ) where
       let g = kids q (k .before .node .given .1) .1 .1 .1 .0 in
       (omega (arith, entry k .pre .0, g .above, g .inside, q .ready .known .ranges .few-nodes), next-ready (q .ready) g (omega arith) (omega arith))
 
-  body-requires : At lts.Need-body-requires
-  body-requires c κs =
-      let k = word (subject (empty-arrowed (empty (front-arrowed (front (first-named (c .before .before .before))))))) in
+  defaults-requires : At lts.Need-defaults-requires
+  defaults-requires c κs =
+      let k = word (subject (empty-arrowed (empty (front-arrowed (front (c .before .before .before)))))) in
       let q = entry k .pre .1 in
-      let g = kids q (k .before .node .given .1) .1 .1 .1 .1 .1 .0 in
-      (omega (arith, entry k .pre .0, g .above, g .inside, q .ready .known .ranges .few-nodes), next-ready (q .ready) g (omega arith) (omega arith))
-
-  body-requires-2 : At lts.Need-body-requires-2
-  body-requires-2 c κs =
-      let k = word (subject (empty-arrowed (empty (front-arrowed (front (first-named (first (rest-named (c .before .before .before))))))))) in
-      let q = entry k .pre .1 in
-      let g = kids q (k .before .node .given .1) .1 .1 .1 .1 .1 .1 .0 in
-      (omega (arith, entry k .pre .0, g .above, g .inside, q .ready .known .ranges .few-nodes), next-ready (q .ready) g (omega arith) (omega arith))
+      (omega (arith, entry k .pre .0, ready-few (q .ready)), standing-as q (k .before .node .given .1))
 
   returns-2 : At lts.Need-returns-2
   returns-2 c =
       let v = c .before .before in
       let u = ended v in
-      let y = rest u in
-      let x = rest-named y in
-      let w = first x in
-      let s = first-named w in
-      let r = front s in
-      let p = front-arrowed r in
-      let o = empty p in
-      let m = empty-arrowed o in
-      let l = subject m in
-      let k = word l in
-      list-tells (entry k .pre .1) (k .before .node .given .1) (l .bytes .ensures) (m .say .ensures) (o .empty-arrow .ensures) (p .branch .ensures)
-      (r .front-arrow .ensures) (s .branch2 .ensures) (w .first-default .ensures) (x .body .ensures) (y .rest-default .ensures) (u .body2 .ensures)
-      (v .on-line .ensures)
+      let y = front u in
+      let x = front-arrowed y in
+      let w = empty x in
+      let s = empty-arrowed w in
+      let r = subject s in
+      let k = word r in
+      list-tells (entry k .pre .1) (k .before .node .given .1) (r .bytes .ensures) (s .say .ensures) (w .empty-arrow .ensures) (x .branch .ensures)
+      (y .front-arrow .ensures) (u .branch2 .ensures) (v .defaults .ensures)
 
 pub list-case-met : {M : Type 1} (t : ℕ) → lts.Closed (claims t) (AtMeasure list-case t) list-case-reads.Post M
 list-case-met t = lts.spec (claims t) (AtMeasure list-case t) list-case-reads.Post
     (λ c. search needs) (returns t) (λ c. omega (arith, ready-bounded (entry t (c .before) .pre .1 .ready)))
     (λ c. omega (arith, ready-bounded (entry t (c .before .before) .pre .1 .ready)))
-    (λ c. omega (arith, ready-bounded (entry t (c .before .before .before) .pre .1 .ready)))
-    (λ c. omega (arith, ready-bounded (entry t (c .before .before .before .before) .pre .1 .ready))) (λ c. search needs) (λ c κs. search needs)
+    (λ c. omega (arith, ready-bounded (entry t (c .before .before .before) .pre .1 .ready))) (λ c. search needs) (λ c κs. search needs)
     (say-requires t) (λ c κs. ready-bounded (entry t (word t (subject t (c .before .before .before))) .pre .1 .ready)) (branch-requires t)
     (λ c κs. ready-bounded (entry t (word t (subject t (empty-arrowed t (empty t (c .before .before .before))))) .pre .1 .ready)) (branch-requires-2 t)
-    (λ c κs. ready-bounded (entry t (word t (subject t (empty-arrowed t (empty t (front-arrowed t (front t (c .before .before .before))))))) .pre .1 .ready))
-    (body-requires t)
-    (λ c κs. ready-bounded (entry t (word t (subject t (empty-arrowed t (empty t (front-arrowed t (front t (first-named t (first t
-    (c .before .before .before))))))))) .pre .1 .ready))
-    (body-requires-2 t) (λ c. search needs) (λ c κs. search needs)
-    (λ c. tells-long (entry t (word t (subject t (empty-arrowed t (empty t (front-arrowed t (front t (first-named t (first t (rest-named t (rest t
-    (ended t (c .before .before)))))))))))) .pre .1 .ready) (returns-2 t c))
+    (defaults-requires t)
+    (λ c. tells-long (entry t (word t (subject t (empty-arrowed t (empty t (front-arrowed t (front t (ended t (c .before .before)))))))) .pre .1 .ready)
+    (returns-2 t c))
     (returns-2 t)
