@@ -1,19 +1,16 @@
 -- THE PARTS OF A TEXT between one node and the next, and that numbers are said as `report` writes them.
 use mathlib.Core.Path.{_≡_, refl, sym, ap, _∙_}
-use mathlib.Core.Bool.{Bool, true, false, cond}
+use mathlib.Core.Bool.{Bool, true, false}
 use mathlib.Core.List.{List, [], _∷_, _++_, append-assoc, append-nil}
-use Prim.Native.Nat.{ℕ, zero, suc, min, _+_, _*_, _/_, _%_, _≤_, _<_}
+use Prim.Native.Nat.{ℕ, zero, suc, min, _+_, _/_, _%_, _≤_, _<_}
 use native.Mathlib.Omega.{arith}
 use native.Mathlib.Numerals.{add-one}
-use native.Mathlib.Decide.{decLt}
-use lib.Dec.{ltb}
 use lib.ListN.{length, replicate}
 use borrow.Author.Tests.{lt-ltb, le-ltb}
 use Rattle.report.specs.Text.{digitOf, decimalOf}
 use Rattle.report.specs.TextLaws.{decimal-small, decimal-more, by-digits}
-use Rattle.report.specs.Writing.{Wrote, wrote, wrote-then, wrote-text}
+use Rattle.report.specs.Writing.{Wrote, wrote-then, wrote-text}
 use Rattle.syntax.specs.Quoted.{bytes}
-use Rattle.syntax.specs.Tokens.{Token, word, hash}
 use Rattle.syntax.specs.Laid.{spelled}
 use Rattle.syntax.specs.Reader.{sent}
 use Rattle.syntax.specs.NameLaws.{small-dec, large-dec}

@@ -1,8 +1,8 @@
 -- WHAT A FUNCTION OF THE PRINTER WRITES: the text of what the definition says before whatever follows it.
-use mathlib.Core.Path.{_≡_, refl, sym, ap, _∙_}
-use mathlib.Core.Bool.{Bool, true, false}
-use mathlib.Core.List.{List, [], _∷_, _++_, append-assoc}
-use Prim.Native.Nat.{ℕ, zero, suc, pred, _+_, _*_, _≤_, _<_}
+use mathlib.Core.Path.{_≡_, sym, ap, _∙_}
+use mathlib.Core.Bool.{Bool, true}
+use mathlib.Core.List.{List, _∷_, _++_, append-assoc}
+use Prim.Native.Nat.{ℕ, suc, pred, _+_, _*_, _≤_, _<_}
 use native.Mathlib.Omega.{arith}
 use lib.Dec.{eqb}
 use lib.ListN.{length, getD}
@@ -12,11 +12,11 @@ use Rattle.sheet.specs.declared.Node.the-variants.{Var, False, True, Empty, Num
 use Rattle.sheet.specs.Kinds.{row}
 use Rattle.sheet.specs.Sheet.{Sheet}
 use Rattle.sheet.specs.Table.{nodeAt}
-use Rattle.sheet.specs.Laws.{Ranges, Ranged, Child}
+use Rattle.sheet.specs.Laws.{Ranges}
 use Rattle.preorder.specs.Numbering.{nodeOf}
 use Rattle.syntax.specs.Quoted.{bytes}
 use Rattle.syntax.specs.Printer.{Reach, reach, gap, the, sign, space, line, called}
-use Rattle.syntax.specs.Printer.{Piece, Speaker, alone, inList, bodySaid, spoken, tailed, tailOf, testSaid, plainNode, said}
+use Rattle.syntax.specs.Printer.{Piece, Speaker, alone, inList, bodySaid, testSaid, plainNode, said}
 use Rattle.syntax.specs.Setting.{textIn}
 use Rattle.printing.specs.declared.pieces.Scope.{Scope}
 use Rattle.printing.specs.Pieces.{reachOf, Bounded}

@@ -1,30 +1,30 @@
 -- EACH KIND OF NODE, said part by part: from what its parts wrote to what the definition says of the node.
 use mathlib.Core.Path.{_≡_, refl, sym, ap, subst, _∙_}
 use mathlib.Core.Bool.{Bool, true, false}
-use mathlib.Core.List.{List, [], _∷_, _++_, append-assoc, append-nil}
-use Prim.Native.Nat.{ℕ, zero, suc, _+_, _*_, _≤_, _<_}
+use mathlib.Core.List.{List, [], _∷_, _++_, append-assoc}
+use Prim.Native.Nat.{ℕ, zero, suc, _+_, _≤_, _<_}
 use native.Mathlib.Omega.{arith}
 use native.Mathlib.Numerals.{add-one}
 use lib.Dec.{eqb}
 use lib.ListN.{length, getD, replicate}
 use Rattle.report.specs.Text.{decimalOf}
-use Rattle.report.specs.Writing.{Wrote, wrote-text}
+use Rattle.report.specs.Writing.{Wrote}
 use Rattle.sheet.specs.declared.Node.{Node}
 use Rattle.sheet.specs.declared.Node.the-variants.{Var, False, True, Empty, Number, Front, Pair, ListCase, TruthCase, Split, Call, Add, Each, Wide}
 use Rattle.sheet.specs.Kinds.{row}
 use Rattle.sheet.specs.Sheet.{Sheet}
 use Rattle.sheet.specs.Table.{nodeAt}
-use Rattle.sheet.specs.Laws.{Ranges, Ranged, Child}
+use Rattle.sheet.specs.Laws.{Ranged, Child}
 use Rattle.preorder.specs.Numbering.{nodeOf}
 use Rattle.syntax.specs.Quoted.{bytes}
 use Rattle.syntax.specs.Tokens.{arrow}
 use Rattle.syntax.specs.Laid.{spelled}
-use Rattle.syntax.specs.Printer.{Piece, tok, gap, the, sign, space, line, orLine, unlessPlain, decimal, called, partName, variableSaid, testName, testSaid}
-use Rattle.syntax.specs.Printer.{alone, inList, bodySaid, spoken, tailed, TailOf, aFront, theEnd, another, tailOf, plainNode, said, reach, wide, binder}
+use Rattle.syntax.specs.Printer.{Piece, tok, gap, the, sign, space, line, orLine, unlessPlain, called, partName, variableSaid, testSaid}
+use Rattle.syntax.specs.Printer.{alone, spoken, tailed, TailOf, another, tailOf, plainNode, said, binder}
 use Rattle.syntax.specs.Setting.{textIn}
 use Rattle.printing.specs.declared.pieces.Scope.{Scope}
 use Rattle.printing.specs.Pieces.{reachOf, testText, callText, bindersText, emptyText, frontText, firstText, restText, eachText, withText, decimal-is}
-use Rattle.printing.specs.Saying.{Says, says-then, Known, Ready, Standing, Trailing, Way, Alone, Rest, Body, Branch, Defaults, defaultsSaid, meant, Tells}
+use Rattle.printing.specs.Saying.{Says, says-then, Known, Ready, Standing, Trailing, Alone, Rest, Body, Branch, Defaults, defaultsSaid, meant, Tells}
 
 -- a text that was written, as what is said
 pub says-text : (f : List Piece → List Piece) {t : List ℕ} {i r : ℕ} {b b′ : List ℕ} → Wrote t i b b′ r → ((k : List Piece) → textIn (f k) ≡ t ++ textIn k)

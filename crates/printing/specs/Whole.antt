@@ -1,21 +1,20 @@
 -- THE WHOLE SHEET, part by part: the plan, the list, each section.
 use mathlib.Core.Path.{_≡_, refl, sym, ap, subst, _∙_}
-use mathlib.Core.Bool.{Bool, true, false}
-use mathlib.Core.List.{List, [], _∷_, _++_, append-assoc, append-nil}
-use Prim.Native.Nat.{ℕ, zero, suc, pred, _+_, _*_, _≤_, _<_}
+use mathlib.Core.Bool.{false}
+use mathlib.Core.List.{List, [], _∷_, _++_, append-assoc}
+use Prim.Native.Nat.{ℕ, zero, suc, pred, _+_, _≤_, _<_}
 use native.Mathlib.Omega.{arith}
 use native.Mathlib.Numerals.{add-one}
 use lib.ListN.{length, getD, drop, drop-of-length-le}
 use Rattle.report.specs.Writing.{Wrote, wrote-then, wrote-text, wrote-long}
 use Rattle.sheet.specs.declared.Table.{Table}
-use Rattle.sheet.specs.Sheet.{Sheet, readSheet}
-use Rattle.value.specs.Result.{ok}
+use Rattle.sheet.specs.Sheet.{Sheet}
 use Rattle.sheet.specs.Table.{sectionAt}
-use Rattle.sheet.specs.Laws.{Reads, Ranges}
+use Rattle.sheet.specs.Laws.{Reads}
 use Rattle.syntax.specs.Quoted.{bytes}
 use Rattle.syntax.specs.Laid.{spelled}
-use Rattle.syntax.specs.Printer.{Piece, tok, gap, the, sign, space, partName, called}
-use Rattle.syntax.specs.Printer.{reach, rootSaid, planSaid, sectionsSaid, sheetSaid, nameOf, suffix, decimal}
+use Rattle.syntax.specs.Printer.{Piece, gap, the, sign, space, partName, called}
+use Rattle.syntax.specs.Printer.{reach, rootSaid, planSaid, sectionsSaid, sheetSaid, nameOf, suffix}
 use Rattle.syntax.specs.Setting.{textIn}
 use Rattle.syntax.specs.Texts.{textOf}
 use Rattle.printing.specs.declared.pieces.Scope.{Scope}

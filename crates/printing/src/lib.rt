@@ -1,6 +1,5 @@
 //! Sheets as text: the printer (GRAMMAR.md, "The printer").
 ghost use mathlib.Core.Path.{_≡_};
-ghost use mathlib.Core.List.{List};
 ghost use Prim.Native.Nat.{pred};
 ghost use lib.ListN.{length};
 ghost use Rattle.report.specs.Writing.{Wrote};

@@ -2,9 +2,7 @@
 //! function gives the place behind what it wrote; what a node names stands behind it in the sheet, so that fewer nodes are left at each call.
 ghost use mathlib.Core.Path.{_≡_};
 ghost use Prim.Native.Nat.{_+_};
-ghost use lib.ListN.{getD};
 ghost use Rattle.sheet.specs.Table.{nodeAt};
-ghost use Rattle.sheet.specs.Kinds.{row};
 ghost use Rattle.printing.specs.Saying.{Ready, Standing, Trailing, Tells, Alone, Body, Branch, Rest, Defaults};
 use crate::pieces::Scope;
 use crate::pieces::binders;
@@ -81,7 +79,7 @@ fn front(
     out: &mut [u8],
     at: usize,
 ) -> usize
-    requires { ⌜ Standing (now sheet) (now table) (now plain) n scope node 21 ⌝ }
+    requires { ⌜ Standing (now sheet) (now table) (now plain) n scope node 0x15 ⌝ }
     ensures { λ r. ⌜ Tells (now (sheet .entry)) (now (table .entry)) (now (plain .entry)) n (Alone scope) at (now (out .entry)) (now (out .exit)) r ⌝ }
 {
     let Node::Front { first, rest } = node else {
@@ -139,7 +137,7 @@ fn pair(
     out: &mut [u8],
     at: usize,
 ) -> usize
-    requires { ⌜ Standing (now sheet) (now table) (now plain) n scope node 22 ⌝ }
+    requires { ⌜ Standing (now sheet) (now table) (now plain) n scope node 0x16 ⌝ }
     ensures { λ r. ⌜ Tells (now (sheet .entry)) (now (table .entry)) (now (plain .entry)) n (Alone scope) at (now (out .entry)) (now (out .exit)) r ⌝ }
 {
     let Node::Pair { left, right } = node else {
@@ -201,7 +199,7 @@ fn list_case(
     out: &mut [u8],
     at: usize,
 ) -> usize
-    requires { ⌜ Standing (now sheet) (now table) (now plain) n scope node 23 ⌝ }
+    requires { ⌜ Standing (now sheet) (now table) (now plain) n scope node 0x17 ⌝ }
     ensures { λ r. ⌜ Tells (now (sheet .entry)) (now (table .entry)) (now (plain .entry)) n (Alone scope) at (now (out .entry)) (now (out .exit)) r ⌝ }
 {
     let Node::ListCase {
@@ -241,7 +239,7 @@ fn defaults(
     out: &mut [u8],
     at: usize,
 ) -> usize
-    requires { ⌜ Standing (now sheet) (now table) (now plain) n scope node 23 ⌝ }
+    requires { ⌜ Standing (now sheet) (now table) (now plain) n scope node 0x17 ⌝ }
     ensures { λ r. ⌜ Tells (now (sheet .entry)) (now (table .entry)) (now (plain .entry)) n (Defaults scope node) at (now (out .entry)) (now (out .exit)) r ⌝ }
 {
     let Node::ListCase { first, rest, .. } = node else {
@@ -270,7 +268,7 @@ fn truth_case(
     out: &mut [u8],
     at: usize,
 ) -> usize
-    requires { ⌜ Standing (now sheet) (now table) (now plain) n scope node 24 ⌝ }
+    requires { ⌜ Standing (now sheet) (now table) (now plain) n scope node 0x18 ⌝ }
     ensures { λ r. ⌜ Tells (now (sheet .entry)) (now (table .entry)) (now (plain .entry)) n (Alone scope) at (now (out .entry)) (now (out .exit)) r ⌝ }
 {
     let Node::TruthCase {
@@ -308,7 +306,7 @@ fn split(
     out: &mut [u8],
     at: usize,
 ) -> usize
-    requires { ⌜ Standing (now sheet) (now table) (now plain) n scope node 25 ⌝ }
+    requires { ⌜ Standing (now sheet) (now table) (now plain) n scope node 0x19 ⌝ }
     ensures { λ r. ⌜ Tells (now (sheet .entry)) (now (table .entry)) (now (plain .entry)) n (Alone scope) at (now (out .entry)) (now (out .exit)) r ⌝ }
 {
     let Node::Split { subject, inner } = node else {
@@ -337,7 +335,7 @@ fn add(
     out: &mut [u8],
     at: usize,
 ) -> usize
-    requires { ⌜ Standing (now sheet) (now table) (now plain) n scope node 27 ⌝ }
+    requires { ⌜ Standing (now sheet) (now table) (now plain) n scope node 0x1B ⌝ }
     ensures { λ r. ⌜ Tells (now (sheet .entry)) (now (table .entry)) (now (plain .entry)) n (Alone scope) at (now (out .entry)) (now (out .exit)) r ⌝ }
 {
     let Node::Add { node: of, amount } = node else {
@@ -359,7 +357,7 @@ fn each(
     out: &mut [u8],
     at: usize,
 ) -> usize
-    requires { ⌜ Standing (now sheet) (now table) (now plain) n scope node 28 ⌝ }
+    requires { ⌜ Standing (now sheet) (now table) (now plain) n scope node 0x1C ⌝ }
     ensures { λ r. ⌜ Tells (now (sheet .entry)) (now (table .entry)) (now (plain .entry)) n (Alone scope) at (now (out .entry)) (now (out .exit)) r ⌝ }
 {
     let Node::Each {

@@ -1,7 +1,7 @@
 //! The small parts of a text: names, numbers, tests, lines and the blanks between.
 ghost use mathlib.Core.Path.{_≡_};
-ghost use mathlib.Core.List.{List, [], _∷_, _++_};
-ghost use Prim.Native.Nat.{ℕ, _+_, _≤_, _<_};
+ghost use mathlib.Core.List.{[], _∷_, _++_};
+ghost use Prim.Native.Nat.{_+_, _≤_, _<_};
 ghost use lib.ListN.{length, replicate};
 ghost use Rattle.report.specs.Writing.{Wrote};
 ghost use Rattle.syntax.specs.Laid.{spelled};

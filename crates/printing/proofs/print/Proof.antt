@@ -1,6 +1,5 @@
 -- `print` meets its contract: the refusals in their order, or the text. Assumes nothing.
 use native.Mathlib.Omega.{arith}
-use Rattle.report.specs.Writing.{wrote-long}
 use Rattle.records.specs.AnewLaws.{bytes-known}
 use Rattle.printing.specs.Answer.{no-room, no-sheet, is-twice, is-fine, is-done}
 use borrow.Author.Needs.{needs}

@@ -1,7 +1,6 @@
 -- `bit` meets its contract. Assumes nothing.
 use mathlib.Core.Path.{sym, ap}
 use Rattle.printing.specs.Flat.{bitOf}
-use borrow.Author.Needs.{needs}
 use Rattle.printing.proofs.plain.bit.Statement.{statement}
 use Rattle.printing.proofs.plain.bit.Tie as tie
 
