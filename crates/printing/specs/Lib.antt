@@ -4,3 +4,4 @@ pub mod Telling
 pub mod Flat
 pub mod Whole
 pub mod Answer
+pub mod Small

@@ -1,7 +1,6 @@
 //! Nodes as text. Lent are the sheet, the `table` of where its records start, and `plain`, which is 1 for each node that has no case in it. Each
 //! function gives the place behind what it wrote; what a node names stands behind it in the sheet, so that fewer nodes are left at each call.
 ghost use mathlib.Core.Path.{_≡_};
-ghost use Prim.Native.Nat.{_+_};
 ghost use Rattle.sheet.specs.Table.{nodeAt};
 ghost use Rattle.printing.specs.Saying.{Ready, Standing, Trailing, Tells, Alone, Body, Branch, Rest, Defaults};
 use crate::pieces::Scope;
@@ -32,8 +31,8 @@ pub fn record_at(sheet: &[u8], start: u16) -> Node
     node_at(sheet, start as usize)
 }
 
-/// The node n.
-pub fn say(
+// The node n.
+fn say(
     sheet: &[u8],
     table: &[u16; 200],
     plain: &[u8; 200],
