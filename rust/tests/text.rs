@@ -54,10 +54,12 @@ fn what_is_found() {
     assert_eq!(in_list("a 120"), "line 2, column 10: expected the word `section`, or the end of the text, found `120` [90]");
 }
 
-/// The words in brackets behind a fault.
+/// The words in brackets behind the sentence of a fault.
 fn hint(text: &str) -> String {
+    let sentence = Sheet::parse(text).unwrap_err().sentence();
     let told = told(text);
-    told.split_once(" (").map_or_else(String::new, |(_, hint)| hint.rsplit_once(") [").unwrap().0.to_string())
+    let (_, behind) = told.split_once(sentence).unwrap();
+    behind.split_once(" (").map_or_else(String::new, |(_, hint)| hint.rsplit_once(") [").unwrap().0.to_string())
 }
 
 #[test]
