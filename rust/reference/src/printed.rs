@@ -1,7 +1,7 @@
 //! Sheets as text: a sheet printed. What has no case in it stands on one line.
 
 use crate::answer::{packed, NodeRefusal};
-use crate::numbering::lowest_used_twice;
+use crate::numbering::read_used_once;
 use crate::sheet::{Each, Node, Sheet, MOST_NODES};
 use crate::TEXT_OUT;
 use std::fmt::{self, Write};
@@ -15,11 +15,7 @@ fn printed(sheet: &[u8], out: &mut [u8]) -> Result<usize, NodeRefusal> {
     if out.len() < TEXT_OUT {
         return Err(1.into());
     }
-    let sheet = Sheet::read(sheet)?;
-    if let Some(node) = lowest_used_twice(&sheet) {
-        return Err(NodeRefusal { refusal: 81, node: Some(node) });
-    }
-    let text = text_of(&sheet);
+    let text = text_of(&read_used_once(sheet)?);
     out[..text.len()].copy_from_slice(text.as_bytes());
     Ok(text.len())
 }
