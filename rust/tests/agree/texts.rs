@@ -83,7 +83,11 @@ pub fn text(random: &mut Random, depth: usize) -> Tokens {
         scope.push(name);
     }
     writer.say("list =");
-    writer.expression(&scope, depth);
+    if writer.random.percent(4) {
+        writer.wide(&scope);
+    } else {
+        writer.expression(&scope, depth);
+    }
     for number in 0..sections {
         let name = section_name(number);
         writer.say("section");
@@ -219,6 +223,17 @@ impl Writer<'_> {
             }
             _ => self.list_case(scope, depth),
         }
+    }
+
+    /// Splits within one another, up to about as many as the nodes of a sheet allow, and two of all their variables, by number.
+    fn wide(&mut self, scope: &[String]) {
+        for _ in 0..self.random.of(1..100) {
+            self.say("let ( _ , _ ) =");
+            self.variable(scope);
+            self.say("in");
+        }
+        let [left, right] = [(); 2].map(|()| self.random.below(220));
+        self.say(&format!("( #{left} , #{right} )"));
     }
 
     fn list(&mut self, scope: &[String], depth: usize) {
