@@ -8,6 +8,8 @@ pub const GET_OUT: usize = 256;
 pub const PUT_OUT: usize = 4096;
 /// Bytes of output that a tool asks for that writes a sheet.
 pub const SHEET_OUT: usize = 2048;
+/// Bytes of output that a sheet asks for that is printed as text.
+pub const TEXT_OUT: usize = 16_384;
 /// Bytes of output that a value asks for that is written as JSON.
 pub const JSON_OUT: usize = 2048;
 /// Bytes of output that a text asks for that is read as a value.
@@ -21,7 +23,7 @@ pub const CHAIN_MAX: usize = 49;
 /// The most bytes of stack that a call takes, measured on the deepest jobs (`tests/stack`) and rounded up.
 pub const STACK: usize = 204_800;
 
-/// The archive's answer. What a function does not give is 0, and with a refusal all but the number and the node that it names.
+/// The archive's answer. What a function does not give is 0, and with a refusal all but the number and the node or the detail that it names.
 #[derive(Clone, Copy, Debug, PartialEq, Eq)]
 pub struct Answer(pub u64);
 
@@ -59,6 +61,11 @@ impl Answer {
     /// The node that a tool's refusal names, of 81 and 82.
     pub fn node(self) -> Option<u8> {
         matches!(self.number(), 81 | 82).then_some((self.0 >> 8) as u8)
+    }
+
+    /// What was expected in a text, or what is wrong with it, of 90 to 94.
+    pub fn detail(self) -> Option<u16> {
+        matches!(self.number(), 90..=94).then_some((self.0 >> 8) as u16)
     }
 }
 
@@ -195,6 +202,10 @@ mod archive {
         pub fn lens_from_json(text: *const u8, text_len: usize, out: *mut u8, out_len: usize) -> u64;
 
         pub fn lens_check_types(sheet: *const u8, sheet_len: usize, types: *const u8, types_len: usize) -> u64;
+
+        pub fn lens_read_sheet(text: *const u8, text_len: usize, out: *mut u8, out_len: usize, place: *mut usize) -> u64;
+
+        pub fn lens_print_sheet(sheet: *const u8, sheet_len: usize, out: *mut u8, out_len: usize) -> u64;
 
         pub fn lens_check_plan(
             sheet: *const u8,
@@ -421,4 +432,17 @@ pub fn from_json(text: &[u8], out: &mut [u8]) -> Answer {
 pub fn check_types(sheet: &[u8], types: &[u8]) -> Answer {
     // Safety: as in `get`.
     Answer(unsafe { archive::lens_check_types(sheet.as_ptr(), sheet.len(), types.as_ptr(), types.len()) })
+}
+
+/// Reads the sheet of a text into `out`. With a refusal of the text (90 to 94) `place` becomes how many of its bytes stand before the fault;
+/// otherwise it stays what it was.
+pub fn read_sheet(text: &[u8], out: &mut [u8], place: &mut usize) -> Answer {
+    // Safety: as in `get`; the last pointer is that of an exclusive reference.
+    Answer(unsafe { archive::lens_read_sheet(text.as_ptr(), text.len(), out.as_mut_ptr(), out.len(), place) })
+}
+
+/// Prints a sheet as text into `out`.
+pub fn print_sheet(sheet: &[u8], out: &mut [u8]) -> Answer {
+    // Safety: as in `get`.
+    Answer(unsafe { archive::lens_print_sheet(sheet.as_ptr(), sheet.len(), out.as_mut_ptr(), out.len()) })
 }

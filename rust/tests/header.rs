@@ -27,6 +27,7 @@ fn the_header_has_the_same_numbers() {
         ("GET_OUT", raw::GET_OUT),
         ("PUT_OUT", raw::PUT_OUT),
         ("SHEET_OUT", raw::SHEET_OUT),
+        ("TEXT_OUT", raw::TEXT_OUT),
         ("JSON_OUT", raw::JSON_OUT),
         ("VALUE_OUT", raw::VALUE_OUT),
         ("SCRATCH", raw::SCRATCH),
