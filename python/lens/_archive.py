@@ -1,0 +1,104 @@
+"""The functions of the archive (include/lens.h), called through ctypes, and the buffers that a call lends them.
+
+A function takes inputs as bytes and lengths as c_size_t, and answers with one number, which the functions below take apart.
+"""
+import ctypes
+import os
+import sys
+from collections import deque
+from ctypes import c_size_t, c_uint8, c_uint16, c_uint64
+from pathlib import Path
+from typing import Any, Callable, Deque, Tuple
+
+ALLOWANCE_MAX = 1_000_000
+VALUE_MAX = 256
+
+GET_OUT = VALUE_OUT = c_size_t(256)
+PUT_OUT = c_size_t(4096)
+SHEET_OUT = JSON_OUT = c_size_t(2048)
+TEXT_OUT = c_size_t(16384)
+SCRATCH = c_size_t(65536)
+STARTS_MAX = 16
+CHAIN_MAX = 49
+
+NAME = 'liblens.dylib' if sys.platform == 'darwin' else 'liblens.so'
+ADVICE = 'run bin/shared in a clone of the repository (docs/PYTHON.md), or name the library in LENS_LIBRARY'
+
+
+def library_path() -> Path:
+    """The library that LENS_LIBRARY names; otherwise the one that stands beside the package's files."""
+    named = os.environ.get('LENS_LIBRARY')
+    return Path(named) if named else Path(__file__).resolve().with_name(NAME)
+
+
+class Archive:
+    """The archive's functions by their names. The library is loaded where one is first asked for."""
+
+    def __getattr__(self, name: str) -> Callable[..., int]:
+        if not name.startswith('lens_'):
+            raise AttributeError(name)
+        function = getattr(self.library(), name, None)
+        if function is None:
+            raise ImportError(f'{library_path()} has no function {name}: it is no library of this version: {ADVICE}')
+        function.restype = c_uint64
+        setattr(self, name, function)
+        return function
+
+    def library(self) -> Any:
+        path = library_path()
+        if not path.is_file():
+            raise ImportError(f'there is no library {path}: {ADVICE}')
+        try:
+            return self.__dict__.setdefault('loaded', ctypes.CDLL(str(path)))
+        except OSError as error:
+            raise ImportError(f'the library {path} cannot be loaded ({error}): {ADVICE}') from error
+
+
+archive = Archive()
+
+
+class Buffers:
+    """What one call lends: output, scratch, and what some functions tell besides."""
+
+    __slots__ = ('out', 'scratch', 'starts', 'written', 'chain', 'place')
+
+    def __init__(self) -> None:
+        self.out = (ctypes.c_char * TEXT_OUT.value)()
+        self.scratch = (c_uint8 * SCRATCH.value)()
+        self.starts = (c_uint16 * STARTS_MAX)()
+        self.written = (c_uint16 * 1)()
+        self.chain = (c_uint8 * CHAIN_MAX)()
+        self.place = (c_size_t * 1)()
+
+
+# Buffers that no call holds. A call takes some, or makes them, and hands them back at its end: so each holds its own, whichever thread it
+# is in, also where it interrupts another of the same thread (a handler of a signal), and as many are kept as calls ever ran at once.
+free: Deque[Buffers] = deque()
+
+
+def take() -> Buffers:
+    try:
+        return free.pop()
+    except IndexError:
+        return Buffers()
+
+
+def number(answer: int) -> int:
+    """The refusal's number; 0 is success."""
+    return answer & 0xFF
+
+
+def told(answer: int) -> int:
+    """The length of what is given, or what a tool tells: a node, a growth, a verdict, a detail."""
+    return answer >> 8 & 0xFFFF
+
+
+def made(name: str, inputs: Tuple[bytes, ...], out_length: c_size_t) -> Tuple[int, bytes]:
+    """What a function answers that writes to an output and needs nothing else, and what it wrote; nothing with a refusal."""
+    lent = [part for data in inputs for part in (data, c_size_t(len(data)))]
+    buffers = take()
+    try:
+        answer = getattr(archive, name)(*lent, buffers.out, out_length)
+        return answer, b'' if number(answer) else buffers.out[:told(answer)]
+    finally:
+        free.append(buffers)
