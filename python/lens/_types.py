@@ -1,6 +1,8 @@
 """Types, by which a sheet is checked before it is used."""
 from typing import Any, List, Sequence, Tuple, Union
 
+from ._records import records
+
 # Type = Union[type, List['Type'], Tuple['Type', 'Type']]: bool, int, [Type] or (Type, Type), which not every checker of types takes.
 Type = Union[type, List[Any], Tuple[Any, Any]]
 
@@ -55,3 +57,42 @@ class Types:
 
     def __bytes__(self) -> bytes:
         return self._bytes
+
+
+def first(data: bytes, at: int) -> int:
+    """The place behind the type that begins at a place of well formed bytes."""
+    owing = 1
+    while owing:
+        owing += {0x32: 0, 0x33: 1}.get(data[at], -1)
+        at += 1
+    return at
+
+
+def split(data: bytes) -> List[bytes]:
+    """The types that stand one behind the other."""
+    types, at = [], 0
+    while at < len(data):
+        end = first(data, at)
+        types.append(data[at:end])
+        at = end
+    return types
+
+
+def named(kind: bytes) -> str:
+    """A type in words.
+
+    >>> named(bytes.fromhex('32 33 31 32 30'))
+    'list of pair of number and (list of truth)'
+    """
+    if kind[0] == 0x32:
+        return f'list of {named(kind[1:])}'
+    if kind[0] == 0x33:
+        end = first(kind, 1)
+        parts = [named(part) for part in (kind[1:end], kind[end:])]
+        return 'pair of ' + ' and '.join(f'({part})' if ' ' in part else part for part in parts)
+    return 'truth' if kind[0] == 0x30 else 'number'
+
+
+def words_of(sheet: bytes, types: bytes, node: int) -> str:
+    """The type of a node in words. The types of the nodes are the last of those beside the sheet."""
+    return named(split(types)[node - len(records(sheet))])

@@ -1,0 +1,247 @@
+"""The command line: python3 -m lens VERB ..."""
+import argparse
+import json
+import sys
+from contextlib import contextmanager
+from typing import Callable, Iterator, List, Optional
+
+from ._archive import ALLOWANCE_MAX
+from ._files import BYTE, STANDARD, Unreadable, contents, encoded, read_list, read_plan, read_sheet, read_types, write
+from ._json import json_value, value_json
+from ._refusal import Refusal
+from ._sheet import Sheet
+from ._types import words_of
+from ._values import encode, read_plan as values_of
+from ._words import words
+
+Arguments = argparse.Namespace
+
+ABOUT = 'One sheet of rules for a venue, read both ways: from the plan to the list, and from the edited list to the new plan.'
+FILES = '''\
+A file is named, or - for standard input. Its first byte tells what it has:
+  SHEET            below 09: the sheet's bytes; a digit: hexadecimal; otherwise the sheet's text (docs/SHEETS.md)
+  PLAN, OLD, NEW   below 09: the plan's bytes; a digit: hexadecimal; otherwise a JSON array of the plan's values
+  LIST, VALUE      below 09: the value's bytes; a 0 and a digit behind it: hexadecimal; otherwise one JSON value
+  TYPES            below 09: never; a digit: hexadecimal; otherwise a JSON object (docs/PYTHON.md)
+In JSON a pair is {"a": .., "b": ..}. A refusal is told on standard error, with status 1; wrong usage and files that cannot be read have status 2.
+'''
+
+
+class Told(Exception):
+    """A refusal, with the lines that tell it."""
+
+    def __init__(self, refusal: Refusal, lines: List[str]) -> None:
+        super().__init__(refusal)
+        self.refusal = refusal
+        self.lines = lines
+
+
+@contextmanager
+def telling(sheet: Sheet, walking: bool = False) -> Iterator[None]:
+    """A refusal in what is done is told with the sheet's nodes."""
+    try:
+        yield
+    except Refusal as refusal:
+        raise Told(refusal, words(refusal, bytes(sheet), walking)) from None
+
+
+def line(text: object) -> bytes:
+    return f'{text}\n'.encode()
+
+
+def hexadecimal(data: bytes) -> bytes:
+    return line(data.hex().upper())
+
+
+def plan_line(plan: bytes) -> bytes:
+    return line('[' + ','.join(value_json(encode(value)) for value in values_of(plan)) + ']')
+
+
+def get(args: Arguments) -> None:
+    sheet, plan = read_sheet(args.sheet), read_plan(args.plan)
+    with telling(sheet, walking=True):
+        got = sheet.get(plan, args.allowance)
+    write(args.output, line(value_json(got.view_bytes)))
+    if args.steps:
+        write(None, line(got.steps))
+
+
+def put(args: Arguments) -> None:
+    sheet, plan, view = read_sheet(args.sheet), read_plan(args.plan), read_list(args.list)
+    with telling(sheet, walking=True):
+        made = sheet.put(plan, view, args.allowance)
+    write(args.output, plan_line(made.plan_bytes))
+    if args.written:
+        write(None, line(json.dumps(sorted(made.written))))
+    if args.steps:
+        write(None, line(made.steps))
+
+
+def why(args: Arguments) -> None:
+    sheet, plan = read_sheet(args.sheet), read_plan(args.plan)
+    view = None if args.list is None else read_list(args.list)
+    try:
+        with telling(sheet, walking=True):
+            if view is None:
+                sheet.get(plan, args.allowance)
+            else:
+                sheet.put(plan, view, args.allowance)
+    except Told as refused:
+        write(None, line(json.dumps(facts(refused.refusal))))
+        raise
+    write(None, line('null'))
+
+
+def facts(refusal: Refusal) -> dict:
+    """What a refusal tells, as an object."""
+    names = ('number', 'name', 'meaning', 'remedy', 'node', 'depth', 'chain', 'first_writer')
+    return {name: getattr(refusal, name) for name in names}
+
+
+def check(args: Arguments) -> None:
+    sheet, old, view, new = read_sheet(args.sheet), read_plan(args.old), read_list(args.list), read_plan(args.new)
+    with telling(sheet, walking=True):
+        stands = sheet.accepts(old, view, new, args.allowance)
+    write(None, line(json.dumps(stands)))
+
+
+def number(args: Arguments) -> None:
+    sheet = read_sheet(args.sheet)
+    with telling(sheet):
+        made = sheet.numbered()
+    write_sheet(made, args)
+
+
+def join(args: Arguments) -> None:
+    first, second = read_sheet(args.first), read_sheet(args.second)
+    with telling(first):
+        made = first.join(second)
+    write_sheet(made, args)
+
+
+def write_sheet(sheet: Sheet, args: Arguments) -> None:
+    write(args.output, bytes(sheet) if args.bytes else hexadecimal(bytes(sheet)))
+
+
+def growth(args: Arguments) -> None:
+    sheet = read_sheet(args.sheet)
+    with telling(sheet):
+        times = sheet.growth(args.variable)
+    write(None, line(times))
+
+
+def types(args: Arguments) -> None:
+    sheet, lent = read_sheet(args.sheet), read_types(args.types)
+    try:
+        with telling(sheet):
+            sheet.check_types(lent)
+    except Told as refused:
+        if refused.refusal.node is not None:
+            refused.lines.append(f'its type: {words_of(bytes(sheet), lent, refused.refusal.node)}')
+        raise
+    write(None, line('true'))
+
+
+def to_or_from_json(args: Arguments) -> None:
+    data = contents(args.value)
+    value = encoded(data, args.value, BYTE)
+    write(args.output, hexadecimal(json_value(data)) if value is None else line(value_json(value)))
+
+
+def text(args: Arguments) -> None:
+    sheet = read_sheet(args.sheet)
+    with telling(sheet):
+        printed = str(sheet)
+    write(args.output, printed.encode())
+
+
+class Parser:
+    """The parser of all verbs."""
+
+    def __init__(self) -> None:
+        form = argparse.RawDescriptionHelpFormatter
+        self.parser = argparse.ArgumentParser(prog='python3 -m lens', description=ABOUT, epilog=FILES, formatter_class=form)
+        self.verbs = self.parser.add_subparsers(metavar='VERB', required=True)
+
+    def verb(self, name: str, run: Callable[[Arguments], None], about: str, *files: str) -> argparse.ArgumentParser:
+        """Adds a verb that reads such files: SHEET, PLAN, .. or, where one may be left out, [LIST]."""
+        form = argparse.RawDescriptionHelpFormatter
+        verb = self.verbs.add_parser(name, help=about, description=about, epilog=FILES, formatter_class=form)
+        for file in files:
+            bare = file.strip('[]')
+            verb.add_argument(bare.lower(), metavar=bare, nargs=None if file == bare else '?', help=HELP[bare])
+        verb.set_defaults(run=run, files=[file.strip('[]').lower() for file in files], verb=verb)
+        return verb
+
+
+HELP = {
+    'SHEET': 'the sheet', 'FIRST': 'a sheet', 'SECOND': 'another sheet of the same plan', 'PLAN': 'the plan', 'OLD': 'the plan before the edit',
+    'NEW': 'the plan that is judged', 'LIST': 'the list that is sent back', 'TYPES': 'the types beside the sheet', 'VALUE': 'a value, or JSON',
+}
+
+
+def add_allowance(verb: argparse.ArgumentParser) -> None:
+    verb.add_argument('--allowance', metavar='N', type=int, default=ALLOWANCE_MAX, help='the most steps, 1 to 1,000,000 (which is the default)')
+
+
+def add_output(verb: argparse.ArgumentParser) -> None:
+    verb.add_argument('-o', dest='output', metavar='FILE', help='write to this file, as a whole or not at all, and not to standard output')
+
+
+def add_steps(verb: argparse.ArgumentParser) -> None:
+    verb.add_argument('--steps', action='store_true', help='print the steps taken too, on a line of their own')
+
+
+def add_bytes(verb: argparse.ArgumentParser) -> None:
+    verb.add_argument('--bytes', action='store_true', help="write the sheet's bytes, and not hexadecimal")
+
+
+def parser() -> argparse.ArgumentParser:
+    made = Parser()
+    verb = made.verb('get', get, 'Prints the list that the sheet makes of the plan, as JSON.', 'SHEET', 'PLAN')
+    for add in (add_allowance, add_output, add_steps):
+        add(verb)
+    verb = made.verb('put', put, 'Prints the new plan that the edited list makes of the old one, as a JSON array.', 'SHEET', 'PLAN', 'LIST')
+    for add in (add_allowance, add_output, add_steps):
+        add(verb)
+    verb.add_argument('--written', action='store_true', help='print the variables that were written too, on a line of their own')
+    about = 'Tells why a get, or with LIST a put, is refused: in words, and as a JSON object; null where it is not.'
+    add_allowance(made.verb('why', why, about, 'SHEET', 'PLAN', '[LIST]'))
+    about = 'Prints whether a new plan that was made elsewhere goes with the list and the old plan: true or false.'
+    add_allowance(made.verb('check', check, about, 'SHEET', 'OLD', 'LIST', 'NEW'))
+    about = 'Prints the sheet in the one numbering that every file of it gets, in hexadecimal.'
+    verb = made.verb('number', number, about, 'SHEET')
+    add_output(verb)
+    add_bytes(verb)
+    about = 'Prints one sheet of two, whose list is the pair of both lists, in hexadecimal.'
+    verb = made.verb('join', join, about, 'FIRST', 'SECOND')
+    add_output(verb)
+    add_bytes(verb)
+    verb = made.verb('growth', growth, "Prints how often a variable's length counts in the list's.", 'SHEET')
+    verb.add_argument('variable', metavar='VARIABLE', type=int, help='the number of the variable, from 0')
+    made.verb('types', types, 'Checks the sheet by the types beside it, and prints true where it passes.', 'SHEET', 'TYPES')
+    about = 'Prints a value as JSON, or the value of JSON in hexadecimal.'
+    add_output(made.verb('json', to_or_from_json, about, 'VALUE'))
+    add_output(made.verb('text', text, "Prints the sheet's text.", 'SHEET'))
+    return made.parser
+
+
+def main(arguments: Optional[List[str]] = None) -> int:
+    """Runs a verb. The status is 0; 1 for a refusal; 2 for wrong usage, or for a file that cannot be read or written."""
+    args = parser().parse_args(arguments)
+    if [getattr(args, name) for name in args.files].count(STANDARD) > 1:
+        args.verb.error('standard input is named twice')
+    try:
+        args.run(args)
+    except Told as refused:
+        return fail(1, refused.lines)
+    except Refusal as refusal:
+        return fail(1, words(refusal))
+    except (Unreadable, ValueError, ImportError) as error:
+        return fail(2, [f'{args.verb.prog}: {error}'])
+    return 0
+
+
+def fail(status: int, lines: List[str]) -> int:
+    print('\n'.join(lines), file=sys.stderr)
+    return status
