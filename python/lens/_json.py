@@ -173,7 +173,8 @@ def array(text: bytes, at: int, depth: int) -> Tuple[List[Tuple[int, int]], int]
     if text[at:at + 1] == b']':
         return spans, at + 1
     while True:
-        start, at = at, value(text, at, depth)
+        start = skip(text, at)
+        at = value(text, start, depth)
         spans.append((start, at))
         at = skip(text, at)
         if text[at:at + 1] == b']':

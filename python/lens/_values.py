@@ -51,8 +51,8 @@ def described(value: object) -> str:
 def write(value: object, out: bytearray, most: int) -> None:
     """Appends the bytes of a value; Long where `out` gets over `most` bytes.
 
-    A list has a byte before its members and one behind them, a pair one before its parts and a second part behind the first. So a part
-    may have one byte less than what it is in, and a value that nests without end is soon too long.
+    Behind each member of a list stands at least one byte, and behind the first part of a pair. So such a part must end one byte earlier, and a
+    value that nests without end is soon too long.
     """
     if len(out) >= most:
         raise Long
@@ -61,22 +61,22 @@ def write(value: object, out: bytearray, most: int) -> None:
     elif isinstance(value, int) and 0 <= value <= NUMBER_MAX:
         out += short(0x04, value) if value <= 0xFFFF else wide(0x06, value)
     elif isinstance(value, list):
-        write_parts(value, b'\x03', out, most - 1)
+        write_parts(value, b'\x03', out, most - 1, 0)
         out.append(0x02)
     elif isinstance(value, tuple) and len(value) == 2:
         out.append(0x05)
-        write_parts(value, b'', out, most - 1)
+        write_parts(value, b'', out, most - 1, 1)
     else:
         raise Unfit(described(value))
 
 
-def write_parts(parts: Any, kind: bytes, out: bytearray, most: int) -> None:
-    """Appends each part, behind the byte of its kind if it has one."""
+def write_parts(parts: Any, kind: bytes, out: bytearray, most: int, more: int) -> None:
+    """Appends each part, behind the byte of its kind if it has one; with each part `out` may have so many bytes more."""
     index = 0
     try:
         for index, part in enumerate(parts):
             out += kind
-            write(part, out, most)
+            write(part, out, most + more * index)
     except Unfit as unfit:
         unfit.way.append(index)
         raise
