@@ -1,12 +1,13 @@
 """The command line: python3 -m lens VERB ..."""
 import argparse
 import json
+import os
 import sys
 from contextlib import contextmanager
 from typing import Callable, Iterator, List, Optional
 
 from ._archive import ALLOWANCE_MAX
-from ._files import BYTE, STANDARD, Unreadable, contents, encoded, read_list, read_plan, read_sheet, read_types, write
+from ._files import BYTE, STANDARD, Unreadable, read, read_list, read_plan, read_sheet, read_types, write
 from ._json import json_value, value_json
 from ._refusal import Refusal
 from ._sheet import Sheet
@@ -49,6 +50,10 @@ def line(text: object) -> bytes:
     return f'{text}\n'.encode()
 
 
+def json_line(value: object) -> bytes:
+    return line(json.dumps(value, separators=(',', ':')))
+
+
 def hexadecimal(data: bytes) -> bytes:
     return line(data.hex().upper())
 
@@ -72,7 +77,7 @@ def put(args: Arguments) -> None:
         made = sheet.put(plan, view, args.allowance)
     write(args.output, plan_line(made.plan_bytes))
     if args.written:
-        write(None, line(json.dumps(sorted(made.written))))
+        write(None, json_line(sorted(made.written)))
     if args.steps:
         write(None, line(made.steps))
 
@@ -87,7 +92,7 @@ def why(args: Arguments) -> None:
             else:
                 sheet.put(plan, view, args.allowance)
     except Told as refused:
-        write(None, line(json.dumps(facts(refused.refusal))))
+        write(None, json_line(facts(refused.refusal)))
         raise
     write(None, line('null'))
 
@@ -102,7 +107,7 @@ def check(args: Arguments) -> None:
     sheet, old, view, new = read_sheet(args.sheet), read_plan(args.old), read_list(args.list), read_plan(args.new)
     with telling(sheet, walking=True):
         stands = sheet.accepts(old, view, new, args.allowance)
-    write(None, line(json.dumps(stands)))
+    write(None, json_line(stands))
 
 
 def number(args: Arguments) -> None:
@@ -143,9 +148,7 @@ def types(args: Arguments) -> None:
 
 
 def to_or_from_json(args: Arguments) -> None:
-    data = contents(args.value)
-    value = encoded(data, args.value, BYTE)
-    write(args.output, hexadecimal(json_value(data)) if value is None else line(value_json(value)))
+    write(args.output, read(args.value, BYTE, lambda text: hexadecimal(json_value(text)), lambda value: line(value_json(value))))
 
 
 def text(args: Arguments) -> None:
@@ -239,6 +242,9 @@ def main(arguments: Optional[List[str]] = None) -> int:
         return fail(1, words(refusal))
     except (Unreadable, ValueError, ImportError) as error:
         return fail(2, [f'{args.verb.prog}: {error}'])
+    except BrokenPipeError:
+        os.dup2(os.open(os.devnull, os.O_WRONLY), sys.stdout.fileno())  # so that nothing more is said when Python ends
+        return 2
     return 0
 
 
