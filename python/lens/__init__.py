@@ -16,7 +16,7 @@ Values are Python's: a bool, an int from 0 to 4,294,967,295, a list, and a tuple
 
     >>> sheet.get([7, -1])
     Traceback (most recent call last):
-    ValueError: plan[1]: the number -1 is negative: a value is a bool, an int from 0 to 4,294,967,295, a list of values, or a tuple of two values (a pair)
+    ValueError: plan[1]: the number -1 is negative: a value is a bool, an int from 0 to 4,294,967,295, a list, or a tuple of two
 
 What the archive refuses is a Refusal. One that is met in the walk tells the node and the way to it from the root:
 

@@ -1,28 +1,42 @@
 """The functions of the archive (include/lens.h), called through ctypes, and the buffers that a call lends them.
 
-A function takes inputs as bytes and lengths as c_size_t, and answers with one number, which the functions below take apart.
+A function takes inputs as bytes and lengths as SIZES has them, and answers with one number, which the functions below take apart.
 """
 import ctypes
 import os
 import sys
 from collections import deque
-from ctypes import c_size_t, c_uint8, c_uint16, c_uint64
+from ctypes import byref, c_size_t, c_uint8, c_uint16, c_uint64
 from pathlib import Path
-from typing import Any, Callable, Deque, Tuple
+from typing import Any, Callable, Deque, Dict, List, Tuple
 
 ALLOWANCE_MAX = 1_000_000
 VALUE_MAX = 256
 
-GET_OUT = VALUE_OUT = c_size_t(256)
-PUT_OUT = c_size_t(4096)
-SHEET_OUT = JSON_OUT = c_size_t(2048)
-TEXT_OUT = c_size_t(16384)
-SCRATCH = c_size_t(65536)
+GET_OUT = VALUE_OUT = 256
+PUT_OUT = 4096
+SHEET_OUT = JSON_OUT = 2048
+TEXT_OUT = 16384
+SCRATCH = 65536
 STARTS_MAX = 16
 CHAIN_MAX = 49
 
 NAME = 'liblens.dylib' if sys.platform == 'darwin' else 'liblens.so'
 ADVICE = 'run bin/shared in a clone of the repository (docs/PYTHON.md), or name the library in LENS_LIBRARY'
+
+
+class Sizes(Dict[int, Any]):
+    """Numbers as arguments of the C type size_t. One that is met is kept, up to the most bytes of a plan: making it anew takes longer."""
+
+    def __missing__(self, number: int) -> Any:
+        argument = c_size_t.from_param(number)
+        if number <= PUT_OUT:
+            self[number] = argument
+        return argument
+
+
+SIZES = Sizes()
+SCRATCH_SIZE = SIZES[SCRATCH]
 
 
 def library_path() -> Path:
@@ -58,13 +72,14 @@ archive = Archive()
 
 
 class Buffers:
-    """What one call lends: output, scratch, and what some functions tell besides."""
+    """What one call lends: output, scratch, and what some functions tell besides. `to_out` and `to_scratch` are the first two as arguments."""
 
-    __slots__ = ('out', 'scratch', 'starts', 'written', 'chain', 'place')
+    __slots__ = ('out', 'to_out', 'to_scratch', 'starts', 'written', 'chain', 'place')
 
     def __init__(self) -> None:
-        self.out = (ctypes.c_char * TEXT_OUT.value)()
-        self.scratch = (c_uint8 * SCRATCH.value)()
+        self.out = (ctypes.c_char * TEXT_OUT)()
+        self.to_out = byref(self.out)
+        self.to_scratch = byref((c_uint8 * SCRATCH)())
         self.starts = (c_uint16 * STARTS_MAX)()
         self.written = (c_uint16 * 1)()
         self.chain = (c_uint8 * CHAIN_MAX)()
@@ -93,12 +108,16 @@ def told(answer: int) -> int:
     return answer >> 8 & 0xFFFF
 
 
-def made(name: str, inputs: Tuple[bytes, ...], out_length: c_size_t) -> Tuple[int, bytes]:
-    """What a function answers that writes to an output and needs nothing else, and what it wrote; nothing with a refusal."""
-    lent = [part for data in inputs for part in (data, c_size_t(len(data)))]
+def lent(*inputs: bytes) -> List[Any]:
+    """Inputs as arguments: each with its length behind it."""
+    return [part for data in inputs for part in (data, SIZES[len(data)])]
+
+
+def made(name: str, inputs: List[Any], size: int) -> Tuple[int, bytes]:
+    """What a function answers that writes to an output of that size and needs nothing else, and what it wrote; nothing with a refusal."""
     buffers = take()
     try:
-        answer = getattr(archive, name)(*lent, buffers.out, out_length)
+        answer = getattr(archive, name)(*inputs, buffers.to_out, SIZES[size])
         return answer, b'' if number(answer) else buffers.out[:told(answer)]
     finally:
         free.append(buffers)

@@ -5,7 +5,7 @@ The archive reads and writes the values. What is here finds the values of a plan
 import re
 from typing import List, Tuple, Union
 
-from ._archive import JSON_OUT, VALUE_OUT, made, number
+from ._archive import JSON_OUT, VALUE_OUT, lent, made, number
 from ._refusal import Refusal, TextRefusal, found, text_bytes
 from ._values import NUMBER_MAX, Value, described, encode, encode_view, read, read_plan
 
@@ -64,7 +64,7 @@ def plan_from_json(text: Union[str, bytes]) -> List[Value]:
 
 def value_json(value: bytes) -> str:
     """The JSON of the bytes of a value."""
-    answer, text = made('lens_to_json', (value,), JSON_OUT)
+    answer, text = made('lens_to_json', lent(value), JSON_OUT)
     if number(answer):
         raise Refusal(number(answer))
     return text.decode('ascii')
@@ -72,7 +72,7 @@ def value_json(value: bytes) -> str:
 
 def json_value(text: bytes) -> bytes:
     """The bytes of the value of a text."""
-    answer, value = made('lens_from_json', (text,), VALUE_OUT)
+    answer, value = made('lens_from_json', lent(text), VALUE_OUT)
     if number(answer) in (MALFORMED, DEPTH):
         raise refused(text)
     if number(answer):

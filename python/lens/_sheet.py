@@ -1,9 +1,9 @@
 """Sheets: read out, read back, and what the tools make of them."""
-from ctypes import c_size_t, c_uint32
-from typing import Any, List, Optional, Set, Tuple, Union
+from ctypes import c_uint32
+from typing import Any, List, Optional, Set, Union
 
-from . import _archive
-from ._archive import ALLOWANCE_MAX, GET_OUT, PUT_OUT, SCRATCH, SHEET_OUT, TEXT_OUT, Buffers, archive, free, made, number, take, told
+from ._archive import (ALLOWANCE_MAX, GET_OUT, PUT_OUT, SCRATCH_SIZE, SHEET_OUT, SIZES, STARTS_MAX, TEXT_OUT, Buffers, archive, free, lent, made,
+                       number, take, told)
 from ._details import DETAILS
 from ._refusal import Refusal, TextRefusal, found, text_bytes
 from ._types import Types
@@ -15,7 +15,8 @@ View = Union[Value, Bytes]
 UNEXPECTED = 90
 WALKED = range(40, 60)
 LARGEST = 0xFFFFFFFF
-ALLOWANCE = c_uint32(ALLOWANCE_MAX)
+ALLOWANCE = c_uint32.from_param(ALLOWANCE_MAX)
+GET_SIZE, PUT_SIZE = SIZES[GET_OUT], SIZES[PUT_OUT]
 
 
 class Got:
@@ -31,14 +32,13 @@ class Got:
     def __init__(self, view_bytes: bytes, steps: int) -> None:
         self.view_bytes = view_bytes
         self.steps = steps
+        self._view: Optional[Value] = None  # made where it is first asked for
 
     @property
     def view(self) -> Value:
-        try:
-            return self._view
-        except AttributeError:
-            self._view: Value = read(self.view_bytes, 0)[0]
-            return self._view
+        if self._view is None:
+            self._view = read(self.view_bytes, 0)[0]
+        return self._view
 
     def __repr__(self) -> str:
         return f'Got(view={self.view!r}, steps={self.steps})'
@@ -59,28 +59,25 @@ class Put:
         self.plan_bytes = plan_bytes
         self.steps = steps
         self._bits = bits
+        self._plan: Optional[List[Value]] = None  # made where it is first asked for
 
     @property
     def plan(self) -> List[Value]:
-        try:
-            return self._plan
-        except AttributeError:
-            self._plan: List[Value] = read_plan(self.plan_bytes)
-            return self._plan
+        if self._plan is None:
+            self._plan = read_plan(self.plan_bytes)
+        return self._plan
 
     @property
     def written(self) -> Set[int]:
-        return {variable for variable in range(_archive.STARTS_MAX) if self._bits >> variable & 1}
+        return {variable for variable in range(STARTS_MAX) if self._bits >> variable & 1}
 
     def __repr__(self) -> str:
         return f'Put(plan={self.plan!r}, written={self.written!r}, steps={self.steps})'
 
 
-def allowed(allowance: object) -> c_uint32:
-    """The allowance for a call. What is no number of 32 bits is out of range as 0 is, and the archive says so (refusal 3)."""
-    if allowance == ALLOWANCE_MAX and type(allowance) is int:
-        return ALLOWANCE
-    return c_uint32(natural(allowance, 'allowance'))
+def allowed(allowance: object) -> Any:
+    """The allowance as an argument. The archive refuses what is out of range (3)."""
+    return ALLOWANCE if allowance is ALLOWANCE_MAX else c_uint32.from_param(natural(allowance, 'allowance'))
 
 
 def natural(given: object, where: str) -> int:
@@ -95,11 +92,11 @@ def refusal(answer: int) -> Refusal:
     return Refusal(number(answer), node=told(answer) if number(answer) in (81, 82) else None)
 
 
-def refused(answer: int, buffers: Buffers, why: str, lent: Tuple[Any, ...], allowance: c_uint32) -> Refusal:
+def refused(answer: int, buffers: Buffers, why: str, inputs: List[Any], limit: Any) -> Refusal:
     """The refusal of a get or a put. What was met in the walk is told by the archive's function `why` of the same sheet, plan and list."""
     if number(answer) not in WALKED:
         return refusal(answer)
-    answer = getattr(archive, why)(*lent, allowance, buffers.scratch, SCRATCH, buffers.chain)
+    answer = getattr(archive, why)(*inputs, limit, buffers.to_scratch, SCRATCH_SIZE, buffers.chain)
     first = answer >> 16 & 0xFFFF
     return Refusal(number(answer), chain=list(buffers.chain[:answer >> 8 & 0xFF]), first_writer=first - 1 if first else None)
 
@@ -114,13 +111,13 @@ class Sheet:
     Put(plan=[8], written={0}, steps=3)
     """
 
-    __slots__ = ('_bytes', '_length')
+    __slots__ = ('_bytes', '_size')
 
     def __init__(self, data: Bytes) -> None:
         if not isinstance(data, (bytes, bytearray, memoryview)):
             raise ValueError(f'sheet: a sheet is bytes: {type(data).__name__}: Sheet.parse reads a text')
         self._bytes = bytes(data)
-        self._length = c_size_t(len(self._bytes))
+        self._size = SIZES[len(self._bytes)]
 
     @classmethod
     def parse(cls, text: Union[str, bytes]) -> 'Sheet':
@@ -138,7 +135,7 @@ class Sheet:
         data = text_bytes(text)
         buffers = take()
         try:
-            answer = archive.lens_read_sheet(data, c_size_t(len(data)), buffers.out, SHEET_OUT, buffers.place)
+            answer = archive.lens_read_sheet(*lent(data), buffers.to_out, SIZES[SHEET_OUT], buffers.place)
             if number(answer):
                 raise fault(number(answer), data, buffers.place[0], told(answer))
             return cls(buffers.out[:told(answer)])
@@ -174,13 +171,12 @@ class Sheet:
         (70000, 107)
         """
         data = plan if type(plan) is bytes else encode_plan(plan)
-        length = c_size_t(len(data))
-        limit = ALLOWANCE if allowance is ALLOWANCE_MAX else allowed(allowance)
+        limit = allowed(allowance)
         buffers = take()
         try:
-            answer = archive.lens_get(self._bytes, self._length, data, length, limit, buffers.out, GET_OUT, buffers.scratch, SCRATCH)
+            answer = archive.lens_get(self._bytes, self._size, data, SIZES[len(data)], limit, buffers.to_out, GET_SIZE, buffers.to_scratch, SCRATCH_SIZE)
             if answer & 0xFF:
-                raise refused(answer, buffers, 'lens_why_get', (self._bytes, self._length, data, length), limit)
+                raise refused(answer, buffers, 'lens_why_get', lent(self._bytes, data), limit)
             return Got(buffers.out[:answer >> 8 & 0xFFFF], answer >> 32)
         finally:
             free.append(buffers)
@@ -195,15 +191,13 @@ class Sheet:
         Traceback (most recent call last):
         lens.Refusal: no 54: two places of the list sent back that come from one variable differ: edit both alike (node 3)
         """
-        data = encode_plan(plan)
-        sent = encode_view(view)
+        inputs = lent(self._bytes, encode_plan(plan), encode_view(view))
         limit = allowed(allowance)
-        lent = (self._bytes, self._length, data, c_size_t(len(data)), sent, c_size_t(len(sent)))
         buffers = take()
         try:
-            answer = archive.lens_put_written(*lent, limit, buffers.out, PUT_OUT, buffers.scratch, SCRATCH, buffers.starts, buffers.written)
+            answer = archive.lens_put_written(*inputs, limit, buffers.to_out, PUT_SIZE, buffers.to_scratch, SCRATCH_SIZE, buffers.starts, buffers.written)
             if answer & 0xFF:
-                raise refused(answer, buffers, 'lens_why_put', lent, limit)
+                raise refused(answer, buffers, 'lens_why_put', inputs, limit)
             return Put(buffers.out[:answer >> 8 & 0xFFFF], answer >> 32, buffers.written[0])
         finally:
             free.append(buffers)
@@ -216,15 +210,13 @@ class Sheet:
         >>> sheet.accepts([7, 500], 8, [8, 500]), sheet.accepts([7, 500], 8, [8, 900])
         (True, False)
         """
-        plans = encode_plan(old, 'old'), encode_view(view), encode_plan(new, 'new')
+        inputs = lent(self._bytes, encode_plan(old, 'old'), encode_view(view), encode_plan(new, 'new'))
         limit = allowed(allowance)
-        sheet = self._bytes, self._length
-        lent = [part for data in plans for part in (data, c_size_t(len(data)))]
         buffers = take()
         try:
-            answer = archive.lens_check_plan(*sheet, *lent, limit, buffers.scratch, SCRATCH)
+            answer = archive.lens_check_plan(*inputs, limit, buffers.to_scratch, SCRATCH_SIZE)
             if number(answer):
-                raise refused(answer, buffers, 'lens_why_get', (*sheet, *lent[4:]), limit)
+                raise refused(answer, buffers, 'lens_why_get', inputs[:2] + inputs[-2:], limit)
             return bool(told(answer))
         finally:
             free.append(buffers)
@@ -255,7 +247,7 @@ class Sheet:
         >>> Sheet.parse('plan name  list = (name, [name])').growth(0)
         2
         """
-        answer = archive.lens_growth(self._bytes, self._length, c_size_t(natural(variable, 'variable')))
+        answer = archive.lens_growth(*lent(self._bytes), SIZES[natural(variable, 'variable')])
         if number(answer):
             raise refusal(answer)
         return told(answer)
@@ -274,14 +266,13 @@ class Sheet:
         """
         if not isinstance(types, (Types, bytes, bytearray, memoryview)):
             raise ValueError(f'types: they are Types, or bytes: {type(types).__name__}')
-        data = bytes(types)
-        answer = archive.lens_check_types(self._bytes, self._length, data, c_size_t(len(data)))
+        answer = archive.lens_check_types(*lent(self._bytes, bytes(types)))
         if number(answer):
             raise refusal(answer)
 
-    def _made(self, name: str, out_length: c_size_t, *others: bytes) -> bytes:
-        """What a tool makes of this sheet, and of another."""
-        answer, data = made(name, (self._bytes, *others), out_length)
+    def _made(self, name: str, size: int, *others: bytes) -> bytes:
+        """What a tool makes of this sheet, and of another, in an output of that size."""
+        answer, data = made(name, lent(self._bytes, *others), size)
         if number(answer):
             raise refusal(answer)
         return data

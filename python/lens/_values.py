@@ -9,11 +9,13 @@ Value = Union[bool, int, List[Any], Tuple[Any, Any]]
 Bytes = Union[bytes, bytearray, memoryview]
 
 NUMBER_MAX = 0xFFFFFFFF
-ALLOWED = 'a value is a bool, an int from 0 to 4,294,967,295, a list of values, or a tuple of two values (a pair)'
+SHORT_MAX = 0xFFFF
+ALLOWED = 'a value is a bool, an int from 0 to 4,294,967,295, a list, or a tuple of two'
 COUNTED = 'a truth has 1 byte, a number 3, above 65,535 it has 5, a pair 1 beside its parts, a list 1 and 1 more for each member'
 
 short = Struct('>BH').pack
 wide = Struct('>BI').pack
+first_short = Struct('>BBH').pack
 
 
 class Unfit(Exception):
@@ -44,7 +46,7 @@ def described(value: object) -> str:
     if isinstance(value, tuple):
         return f'a tuple of {len(value)}: a pair is a tuple of two'
     if isinstance(value, str):
-        return f'a {kind}: write a name as a list of numbers, one for each letter'
+        return f'a {kind}, where a name is a list of numbers'
     return f'no value: {kind}'
 
 
@@ -59,24 +61,41 @@ def write(value: object, out: bytearray, most: int) -> None:
     if value is False or value is True:
         out.append(value)  # type: ignore[arg-type]
     elif isinstance(value, int) and 0 <= value <= NUMBER_MAX:
-        out += short(0x04, value) if value <= 0xFFFF else wide(0x06, value)
+        out += short(0x04, value) if value <= SHORT_MAX else wide(0x06, value)
     elif isinstance(value, list):
-        write_parts(value, b'\x03', out, most - 1, 0)
-        out.append(0x02)
+        write_list(value, out, most)
     elif isinstance(value, tuple) and len(value) == 2:
-        out.append(0x05)
-        write_parts(value, b'', out, most - 1, 1)
+        write_pair(value, out, most)
     else:
         raise Unfit(described(value))
 
 
-def write_parts(parts: Any, kind: bytes, out: bytearray, most: int, more: int) -> None:
-    """Appends each part, behind the byte of its kind if it has one; with each part `out` may have so many bytes more."""
+def write_list(members: List[Any], out: bytearray, most: int) -> None:
+    """Appends the bytes of a list. Small numbers, of which most lists are, are written here."""
+    if 2 * len(members) > VALUE_MAX:
+        raise Long
     index = 0
     try:
-        for index, part in enumerate(parts):
-            out += kind
-            write(part, out, most + more * index)
+        for index, member in enumerate(members):
+            if type(member) is int and 0 <= member <= SHORT_MAX:
+                out += first_short(0x03, 0x04, member)
+            else:
+                out.append(0x03)
+                write(member, out, most - 1)
+    except Unfit as unfit:
+        unfit.way.append(index)
+        raise
+    out.append(0x02)
+
+
+def write_pair(pair: Tuple[Any, Any], out: bytearray, most: int) -> None:
+    """Appends the bytes of a pair."""
+    out.append(0x05)
+    index = 0
+    try:
+        write(pair[0], out, most - 1)
+        index = 1
+        write(pair[1], out, most)
     except Unfit as unfit:
         unfit.way.append(index)
         raise
@@ -97,7 +116,7 @@ def encode(value: object, where: str = 'value') -> bytes:
     '03 04 00 0c 03 05 04 00 0d 01 02'
     >>> encode([1, (2, [0.5])], 'view')
     Traceback (most recent call last):
-    ValueError: view[1][1][0]: no value: float: a value is a bool, an int from 0 to 4,294,967,295, a list of values, or a tuple of two values (a pair)
+    ValueError: view[1][1][0]: no value: float: a value is a bool, an int from 0 to 4,294,967,295, a list, or a tuple of two
     """
     out = bytearray()
     try:
@@ -143,15 +162,7 @@ def read(data: bytes, at: int) -> Tuple[Value, int]:
     if kind == 0x04:
         return data[at] << 8 | data[at + 1], at + 2
     if kind == 0x03:
-        members = []
-        while kind == 0x03:
-            member, at = read(data, at)
-            members.append(member)
-            kind = data[at]
-            at += 1
-        if kind != 0x02:
-            raise ValueError(f'the rest of a list is of kind {kind:02X}')
-        return members, at
+        return read_list(data, at)
     if kind == 0x05:
         left, at = read(data, at)
         right, at = read(data, at)
@@ -163,6 +174,24 @@ def read(data: bytes, at: int) -> Tuple[Value, int]:
     if kind < 0x02:
         return kind == 0x01, at
     raise ValueError(f'there is no kind of value {kind:02X}')
+
+
+def read_list(data: bytes, at: int) -> Tuple[List[Value], int]:
+    """The list whose first member stands at a place, and the place behind it. Small numbers, of which most lists are, are read here."""
+    members: List[Value] = []
+    kind = 0x03
+    while kind == 0x03:
+        if data[at] == 0x04:
+            members.append(data[at + 1] << 8 | data[at + 2])
+            at += 3
+        else:
+            member, at = read(data, at)
+            members.append(member)
+        kind = data[at]
+        at += 1
+    if kind != 0x02:
+        raise ValueError(f'the rest of a list is of kind {kind:02X}')
+    return members, at
 
 
 def read_plan(data: bytes) -> List[Value]:

@@ -15,8 +15,8 @@ CALLED = {'lens_get', 'lens_put_written', 'lens_why_get', 'lens_why_put', 'lens_
 
 class Header(unittest.TestCase):
     def test_sizes(self):
-        sizes = {name: getattr(_archive, name).value for name in ('GET_OUT', 'PUT_OUT', 'SHEET_OUT', 'JSON_OUT', 'VALUE_OUT', 'SCRATCH', 'TEXT_OUT')}
-        sizes.update(STARTS_MAX=_archive.STARTS_MAX, CHAIN_MAX=_archive.CHAIN_MAX, ALLOWANCE_MAX=_archive.ALLOWANCE_MAX)
+        names = ('GET_OUT', 'PUT_OUT', 'SHEET_OUT', 'JSON_OUT', 'VALUE_OUT', 'TEXT_OUT', 'SCRATCH', 'STARTS_MAX', 'CHAIN_MAX', 'ALLOWANCE_MAX')
+        sizes = {name: getattr(_archive, name) for name in names}
         self.assertEqual(sizes, {name: DEFINED.get(name) for name in sizes})
 
     def test_refusals(self):
