@@ -88,7 +88,8 @@ class Verbs(InFolder):
 
     def test_words_are_those_of_why(self):
         """bin/why says the same of the same job, by the program that rt check makes."""
-        rows = [('010100 160102 1000 1000', '040007', '05 040008 040009'), ('010100 1000', '0400', '00'), ('010100 1001', '00', '00'), ('010200 2001 1A000001 1702030104020708 1000 1001 150506 1002 1A000301 11 13', '02 02', '00')]
+        rows = [('010100 160102 1000 1000', '040007', '05 040008 040009'), ('010100 1000', '0400', '00'), ('010100 1001', '00', '00'),
+                ('010200 2001 1A000001 1702030104020708 1000 1001 150506 1002 1A000301 11 13', '02 02', '00')]
         for sheet, plan, view in map(lambda row: map(bytes.fromhex, row), rows):
             job = b'\x50\x00\x03\xe8' + len(sheet).to_bytes(2, 'big') + sheet + len(plan).to_bytes(2, 'big') + plan + view
             environment = dict(os.environ, TOOLS=str(ROOT / 'target/bin/tools'))
@@ -128,8 +129,10 @@ class Verbs(InFolder):
         types['plan'][0] = ['truth']
         lines = self.refused(run('types', 'house.txt', self.file('types.json', json.dumps(types))), 82)
         self.assertEqual(lines[1:], ['node 2, a variable: 10 00', 'its type: number'])
-        section = {'plan': [['number']], 'sections': [['number', ['number'], 'number']], 'list': ['number'], 'nodes': [['number'], ['number'], 'number', 'number']}
-        self.prints('true\n', 'types', self.file('each', 'plan row list = each f(row, row) default 0 section f(seat, _) = seat'), self.file('t', json.dumps(section)))
+        row = ['number']
+        types = {'plan': [row], 'sections': [['number', row, 'number']], 'list': row, 'nodes': [row, row, 'number', 'number']}
+        each = self.file('each', 'plan row list = each f(row, row) default 0 section f(seat, _) = seat')
+        self.prints('true\n', 'types', each, self.file('types.json', json.dumps(types)))
         bad = ('{}', '[]', '7', '{"plan": 7}', '{', '{"plan":[],"list":"x","nodes":[]}', '{"plan":["number"],"list":"number","nodes":[],"more":1}')
         for text in bad + ('{"plan":[{"b":"number","a":"number"}],"list":"number","nodes":[]}', '[' * 100000):
             ran = run('types', 'house.txt', self.file('types.json', text))
@@ -151,7 +154,8 @@ class Verbs(InFolder):
         self.assertEqual(lens.Sheet.parse(Path('again.txt').read_text()), lens.Sheet(bytes.fromhex(SHEET)))
         self.refused(run('text', 'twice'), 81)
         lines = self.refused(run('text', self.file('bad.txt', 'plan a\nlist = a +')), 90)
-        self.assertEqual(lines[1:], ['bad.txt: line 2, column 10: expected the word `section`, or the end of the text, found `+`', '  list = a +', '           ^'])
+        sentence = 'expected the word `section`, or the end of the text, found `+`'
+        self.assertEqual(lines[1:], [f'bad.txt: line 2, column 10: {sentence}', '  list = a +', '           ^'])
         self.assertIn('standard input: line 1', self.refused(run('text', '-', stdin=b'plan'), 90)[1])
 
 
@@ -172,19 +176,20 @@ class Usage(InFolder):
 
     def test_wrong(self):
         sheet, plan = self.file('sheet', SHEET), self.file('plan', '[7, 70000]')
-        rows = [('arguments are required', []), ('invalid choice', ['give']), ('arguments are required', ['get', sheet]), ('unrecognized', ['get', sheet, plan, 'more']),
-                ('No such file', ['get', sheet, 'none.json']), ('Is a directory', ['get', '.', plan]), ('invalid int', ['get', sheet, plan, '--allowance', 'x']),
-                ('no int from 0', ['get', sheet, plan, '--allowance', '-1']), ('named twice', ['get', '-', '-']), ('named twice', ['put', sheet, '-', '-']),
-                ('not hexadecimal', ['text', self.file('odd', '01 02 0')]), ('not hexadecimal', ['get', sheet, self.file('odd plan', '04000X')]),
-                ('no int from 0', ['growth', sheet, '--', '-1']), ('unrecognized', ['growth', sheet, '1', '-o', 'x']), ('No such file', ['get', sheet, plan, '-o', 'none/new.json'])]
+        rows = [('arguments are required', []), ('invalid choice', ['give']), ('arguments are required', ['get', sheet]),
+                ('unrecognized', ['get', sheet, plan, 'more']), ('No such file', ['get', sheet, 'none.json']), ('Is a directory', ['get', '.', plan]),
+                ('invalid int', ['get', sheet, plan, '--allowance', 'x']), ('no int from 0', ['get', sheet, plan, '--allowance', '-1']),
+                ('named twice', ['get', '-', '-']), ('named twice', ['put', sheet, '-', '-']), ('not hexadecimal', ['text', self.file('odd', '01 02 0')]),
+                ('not hexadecimal', ['get', sheet, self.file('odd plan', '04000X')]), ('no int from 0', ['growth', sheet, '--', '-1']),
+                ('unrecognized', ['growth', sheet, '1', '-o', 'x']), ('No such file', ['get', sheet, plan, '-o', 'none/new.json'])]
         for words, arguments in rows:
             with self.subTest(arguments=arguments):
                 self.wrong(words, *arguments)
 
     def test_no_library(self):
-        with mock.patch.dict(os.environ, LENS_LIBRARY='/none/liblens.so'), mock.patch('lens._archive.archive.__dict__', {}):
-            ran = subprocess.run([sys.executable, '-m', 'lens', 'text', self.file('sheet', SHEET)], env=dict(os.environ, PYTHONPATH=str(ROOT / 'python')),
-                                 stdout=subprocess.PIPE, stderr=subprocess.PIPE)
+        environment = dict(os.environ, PYTHONPATH=str(ROOT / 'python'), LENS_LIBRARY='/none/liblens.so')
+        command = [sys.executable, '-m', 'lens', 'text', self.file('sheet', SHEET)]
+        ran = subprocess.run(command, env=environment, stdout=subprocess.PIPE, stderr=subprocess.PIPE)
         self.assertEqual((ran.returncode, ran.stdout), (2, b''))
         self.assertIn(b'there is no library /none/liblens.so: run bin/shared', ran.stderr)
 
@@ -201,8 +206,9 @@ class Files(InFolder):
         """Nothing is written and nothing is left, whether the file was there or not."""
         kept = self.file('kept', 'as it was')
         before = self.names()
-        rows = [(1, ['put', self.sheet, self.plan, self.bad]), (1, ['get', self.sheet, self.bad]), (1, ['text', self.file('twice', TWICE)]), (1, ['number', 'twice']),
-                (1, ['join', 'twice', self.sheet]), (1, ['json', self.file('comma', '[1,]')]), (2, ['put', self.sheet, self.plan, 'none'])]
+        rows = [(1, ['put', self.sheet, self.plan, self.bad]), (1, ['get', self.sheet, self.bad]), (1, ['text', self.file('twice', TWICE)]),
+                (1, ['number', 'twice']), (1, ['join', 'twice', self.sheet]), (1, ['json', self.file('comma', '[1,]')]),
+                (2, ['put', self.sheet, self.plan, 'none'])]
         before = self.names()
         for status, arguments in rows:
             for output in (kept, 'new'):
@@ -223,7 +229,12 @@ class Files(InFolder):
         """The new bytes stand in a file beside before the name is given."""
         seen = []
         replace = os.replace
-        with mock.patch('os.replace', side_effect=lambda made, path: seen.append((Path(made), Path(path), Path(made).read_text())) or replace(made, path)):
+
+        def seeing(made, path):
+            seen.append((Path(made), Path(path), Path(made).read_text()))
+            replace(made, path)
+
+        with mock.patch('os.replace', side_effect=seeing):
             run('put', self.sheet, self.plan, self.good, '-o', 'new')
         [(made, path, text)] = seen
         self.assertEqual((made.parent, path.name, text), (path.parent, 'new', '[8,1]\n'))

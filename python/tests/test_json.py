@@ -7,7 +7,8 @@ import lens
 from . import ROOT, jobs, samples
 
 # What can stand behind a front of a text that shows no fault, up to the end of the token or member that it ends in.
-RESTS = ['', '0', 'rue', 'ue', 'e', 'alse', 'lse', 'se', '"a":0,"b":0', 'a":0,"b":0', '":0,"b":0', ':0,"b":0', '0,"b":0', ',"b":0', '"b":0', 'b":0', '":0', ':0']
+RESTS = ['', '0', 'rue', 'ue', 'e', 'alse', 'lse', 'se', '"a":0,"b":0', 'a":0,"b":0', '":0,"b":0', ':0,"b":0', '0,"b":0', ',"b":0', '"b":0', 'b":0', '":0',
+         ':0']
 
 
 def ends(front):
@@ -71,7 +72,8 @@ class Faults(unittest.TestCase):
 
     def test_places(self):
         rows = [('[12, 13,]', 70, 8, 'found `]`'), ('01', 70, 1, 'without a 0 in front'), ('4294967296', 70, 9, 'up to 4,294,967,295'),
-                ('10000000000', 70, 10, 'up to'), ('-1', 70, 0, 'found `-`'), ('"a"', 70, 0, 'found `"`'), ('{"b":1}', 70, 2, '`"a"`'), ('{"a":1}', 70, 6, '`,`'),
+                ('10000000000', 70, 10, 'up to'), ('-1', 70, 0, 'found `-`'), ('"a"', 70, 0, 'found `"`'), ('{"b":1}', 70, 2, '`"a"`'),
+                ('{"a":1}', 70, 6, '`,`'),
                 ('[1 2]', 70, 3, '`,` or `]`'), ('1 1', 70, 2, 'the end of the text'), ('', 70, 0, 'found the end of the text'), ('tru', 70, 3, '`true`'),
                 ('[' * 49, 71, 48, 'at most 48 deep'), ('{"a":1,"b":2,', 70, 12, '`}`')]
         for text, number, place, message in rows:
@@ -82,15 +84,16 @@ class Faults(unittest.TestCase):
 
 class Plans(unittest.TestCase):
     def test_good(self):
-        rows = [('[]', []), (' [ 1 , [ 2 ] ]\n', [1, [2]]), ('[' + '[' * 48 + ']' * 48 + ',{"a":1,"b":{"a":true,"b":[]}}]', [lens.from_json('[' * 48 + ']' * 48), (1, (True, []))]),
-                ('[' + ','.join([str([0] * 63)] * 16) + ']', [[0] * 63] * 16)]
+        deep = '[' * 48 + ']' * 48
+        rows = [('[]', []), (' [ 1 , [ 2 ] ]\n', [1, [2]]), ('[' + ','.join([str([0] * 63)] * 16) + ']', [[0] * 63] * 16),
+                (f'[{deep},{{"a":1,"b":{{"a":true,"b":[]}}}}]', [lens.from_json(deep), (1, (True, []))])]
         for text, plan in rows:
             self.assertEqual(lens.plan_from_json(text), plan)
             self.assertEqual(lens.plan_from_json(lens.plan_to_json(plan)), plan)
 
     def test_bad(self):
-        rows = [('7', 70, 0), ('[1,]', 70, 3), ('[1', 70, 2), ('[1]]', 70, 3), ('[1}', 70, 2), ('[1,[2,]]', 70, 6), ('[1,' + '[' * 49, 71, 51), ('[7, ' + str([0] * 64) + ']', 72, 4),
-                ('', 70, 0), ('[1 2]', 70, 3)]
+        rows = [('7', 70, 0), ('[1,]', 70, 3), ('[1', 70, 2), ('[1]]', 70, 3), ('[1}', 70, 2), ('[1,[2,]]', 70, 6), ('[1,' + '[' * 49, 71, 51),
+                (f'[7, {[0] * 64}]', 72, 4), ('', 70, 0), ('[1 2]', 70, 3)]
         for text, number, place in rows:
             with self.subTest(text=text), self.assertRaises(lens.TextRefusal) as raised:
                 lens.plan_from_json(text)

@@ -4,6 +4,7 @@ import enum
 import pickle
 import random
 import unittest
+from functools import partial
 
 import lens
 
@@ -98,22 +99,30 @@ class NoValues(unittest.TestCase):
     def test_arguments(self):
         """Arguments of another kind are a ValueError that names them."""
         rows = [
-            ('plan: ', lambda: VARIABLE.get(7)), ('plan: ', lambda: VARIABLE.get((7, 8))), ('plan: ', lambda: VARIABLE.get('7')), ('plan: ', lambda: VARIABLE.get(None)),
-            ('view: ', lambda: VARIABLE.put([7], None)), ('view: ', lambda: VARIABLE.put([7], 'x')), ('view[0]: ', lambda: VARIABLE.put([7], [-1])),
-            ('allowance: ', lambda: VARIABLE.get([7], True)), ('allowance: ', lambda: VARIABLE.get([7], 1000000.0)), ('allowance: ', lambda: VARIABLE.get([7], -1)),
+            ('plan: ', lambda: VARIABLE.get(7)), ('plan: ', lambda: VARIABLE.get((7, 8))), ('plan: ', lambda: VARIABLE.get('7')),
+            ('plan: ', lambda: VARIABLE.get(None)), ('view: ', lambda: VARIABLE.put([7], None)), ('view: ', lambda: VARIABLE.put([7], 'x')),
+            ('view[0]: ', lambda: VARIABLE.put([7], [-1])), ('allowance: ', lambda: VARIABLE.get([7], True)),
+            ('allowance: ', lambda: VARIABLE.get([7], 1000000.0)), ('allowance: ', lambda: VARIABLE.get([7], -1)),
             ('allowance: ', lambda: VARIABLE.put([7], 8, '1000')), ('allowance: ', lambda: VARIABLE.accepts([7], 8, [8], None)),
-            ('old[0]: ', lambda: VARIABLE.accepts([1.0], 8, [8])), ('new[0][1]: ', lambda: VARIABLE.accepts([1], 8, [(1, 'x')])), ('view: ', lambda: VARIABLE.accepts([1], 8.5, [1])),
+            ('old[0]: ', lambda: VARIABLE.accepts([1.0], 8, [8])), ('new[0][1]: ', lambda: VARIABLE.accepts([1], 8, [(1, 'x')])),
+            ('view: ', lambda: VARIABLE.accepts([1], 8.5, [1])),
             ('sheet: ', lambda: lens.Sheet('0101001000')), ('sheet: ', lambda: lens.Sheet(None)), ('sheet: ', lambda: lens.Sheet([1, 1, 0])),
             ('text: ', lambda: lens.Sheet.parse(None)), ('text: ', lambda: lens.from_json(7)), ('value: ', lambda: lens.to_json(None)),
             ('variable: ', lambda: VARIABLE.growth(-1)), ('variable: ', lambda: VARIABLE.growth(True)), ('variable: ', lambda: VARIABLE.growth('0')),
-            ('other: ', lambda: VARIABLE.join(b'\x01\x01\x00\x10\x00')), ('types: ', lambda: VARIABLE.check_types([int])), ('plan: ', lambda: lens.plan_to_json((1, 2))),
-            ('plan[1]: ', lambda: lens.Types(plan=[int, str], view=int, nodes=[])), ('view: ', lambda: lens.Types(plan=[], view=[int, int], nodes=[])),
-            ('nodes[0]: ', lambda: lens.Types(plan=[], view=int, nodes=[(int,)])), ('sections[0]: ', lambda: lens.Types([], int, [], [(int, int)])),
-            ('view: ', lambda: lens.Types([], nested(300), [])), ('view: ', lambda: lens.Types([], endless(), [])),
-            ('not the bytes of one value', lambda: lens.decode(b'')), ('not the bytes', lambda: lens.decode(b'\x00\x00')), ('not the bytes', lambda: lens.decode(b'\x07')),
-            ('not the bytes', lambda: lens.decode(b'\x06\x00\x00\x00\x01')), ('not the bytes', lambda: lens.decode(b'\x03\x00\x01')), ('not the bytes', lambda: lens.decode(b'\x04\x00')),
-            ('not the bytes', lambda: lens.decode(b'\x03' * 5000)),
+            ('other: ', lambda: VARIABLE.join(b'\x01\x01\x00\x10\x00')), ('types: ', lambda: VARIABLE.check_types([int])),
+            ('plan: ', lambda: lens.plan_to_json((1, 2))), ('plan[1]: ', lambda: lens.Types(plan=[int, str], view=int, nodes=[])),
+            ('view: ', lambda: lens.Types(plan=[], view=[int, int], nodes=[])), ('nodes[0]: ', lambda: lens.Types(plan=[], view=int, nodes=[(int,)])),
+            ('sections[0]: ', lambda: lens.Types([], int, [], [(int, int)])), ('view: ', lambda: lens.Types([], nested(300), [])),
+            ('view: ', lambda: lens.Types([], endless(), [])),
         ]
+        self.each(rows)
+
+    def test_bytes_of_no_value(self):
+        bad = (b'', b'\x00\x00', b'\x07', b'\x06\x00\x00\x00\x01', b'\x03\x00\x01', b'\x04\x00', b'\x03' * 5000)
+        self.each([('not the bytes of one value: ', partial(lens.decode, data)) for data in bad])
+
+    def each(self, rows):
+        """Each call is a ValueError that begins so."""
         for message, call in rows:
             with self.subTest(message=message), self.assertRaises(ValueError) as raised:
                 call()
