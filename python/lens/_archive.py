@@ -42,30 +42,35 @@ SCRATCH_SIZE = SIZES[SCRATCH]
 def library_path() -> Path:
     """The library that LENS_LIBRARY names; otherwise the one that stands beside the package's files."""
     named = os.environ.get('LENS_LIBRARY')
-    return Path(named) if named else Path(__file__).resolve().with_name(NAME)
+    return Path(named).absolute() if named else Path(__file__).resolve().with_name(NAME)
+
+
+def load(path: Path) -> Any:
+    """A library; an ImportError says why there is none."""
+    if not path.is_file():
+        raise ImportError(f'there is no library {path}: {ADVICE}')
+    try:
+        return ctypes.CDLL(str(path))
+    except OSError as error:
+        raise ImportError(f'the library {path} cannot be loaded ({error}): {ADVICE}') from error
 
 
 class Archive:
     """The archive's functions by their names. The library is loaded where one is first asked for."""
 
+    library: Any = None
+
     def __getattr__(self, name: str) -> Callable[..., int]:
         if not name.startswith('lens_'):
             raise AttributeError(name)
-        function = getattr(self.library(), name, None)
+        if self.library is None:
+            self.library = load(library_path())
+        function = getattr(self.library, name, None)
         if function is None:
             raise ImportError(f'{library_path()} has no function {name}: it is no library of this version: {ADVICE}')
         function.restype = c_uint64
         setattr(self, name, function)
         return function
-
-    def library(self) -> Any:
-        path = library_path()
-        if not path.is_file():
-            raise ImportError(f'there is no library {path}: {ADVICE}')
-        try:
-            return self.__dict__.setdefault('loaded', ctypes.CDLL(str(path)))
-        except OSError as error:
-            raise ImportError(f'the library {path} cannot be loaded ({error}): {ADVICE}') from error
 
 
 archive = Archive()

@@ -1,10 +1,9 @@
 """The command line: python3 -m lens VERB ..."""
 import argparse
 import json
-import os
 import sys
 from contextlib import contextmanager
-from typing import Callable, Iterator, List, Optional
+from typing import Callable, Dict, Iterator, List, Optional
 
 from ._archive import ALLOWANCE_MAX
 from ._files import BYTE, STANDARD, Unreadable, read, read_list, read_plan, read_sheet, read_types, write
@@ -23,7 +22,7 @@ A file is named, or - for standard input. Its first byte tells what it has:
   SHEET            below 09: the sheet's bytes; a digit: hexadecimal; otherwise the sheet's text (docs/SHEETS.md)
   PLAN, OLD, NEW   below 09: the plan's bytes; a digit: hexadecimal; otherwise a JSON array of the plan's values
   LIST, VALUE      below 09: the value's bytes; a 0 and a digit behind it: hexadecimal; otherwise one JSON value
-  TYPES            below 09: never; a digit: hexadecimal; otherwise a JSON object (docs/PYTHON.md)
+  TYPES            a digit: hexadecimal; otherwise a JSON object (docs/PYTHON.md)
 In JSON a pair is {"a": .., "b": ..}. A refusal is told on standard error, with status 1; wrong usage and files that cannot be read have status 2.
 '''
 
@@ -97,7 +96,7 @@ def why(args: Arguments) -> None:
     write(None, line('null'))
 
 
-def facts(refusal: Refusal) -> dict:
+def facts(refusal: Refusal) -> Dict[str, object]:
     """What a refusal tells, as an object."""
     names = ('number', 'name', 'meaning', 'remedy', 'node', 'depth', 'chain', 'first_writer')
     return {name: getattr(refusal, name) for name in names}
@@ -242,9 +241,6 @@ def main(arguments: Optional[List[str]] = None) -> int:
         return fail(1, words(refusal))
     except (Unreadable, ValueError, ImportError) as error:
         return fail(2, [f'{args.verb.prog}: {error}'])
-    except BrokenPipeError:
-        os.dup2(os.open(os.devnull, os.O_WRONLY), sys.stdout.fileno())  # so that nothing more is said when Python ends
-        return 2
     return 0
 
 

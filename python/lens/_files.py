@@ -100,8 +100,7 @@ def type_of(kind: Any) -> Type:
 def write(name: Optional[str], data: bytes) -> None:
     """Writes to a file, or to standard output for none or `-`. A file is replaced as a whole: it has the old bytes, or all the new ones."""
     if name is None or name == STANDARD:
-        sys.stdout.buffer.write(data)
-        sys.stdout.buffer.flush()
+        print_bytes(data)
         return
     try:
         path = Path(os.path.realpath(name))
@@ -111,6 +110,16 @@ def write(name: Optional[str], data: bytes) -> None:
             replace(path, data)
     except OSError as error:
         raise Unreadable(f'{name}: {error.strerror}') from None
+
+
+def print_bytes(data: bytes) -> None:
+    """Writes to standard output. Where that fails, what Python still holds for it goes nowhere, so that nothing more is said at the end."""
+    try:
+        sys.stdout.buffer.write(data)
+        sys.stdout.buffer.flush()
+    except OSError as error:
+        os.dup2(os.open(os.devnull, os.O_WRONLY), sys.stdout.fileno())
+        raise Unreadable(f'standard output: {error.strerror}') from None
 
 
 def replace(path: Path, data: bytes) -> None:

@@ -4,6 +4,7 @@ from typing import List, Optional, Tuple, Union
 
 from ._refusals import REFUSALS
 
+UNKNOWN = (None, None, 'a refusal that this package does not know', 'use a library and a package of one version')
 TOKEN = re.compile(rb'[A-Za-z_][A-Za-z0-9_]*|[0-9]+|->|[!-~]')
 
 
@@ -27,7 +28,7 @@ class Refusal(Exception):
 
     def __init__(self, number: int, node: Optional[int] = None, chain: Optional[List[int]] = None, first_writer: Optional[int] = None) -> None:
         self.number = number
-        _, self.name, self.meaning, self.remedy = REFUSALS[number]
+        _, self.name, self.meaning, self.remedy = REFUSALS.get(number, UNKNOWN)
         self.chain = chain or []
         self.depth = len(self.chain)
         self.node = self.chain[-1] if self.chain else node

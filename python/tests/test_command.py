@@ -279,7 +279,7 @@ class Processes(InFolder):
         os.close(reader)
         with os.fdopen(writer, 'wb') as closed:
             done = subprocess.run(command + ['get', sheet, plan], env=environment, stdout=closed, stderr=subprocess.PIPE)
-        self.assertEqual((done.returncode, done.stderr), (2, b''))
+        self.assertEqual((done.returncode, done.stderr), (2, b'python3 -m lens get: standard output: Broken pipe\n'))
 
 
 if __name__ == '__main__':

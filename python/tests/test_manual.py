@@ -56,19 +56,26 @@ class Jobs(InFolder):
         """The number of a refusal; another one where a file is empty, which has text then."""
         return next((EMPTY[name] for name, data in empty.items() if data == b''), int(answer.split()[1]))
 
-    def test_seats(self):
+    def check_all(self, program, parse, check):
+        """Checks every job of a program."""
         count = 0
-        for data, answer in manual('seats'):
+        for data, answer in manual(program):
             try:
-                job = jobs.job(data)
+                job = parse(data)
             except jobs.NoJob:
                 continue
             count += 1
             with self.subTest(job=data.hex()[:200], answer=answer):
-                self.seats(job, answer)
+                check(answer, job)
         self.assertGreater(count, 100)
 
-    def seats(self, job, answer):
+    def test_seats(self):
+        self.check_all('seats', jobs.job, self.seats)
+
+    def test_tools(self):
+        self.check_all('tools', jobs.tool, lambda answer, tool: getattr(self, f'tool_{tool.letter:02x}')(answer, *tool.fields))
+
+    def seats(self, answer, job):
         words = answer.split()
         limit = ['--allowance', job.allowance, '--steps']
         if job.view is None:
@@ -82,18 +89,6 @@ class Jobs(InFolder):
             self.assertEqual([steps, lens.encode(lens.from_json(view)).hex().upper()], words[1:])
         else:
             self.check_put(ran, words)
-
-    def test_tools(self):
-        count = 0
-        for data, answer in manual('tools'):
-            try:
-                tool = jobs.tool(data)
-            except jobs.NoJob:
-                continue
-            count += 1
-            with self.subTest(job=data.hex()[:200], answer=answer):
-                getattr(self, f'tool_{tool.letter:02x}')(answer, *tool.fields)
-        self.assertGreater(count, 100)
 
     def tool_53(self, answer, allowance, sheet, plan, view):
         ran = run('put', self.sheet(sheet), self.plan(plan), self.list(view), '--written', '--steps', '--allowance', allowance)
