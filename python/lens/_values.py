@@ -132,17 +132,18 @@ def encode_plan(plan: object, where: str = 'plan') -> bytes:
     >>> encode_plan([12, True]).hex(' ')
     '04 00 0c 01'
     """
-    if type(plan) is bytes:
-        return plan
-    if isinstance(plan, (bytearray, memoryview, bytes)):
-        return bytes(plan)
     if not isinstance(plan, list):
+        if isinstance(plan, (bytes, bytearray, memoryview)):
+            return bytes(plan)
         raise ValueError(f'{where}: a plan is a list of values, or bytes: {described(plan)}')
     out = bytearray()
     index = 0
     try:
         for index, value in enumerate(plan):
-            append(value, out)
+            if type(value) is int and 0 <= value <= SHORT_MAX:
+                out += short(0x04, value)
+            else:
+                append(value, out)
     except (Unfit, Long) as unfit:
         raise unfit.error(f'{where}[{index}]') from None
     return bytes(out)
