@@ -3,7 +3,7 @@ import argparse
 import json
 import sys
 from contextlib import contextmanager
-from typing import Callable, Dict, Iterator, List, Optional
+from typing import Any, Callable, Dict, Iterator, List, NamedTuple, Optional
 
 from ._archive import ALLOWANCE_MAX
 from ._files import BYTE, STANDARD, Unreadable, read, read_list, read_plan, read_sheet, read_types, write
@@ -157,82 +157,65 @@ def text(args: Arguments) -> None:
     write(args.output, printed.encode())
 
 
-class Parser:
-    """The parser of all verbs."""
+class Verb(NamedTuple):
+    """A verb: what runs it, what it does, the files that it takes (in brackets one that may be left out), and its other arguments."""
 
-    def __init__(self) -> None:
-        form = argparse.RawDescriptionHelpFormatter
-        self.parser = argparse.ArgumentParser(prog='python3 -m lens', description=ABOUT, epilog=FILES, formatter_class=form)
-        self.verbs = self.parser.add_subparsers(metavar='VERB', required=True)
-
-    def verb(self, name: str, run: Callable[[Arguments], None], about: str, *files: str) -> argparse.ArgumentParser:
-        """Adds a verb that reads such files: SHEET, PLAN, .. or, where one may be left out, [LIST]."""
-        form = argparse.RawDescriptionHelpFormatter
-        verb = self.verbs.add_parser(name, help=about, description=about, epilog=FILES, formatter_class=form)
-        for file in files:
-            bare = file.strip('[]')
-            verb.add_argument(bare.lower(), metavar=bare, nargs=None if file == bare else '?', help=HELP[bare])
-        verb.set_defaults(run=run, files=[file.strip('[]').lower() for file in files], verb=verb)
-        return verb
+    name: str
+    run: Callable[[Arguments], None]
+    about: str
+    files: str
+    others: str = ''
 
 
+VERBS = (
+    Verb('get', get, 'Prints the list that the sheet makes of the plan, as JSON.', 'SHEET PLAN', '-o --allowance --steps'),
+    Verb('put', put, 'Prints the new plan that the edited list makes of the old one, as a JSON array.', 'SHEET PLAN LIST', '-o --allowance --written --steps'),
+    Verb('why', why, 'Tells why a get, or with LIST a put, is refused: in words, and as a JSON object; or null.', 'SHEET PLAN [LIST]', '--allowance'),
+    Verb('check', check, 'Prints whether a new plan that was made elsewhere goes with the list and the old plan.', 'SHEET OLD LIST NEW', '--allowance'),
+    Verb('number', number, 'Prints the sheet in the one numbering that every file of it gets, in hexadecimal.', 'SHEET', '-o --bytes'),
+    Verb('join', join, 'Prints one sheet of two, whose list is the pair of both lists, in hexadecimal.', 'FIRST SECOND', '-o --bytes'),
+    Verb('growth', growth, "Prints how often a variable's length counts in the list's.", 'SHEET', 'variable'),
+    Verb('types', types, 'Checks the sheet by the types beside it, and prints true where it passes.', 'SHEET TYPES'),
+    Verb('json', to_or_from_json, 'Prints a value as JSON, or the value of JSON in hexadecimal.', 'VALUE', '-o'),
+    Verb('text', text, "Prints the sheet's text.", 'SHEET', '-o'),
+)
 HELP = {
     'SHEET': 'the sheet', 'FIRST': 'a sheet', 'SECOND': 'another sheet of the same plan', 'PLAN': 'the plan', 'OLD': 'the plan before the edit',
     'NEW': 'the plan that is judged', 'LIST': 'the list that is sent back', 'TYPES': 'the types beside the sheet', 'VALUE': 'a value, or JSON',
 }
-
-
-def add_allowance(verb: argparse.ArgumentParser) -> None:
-    verb.add_argument('--allowance', metavar='N', type=int, default=ALLOWANCE_MAX, help='the most steps, 1 to 1,000,000 (which is the default)')
-
-
-def add_output(verb: argparse.ArgumentParser) -> None:
-    verb.add_argument('-o', dest='output', metavar='FILE', help='write to this file, as a whole or not at all, and not to standard output')
-
-
-def add_steps(verb: argparse.ArgumentParser) -> None:
-    verb.add_argument('--steps', action='store_true', help='print the steps taken too, on a line of their own')
-
-
-def add_bytes(verb: argparse.ArgumentParser) -> None:
-    verb.add_argument('--bytes', action='store_true', help="write the sheet's bytes, and not hexadecimal")
+OTHERS: Dict[str, Dict[str, Any]] = {
+    '-o': dict(dest='output', metavar='FILE', help='write to this file, as a whole or not at all, and not to standard output'),
+    '--allowance': dict(metavar='N', type=int, default=ALLOWANCE_MAX, help='the most steps, 1 to 1,000,000 (which is the default)'),
+    '--steps': dict(action='store_true', help='print the steps taken too, on a line of their own'),
+    '--written': dict(action='store_true', help='print the variables that were written too, on a line of their own'),
+    '--bytes': dict(action='store_true', help="write the sheet's bytes, and not hexadecimal"),
+    'variable': dict(metavar='VARIABLE', type=int, help='the number of the variable, from 0'),
+}
 
 
 def parser() -> argparse.ArgumentParser:
-    made = Parser()
-    verb = made.verb('get', get, 'Prints the list that the sheet makes of the plan, as JSON.', 'SHEET', 'PLAN')
-    for add in (add_allowance, add_output, add_steps):
-        add(verb)
-    verb = made.verb('put', put, 'Prints the new plan that the edited list makes of the old one, as a JSON array.', 'SHEET', 'PLAN', 'LIST')
-    for add in (add_allowance, add_output, add_steps):
-        add(verb)
-    verb.add_argument('--written', action='store_true', help='print the variables that were written too, on a line of their own')
-    about = 'Tells why a get, or with LIST a put, is refused: in words, and as a JSON object; null where it is not.'
-    add_allowance(made.verb('why', why, about, 'SHEET', 'PLAN', '[LIST]'))
-    about = 'Prints whether a new plan that was made elsewhere goes with the list and the old plan: true or false.'
-    add_allowance(made.verb('check', check, about, 'SHEET', 'OLD', 'LIST', 'NEW'))
-    about = 'Prints the sheet in the one numbering that every file of it gets, in hexadecimal.'
-    verb = made.verb('number', number, about, 'SHEET')
-    add_output(verb)
-    add_bytes(verb)
-    about = 'Prints one sheet of two, whose list is the pair of both lists, in hexadecimal.'
-    verb = made.verb('join', join, about, 'FIRST', 'SECOND')
-    add_output(verb)
-    add_bytes(verb)
-    verb = made.verb('growth', growth, "Prints how often a variable's length counts in the list's.", 'SHEET')
-    verb.add_argument('variable', metavar='VARIABLE', type=int, help='the number of the variable, from 0')
-    made.verb('types', types, 'Checks the sheet by the types beside it, and prints true where it passes.', 'SHEET', 'TYPES')
-    about = 'Prints a value as JSON, or the value of JSON in hexadecimal.'
-    add_output(made.verb('json', to_or_from_json, about, 'VALUE'))
-    add_output(made.verb('text', text, "Prints the sheet's text.", 'SHEET'))
-    return made.parser
+    form: Any = dict(epilog=FILES, formatter_class=argparse.RawDescriptionHelpFormatter)
+    made = argparse.ArgumentParser(prog='python3 -m lens', description=ABOUT, **form)
+    verbs = made.add_subparsers(metavar='VERB', required=True)
+    for verb in VERBS:
+        add_arguments(verbs.add_parser(verb.name, help=verb.about, description=verb.about, **form), verb)
+    return made
+
+
+def add_arguments(made: argparse.ArgumentParser, verb: Verb) -> None:
+    files = [file.strip('[]') for file in verb.files.split()]
+    for file in files:
+        made.add_argument(file.lower(), metavar=file, nargs='?' if f'[{file}]' in verb.files else None, help=HELP[file])
+    for other in verb.others.split():
+        made.add_argument(other, **OTHERS[other])
+    made.set_defaults(run=verb.run, files=[file.lower() for file in files], parser=made)
 
 
 def main(arguments: Optional[List[str]] = None) -> int:
     """Runs a verb. The status is 0; 1 for a refusal; 2 for wrong usage, or for a file that cannot be read or written."""
     args = parser().parse_args(arguments)
     if [getattr(args, name) for name in args.files].count(STANDARD) > 1:
-        args.verb.error('standard input is named twice')
+        args.parser.error('standard input is named twice')
     try:
         args.run(args)
     except Told as refused:
@@ -240,7 +223,7 @@ def main(arguments: Optional[List[str]] = None) -> int:
     except Refusal as refusal:
         return fail(1, words(refusal))
     except (Unreadable, ValueError, ImportError) as error:
-        return fail(2, [f'{args.verb.prog}: {error}'])
+        return fail(2, [f'{args.parser.prog}: {error}'])
     return 0
 
 
