@@ -5,6 +5,7 @@ from typing import List, Optional, Tuple, Union
 from ._refusals import REFUSALS
 
 UNKNOWN = (None, None, 'a refusal that this package does not know', 'use a library and a package of one version')
+SHOWN = 120  # characters of a line that are shown
 TOKEN = re.compile(rb'[A-Za-z_][A-Za-z0-9_]*|[0-9]+|->|[!-~]')
 
 
@@ -67,9 +68,19 @@ class TextRefusal(Refusal, SyntaxError):
         self.msg = message
         self.filename = None
 
+    def said(self) -> str:
+        """Where the fault is, and what is wrong."""
+        return f'line {self.lineno}, column {self.offset}: {self.msg}'
+
+    def shown(self) -> List[str]:
+        """The line with a sign below the fault; of a long line the part around it."""
+        column = (self.offset or 1) - 1
+        start = max(0, column - SHOWN // 2)
+        part = (self.text or '')[start:start + SHOWN].replace('\t', ' ')
+        return [f'  {part}', f'  {" " * (column - start)}^']
+
     def __str__(self) -> str:
-        shown = (self.text or '').replace('\t', ' ')
-        return f'line {self.lineno}, column {self.offset}: {self.msg} (no {self.number})\n  {shown}\n  {" " * ((self.offset or 1) - 1)}^'
+        return '\n'.join([f'{self.said()} (no {self.number})', *self.shown()])
 
 
 def text_bytes(text: Union[str, bytes]) -> bytes:

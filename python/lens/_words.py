@@ -18,8 +18,7 @@ def words(refusal: Refusal, sheet: bytes = b'', walking: bool = False) -> List[s
     """The lines that tell a refusal. `walking` says that it is one of a get or a put, which a walk may meet."""
     lines = [refusal.sentence()]
     if isinstance(refusal, TextRefusal):
-        place, line, caret = str(refusal).split('\n')
-        return lines + [f'{refusal.filename or "the text"}: {place[:place.rindex(" (")]}', line, caret]
+        return lines + [f'{refusal.filename or "the text"}: {refusal.said()}', *refusal.shown()]
     if refusal.chain:
         return lines + way(refusal, sheet)
     if refusal.node is not None:

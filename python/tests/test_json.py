@@ -82,6 +82,15 @@ class Faults(unittest.TestCase):
             self.assertIn(message, refusal.msg)
 
 
+    def test_long_lines(self):
+        """Of a long line the part around the fault is shown."""
+        for before in (0, 1, 59, 60, 61, 5000):
+            text = ' ' * before + '?' + ' ' * 5000
+            _, line, sign = str(refused(text)).split('\n')
+            self.assertEqual(line[sign.index('^')], '?')
+            self.assertLessEqual(len(line), 122)
+
+
 class Plans(unittest.TestCase):
     def test_good(self):
         deep = '[' * 48 + ']' * 48
