@@ -74,9 +74,9 @@ class TextRefusal(Refusal, SyntaxError):
 
     def shown(self) -> List[str]:
         """The line with a sign below the fault; of a long line the part around it."""
-        column = (self.offset or 1) - 1
-        start = max(0, column - SHOWN // 2)
-        part = (self.text or '')[start:start + SHOWN].replace('\t', ' ')
+        line, column = self.text or '', (self.offset or 1) - 1
+        start = max(0, column - SHOWN // 2) if len(line) > SHOWN else 0
+        part = line[start:start + SHOWN].replace('\t', ' ')
         return [f'  {part}', f'  {" " * (column - start)}^']
 
     def __str__(self) -> str:
