@@ -7,3 +7,4 @@ pub mod Expressions
 pub mod Constructs
 pub mod ConstructLaws
 pub mod Answer
+pub mod Small
