@@ -2,3 +2,4 @@ pub mod Packing
 pub mod HandedOut
 pub mod Whys
 pub mod Tools
+pub mod Readings

@@ -88,11 +88,10 @@ returns-11 c =
     let said = c .before .before in
     let told = said .before .before in
     let other = told .match .rest in
-    let tail = other .0 .0 .0 .0 .0 in
-    (
+    let tail = other .0 .0 .0 .0 .0 in (
       wrote-text (said .refusal .ensures)
-      (letter-none _ (told .before .byte-at .ensures) (tail .0 .0 .0 .0 .1) (tail .0 .0 .0 .1) (tail .0 .0 .1) (tail .0 .1) (tail .1)
-      (other .0 .0 .0 .0 .1) (other .0 .0 .0 .1) (other .0 .0 .1) (other .0 .1) (other .1)),
+          (letter-none _ (told .before .byte-at .ensures) (tail .0 .0 .0 .0 .1) (tail .0 .0 .0 .1) (tail .0 .0 .1) (tail .0 .1) (tail .1)
+          (other .0 .0 .0 .0 .1) (other .0 .0 .0 .1) (other .0 .0 .1) (other .0 .1) (other .1)),
       fits (told .before) (λ q. absurd (other .0 .1 q)),
     )
 

@@ -11,10 +11,9 @@ returns c =
     let detail = feed .before .before .before .before in
     let place = detail .before .before .before .before in
     let number = place .before .before .before .before in
-    let no = number .before .before .before .before in
-    (
+    let no = number .before .before .before .before in (
       wrote-fault _ _ _ (no .bytes .ensures) (number .decimal-word .ensures) (place .decimal-word2 .ensures) (detail .decimal-word3 .ensures)
-      (feed .byte .ensures),
+          (feed .byte .ensures),
       fault-fits _ _ _ (omega arith) (omega arith) (omega arith),
     )
 
