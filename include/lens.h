@@ -197,7 +197,7 @@ uint64_t lens_print_sheet(const uint8_t *sheet, size_t sheet_len, uint8_t *out, 
 
 /* make-tables: refusals */
 /* the call */
-#define LENS_OUTPUT_SMALL 1u      /* the output lent is under 256 bytes for a list or a value, 4,096 for a plan, 2,048 for a sheet or JSON, or 16,384 for a sheet's text */
+#define LENS_OUTPUT_SMALL 1u      /* the output lent is under 256 bytes (a list, a value), 4,096 (a plan), 2,048 (a sheet, JSON) or 16,384 (a sheet's text) */
 #define LENS_SCRATCH_SMALL 2u     /* the scratch lent is under 65,536 bytes */
 #define LENS_ALLOWANCE_RANGE 3u   /* the allowance is 0 or over 1,000,000 */
 

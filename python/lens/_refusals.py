@@ -3,7 +3,7 @@
 REFUSALS = {
     1: (
         'LENS_OUTPUT_SMALL', 'OUTPUT_SMALL',
-        "the output lent is under 256 bytes for a list or a value, 4,096 for a plan, 2,048 for a sheet or JSON, or 16,384 for a sheet's text",
+        "the output lent is under 256 bytes (a list, a value), 4,096 (a plan), 2,048 (a sheet, JSON) or 16,384 (a sheet's text)",
         'lend a larger one',
     ),
     2: (
@@ -44,7 +44,7 @@ REFUSALS = {
     20: (
         'LENS_PLAN_MALFORMED', 'PLAN_MALFORMED',
         'a value of the plan is cut or malformed',
-        'send it whole, with known kinds, a list as every rest, and an 06 only over 65,535',
+        'send it whole, with known kinds, lists as rests, and an 06 only over 65,535',
     ),
     21: (
         'LENS_PLAN_LONG', 'PLAN_LONG',
@@ -69,7 +69,7 @@ REFUSALS = {
     30: (
         'LENS_VIEW_MALFORMED', 'VIEW_MALFORMED',
         'the list sent back, or the value for JSON, is cut or malformed',
-        'send it whole, with known kinds, a list as every rest, and an 06 only over 65,535',
+        'send it whole, with known kinds, lists as rests, and an 06 only over 65,535',
     ),
     31: (
         'LENS_VIEW_LONG', 'VIEW_LONG',
