@@ -44,7 +44,7 @@ REFUSALS = {
     20: (
         'LENS_PLAN_MALFORMED', 'PLAN_MALFORMED',
         'a value of the plan is cut or malformed',
-        'send it whole, with known kinds, lists as rests, and an 06 only over 65,535',
+        'send it whole, with known kinds, lists as rests, an 06 only over 65,535',
     ),
     21: (
         'LENS_PLAN_LONG', 'PLAN_LONG',
@@ -69,7 +69,7 @@ REFUSALS = {
     30: (
         'LENS_VIEW_MALFORMED', 'VIEW_MALFORMED',
         'the list sent back, or the value for JSON, is cut or malformed',
-        'send it whole, with known kinds, lists as rests, and an 06 only over 65,535',
+        'send it whole, with known kinds, lists as rests, an 06 only over 65,535',
     ),
     31: (
         'LENS_VIEW_LONG', 'VIEW_LONG',
