@@ -18,6 +18,7 @@
  *   lens_check_types  whether a sheet's parts fit, by types lent beside it
  *   lens_read_sheet   a text to the sheet that it says
  *   lens_print_sheet  a sheet to its text
+ *   lens_version      the archive's version
  *
  * Bytes of sheets, plans and lists, and what to do about each refusal, are in docs/SHEETS.md and docs/TOOLS.md.
  *
@@ -35,6 +36,11 @@
 #ifdef __cplusplus
 extern "C" {
 #endif
+
+/* The version of this header: 10,000 times its first number, 100 times the second, and the third. An archive of another version than the
+ * header that a caller was built with may answer otherwise: compare lens_version() with it. */
+#define LENS_VERSION 100u         /* 0.1.0 */
+uint64_t lens_version(void);
 
 /* What a caller lends. Smaller buffers and other allowances are refused; larger buffers are fine. */
 #define LENS_GET_OUT 256u         /* bytes of output for lens_get */

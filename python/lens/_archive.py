@@ -13,6 +13,7 @@ from typing import Any, Callable, Deque, Dict, List, Tuple
 ALLOWANCE_MAX = 1_000_000
 VALUE_MAX = 256
 
+VERSION = 100
 GET_OUT = VALUE_OUT = 256
 PUT_OUT = 4096
 SHEET_OUT = JSON_OUT = 2048
@@ -50,9 +51,13 @@ def load(path: Path) -> Any:
     if not path.is_file():
         raise ImportError(f'there is no library {path}: {ADVICE}')
     try:
-        return ctypes.CDLL(str(path))
+        library = ctypes.CDLL(str(path))
     except OSError as error:
         raise ImportError(f'the library {path} cannot be loaded ({error}): {ADVICE}') from error
+    version = getattr(library, 'lens_version', int)()
+    if version != VERSION:
+        raise ImportError(f'the library {path} has version {version}, and this package needs {VERSION}: {ADVICE}')
+    return library
 
 
 class Archive:

@@ -15,13 +15,14 @@ CALLED = {'lens_get', 'lens_put_written', 'lens_why_get', 'lens_why_put', 'lens_
 
 class Header(unittest.TestCase):
     def test_sizes(self):
-        names = ('GET_OUT', 'PUT_OUT', 'SHEET_OUT', 'JSON_OUT', 'VALUE_OUT', 'TEXT_OUT', 'SCRATCH', 'STARTS_MAX', 'CHAIN_MAX', 'ALLOWANCE_MAX')
+        names = ('GET_OUT', 'PUT_OUT', 'SHEET_OUT', 'JSON_OUT', 'VALUE_OUT', 'TEXT_OUT', 'SCRATCH', 'STARTS_MAX', 'CHAIN_MAX', 'ALLOWANCE_MAX',
+                 'VERSION')
         sizes = {name: getattr(_archive, name) for name in names}
         self.assertEqual(sizes, {name: DEFINED.get(name) for name in sizes})
 
     def test_refusals(self):
         names = {name: number for number, (name, *_) in REFUSALS.items() if name is not None}
-        sizes = ('OUT', 'MAX', 'SCRATCH', 'STACK', 'OK')
+        sizes = ('OUT', 'MAX', 'SCRATCH', 'STACK', 'OK', 'VERSION')
         self.assertEqual(names, {f'LENS_{name}': number for name, number in DEFINED.items() if name.split('_')[-1] not in sizes})
 
     def test_functions(self):

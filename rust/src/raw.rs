@@ -2,6 +2,11 @@
 //!
 //! Buffers of any size may be lent: what is too small is refused.
 
+use std::sync::atomic::{AtomicBool, Ordering};
+
+/// The version of the archive that this crate is written for: 10,000 times its first number, 100 times the second, and the third.
+pub const VERSION: u64 = 100;
+
 /// Bytes of output that a get asks for.
 pub const GET_OUT: usize = 256;
 /// Bytes of output that a put asks for.
@@ -92,6 +97,8 @@ impl WhyAnswer {
 
 mod archive {
     extern "C" {
+        pub fn lens_version() -> u64;
+
         pub fn lens_get(
             sheet: *const u8,
             sheet_len: usize,
@@ -223,8 +230,26 @@ mod archive {
     }
 }
 
+/// The archive's version, as [`VERSION`] has it.
+pub fn version() -> u64 {
+    // Safety: it takes nothing.
+    unsafe { archive::lens_version() }
+}
+
+/// Panics where the archive has another version than this crate is written for: asked before every call, answered once.
+fn same_version() {
+    static SAME: AtomicBool = AtomicBool::new(false);
+    if !SAME.load(Ordering::Relaxed) {
+        let found = version();
+        let [of_archive, of_crate] = [found, VERSION].map(|n| format!("{}.{}.{}", n / 10_000, n / 100 % 100, n % 100));
+        assert!(found == VERSION, "the archive has version {of_archive}, and this crate {of_crate}: build both from one version");
+        SAME.store(true, Ordering::Relaxed);
+    }
+}
+
 /// Reads a plan out into `out`.
 pub fn get(sheet: &[u8], plan: &[u8], allowance: u32, out: &mut [u8], scratch: &mut [u8]) -> Answer {
+    same_version();
     // Safety: each pointer and length are those of a live slice, the mutable ones are exclusive, and the archive keeps none.
     Answer(unsafe {
         archive::lens_get(
@@ -243,6 +268,7 @@ pub fn get(sheet: &[u8], plan: &[u8], allowance: u32, out: &mut [u8], scratch: &
 
 /// Reads a list back into `out`.
 pub fn put(sheet: &[u8], plan: &[u8], view: &[u8], allowance: u32, out: &mut [u8], scratch: &mut [u8]) -> Answer {
+    same_version();
     // Safety: as in `get`.
     Answer(unsafe {
         archive::lens_put(
@@ -271,6 +297,7 @@ pub fn put_starts(
     scratch: &mut [u8],
     starts: &mut [u16; STARTS_MAX],
 ) -> Answer {
+    same_version();
     // Safety: as in `get`; the starts are as many numbers as the archive may write.
     Answer(unsafe {
         archive::lens_put_starts(
@@ -303,6 +330,7 @@ pub fn put_written(
     starts: &mut [u16; STARTS_MAX],
     written: &mut u16,
 ) -> Answer {
+    same_version();
     // Safety: as in `put_starts`; the last pointer is that of an exclusive reference.
     Answer(unsafe {
         archive::lens_put_written(
@@ -325,6 +353,7 @@ pub fn put_written(
 
 /// Tells why [`get`] refuses: the nodes down to the one where it was met are at the front of `chain`. No other byte of it is written.
 pub fn why_get(sheet: &[u8], plan: &[u8], allowance: u32, scratch: &mut [u8], chain: &mut [u8; CHAIN_MAX]) -> WhyAnswer {
+    same_version();
     // Safety: as in `get`; the chain is as many bytes as the archive may write.
     WhyAnswer(unsafe {
         archive::lens_why_get(
@@ -349,6 +378,7 @@ pub fn why_put(
     scratch: &mut [u8],
     chain: &mut [u8; CHAIN_MAX],
 ) -> WhyAnswer {
+    same_version();
     // Safety: as in `why_get`.
     WhyAnswer(unsafe {
         archive::lens_why_put(
@@ -368,36 +398,42 @@ pub fn why_put(
 
 /// Gives where the values of a plan start.
 pub fn load(sheet: &[u8], plan: &[u8], starts: &mut [u16; STARTS_MAX]) -> Answer {
+    same_version();
     // Safety: as in `put_starts`.
     Answer(unsafe { archive::lens_load(sheet.as_ptr(), sheet.len(), plan.as_ptr(), plan.len(), starts.as_mut_ptr()) })
 }
 
 /// Gives where the value of a variable stands, by the first `count` starts: the refusal's number, 0 for success.
 pub fn find(starts: &[u16; STARTS_MAX], count: usize, plan_len: usize, variable: usize, start: &mut usize, end: &mut usize) -> u8 {
+    same_version();
     // Safety: the starts are as many numbers as the archive may read; the other pointers are those of exclusive references.
     unsafe { archive::lens_find(starts.as_ptr(), count, plan_len, variable, start, end) }
 }
 
 /// Writes a sheet anew into `out`, with its nodes numbered as first met.
 pub fn number(sheet: &[u8], out: &mut [u8]) -> Answer {
+    same_version();
     // Safety: as in `get`.
     Answer(unsafe { archive::lens_number(sheet.as_ptr(), sheet.len(), out.as_mut_ptr(), out.len()) })
 }
 
 /// Joins two sheets into `out`.
 pub fn join(first: &[u8], second: &[u8], out: &mut [u8]) -> Answer {
+    same_version();
     // Safety: as in `get`.
     Answer(unsafe { archive::lens_join(first.as_ptr(), first.len(), second.as_ptr(), second.len(), out.as_mut_ptr(), out.len()) })
 }
 
 /// Tells how often a variable's length counts in the list's.
 pub fn growth(sheet: &[u8], variable: usize) -> Answer {
+    same_version();
     // Safety: as in `get`.
     Answer(unsafe { archive::lens_growth(sheet.as_ptr(), sheet.len(), variable) })
 }
 
 /// Judges a new plan beside the old one and the list.
 pub fn check_plan(sheet: &[u8], old: &[u8], view: &[u8], new: &[u8], allowance: u32, scratch: &mut [u8]) -> Answer {
+    same_version();
     // Safety: as in `get`.
     Answer(unsafe {
         archive::lens_check_plan(
@@ -418,18 +454,21 @@ pub fn check_plan(sheet: &[u8], old: &[u8], view: &[u8], new: &[u8], allowance: 
 
 /// Writes a value as JSON into `out`.
 pub fn to_json(value: &[u8], out: &mut [u8]) -> Answer {
+    same_version();
     // Safety: as in `get`.
     Answer(unsafe { archive::lens_to_json(value.as_ptr(), value.len(), out.as_mut_ptr(), out.len()) })
 }
 
 /// Reads a value from JSON into `out`.
 pub fn from_json(text: &[u8], out: &mut [u8]) -> Answer {
+    same_version();
     // Safety: as in `get`.
     Answer(unsafe { archive::lens_from_json(text.as_ptr(), text.len(), out.as_mut_ptr(), out.len()) })
 }
 
 /// Checks a sheet by the types lent beside it.
 pub fn check_types(sheet: &[u8], types: &[u8]) -> Answer {
+    same_version();
     // Safety: as in `get`.
     Answer(unsafe { archive::lens_check_types(sheet.as_ptr(), sheet.len(), types.as_ptr(), types.len()) })
 }
@@ -437,12 +476,14 @@ pub fn check_types(sheet: &[u8], types: &[u8]) -> Answer {
 /// Reads the sheet of a text into `out`. With a refusal of the text (90 to 94) `place` becomes how many of its bytes stand before the fault;
 /// otherwise it stays what it was.
 pub fn read_sheet(text: &[u8], out: &mut [u8], place: &mut usize) -> Answer {
+    same_version();
     // Safety: as in `get`; the last pointer is that of an exclusive reference.
     Answer(unsafe { archive::lens_read_sheet(text.as_ptr(), text.len(), out.as_mut_ptr(), out.len(), place) })
 }
 
 /// Prints a sheet as text into `out`.
 pub fn print_sheet(sheet: &[u8], out: &mut [u8]) -> Answer {
+    same_version();
     // Safety: as in `get`.
     Answer(unsafe { archive::lens_print_sheet(sheet.as_ptr(), sheet.len(), out.as_mut_ptr(), out.len()) })
 }

@@ -38,5 +38,15 @@ fn the_header_has_the_same_numbers() {
     ];
     wanted.extend(sizes.map(|(name, size)| (name.to_string(), size as u64)));
     wanted.insert("OK".to_string(), 0);
+    wanted.insert("VERSION".to_string(), raw::VERSION);
     assert_eq!(constants(), wanted);
+}
+
+#[test]
+fn the_version_is_one() {
+    let [first, second, third] =
+        [env!("CARGO_PKG_VERSION_MAJOR"), env!("CARGO_PKG_VERSION_MINOR"), env!("CARGO_PKG_VERSION_PATCH")]
+            .map(|part| part.parse::<u64>().unwrap());
+    assert_eq!(raw::VERSION, 10_000 * first + 100 * second + third);
+    assert_eq!(raw::version(), raw::VERSION);
 }

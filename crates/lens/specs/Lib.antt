@@ -3,3 +3,4 @@ pub mod HandedOut
 pub mod Whys
 pub mod Tools
 pub mod Readings
+pub mod Version

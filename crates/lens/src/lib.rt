@@ -9,6 +9,7 @@ mod plans;
 mod sheet_texts;
 mod sheets;
 mod texts;
+mod versions;
 mod whys;
 
 pub use answers::lens_get;
@@ -26,5 +27,6 @@ pub use sheets::lens_join;
 pub use sheets::lens_number;
 pub use texts::lens_from_json;
 pub use texts::lens_to_json;
+pub use versions::lens_version;
 pub use whys::lens_why_get;
 pub use whys::lens_why_put;
