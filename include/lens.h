@@ -1,5 +1,5 @@
 /* Gabqweshi's archive (rt staticlib lens): one sheet of rules, read both ways, the values of a plan found by their number, why a
- * reading is refused, and tools for sheets.
+ * reading is refused, tools for sheets, and sheets as text.
  *
  *   lens_get          a plan to its list (the "view")
  *   lens_put          the old plan and an edited list to the new plan
@@ -16,11 +16,14 @@
  *   lens_to_json      a value, such as a list, to JSON (RFC 8259)
  *   lens_from_json    JSON to a value
  *   lens_check_types  whether a sheet's parts fit, by types lent beside it
+ *   lens_read_sheet   a text to the sheet that it says
+ *   lens_print_sheet  a sheet to its text
+ *   lens_version      the archive's version
  *
  * Bytes of sheets, plans and lists, and what to do about each refusal, are in docs/SHEETS.md and docs/TOOLS.md.
  *
  * No function allocates, keeps a pointer, or touches anything but what it is lent to write to (output, scratch, starts, *written,
- * *start and *end, chain), so threads may call all of them at once with buffers of their own. Every pointer must be good for the length
+ * *start and *end, chain, *place), so threads may call all of them at once with buffers of their own. Every pointer must be good for the length
  * behind it (starts: for LENS_STARTS_MAX numbers; chain: for LENS_CHAIN_MAX bytes) and must not be NULL, also where the length is 0. No two
  * buffers that are written to may overlap, nor one of them and an input. No byte of an input is ever changed.
  */
@@ -34,10 +37,16 @@
 extern "C" {
 #endif
 
+/* The version of this header: 10,000 times its first number, 100 times the second, and the third. An archive of another version than the
+ * header that a caller was built with may answer otherwise: compare lens_version() with it. */
+#define LENS_VERSION 100u         /* 0.1.0 */
+uint64_t lens_version(void);
+
 /* What a caller lends. Smaller buffers and other allowances are refused; larger buffers are fine. */
 #define LENS_GET_OUT 256u         /* bytes of output for lens_get */
 #define LENS_PUT_OUT 4096u        /* bytes of output for lens_put, lens_put_starts and lens_put_written */
-#define LENS_SHEET_OUT 2048u      /* bytes of output for lens_number and lens_join */
+#define LENS_SHEET_OUT 2048u      /* bytes of output for lens_number, lens_join and lens_read_sheet */
+#define LENS_TEXT_OUT 16384u      /* bytes of output for lens_print_sheet: every text fits */
 #define LENS_JSON_OUT 2048u       /* bytes of output for lens_to_json: every value fits */
 #define LENS_VALUE_OUT 256u       /* bytes of output for lens_from_json */
 #define LENS_SCRATCH 65536u       /* bytes of scratch for each function that takes any */
@@ -45,8 +54,8 @@ extern "C" {
 #define LENS_STARTS_MAX 16u       /* the most values of a plan: starts are an array of so many numbers, always */
 #define LENS_CHAIN_MAX 49u        /* the most nodes of a chain: 48 entered, and one that is too deep; chain has room for so many */
 
-/* The most bytes of stack that a call takes: measured on the deepest jobs (rust/tests/stack), not proved, and rounded up to a page. A
- * thread needs this much free when it calls. */
+/* The most bytes of stack that a call takes: measured on the deepest jobs, sheets and texts (rust/tests/stack), not proved, and rounded up to
+ * a page. A thread needs this much free when it calls. */
 #define LENS_STACK 204800u
 
 /* The list that the sheet makes of the plan, in at most `allowance` steps. */
@@ -102,8 +111,10 @@ uint64_t lens_why_put(const uint8_t *sheet, size_t sheet_len, const uint8_t *pla
 #define LENS_FIRST(answer) ((int)(((answer) >> 16) & 0xFFFFu) - 1) /* the node that wrote first; -1: none */
 
 /* Tools. Each answers with one number: the refusal in the low 8 bits (LENS_NUMBER; LENS_OK: success), and in the next 16 what the tool
- * tells, as is said at each; 0 above. With a refusal these 16 bits are 0, but for the node that LENS_NODE_TWICE and LENS_NODE_TYPE name. */
+ * tells, as is said at each; 0 above. With a refusal these 16 bits are 0, but for the node that LENS_NODE_TWICE and LENS_NODE_TYPE name, and
+ * for the detail of a refusal of a text (90 to 94). */
 #define LENS_NODE(answer) ((unsigned)(((answer) >> 8) & 0xFFFFu)) /* the node that is named */
+#define LENS_DETAIL(answer) ((unsigned)(((answer) >> 8) & 0xFFFFu)) /* what was expected in the text, or what is wrong with it */
 
 /* The sheet written anew, with its nodes numbered as first met: the main root is 0, a node stands before its children, and each child with
  * all below it before the next; then from each section's root in turn. Nodes that are never met are dropped. The new sheet reads out and
@@ -150,6 +161,16 @@ uint64_t lens_from_json(const uint8_t *text, size_t text_len, uint8_t *out, size
  * such node (LENS_NODE). */
 uint64_t lens_check_types(const uint8_t *sheet, size_t sheet_len, const uint8_t *types, size_t types_len);
 
+/* The sheet that a text says: docs/SHEETS.md, "Sheets as text", has the language. The text may have any length. Its nodes are numbered as
+ * lens_number does it. LENS_LENGTH: the sheet's bytes. Refusals: LENS_OUTPUT_SMALL; LENS_TEXT_TOKEN, LENS_TEXT_NAME, LENS_TEXT_TAKEN,
+ * LENS_TEXT_NUMBER and LENS_TEXT_FULL, whichever is met first from the left. For these five LENS_DETAIL says what was expected or is wrong
+ * (docs/TOOLS.md has the sentence of each detail), and *place is how many bytes of the text stand before the fault. */
+uint64_t lens_read_sheet(const uint8_t *text, size_t text_len, uint8_t *out, size_t out_len, size_t *place);
+
+/* The text of a sheet, with names of its own. What is printed, lens_read_sheet reads back to the sheet that lens_number gives. LENS_LENGTH: its
+ * bytes, with no NUL behind them. Refusals: LENS_OUTPUT_SMALL; the sheet's own; LENS_NODE_TWICE, with the lowest such node (LENS_NODE). */
+uint64_t lens_print_sheet(const uint8_t *sheet, size_t sheet_len, uint8_t *out, size_t out_len);
+
 /* What the buffers hold afterwards:
  *
  *               success                                  refusals 1 to 3    every other refusal
@@ -164,6 +185,7 @@ uint64_t lens_check_types(const uint8_t *sheet, size_t sheet_len, const uint8_t 
  *   *end
  *   chain       as before                                 as before          LENS_CHAIN_LENGTH nodes at its front,
  *                                                                            those behind as before
+ *   *place      as before                                 as before          how many bytes stand before the fault
  *
  * After a put that succeeds, the get of the new plan under the same sheet and allowance succeeds, gives exactly the list, and
  * takes no more steps. After a get of n steps with 48 n <= LENS_ALLOWANCE_MAX, the put of its list under every allowance from 48 n
@@ -181,7 +203,7 @@ uint64_t lens_check_types(const uint8_t *sheet, size_t sheet_len, const uint8_t 
 
 /* make-tables: refusals */
 /* the call */
-#define LENS_OUTPUT_SMALL 1u      /* the output lent is under 256 bytes for a list or a value, 4,096 for a plan, or 2,048 for a sheet or JSON */
+#define LENS_OUTPUT_SMALL 1u      /* the output lent is under 256 bytes (a list, a value), 4,096 (a plan), 2,048 (a sheet, JSON) or 16,384 (a sheet's text) */
 #define LENS_SCRATCH_SMALL 2u     /* the scratch lent is under 65,536 bytes */
 #define LENS_ALLOWANCE_RANGE 3u   /* the allowance is 0 or over 1,000,000 */
 
@@ -227,7 +249,7 @@ uint64_t lens_check_types(const uint8_t *sheet, size_t sheet_len, const uint8_t 
 #define LENS_JSON_DEPTH 71u       /* arrays and objects nest 49 deep */
 #define LENS_JSON_LONG 72u        /* the value of the text has over 256 bytes */
 
-/* a sheet checked or numbered anew */
+/* a sheet checked, numbered anew or printed as text */
 #define LENS_TYPES_MALFORMED 80u  /* a type is malformed or has over 256 bytes, or the types are too few or too many */
 #define LENS_NODE_TWICE 81u       /* a node of the sheet is used twice as a child or a root */
 #define LENS_NODE_TYPE 82u        /* a node's type does not go with its kind, its scope, its place or its children's types */
@@ -242,6 +264,13 @@ uint64_t lens_check_types(const uint8_t *sheet, size_t sheet_len, const uint8_t 
 /* how much longer the list can get */
 #define LENS_OTHER_KIND 87u       /* the sheet has a node of another kind than 10 to 16, 1B and 1D */
 #define LENS_GROWTH_LARGE 88u     /* the variable counts over 256 times in the list, so that no plan reads out */
+
+/* a sheet read from a text */
+#define LENS_TEXT_TOKEN 90u       /* another token is expected in the text, or the text ends too early */
+#define LENS_TEXT_NAME 91u        /* a name in the text stands for nothing: no variable is in scope, or no section is written, by that name */
+#define LENS_TEXT_TAKEN 92u       /* a name in the text is given twice, in one scope or to two sections */
+#define LENS_TEXT_NUMBER 93u      /* a number in the text has a 0 in front or a letter behind it, or is too large */
+#define LENS_TEXT_FULL 94u        /* the text has a 17th value of the plan, a 9th section or a 201st node */
 /* make-tables: end */
 
 #ifdef __cplusplus

@@ -1,5 +1,5 @@
 //! The archive and the independent Rust implementation on the same jobs in the same buffers, for release; and a value of a plan by its
-//! number, beside readings from the front; and the tools of sheets, of JSON, and the checker of plans.
+//! number, beside readings from the front; and the tools of sheets, of their texts, of JSON, and the checker of plans.
 //!
 //! Both clear 65,536 bytes of scratch in every call of a job, and that is counted on both sides.
 
@@ -11,7 +11,7 @@ mod tools;
 use jobs::{rows, Row};
 use reference::answer::taken;
 use reference::job::Job;
-use reference::{PUT_OUT, SCRATCH};
+use reference::{SCRATCH, TEXT_OUT};
 use std::hint::black_box;
 use std::io::{IsTerminal, Write};
 use std::time::{Duration, Instant};
@@ -110,7 +110,7 @@ fn same_answers(row: &Row, buffers: &mut [Buffers; 2]) -> Result<u32, String> {
 fn main() {
     let word = std::env::args().nth(1).unwrap_or_default();
     let rows: Vec<Row> = rows().into_iter().filter(|row| row.name.contains(&word)).collect();
-    let new = || Buffers { out: vec![0; PUT_OUT], scratch: vec![0; SCRATCH] };
+    let new = || Buffers { out: vec![0; TEXT_OUT], scratch: vec![0; SCRATCH] };
     let mut buffers = [new(), new()];
 
     progress("zeroing alone");

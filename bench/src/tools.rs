@@ -1,4 +1,4 @@
-//! Tools of sheets and values beside the Rust reference, and how their cost grows.
+//! Tools of sheets, their texts and values beside the Rust reference, and how their cost grows.
 
 use crate::jobs::{nested_lists, numbers, pairs, LIMIT};
 use crate::{median, ratio, times, Buffers};
@@ -29,7 +29,59 @@ fn rows() -> Vec<Row> {
         ("21 pairs", pairs(0..21)),
         ("nested 48 deep", nested_lists(48)),
     ];
-    sheets.chain(values.into_iter().flat_map(|(name, value)| json(name, value))).collect()
+    let texts = [50, 100, 200].map(|nodes| text(nodes, "")).into_iter().flatten();
+    let commented = COMMENTS.map(|comment| text(200, comment)).into_iter().flat_map(|[read, _]| [read]);
+    sheets.chain(values.into_iter().flat_map(|(name, value)| json(name, value))).chain(texts).chain(commented).collect()
+}
+
+/// What stands behind each line of a text, to make it longer.
+const COMMENTS: [&str; 2] = [
+    "-- a row of seats, and its price",
+    "-- a row of seats, and its price, and what the house says of it to those who ask for a seat that is free, in the stalls or in the circle",
+];
+
+/// The text of a sheet of so many nodes read, by its bytes; and its sheet printed, by the bytes of what is printed.
+fn text(nodes: usize, comment: &str) -> [Row; 2] {
+    let text = written(nodes, comment).into_bytes();
+    let (mut sheet, mut printed) = (vec![0; lens::raw::SHEET_OUT], vec![0; lens::raw::TEXT_OUT]);
+    let length = reference::read_sheet(&text, &mut sheet, &mut 0) >> 8;
+    sheet.truncate(length as usize);
+    let printed = (reference::print_sheet(&sheet, &mut printed) >> 8) as usize;
+    let (size, text_too, sheet_too) = (text.len(), text.clone(), sheet.clone());
+    let row = |way: &str, size: usize, archive: Call, reference: Call| Row {
+        name: format!("text: {nodes} nodes, {size} bytes, {way}"),
+        size,
+        unit: "byte",
+        limit: None,
+        archive,
+        reference,
+    };
+    [
+        row(
+            "read",
+            size,
+            Box::new(move |buffers| lens::raw::read_sheet(black_box(&text), &mut buffers.out, &mut 0).0),
+            Box::new(move |buffers| reference::read_sheet(black_box(&text_too), &mut buffers.out, &mut 0)),
+        ),
+        row(
+            "printed",
+            printed,
+            Box::new(move |buffers| lens::raw::print_sheet(black_box(&sheet), &mut buffers.out).0),
+            Box::new(move |buffers| reference::print_sheet(black_box(&sheet_too), &mut buffers.out)),
+        ),
+    ]
+}
+
+/// A text of so many nodes, with a comment behind each line: a list of rows, each a case of nine nodes and a front, and sums before it.
+fn written(nodes: usize, comment: &str) -> String {
+    let row = "case row of
+    []            -> [] with empty
+    [seat | rest] -> [100 + seat | rest] with members
+      default seat = 0, rest = []
+  end";
+    let rows = (nodes - 1) / 10;
+    let text = format!("plan row\nlist = {}\n[ {} ]\n", "1 + ".repeat(nodes - 1 - 10 * rows), vec![row; rows].join("\n, "));
+    text.replace('\n', &format!("{comment}\n"))
 }
 
 /// A value written as JSON, and its text read back; both by the bytes of the text.

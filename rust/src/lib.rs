@@ -2,7 +2,8 @@
 //! and the edited list. The values of a plan are found by their number, and where a reading is refused, it is told at which node and why.
 //! Tools work on the sheet itself: [`Sheet::numbered`] writes it with one numbering, [`Sheet::join`] makes one of two,
 //! [`Sheet::growth`] says how much longer its list can get, [`Sheet::check_types`] whether its parts fit. [`Sheet::accepts`] judges a new plan
-//! that was made elsewhere. [`json`] turns values into JSON and back.
+//! that was made elsewhere. [`json`] turns values into JSON and back. [`Sheet::parse`] reads a sheet that is written as text, and a [`Sheet`] as
+//! a string is its text.
 //!
 //! The work is done by an archive that is proved to follow the definitions of sheets, whose manual is `docs/SHEETS.md`; this crate lends it
 //! its buffers and turns its answers into Rust. Five laws are proved of those answers:
@@ -17,24 +18,24 @@
 //! - under a sheet without records 17, 18 and 1C an edit can be taken back ([`Sheet::undoes`]): the list that was read out before it, put
 //!   into the new plan under the edit's allowance, gives the old plan in as many steps.
 //!
-//! A sheet that joins two lists, the edit of a joined list, and the new plan:
+//! A sheet that joins two lists, written as text; the edit of a joined list, and the new plan:
 //!
 //! ```
 //! use lens::Sheet;
 //!
-//! let join = Sheet::new(&[
-//!     0x01, 0x02, 0x00, // two variables, root node 0
-//!     0x20, 0x01, // section 0 has root node 1
-//!     0x1A, 0x00, 0x00, 0x01, // node 0: call section 0 on variables 0 and 1
-//!     0x17, 0x02, 0x03, 0x00, 0x04, 0x02, 0x07, 0x08, // node 1: is the first list empty?
-//!     0x10, 0x00, // node 2: the first list
-//!     0x10, 0x01, // node 3: the second list
-//!     0x15, 0x05, 0x06, // node 4: the first member, in front of
-//!     0x10, 0x02, // node 5
-//!     0x1A, 0x00, 0x03, 0x01, // node 6: the rest joined with the second list
-//!     0x11, // node 7: default first member
-//!     0x13, // node 8: default rest
-//! ]);
+//! let text = "
+//!     plan first, second
+//!     list = join(first, second)
+//!
+//!     section join(block, tail) =
+//!       case block of
+//!         []            -> tail
+//!         [seat | rest] -> [seat | join(rest, tail)] with members
+//!           default seat = false, rest = []
+//!       end
+//! ";
+//! let bytes = Sheet::parse(text)?;
+//! let join = Sheet::new(&bytes);
 //! let old = [0x03, 0x04, 0, 1, 0x02, /* [1] */ 0x03, 0x04, 0, 2, 0x02 /* [2] */];
 //! let got = join.get(&old, 1000)?;
 //! assert_eq!(got.view, [0x03, 0x04, 0, 1, 0x03, 0x04, 0, 2, 0x02]); // [1, 2]
@@ -50,10 +51,11 @@
 //! assert_eq!(join.load(&old)?.value(1), [0x03, 0x04, 0, 2, 0x02]);
 //! assert_eq!(new.value(1), [0x03, 0x04, 0, 9, 0x02]);
 //! assert!(new.written(0) && new.written(1)); // both lists took a part of the edited one
-//! # Ok::<(), lens::Refusal>(())
+//! # Ok::<(), Box<dyn std::error::Error>>(())
 //! ```
 
 mod checker;
+mod details;
 mod growth;
 mod join;
 pub mod json;
@@ -61,12 +63,14 @@ mod numbering;
 mod plan;
 pub mod raw;
 mod refusal;
+mod text;
 mod types;
 mod undo;
 mod why;
 
 pub use plan::{Plan, Starts};
 pub use refusal::{NodeRefusal, Refusal};
+pub use text::TextRefusal;
 pub use types::Type;
 pub use why::Explanation;
 

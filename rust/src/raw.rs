@@ -2,12 +2,19 @@
 //!
 //! Buffers of any size may be lent: what is too small is refused.
 
+use std::sync::atomic::{AtomicBool, Ordering};
+
+/// The version of the archive that this crate is written for: 10,000 times its first number, 100 times the second, and the third.
+pub const VERSION: u64 = 100;
+
 /// Bytes of output that a get asks for.
 pub const GET_OUT: usize = 256;
 /// Bytes of output that a put asks for.
 pub const PUT_OUT: usize = 4096;
 /// Bytes of output that a tool asks for that writes a sheet.
 pub const SHEET_OUT: usize = 2048;
+/// Bytes of output that a sheet asks for that is printed as text.
+pub const TEXT_OUT: usize = 16_384;
 /// Bytes of output that a value asks for that is written as JSON.
 pub const JSON_OUT: usize = 2048;
 /// Bytes of output that a text asks for that is read as a value.
@@ -21,7 +28,7 @@ pub const CHAIN_MAX: usize = 49;
 /// The most bytes of stack that a call takes, measured on the deepest jobs (`tests/stack`) and rounded up.
 pub const STACK: usize = 204_800;
 
-/// The archive's answer. What a function does not give is 0, and with a refusal all but the number and the node that it names.
+/// The archive's answer. What a function does not give is 0, and with a refusal all but the number and the node or the detail that it names.
 #[derive(Clone, Copy, Debug, PartialEq, Eq)]
 pub struct Answer(pub u64);
 
@@ -60,6 +67,11 @@ impl Answer {
     pub fn node(self) -> Option<u8> {
         matches!(self.number(), 81 | 82).then_some((self.0 >> 8) as u8)
     }
+
+    /// What was expected in a text, or what is wrong with it, of 90 to 94.
+    pub fn detail(self) -> Option<u16> {
+        matches!(self.number(), 90..=94).then_some((self.0 >> 8) as u16)
+    }
 }
 
 /// The archive's answer to why a get or a put is refused. What there is not is 0.
@@ -85,6 +97,8 @@ impl WhyAnswer {
 
 mod archive {
     extern "C" {
+        pub fn lens_version() -> u64;
+
         pub fn lens_get(
             sheet: *const u8,
             sheet_len: usize,
@@ -196,6 +210,10 @@ mod archive {
 
         pub fn lens_check_types(sheet: *const u8, sheet_len: usize, types: *const u8, types_len: usize) -> u64;
 
+        pub fn lens_read_sheet(text: *const u8, text_len: usize, out: *mut u8, out_len: usize, place: *mut usize) -> u64;
+
+        pub fn lens_print_sheet(sheet: *const u8, sheet_len: usize, out: *mut u8, out_len: usize) -> u64;
+
         pub fn lens_check_plan(
             sheet: *const u8,
             sheet_len: usize,
@@ -212,8 +230,26 @@ mod archive {
     }
 }
 
+/// The archive's version, as [`VERSION`] has it.
+pub fn version() -> u64 {
+    // Safety: it takes nothing.
+    unsafe { archive::lens_version() }
+}
+
+/// Panics where the archive has another version than this crate is written for: asked before every call, answered once.
+fn same_version() {
+    static SAME: AtomicBool = AtomicBool::new(false);
+    if !SAME.load(Ordering::Relaxed) {
+        let found = version();
+        let [of_archive, of_crate] = [found, VERSION].map(|n| format!("{}.{}.{}", n / 10_000, n / 100 % 100, n % 100));
+        assert!(found == VERSION, "the archive has version {of_archive}, and this crate {of_crate}: build both from one version");
+        SAME.store(true, Ordering::Relaxed);
+    }
+}
+
 /// Reads a plan out into `out`.
 pub fn get(sheet: &[u8], plan: &[u8], allowance: u32, out: &mut [u8], scratch: &mut [u8]) -> Answer {
+    same_version();
     // Safety: each pointer and length are those of a live slice, the mutable ones are exclusive, and the archive keeps none.
     Answer(unsafe {
         archive::lens_get(
@@ -232,6 +268,7 @@ pub fn get(sheet: &[u8], plan: &[u8], allowance: u32, out: &mut [u8], scratch: &
 
 /// Reads a list back into `out`.
 pub fn put(sheet: &[u8], plan: &[u8], view: &[u8], allowance: u32, out: &mut [u8], scratch: &mut [u8]) -> Answer {
+    same_version();
     // Safety: as in `get`.
     Answer(unsafe {
         archive::lens_put(
@@ -260,6 +297,7 @@ pub fn put_starts(
     scratch: &mut [u8],
     starts: &mut [u16; STARTS_MAX],
 ) -> Answer {
+    same_version();
     // Safety: as in `get`; the starts are as many numbers as the archive may write.
     Answer(unsafe {
         archive::lens_put_starts(
@@ -292,6 +330,7 @@ pub fn put_written(
     starts: &mut [u16; STARTS_MAX],
     written: &mut u16,
 ) -> Answer {
+    same_version();
     // Safety: as in `put_starts`; the last pointer is that of an exclusive reference.
     Answer(unsafe {
         archive::lens_put_written(
@@ -314,6 +353,7 @@ pub fn put_written(
 
 /// Tells why [`get`] refuses: the nodes down to the one where it was met are at the front of `chain`. No other byte of it is written.
 pub fn why_get(sheet: &[u8], plan: &[u8], allowance: u32, scratch: &mut [u8], chain: &mut [u8; CHAIN_MAX]) -> WhyAnswer {
+    same_version();
     // Safety: as in `get`; the chain is as many bytes as the archive may write.
     WhyAnswer(unsafe {
         archive::lens_why_get(
@@ -338,6 +378,7 @@ pub fn why_put(
     scratch: &mut [u8],
     chain: &mut [u8; CHAIN_MAX],
 ) -> WhyAnswer {
+    same_version();
     // Safety: as in `why_get`.
     WhyAnswer(unsafe {
         archive::lens_why_put(
@@ -357,36 +398,42 @@ pub fn why_put(
 
 /// Gives where the values of a plan start.
 pub fn load(sheet: &[u8], plan: &[u8], starts: &mut [u16; STARTS_MAX]) -> Answer {
+    same_version();
     // Safety: as in `put_starts`.
     Answer(unsafe { archive::lens_load(sheet.as_ptr(), sheet.len(), plan.as_ptr(), plan.len(), starts.as_mut_ptr()) })
 }
 
 /// Gives where the value of a variable stands, by the first `count` starts: the refusal's number, 0 for success.
 pub fn find(starts: &[u16; STARTS_MAX], count: usize, plan_len: usize, variable: usize, start: &mut usize, end: &mut usize) -> u8 {
+    same_version();
     // Safety: the starts are as many numbers as the archive may read; the other pointers are those of exclusive references.
     unsafe { archive::lens_find(starts.as_ptr(), count, plan_len, variable, start, end) }
 }
 
 /// Writes a sheet anew into `out`, with its nodes numbered as first met.
 pub fn number(sheet: &[u8], out: &mut [u8]) -> Answer {
+    same_version();
     // Safety: as in `get`.
     Answer(unsafe { archive::lens_number(sheet.as_ptr(), sheet.len(), out.as_mut_ptr(), out.len()) })
 }
 
 /// Joins two sheets into `out`.
 pub fn join(first: &[u8], second: &[u8], out: &mut [u8]) -> Answer {
+    same_version();
     // Safety: as in `get`.
     Answer(unsafe { archive::lens_join(first.as_ptr(), first.len(), second.as_ptr(), second.len(), out.as_mut_ptr(), out.len()) })
 }
 
 /// Tells how often a variable's length counts in the list's.
 pub fn growth(sheet: &[u8], variable: usize) -> Answer {
+    same_version();
     // Safety: as in `get`.
     Answer(unsafe { archive::lens_growth(sheet.as_ptr(), sheet.len(), variable) })
 }
 
 /// Judges a new plan beside the old one and the list.
 pub fn check_plan(sheet: &[u8], old: &[u8], view: &[u8], new: &[u8], allowance: u32, scratch: &mut [u8]) -> Answer {
+    same_version();
     // Safety: as in `get`.
     Answer(unsafe {
         archive::lens_check_plan(
@@ -407,18 +454,36 @@ pub fn check_plan(sheet: &[u8], old: &[u8], view: &[u8], new: &[u8], allowance: 
 
 /// Writes a value as JSON into `out`.
 pub fn to_json(value: &[u8], out: &mut [u8]) -> Answer {
+    same_version();
     // Safety: as in `get`.
     Answer(unsafe { archive::lens_to_json(value.as_ptr(), value.len(), out.as_mut_ptr(), out.len()) })
 }
 
 /// Reads a value from JSON into `out`.
 pub fn from_json(text: &[u8], out: &mut [u8]) -> Answer {
+    same_version();
     // Safety: as in `get`.
     Answer(unsafe { archive::lens_from_json(text.as_ptr(), text.len(), out.as_mut_ptr(), out.len()) })
 }
 
 /// Checks a sheet by the types lent beside it.
 pub fn check_types(sheet: &[u8], types: &[u8]) -> Answer {
+    same_version();
     // Safety: as in `get`.
     Answer(unsafe { archive::lens_check_types(sheet.as_ptr(), sheet.len(), types.as_ptr(), types.len()) })
+}
+
+/// Reads the sheet of a text into `out`. With a refusal of the text (90 to 94) `place` becomes how many of its bytes stand before the fault;
+/// otherwise it stays what it was.
+pub fn read_sheet(text: &[u8], out: &mut [u8], place: &mut usize) -> Answer {
+    same_version();
+    // Safety: as in `get`; the last pointer is that of an exclusive reference.
+    Answer(unsafe { archive::lens_read_sheet(text.as_ptr(), text.len(), out.as_mut_ptr(), out.len(), place) })
+}
+
+/// Prints a sheet as text into `out`.
+pub fn print_sheet(sheet: &[u8], out: &mut [u8]) -> Answer {
+    same_version();
+    // Safety: as in `get`.
+    Answer(unsafe { archive::lens_print_sheet(sheet.as_ptr(), sheet.len(), out.as_mut_ptr(), out.len()) })
 }

@@ -52,7 +52,7 @@ macro_rules! refusals {
 
 refusals! {
     // make-tables: refusals
-    1 OUTPUT_SMALL "the output lent is under 256 bytes for a list or a value, 4,096 for a plan, or 2,048 for a sheet or JSON: lend a larger one"
+    1 OUTPUT_SMALL "the output lent is under 256 bytes (a list, a value), 4,096 (a plan), 2,048 (a sheet, JSON) or 16,384 (a sheet's text): lend a larger one"
     2 SCRATCH_SMALL "the scratch lent is under 65,536 bytes: lend more"
     3 ALLOWANCE_RANGE "the allowance is 0 or over 1,000,000: allow 1 to 1,000,000 steps"
     10 SHEET_KIND "a record of the sheet has an unknown kind or stands out of its place: send one 01, then the 20s, then the nodes"
@@ -60,12 +60,12 @@ refusals! {
     12 SHEET_FULL "the sheet has a 9th section or a 201st node: make it smaller"
     13 SHEET_RANGE "k, a node, section, test or the number of a 1D is out of range: k is 1 to 16, a test 0 to 6, a 1D over 65,535; nodes name later ones"
     14 SHEET_EMPTY "the sheet has no byte or no node: send a sheet with a node"
-    20 PLAN_MALFORMED "a value of the plan is cut or malformed: send it whole, with known kinds, a list as every rest, and an 06 only over 65,535"
+    20 PLAN_MALFORMED "a value of the plan is cut or malformed: send it whole, with known kinds, lists as rests, an 06 only over 65,535"
     21 PLAN_LONG "a value of the plan has over 256 bytes: make it shorter"
     22 PLAN_COUNT "the plan has too few values, or bytes behind them: send as many values as the sheet's k says, and nothing else"
     23 VARIABLE "the variable's number is not below the count of the starts, or the sheet's k: ask for one that the plan has"
     24 STARTS "the starts are not 1 to 16 numbers that rise from 0, all below the plan's length: load the plan anew"
-    30 VIEW_MALFORMED "the list sent back, or the value for JSON, is cut or malformed: send it whole, with known kinds, a list as every rest, and an 06 only over 65,535"
+    30 VIEW_MALFORMED "the list sent back, or the value for JSON, is cut or malformed: send it whole, with known kinds, lists as rests, an 06 only over 65,535"
     31 VIEW_LONG "the list sent back, or the value for JSON, has over 256 bytes: make it shorter"
     32 VIEW_COUNT "the list sent back, or the value for JSON, is not exactly one value: send one, with nothing behind it"
     40 DEPTH "the walk goes deeper than 48 nodes: shorten the list, or nest the sheet less"
@@ -91,6 +91,11 @@ refusals! {
     85 NEW_PLAN "the new plan is malformed, has a value of over 256 bytes, or another count of values than k: send k values, whole and not too long"
     87 OTHER_KIND "the sheet has a node of another kind than 10 to 16, 1B and 1D: ask of a sheet without cases, splits, calls and eaches"
     88 GROWTH_LARGE "the variable counts over 256 times in the list, so that no plan reads out: use it less often in the sheet"
+    90 TEXT_TOKEN "another token is expected in the text, or the text ends too early: write what is expected there"
+    91 TEXT_NAME "a name in the text stands for nothing: no variable is in scope, or no section is written, by that name: correct the name"
+    92 TEXT_TAKEN "a name in the text is given twice, in one scope or to two sections: choose another name"
+    93 TEXT_NUMBER "a number in the text has a 0 in front or a letter behind it, or is too large: write it in decimal, within its limit"
+    94 TEXT_FULL "the text has a 17th value of the plan, a 9th section or a 201st node: make the sheet smaller"
     // make-tables: end
 }
 

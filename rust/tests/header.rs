@@ -27,6 +27,7 @@ fn the_header_has_the_same_numbers() {
         ("GET_OUT", raw::GET_OUT),
         ("PUT_OUT", raw::PUT_OUT),
         ("SHEET_OUT", raw::SHEET_OUT),
+        ("TEXT_OUT", raw::TEXT_OUT),
         ("JSON_OUT", raw::JSON_OUT),
         ("VALUE_OUT", raw::VALUE_OUT),
         ("SCRATCH", raw::SCRATCH),
@@ -37,5 +38,15 @@ fn the_header_has_the_same_numbers() {
     ];
     wanted.extend(sizes.map(|(name, size)| (name.to_string(), size as u64)));
     wanted.insert("OK".to_string(), 0);
+    wanted.insert("VERSION".to_string(), raw::VERSION);
     assert_eq!(constants(), wanted);
+}
+
+#[test]
+fn the_version_is_one() {
+    let [first, second, third] =
+        [env!("CARGO_PKG_VERSION_MAJOR"), env!("CARGO_PKG_VERSION_MINOR"), env!("CARGO_PKG_VERSION_PATCH")]
+            .map(|part| part.parse::<u64>().unwrap());
+    assert_eq!(raw::VERSION, 10_000 * first + 100 * second + third);
+    assert_eq!(raw::version(), raw::VERSION);
 }

@@ -3,7 +3,7 @@
 //! those that are taken where they are not set).
 
 use lens::{json, raw, NodeRefusal, Plan, Sheet, Starts};
-use reference::answer;
+use reference::answer::{self, Fault};
 use reference::job::{self, Job};
 use reference::tool::{self, Given, Tool};
 use reference::vectors::{check_jobs, check_tools};
@@ -59,6 +59,12 @@ fn run_tool(tool: &Tool) -> Result<Given, NodeRefusal> {
             Ok(Given::Passed)
         }
         Tool::Join { first, second } => Ok(Given::Bytes(Sheet::new(first).join(Sheet::new(second))?)),
+        Tool::Read { text } => Ok(Given::Read(Sheet::parse(text).map_err(|refused| Fault {
+            refusal: refused.number(),
+            place: refused.place,
+            detail: refused.detail as u8,
+        }))),
+        Tool::Print { sheet } => Ok(Given::Bytes(Sheet::new(sheet).text()?.into_bytes())),
     }
 }
 

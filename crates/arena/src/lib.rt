@@ -41,9 +41,12 @@ pub fn write(
     node: usize,
     view: &[u8],
 ) -> usize
-    ensures { λ r. ⌜ When (Takes (now (arena .entry)) c node (now (view .entry))) r (writeAnswer (now (arena .entry)) (now (slots .entry)) c (now (view .entry))) 42 ⌝ }
-    ensures { λ _. ⌜ When (Takes (now (arena .entry)) c node (now (view .entry))) (now (arena .exit)) (writtenBytes (now (arena .entry)) (now (slots .entry)) c (now (view .entry))) (now (arena .entry)) ⌝ }
-    ensures { λ _. ⌜ When (Takes (now (arena .entry)) c node (now (view .entry))) (now (slots .exit)) (writtenNotes (now (slots .entry)) c node (now (view .entry))) (now (slots .entry)) ⌝ }
+    ensures { λ r. ⌜ When (Takes (now (arena .entry)) c node (now (view .entry))) r
+        (writeAnswer (now (arena .entry)) (now (slots .entry)) c (now (view .entry))) 42 ⌝ }
+    ensures { λ _. ⌜ When (Takes (now (arena .entry)) c node (now (view .entry))) (now (arena .exit))
+        (writtenBytes (now (arena .entry)) (now (slots .entry)) c (now (view .entry))) (now (arena .entry)) ⌝ }
+    ensures { λ _. ⌜ When (Takes (now (arena .entry)) c node (now (view .entry))) (now (slots .exit))
+        (writtenNotes (now (slots .entry)) c node (now (view .entry))) (now (slots .entry)) ⌝ }
 {
     if rules::VARIABLES <= c {
         return refused(42);

@@ -61,7 +61,8 @@ fn refused(code: u8, scratch: &mut [u8]) -> Reply
 fn given(len: usize, steps: usize, out: &mut [u8], scratch: &mut [u8]) -> Reply
     requires { ⌜ SCRATCH ≤ length (now scratch) ⌝ }
     requires { ⌜ (STACK + len ≤ length (now scratch)) × (len ≤ length (now out)) ⌝ }
-    ensures { λ r. ⌜ (r ≡ Done len steps) × (now (out .exit) ≡ paste (now (out .entry)) 0 (drop STACK (now (scratch .entry))) len) × (now (scratch .exit) ≡ zeroed (now (scratch .entry))) ⌝ }
+    ensures { λ r. ⌜ (r ≡ Done len steps) × (now (out .exit) ≡ paste (now (out .entry)) 0 (drop STACK (now (scratch .entry))) len) ×
+        (now (scratch .exit) ≡ zeroed (now (scratch .entry))) ⌝ }
 {
     copy_out(scratch, rules::STACK, len, out, 0);
     clear(scratch);
@@ -72,7 +73,8 @@ fn given(len: usize, steps: usize, out: &mut [u8], scratch: &mut [u8]) -> Reply
 fn answered(walked: Reply, out: &mut [u8], scratch: &mut [u8]) -> Reply
     requires { ⌜ SCRATCH ≤ length (now scratch) ⌝ }
     requires { ⌜ Fits walked (now out) (now scratch) ⌝ }
-    ensures { λ r. ⌜ (r ≡ walked) × (now (out .exit) ≡ outputOf walked (now (out .entry)) (now (scratch .entry))) × (now (scratch .exit) ≡ zeroed (now (scratch .entry))) ⌝ }
+    ensures { λ r. ⌜ (r ≡ walked) × (now (out .exit) ≡ outputOf walked (now (out .entry)) (now (scratch .entry))) ×
+        (now (scratch .exit) ≡ zeroed (now (scratch .entry))) ⌝ }
 {
     match walked {
         Reply::Refused(code) => refused(code, scratch),
@@ -82,7 +84,8 @@ fn answered(walked: Reply, out: &mut [u8], scratch: &mut [u8]) -> Reply
 
 /// Get: the list that a sheet reads out of a plan, at the front of `out`, which takes 256 bytes. Scratch takes 65,536.
 pub fn get(sheet: &[u8], plan: &[u8], allowance: u32, out: &mut [u8], scratch: &mut [u8]) -> Reply
-    ensures { λ r. ⌜ Answered (getAnswer (now (sheet .entry)) (now (plan .entry)) allowance (length (now (out .entry))) (length (now (scratch .entry)))) r (now (out .entry)) (now (out .exit)) (now (scratch .entry)) (now (scratch .exit)) ⌝ }
+    ensures { λ r. ⌜ Answered (getAnswer (now (sheet .entry)) (now (plan .entry)) allowance (length (now (out .entry))) (length (now (scratch .entry)))) r
+        (now (out .entry)) (now (out .exit)) (now (scratch .entry)) (now (scratch .exit)) ⌝ }
     ensures { λ r. ⌜ Unmoved (now (sheet .entry)) (now (plan .entry)) r (now (out .exit)) ⌝ }
 {
     let steps_allowed = allowance as usize;
@@ -105,7 +108,9 @@ pub fn put(
     out: &mut [u8],
     scratch: &mut [u8],
 ) -> PutReply
-    ensures { λ r. ⌜ PutAnswered (now (sheet .entry)) (now (plan .entry)) (now (view .entry)) allowance (putAnswer (now (sheet .entry)) (now (plan .entry)) (now (view .entry)) allowance (length (now (out .entry))) (length (now (scratch .entry)))) r (now (out .entry)) (now (out .exit)) (now (scratch .entry)) (now (scratch .exit)) ⌝ }
+    ensures { λ r. ⌜ PutAnswered (now (sheet .entry)) (now (plan .entry)) (now (view .entry)) allowance
+        (putAnswer (now (sheet .entry)) (now (plan .entry)) (now (view .entry)) allowance (length (now (out .entry))) (length (now (scratch .entry)))) r
+        (now (out .entry)) (now (out .exit)) (now (scratch .entry)) (now (scratch .exit)) ⌝ }
     ensures { λ r. ⌜ Stands (now (sheet .entry)) (now (view .entry)) allowance (r .reply) (now (out .exit)) ⌝ }
 {
     let steps_allowed = allowance as usize;

@@ -67,7 +67,8 @@ fn explained(walked: Reply, met: Met, scratch: &[u8]) -> Explanation
 
 /// Why `get` is refused, with an output that is long enough. Scratch takes 65,536 bytes.
 pub fn why_get(sheet: &[u8], plan: &[u8], allowance: u32, scratch: &mut [u8]) -> Explanation
-    ensures { λ r. ⌜ WhyAnswered (whyGet (now (sheet .entry)) (now (plan .entry)) allowance (length (now (scratch .entry)))) r (now (scratch .entry)) (now (scratch .exit)) ⌝ }
+    ensures { λ r. ⌜ WhyAnswered (whyGet (now (sheet .entry)) (now (plan .entry)) allowance (length (now (scratch .entry)))) r (now (scratch .entry))
+        (now (scratch .exit)) ⌝ }
 {
     let steps_allowed = allowance as usize;
     let refusal = side_door(scratch.len(), steps_allowed);
@@ -90,7 +91,8 @@ pub fn why_put(
     allowance: u32,
     scratch: &mut [u8],
 ) -> Explanation
-    ensures { λ r. ⌜ WhyAnswered (whyPut (now (sheet .entry)) (now (plan .entry)) (now (view .entry)) allowance (length (now (scratch .entry)))) r (now (scratch .entry)) (now (scratch .exit)) ⌝ }
+    ensures { λ r. ⌜ WhyAnswered (whyPut (now (sheet .entry)) (now (plan .entry)) (now (view .entry)) allowance (length (now (scratch .entry)))) r
+        (now (scratch .entry)) (now (scratch .exit)) ⌝ }
 {
     let steps_allowed = allowance as usize;
     let refusal = side_door(scratch.len(), steps_allowed);

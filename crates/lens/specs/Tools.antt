@@ -101,6 +101,24 @@ module _ {q : Numbered} {r : ℕ} where
   unfolding codeOf valueOf
   numbered-twice e t = rw e t
 
+-- what is told is at most k, where each length and each node is
+pub told-inside : (k : ℕ) {q : Numbered} → ((n : ℕ) → q ≡ Done n → n ≤ k) → ((n : ℕ) → q ≡ Twice n → n ≤ k) → valueOf q ≤ k
+unfolding valueOf
+told-inside k {q} h g = go q refl
+  where
+    go : (p : Numbered) → q ≡ p → valueOf p ≤ k
+    go (Done n) e = h n e
+    go (Refused c) e = omega arith
+    go (Twice n) e = g n e
+
+pub value-done : {q : Numbered} {n : ℕ} → q ≡ Done n → valueOf q ≡ n
+unfolding valueOf
+value-done e = rw e
+
+pub value-twice : {q : Numbered} {n : ℕ} → q ≡ Twice n → valueOf q ≡ n
+unfolding valueOf
+value-twice e = rw e
+
 pub number-packed : {a : Answer} {q : Numbered} {r : ℕ} {o o′ : List ℕ} → (q ≡ replyOf a) × (o′ ≡ outputOf a o) → NumberTold q r → NumberPacked a r o o′
 number-packed (e, f) t = record { answer = rw e at t; output = f }
 

@@ -22,7 +22,8 @@ pub extern "C" fn lens_get(
     out: &mut [u8],
     scratch: &mut [u8],
 ) -> u64
-    ensures { λ r. ⌜ Packed (getAnswer (now (sheet .entry)) (now (plan .entry)) allowance (length (now (out .entry))) (length (now (scratch .entry)))) r (now (out .entry)) (now (out .exit)) (now (scratch .entry)) (now (scratch .exit)) ⌝ }
+    ensures { λ r. ⌜ Packed (getAnswer (now (sheet .entry)) (now (plan .entry)) allowance (length (now (out .entry))) (length (now (scratch .entry)))) r
+        (now (out .entry)) (now (out .exit)) (now (scratch .entry)) (now (scratch .exit)) ⌝ }
     ensures { λ r. ⌜ Unmoved (now (sheet .entry)) (now (plan .entry)) (unpacked r) (now (out .exit)) ⌝ }
 {
     pack(get(sheet, plan, allowance, out, scratch))
@@ -38,7 +39,8 @@ pub extern "C" fn lens_put(
     out: &mut [u8],
     scratch: &mut [u8],
 ) -> u64
-    ensures { λ r. ⌜ Packed (putAnswer (now (sheet .entry)) (now (plan .entry)) (now (view .entry)) allowance (length (now (out .entry))) (length (now (scratch .entry)))) r (now (out .entry)) (now (out .exit)) (now (scratch .entry)) (now (scratch .exit)) ⌝ }
+    ensures { λ r. ⌜ Packed (putAnswer (now (sheet .entry)) (now (plan .entry)) (now (view .entry)) allowance (length (now (out .entry)))
+        (length (now (scratch .entry)))) r (now (out .entry)) (now (out .exit)) (now (scratch .entry)) (now (scratch .exit)) ⌝ }
     ensures { λ r. ⌜ Stands (now (sheet .entry)) (now (view .entry)) allowance (unpacked r) (now (out .exit)) ⌝ }
 {
     let answer = put(sheet, plan, view, allowance, out, scratch);
@@ -57,7 +59,9 @@ pub extern "C" fn lens_put_starts(
     scratch: &mut [u8],
     starts: &mut [u16; 16],
 ) -> u64
-    ensures { λ r. ⌜ PackedPut (now (sheet .entry)) (putAnswer (now (sheet .entry)) (now (plan .entry)) (now (view .entry)) allowance (length (now (out .entry))) (length (now (scratch .entry)))) r (now (out .entry)) (now (out .exit)) (now (scratch .entry)) (now (scratch .exit)) (now (starts .entry)) (now (starts .exit)) ⌝ }
+    ensures { λ r. ⌜ PackedPut (now (sheet .entry)) (putAnswer (now (sheet .entry)) (now (plan .entry)) (now (view .entry)) allowance
+        (length (now (out .entry))) (length (now (scratch .entry)))) r (now (out .entry)) (now (out .exit)) (now (scratch .entry)) (now (scratch .exit))
+        (now (starts .entry)) (now (starts .exit)) ⌝ }
     ensures { λ r. ⌜ Stands (now (sheet .entry)) (now (view .entry)) allowance (unpacked r) (now (out .exit)) ⌝ }
 {
     let answer = put(sheet, plan, view, allowance, out, scratch);
@@ -79,9 +83,13 @@ pub extern "C" fn lens_put_written(
     starts: &mut [u16; 16],
     written: &mut u16,
 ) -> u64
-    ensures { λ r. ⌜ PackedPut (now (sheet .entry)) (putAnswer (now (sheet .entry)) (now (plan .entry)) (now (view .entry)) allowance (length (now (out .entry))) (length (now (scratch .entry)))) r (now (out .entry)) (now (out .exit)) (now (scratch .entry)) (now (scratch .exit)) (now (starts .entry)) (now (starts .exit)) ⌝ }
+    ensures { λ r. ⌜ PackedPut (now (sheet .entry)) (putAnswer (now (sheet .entry)) (now (plan .entry)) (now (view .entry)) allowance
+        (length (now (out .entry))) (length (now (scratch .entry)))) r (now (out .entry)) (now (out .exit)) (now (scratch .entry)) (now (scratch .exit))
+        (now (starts .entry)) (now (starts .exit)) ⌝ }
     ensures { λ r. ⌜ Stands (now (sheet .entry)) (now (view .entry)) allowance (unpacked r) (now (out .exit)) ⌝ }
-    ensures { λ _. ⌜ now (written .exit) ≡ writtenOr (putWritten (now (sheet .entry)) (now (plan .entry)) (now (view .entry)) allowance) (putAnswer (now (sheet .entry)) (now (plan .entry)) (now (view .entry)) allowance (length (now (out .entry))) (length (now (scratch .entry)))) (now (written .entry)) ⌝ }
+    ensures { λ _. ⌜ now (written .exit) ≡ writtenOr (putWritten (now (sheet .entry)) (now (plan .entry)) (now (view .entry)) allowance)
+        (putAnswer (now (sheet .entry)) (now (plan .entry)) (now (view .entry)) allowance (length (now (out .entry))) (length (now (scratch .entry))))
+        (now (written .entry)) ⌝ }
 {
     let answer = put(sheet, plan, view, allowance, out, scratch);
     let reply = answer.reply;

@@ -27,7 +27,8 @@ pub extern "C" fn lens_find(
     start: &mut usize,
     end: &mut usize,
 ) -> u8
-    ensures { λ r. ⌜ Lookup (findOf (record { count = count; at = now (starts .entry) }) len variable) r (now (start .entry)) (now (start .exit)) (now (end .entry)) (now (end .exit)) ⌝ }
+    ensures { λ r. ⌜ Lookup (findOf (record { count = count; at = now (starts .entry) }) len variable) r (now (start .entry)) (now (start .exit))
+        (now (end .entry)) (now (end .exit)) ⌝ }
 {
     if 16 < count {
         return 24;

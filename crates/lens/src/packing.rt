@@ -9,10 +9,12 @@ ghost use Rattle.starts.specs.Starts.{firsts};
 ghost use Rattle.calls.specs.Small.{Small};
 ghost use Rattle.lens.specs.Packing.{packedReply};
 ghost use Rattle.lens.specs.HandedOut.{handedOut};
-ghost use Rattle.lens.specs.Tools.{Tells, MadeTold};
+ghost use Rattle.lens.specs.Tools.{Tells, MadeTold, NumberTold};
 ghost use Rattle.made.specs.Made.{lengthOf};
+ghost use Rattle.numbering.specs.Replies.{valueOf};
 use calls::Reply;
 use made::Made;
+use numbering::Numbered;
 use starts::Starts;
 
 // The low 8 bits are the refusal, 0 for a success; the next 16 the length, the upper 32 the steps. The 8 bits between are 0 here:
@@ -85,5 +87,17 @@ pub fn pack_made(made: Made) -> u64
     match made {
         Made::Done(n) => pack_told(0, n as u16),
         Made::Refused(c) => pack_told(c, 0),
+    }
+}
+
+// What was replied about a sheet: the length of what was made, or the refusal, and the node of 81.
+pub fn pack_numbered(reply: Numbered) -> u64
+    requires { ⌜ valueOf reply < 65536 ⌝ }
+    ensures { λ r. ⌜ NumberTold reply r ⌝ }
+{
+    match reply {
+        Numbered::Done(n) => pack_told(0, n as u16),
+        Numbered::Refused(c) => pack_told(c, 0),
+        Numbered::Twice(n) => pack_told(81, n as u16),
     }
 }

@@ -26,7 +26,8 @@ pub extern "C" fn lens_check_plan(
     allowance: u32,
     scratch: &mut [u8],
 ) -> u64
-    ensures { λ r. ⌜ VerdictPacked (acceptsOf (now (sheet .entry)) (now (old .entry)) (now (view .entry)) (now (new .entry)) allowance (length (now (scratch .entry)))) r (now (scratch .entry)) (now (scratch .exit)) ⌝ }
+    ensures { λ r. ⌜ VerdictPacked (acceptsOf (now (sheet .entry)) (now (old .entry)) (now (view .entry)) (now (new .entry)) allowance
+        (length (now (scratch .entry)))) r (now (scratch .entry)) (now (scratch .exit)) ⌝ }
 {
     pack_verdict(accepts::accepts(sheet, old, view, new, allowance, scratch))
 }

@@ -37,7 +37,8 @@ pub extern "C" fn lens_why_get(
     scratch: &mut [u8],
     chain: &mut [u8; rules::CHAIN_MAX],
 ) -> u64
-    ensures { λ r. ⌜ WhyHanded (whyGet (now (sheet .entry)) (now (plan .entry)) allowance (length (now (scratch .entry)))) r (now (scratch .entry)) (now (scratch .exit)) (now (chain .entry)) (now (chain .exit)) ⌝ }
+    ensures { λ r. ⌜ WhyHanded (whyGet (now (sheet .entry)) (now (plan .entry)) allowance (length (now (scratch .entry)))) r (now (scratch .entry))
+        (now (scratch .exit)) (now (chain .entry)) (now (chain .exit)) ⌝ }
 {
     let why = why_get(sheet, plan, allowance, scratch);
     hand_why(why, chain)
@@ -53,7 +54,8 @@ pub extern "C" fn lens_why_put(
     scratch: &mut [u8],
     chain: &mut [u8; rules::CHAIN_MAX],
 ) -> u64
-    ensures { λ r. ⌜ WhyHanded (whyPut (now (sheet .entry)) (now (plan .entry)) (now (view .entry)) allowance (length (now (scratch .entry)))) r (now (scratch .entry)) (now (scratch .exit)) (now (chain .entry)) (now (chain .exit)) ⌝ }
+    ensures { λ r. ⌜ WhyHanded (whyPut (now (sheet .entry)) (now (plan .entry)) (now (view .entry)) allowance (length (now (scratch .entry)))) r
+        (now (scratch .entry)) (now (scratch .exit)) (now (chain .entry)) (now (chain .exit)) ⌝ }
 {
     let why = why_put(sheet, plan, view, allowance, scratch);
     hand_why(why, chain)

@@ -4,6 +4,7 @@ use mathlib.Core.Path.{_≡_, sym, _∙_}
 use mathlib.Core.List.{List}
 use Prim.Native.Nat.{ℕ, _≤_}
 use native.Mathlib.Omega.{arith}
+use native.Mathlib.Decide.{ℕ-discrete}
 use borrow.Author.Tests.{ne-eqb}
 use lib.Dec.{eqb}
 use lib.ListN.{length, getD}
@@ -15,6 +16,9 @@ use Rattle.letters.specs.Sheets.{numberLine, joinLine}
 use Rattle.letters.specs.SheetLaws.{fits-number, fits-join}
 use Rattle.letters.specs.Growths.{growthLine, fits-growth}
 use Rattle.letters.specs.Texts.{textLine, parsedLine, fits-text, fits-parsed}
+use Rattle.sheet.specs.Written.{Bytes}
+use Rattle.letters.specs.SheetTexts.{readLine, printLine}
+use Rattle.letters.specs.SheetTextLaws.{fits-print, fits-as}
 use Rattle.letters.specs.Checks.{typesLine, fits-types}
 
 unfoldable pub letterLine : List ℕ → List ℕ
@@ -28,16 +32,19 @@ letterLine bs =
     (cond (eqb letter 0x44) (textLine bs)
     (cond (eqb letter 0x45) (parsedLine bs)
     (cond (eqb letter 0x54) (typesLine bs)
-    (refusalLine 60))))))))
+    (cond (eqb letter 0x41) (readLine bs)
+    (cond (eqb letter 0x55) (printLine bs)
+    (refusalLine 60))))))))))
 
 -- a row and those below it
 one-fits : (p : Bool) (x y : List ℕ) → length x ≤ LINE → length y ≤ LINE → length (cond p x y) ≤ LINE
 one-fits true x y h k = h
 one-fits false x y h k = k
 
-pub letter-fits : (bs : List ℕ) → length bs ≤ INPUT → length (letterLine bs) ≤ LINE
+-- every line but that of letter A, whose place is as the code has it
+other-fits : (bs : List ℕ) → Bytes bs → length bs ≤ INPUT → eqb (getD bs 0 0) 0x41 ≡ false → length (letterLine bs) ≤ LINE
 unfolding letterLine
-letter-fits bs h = let c = getD bs 0 0 in one-fits (eqb c 0x4C) _ _ (fits-load bs h)
+other-fits bs b h a = let c = getD bs 0 0 in one-fits (eqb c 0x4C) _ _ (fits-load bs h)
     (one-fits (eqb c 0x56) _ _ (fits-value bs h)
     (one-fits (eqb c 0x4E) _ _ (fits-number bs)
     (one-fits (eqb c 0x4A) _ _ (fits-join bs)
@@ -45,7 +52,8 @@ letter-fits bs h = let c = getD bs 0 0 in one-fits (eqb c 0x4C) _ _ (fits-load b
     (one-fits (eqb c 0x44) _ _ (fits-text bs)
     (one-fits (eqb c 0x45) _ _ (fits-parsed bs)
     (one-fits (eqb c 0x54) _ _ (fits-types bs)
-    (fits-refusal 60 (omega arith)))))))))
+    (rw a (one-fits (eqb c 0x55) _ _ (fits-print bs b)
+    (fits-refusal 60 (omega arith)))))))))))
 
 -- WHAT SHOWS IT OF THE CODE: a law for each row
 
@@ -82,10 +90,27 @@ module _ (bs : List ℕ) {letter : ℕ} (e : letter ≡ getD bs 0 0) where
   unfolding letterLine
   letter-T q = sym (rw (sym e ∙ q))
 
-  pub letter-none : (letter ≡ 0x4C → ⊥) → (letter ≡ 0x56 → ⊥) → (letter ≡ 0x4E → ⊥) → (letter ≡ 0x4A → ⊥) → (letter ≡ 0x52 → ⊥)
-      → (letter ≡ 0x44 → ⊥) → (letter ≡ 0x45 → ⊥) → (letter ≡ 0x54 → ⊥) → refusalLine 60 ≡ letterLine bs
+  pub letter-A : letter ≡ 0x41 → readLine bs ≡ letterLine bs
   unfolding letterLine
-  letter-none l v n j r d p t = sym (rw (
+  letter-A q = sym (rw (sym e ∙ q))
+
+  pub letter-U : letter ≡ 0x55 → printLine bs ≡ letterLine bs
+  unfolding letterLine
+  letter-U q = sym (rw (sym e ∙ q))
+
+  -- the line fits where that of letter A does
+  pub letter-fits : Bytes bs → (letter ≡ 0x41 → length (readLine bs) ≤ LINE) → length bs ≤ INPUT → length (letterLine bs) ≤ LINE
+  letter-fits b a h = go (ℕ-discrete letter 0x41)
+    where
+      go : Dec (letter ≡ 0x41) → length (letterLine bs) ≤ LINE
+      go (yes q) = fits-as (letter-A q) (a q)
+      go (no q) = other-fits bs b h (rw (← e) (ne-eqb letter 0x41 q))
+
+  pub letter-none : (letter ≡ 0x4C → ⊥) → (letter ≡ 0x56 → ⊥) → (letter ≡ 0x4E → ⊥) → (letter ≡ 0x4A → ⊥) → (letter ≡ 0x52 → ⊥)
+      → (letter ≡ 0x44 → ⊥) → (letter ≡ 0x45 → ⊥) → (letter ≡ 0x54 → ⊥)
+      → (letter ≡ 0x41 → ⊥) → (letter ≡ 0x55 → ⊥) → refusalLine 60 ≡ letterLine bs
+  unfolding letterLine
+  letter-none l v n j r d p t a u = sym (rw (
     ← e,
     ne-eqb letter 0x4C l,
     ne-eqb letter 0x56 v,
@@ -95,4 +120,6 @@ module _ (bs : List ℕ) {letter : ℕ} (e : letter ≡ getD bs 0 0) where
     ne-eqb letter 0x44 d,
     ne-eqb letter 0x45 p,
     ne-eqb letter 0x54 t,
+    ne-eqb letter 0x41 a,
+    ne-eqb letter 0x55 u,
   ))

@@ -8,4 +8,6 @@ pub mod SheetLaws
 pub mod Growths
 pub mod Texts
 pub mod Checks
+pub mod SheetTexts
+pub mod SheetTextLaws
 pub mod Letters

@@ -39,7 +39,7 @@ pub fits-node : (c n : ℕ) → c < 256 → n < 200 → length (nodeLine c n) �
 unfolding nodeLine noLine words
 fits-node c n h k = simp length-append (omega (arith, decimal-length c 2 (omega arith), decimal-length n 2 (omega arith)))
 
-fits-part : (t : List ℕ) → length t ≤ 2048 → length (okLine (hexOf t ∷ [])) ≤ LINE
+pub fits-part : (t : List ℕ) → length t ≤ 16384 → length (okLine (hexOf t ∷ [])) ≤ LINE
 unfolding words
 fits-part t h = simp (ok-length, length-append, hex-length) (omega arith)
 
@@ -93,7 +93,7 @@ numberReply (Done k) o = okLine (hexOf (take k o) ∷ [])
 numberReply (Refused c) o = refusalLine c
 numberReply (Twice k) o = nodeLine 81 k
 
-reply-line : (a : Answer) (o : List ℕ) {o′ : List ℕ} {r : Numbered} → r ≡ replyOf a → o′ ≡ outputOf a o → numberReply r o′ ≡ numberedLine a
+pub reply-line : (a : Answer) (o : List ℕ) {o′ : List ℕ} {r : Numbered} → r ≡ replyOf a → o′ ≡ outputOf a o → numberReply r o′ ≡ numberedLine a
 unfolding numberReply numberedLine replyOf outputOf
 reply-line (done t) o e f = rw (e, f) (ap (λ (x : List ℕ). okLine (hexOf x ∷ [])) (take-append-seam t (drop (length t) o)))
 reply-line (refused c) o e f = rw e refl

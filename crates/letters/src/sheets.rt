@@ -1,20 +1,29 @@
 //! A sheet in the one numbering (letter N), and two sheets joined (letter J).
 ghost use Rattle.report.specs.Writing.{Wrote};
 ghost use Rattle.letters.specs.Sheets.{numberLine, joinLine};
+ghost use Rattle.letters.specs.SheetLaws.{numberReply};
 use crate::lines::made_line;
 use crate::lines::part_line;
 use numbering::Numbered;
+
+// The line of what was replied about a sheet: what was made, at the front of its output, in hexadecimal; or the refusal.
+pub fn numbered_line(reply: Numbered, out: &[u8], text: &mut [u8]) -> usize
+    ensures { λ r. ⌜ Wrote (numberReply reply (now (out .entry))) 0 (now (text .entry)) (now (text .exit)) r ⌝ }
+{
+    match reply {
+        Numbered::Done(n) => part_line(words::part_at(out, 0, n), text),
+        Numbered::Refused(c) => report::refusal(text, 0, c as usize),
+        Numbered::Twice(n) => words::node_line(text, 81, n),
+    }
+}
 
 /// The line of letter N.
 pub fn number_line(input: &[u8], text: &mut [u8]) -> usize
     ensures { λ r. ⌜ Wrote (numberLine (now (input .entry))) 0 (now (text .entry)) (now (text .exit)) r ⌝ }
 {
     let mut sheet = [0u8; numbering::OUTPUT];
-    match numbering::number(words::rest_from(input, 1), &mut sheet) {
-        Numbered::Done(n) => part_line(words::part_at(&sheet, 0, n), text),
-        Numbered::Refused(c) => report::refusal(text, 0, c as usize),
-        Numbered::Twice(n) => words::node_line(text, 81, n),
-    }
+    let reply = numbering::number(words::rest_from(input, 1), &mut sheet);
+    numbered_line(reply, &sheet, text)
 }
 
 /// The line of letter J.

@@ -18,7 +18,8 @@ use Rattle.rules.specs.Rules as Count
 use Rattle.rules.specs.Rules.{counting}
 use Rattle.rules.specs.Explain as Explain
 use Rattle.rules.specs.Explain.{Why, Told, got, met, Explained, more, below, entered, choice, follow, next, wanted, Cell, explaining, own, barred}
-use Rattle.rules.specs.Embedding.{Relates, held-itself, every-any, get-held, get-each-held, get-node-held, put-held, put-each-held, put-node-held, old-held}
+use Rattle.rules.specs.Embedding.{Relates, held-itself, every-any, get-held, get-each-held, get-node-held, put-held, put-each-held, put-node-held}
+use Rattle.rules.specs.Embedding.{old-held}
 
 -- where and who forgotten; f of what was done
 unfoldable pub forget : {A B : Type 0} → (A → B) → Told A → Out B

@@ -76,13 +76,12 @@ module _ {s : List ℕ} {t : Table} {i : ℕ} (to : Nodes s t i) where
       let e : length ns ≤ i = omega arith in
       rw (to .rest ns l a, drop-of-length-le ns e)
 
-  module _ (h : i < t .nodes) {n : Node} (e : n ≡ nodeAt s (getD (t .starts) i 0)) {b : Bool} (q : b ≡ nodeInRange (t .nodes) (t .sections) i n) where
+  module _ (h : i < t .nodes) {b : Bool} (q : b ≡ nodeInRange (t .nodes) (t .sections) i (nodeAt s (getD (t .starts) i 0))) where
     judged-node : (ns : List Node) → length ns ≡ t .nodes → ((j : ℕ) → j < length ns → nodeAt s (getD (t .starts) j 0) ≡ getD ns j False)
         → nodesInRange (t .nodes) (t .sections) 0 ns ≡ b && nodesInRange (t .nodes) (t .sections) (i + 1) (drop (i + 1) ns)
     judged-node ns l a =
         let k : i < length ns = omega arith in
-        let p : getD ns i False ≡ n = sym (a i k) ∙ sym e in
-        rw (to .rest ns l a, next-node (t .nodes) (t .sections) ns i k, p, ← q)
+        rw (to .rest ns l a, next-node (t .nodes) (t .sections) ns i k, ← a i k, ← q)
 
     pub node-out : b ≡ false → NodesJudged s t false
     node-out o ns l a = sym (rw o at (judged-node ns l a))

@@ -14,7 +14,8 @@ use lib.ListN.{length, getD, set, replicate, length-append, List·getD-append, L
 use lib.Seq.{getD-append-add, set-append-seam}
 use borrow.Author.Tests.{leb-true, eqb-true, lt-ltb}
 use Rattle.sheet.specs.Kinds.{Role, aNode, aSection, aVariable, aTest, aNumber, aWide, Field, Row, row, Form, forms, past, formOf, made, rolesOf}
-use Rattle.sheet.specs.Kinds.{valueOf, valuesOf, size, sizes, bytesOf, bodyBytes, bodyWidth, make, width, written, keep, pick, children, fieldAnew, renumber, _is_}
+use Rattle.sheet.specs.Kinds.{valueOf, valuesOf, size, sizes, bytesOf, bodyBytes, bodyWidth, make, width, written, keep, pick, children}
+use Rattle.sheet.specs.Kinds.{fieldAnew, renumber, _is_}
 use Rattle.sheet.specs.Table.{kindWidth, formWidth}
 use Rattle.sheet.specs.Forms.{listing, fieldsOf, Told, form-told, no-form, row-made, length-values, wide-form}
 use Rattle.sheet.specs.Reading.{Made}
@@ -224,7 +225,8 @@ pub looked-none : {s : List ℕ} {at : ℕ} → Looked s at (record { count = 0;
 unfolding childrenOf
 looked-none = record { few = omega arith; so-far = refl }
 
-pub looked-more : {s : List ℕ} {at kind part byte i : ℕ} {c c′ : Children} → Looked s at c i → i < kindWidth (getD s (at + 0) 0) → kind ≡ getD s (at + 0) 0 → part ≡ partAt kind i
+pub looked-more : {s : List ℕ} {at kind part byte i : ℕ} {c c′ : Children} → Looked s at c i → i < kindWidth (getD s (at + 0) 0)
+    → kind ≡ getD s (at + 0) 0 → part ≡ partAt kind i
     → byte ≡ getD s (at + i) 0 → c′ ≡ withNode c part byte → Looked s at c′ (i + 1)
 looked-more {s} {at} {kind} {part} {byte} {i} {c} {c′} l h ke pe be ce =
     let k : ℕ → ℕ = partAt (getD s (at + 0) 0) in

@@ -13,7 +13,8 @@ use Rattle.sheet.specs.declared.Node.the-variants.{False}
 use Rattle.sheet.specs.Kinds.{children, calls}
 use Rattle.sheet.specs.Sheet.{Sheet, nodesInRange, rootsInRange, inRange, readSheet}
 use Rattle.sheet.specs.Laws.{Child, Ranged, Ranges}
-use Rattle.sheet.specs.Rows.{Every, children-behind, calls-inside, in-range, width-8, written-length, allWritten, rootsWritten, sheetWritten, sheet-written}
+use Rattle.sheet.specs.Rows.{Every, children-behind, calls-inside, in-range, width-8, written-length, allWritten, rootsWritten, sheetWritten}
+use Rattle.sheet.specs.Rows.{sheet-written}
 
 -- LISTS
 

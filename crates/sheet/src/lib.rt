@@ -139,7 +139,8 @@ fn pair_at(r: &[u8], i: usize) -> u16
 // Bytes i to i + 3 of a record as a number, high byte first.
 fn four_at(r: &[u8], i: usize) -> u32
     requires { ⌜ i ≤ 8 ⌝ }
-    ensures { λ b. ⌜ b ≡ 65536 * (256 * getD (now (r .entry)) i 0 + getD (now (r .entry)) (i + 1) 0) + (256 * getD (now (r .entry)) (i + 2) 0 + getD (now (r .entry)) (i + 2 + 1) 0) ⌝ }
+    ensures { λ b. ⌜ b ≡ 65536 * (256 * getD (now (r .entry)) i 0 + getD (now (r .entry)) (i + 1) 0) +
+        (256 * getD (now (r .entry)) (i + 2) 0 + getD (now (r .entry)) (i + 2 + 1) 0) ⌝ }
 {
     65536 * (pair_at(r, i) as u32) + (pair_at(r, i + 2) as u32)
 }
@@ -352,50 +353,57 @@ fn is_branch(own: usize, n: usize, test: u8, nodes: usize) -> bool
     is_below(own, n, nodes) & (test <= 6)
 }
 
-/// Whether each number in the body of node `own` is in its range.
-pub fn in_range(n: Node, own: usize, nodes: usize, sections: usize) -> bool
-    ensures { λ r. ⌜ r ≡ nodeInRange nodes sections own n ⌝ }
+// Whether each number in the record of node `own`, which these bytes begin with, is in its range. The node is not decoded for it: every call reads
+// every node of its sheet once.
+fn body_in_range(r: &[u8], own: usize, nodes: usize, sections: usize) -> bool
+    requires { ⌜ (1 ≤ length (now r)) × (kindWidth (getD (now r) 0 0) ≤ length (now r)) ⌝ }
+    ensures { λ b. ⌜ b ≡ nodeInRange nodes sections own (nodeOf (now (r .entry))) ⌝ }
 {
-    match n {
-        Node::Var(_) => true,
-        Node::False => true,
-        Node::True => true,
-        Node::Empty => true,
-        Node::Number(v) => v <= 65535,
-        Node::Front { first, rest } => both_below(own, first, rest, nodes),
-        Node::Pair { left, right } => both_below(own, left, right, nodes),
-        Node::ListCase {
-            subject,
-            empty,
-            empty_test,
-            front,
-            front_test,
-            first,
-            rest,
-        } => is_below(own, subject, nodes)
-            & is_branch(own, empty, empty_test, nodes)
-            & is_branch(own, front, front_test, nodes)
-            & both_below(own, first, rest, nodes),
-        Node::TruthCase {
-            subject,
-            no,
-            no_test,
-            yes,
-            yes_test,
-        } => is_below(own, subject, nodes)
-            & is_branch(own, no, no_test, nodes)
-            & is_branch(own, yes, yes_test, nodes),
-        Node::Split { subject, inner } => both_below(own, subject, inner, nodes),
-        Node::Call { section, .. } => section < sections,
-        Node::Add { node, amount } => is_below(own, node, nodes) & (amount <= 65535),
-        Node::Each {
-            subject,
-            section,
-            default,
-            ..
-        } => is_below(own, subject, nodes) & (section < sections) & is_below(own, default, nodes),
-        Node::Wide(v) => (65535 < v) & (v <= 4294967295),
+    let kind = byte_at(r, 0);
+    match kind {
+        0x10 => true,
+        0x11 => true,
+        0x12 => true,
+        0x13 => true,
+        0x14 => pair_at(r, 1) <= 65535,
+        0x15 => both_below(own, at(r, 1), at(r, 2), nodes),
+        0x16 => both_below(own, at(r, 1), at(r, 2), nodes),
+        0x17 => is_below(own, at(r, 1), nodes)
+            & is_branch(own, at(r, 2), byte_at(r, 3), nodes)
+            & is_branch(own, at(r, 4), byte_at(r, 5), nodes)
+            & both_below(own, at(r, 6), at(r, 7), nodes),
+        0x18 => is_below(own, at(r, 1), nodes)
+            & is_branch(own, at(r, 2), byte_at(r, 3), nodes)
+            & is_branch(own, at(r, 4), byte_at(r, 5), nodes),
+        0x19 => both_below(own, at(r, 1), at(r, 2), nodes),
+        0x1A => at(r, 1) < sections,
+        0x1B => is_below(own, at(r, 1), nodes) & (pair_at(r, 2) <= 65535),
+        0x1C => is_below(own, at(r, 1), nodes)
+            & (at(r, 2) < sections)
+            & is_below(own, at(r, 4), nodes),
+        0x1D => is_wide(four_at(r, 1)),
+        _ => true,
     }
+}
+
+// Whether a number of four bytes is one that two do not hold.
+fn is_wide(v: u32) -> bool
+    ensures { λ r. ⌜ r ≡ ltb 65535 v && leb v 4294967295 ⌝ }
+{
+    (65535 < v) & (v <= 4294967295)
+}
+
+// Whether each number in the record of node `own`, which starts at byte `at` of a sheet, is in its range.
+fn record_in_range(s: &[u8], at: usize, own: usize, nodes: usize, sections: usize) -> bool
+    ensures { λ b. ⌜ b ≡ nodeInRange nodes sections own (nodeAt (now (s .entry)) at) ⌝ }
+{
+    if s.len() <= at {
+        return true;
+    }
+    if s.len() - at < record_width(s[at]) {
+        return true;
+    }
+    body_in_range(&s[at..], own, nodes, sections)
 }
 
 /// The root of section `i`; 0 where the sheet ends before it.
@@ -527,7 +535,7 @@ fn nodes_in_range(s: &[u8], t: Table) -> bool
     let mut i: usize = 0;
     while i < nodes {
         let at = t.starts[i] as usize;
-        if !in_range(node_at(s, at), i, nodes, sections) {
+        if !record_in_range(s, at, i, nodes, sections) {
             return false;
         }
         i += 1;

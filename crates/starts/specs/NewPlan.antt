@@ -1,16 +1,16 @@
 -- A plan that is put together value by value, with the starts of its values.
 use mathlib.Core.Path.{_≡_}
 use mathlib.Core.Bool.{cond}
+use mathlib.Core.List.{List}
 use Prim.Native.Nat.{ℕ, _+_, _≤_, _<_}
 use borrow.Author.Tests.{lt-ltb, le-ltb, le-leb, lt-leb}
 use lib.Dec.{leb, ltb}
 use lib.ListN.{set}
 use Rattle.starts.specs.declared.NewPlan.{NewPlan}
-use Rattle.starts.specs.Starts.{noStarts}
 
--- no value
-unfoldable pub noPlan : NewPlan
-noPlan = record { len = 0; starts = noStarts }
+-- so many values, which start there, of so many bytes
+abbrev pub planOf : (count : ℕ) → (at : List ℕ) → (len : ℕ) → NewPlan
+planOf count at len = record { len = len; starts = record { count = count; at = at } }
 
 -- one value of n bytes more: it starts where those before it end
 abbrev pub withOne : NewPlan → ℕ → NewPlan

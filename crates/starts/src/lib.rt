@@ -2,7 +2,7 @@
 ghost use mathlib.Core.Path.{_≡_};
 ghost use lib.ListN.{length};
 ghost use Rattle.starts.specs.Starts.{noStarts, loadOf, refusedLoad, proper, findOf, partOf};
-ghost use Rattle.starts.specs.NewPlan.{noPlan, grownBy};
+ghost use Rattle.starts.specs.NewPlan.{planOf, grownBy};
 
 /// Where each value of a plan starts: `count` numbers, at the front of `at`. Those that this program gives have zeros behind them; those
 /// that a caller kept may be any numbers, and `find` judges them.
@@ -127,38 +127,21 @@ pub fn part(starts: Starts, plan: &[u8], variable: usize) -> &[u8]
     }
 }
 
-/// A plan of no value.
-pub fn no_plan() -> NewPlan
-    ensures { λ r. ⌜ r ≡ noPlan ⌝ }
+/// A plan that has `count` values gets one of n bytes more, which starts at byte `start`, where the others end. Its start is written to `at`, and the
+/// answer is where it ends. Nothing changes, and the answer is `start`, where there are 16 values, or would be over 65,535 bytes.
+pub fn grow(at: &mut [u16; 16], count: usize, start: usize, n: usize) -> usize
+    ensures { λ r. ⌜ r ≡ grownBy (planOf count (now (at .entry)) start) n .len ⌝ }
+    ensures { λ _. ⌜ now (at .exit) ≡ grownBy (planOf count (now (at .entry)) start) n .starts .at ⌝ }
 {
-    let starts = none();
-    NewPlan { len: 0, starts }
-}
-
-/// A plan with one value of n bytes more behind the others; as it was where it has 16 values, or would have over 65,535 bytes.
-pub fn grown(plan: NewPlan, n: usize) -> NewPlan
-    ensures { λ r. ⌜ r ≡ grownBy plan n ⌝ }
-{
-    let starts = plan.starts;
-    let count = starts.count as usize;
-    let start = plan.len;
     if 16 <= count {
-        return plan;
+        return start;
     }
     if 65535 < start {
-        return plan;
+        return start;
     }
     if 65535 - start < n {
-        return plan;
+        return start;
     }
-    let mut at = starts.at;
     at[count] = start as u16;
-    let more = Starts {
-        count: starts.count + 1,
-        at,
-    };
-    NewPlan {
-        len: start + n,
-        starts: more,
-    }
+    start + n
 }

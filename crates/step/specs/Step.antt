@@ -1,6 +1,6 @@
 -- What the functions of this crate give, for every input.
 use mathlib.Core.Path.{_≡_}
-use mathlib.Core.Bool.{Bool, true, false, _&&_, _||_}
+use mathlib.Core.Bool.{Bool, true, false, cond, _&&_, _||_}
 use mathlib.Core.List.{List}
 use Prim.Native.Nat.{ℕ, zero, suc, _+_, _-_, _*_, _/_, _%_}
 use lib.Dec.{eqb, ltb}
@@ -12,7 +12,7 @@ use Rattle.step.specs.declared.Branch.the-variants.{Plain, Parts, Switch
 use Rattle.step.specs.declared.Apart.{Apart}
 use Rattle.step.specs.declared.Apart.the-variants.{At, Other}
 use Rattle.answer.specs.Answer.{doneAs, isRefusal, lenOf, stepsOf}
-use Rattle.rules.specs.Numbers.{SLOTS, SLOT}
+use Rattle.rules.specs.Numbers.{SLOTS, SLOT, VARIABLES}
 use Rattle.value.specs.Value.{Value}
 use Rattle.value.specs.Laws.{Readable}
 use Rattle.value.specs.Tests.{holds, Agrees}
@@ -45,6 +45,10 @@ addedTwo l n a b = set (set l n a) (n + 1) b
 -- the two variables x and y alone
 abbrev pub picked : Scope → ℕ → ℕ → Scope
 picked s x y = record { count = 2; starts = pickedTwo (s .starts) x y; lens = pickedTwo (s .lens) x y }
+
+-- a variable's number where a scope has room for it; elsewhere 0
+unfoldable pub inRoom : ℕ → ℕ
+inRoom x = cond (ltb x VARIABLES) x 0
 
 -- what is noted of a slot that a node wrote so many bytes to; of one that nothing was written to, 0
 unfoldable pub noteOf : (by len : ℕ) → ℕ

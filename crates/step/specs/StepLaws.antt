@@ -13,10 +13,12 @@ use Rattle.value.specs.declared.Shape.the-variants.{False, True, Empty, Front, 
 use Rattle.step.specs.declared.Branch.{Branch}
 use Rattle.step.specs.declared.Branch.the-variants.{Plain, Parts, Switch, Refused}
 use Rattle.step.specs.declared.Apart.the-variants.{At, Other}
+use Rattle.rules.specs.Numbers.{VARIABLES}
 use Rattle.answer.specs.Answer.{doneAs, isRefusal, lenOf, stepsOf}
 use Rattle.step.specs.Step.{
   When,
   where-so,
+  inRoom,
   noteOf,
   notedLen,
   notedBy,
@@ -42,6 +44,14 @@ when-in p e = record { inside = λ _. e; outside = λ n. absurd (n p) }
 
 pub when-out : {A P : Type 0} {r x y : A} → (P → ⊥) → r ≡ y → When P r x y
 when-out n e = record { inside = λ p. absurd (n p); outside = λ _. e }
+
+pub in-room : {x : ℕ} → x < VARIABLES → inRoom x ≡ x
+unfolding inRoom
+in-room {x} h = rw (lt-ltb x VARIABLES h)
+
+pub out-of-room : {x : ℕ} → VARIABLES ≤ x → inRoom x ≡ 0
+unfolding inRoom
+out-of-room {x} h = rw (le-ltb x VARIABLES h)
 
 pub no-level : (levels left : ℕ) → levels ≡ 0 → 40 ≡ entryRefusal levels left
 unfolding entryRefusal

@@ -10,7 +10,8 @@ ghost use lib.Seq.{paste};
 ghost use Rattle.value.specs.Parts.{shapeOf, passesBytes, sameBytes};
 ghost use Rattle.answer.specs.Answer.{doneAs, refusedBy};
 ghost use Rattle.rules.specs.Numbers.{VARIABLES};
-ghost use Rattle.step.specs.Step.{When, frontTwo, pickedTwo, addedTwo, picked, nowhere, noteOf, notedLen, notedBy, slotOf, placeOf, entryRefusal, fitsKind, fitOf, otherOf, choice, takeOf, TakenBy, apartOf, madeOf, judged, unfitRest, frontedAs};
+ghost use Rattle.step.specs.Step.{When, frontTwo, pickedTwo, addedTwo, picked, inRoom, nowhere, noteOf, notedLen, notedBy, slotOf, placeOf};
+ghost use Rattle.step.specs.Step.{entryRefusal, fitsKind, fitOf, otherOf, choice, takeOf, TakenBy, apartOf, madeOf, judged, unfitRest, frontedAs};
 use answer::done;
 use answer::is_refused;
 use answer::len_of;
@@ -203,22 +204,28 @@ pub fn made(kind: u8) -> u8
     5
 }
 
-/// The variables x and y alone, a section's; the scope as it is where it has no room for one of them.
-pub fn section(scope: Scope, x: usize, y: usize) -> Scope
-    ensures { λ r. ⌜ When ((x < VARIABLES) × (y < VARIABLES)) r (picked scope x y) scope ⌝ }
+// A variable's number, or 0 where no scope has room for it.
+fn in_room(x: usize) -> usize
+    ensures { λ r. ⌜ (r ≡ inRoom x) × (r < VARIABLES) ⌝ }
 {
     if rules::VARIABLES <= x {
-        return scope;
+        return 0;
     }
-    if rules::VARIABLES <= y {
-        return scope;
-    }
+    x
+}
+
+/// The variables x and y alone, a section's. Where no scope has room for one of them, variable 0 stands for it.
+pub fn section(scope: Scope, x: usize, y: usize) -> Scope
+    ensures { λ r. ⌜ r ≡ picked scope (inRoom x) (inRoom y) ⌝ }
+{
+    let a = in_room(x);
+    let b = in_room(y);
     let mut two = scope;
     two.count = 2;
-    two.starts[0] = scope.starts[x];
-    two.starts[1] = scope.starts[y];
-    two.lens[0] = scope.lens[x];
-    two.lens[1] = scope.lens[y];
+    two.starts[0] = scope.starts[a];
+    two.starts[1] = scope.starts[b];
+    two.lens[0] = scope.lens[a];
+    two.lens[1] = scope.lens[b];
     two
 }
 
@@ -321,7 +328,8 @@ pub fn slot_of(cell: usize) -> usize
 
 /// Copies a slice into the arena; nothing changes where it does not fit.
 pub fn store(arena: &mut [u8], at: usize, from: &[u8])
-    ensures { λ _. ⌜ When (at + length (now (from .entry)) ≤ length (now (arena .entry))) (now (arena .exit)) (paste (now (arena .entry)) at (now (from .entry)) (length (now (from .entry)))) (now (arena .entry)) ⌝ }
+    ensures { λ _. ⌜ When (at + length (now (from .entry)) ≤ length (now (arena .entry))) (now (arena .exit))
+        (paste (now (arena .entry)) at (now (from .entry)) (length (now (from .entry)))) (now (arena .entry)) ⌝ }
 {
     if arena.len() < at {
         return;

@@ -71,7 +71,7 @@ letter-short : (x : ℕ) → x < 2600 → length (nameOf x) ≤ 4
 unfolding nameOf
 letter-short x h = omega (arith, suffix-short (x / 26) (omega arith))
 
-name-short : (s : Bool) (x : ℕ) → x < 2600 → length (called s x) ≤ 4
+pub name-short : (s : Bool) (x : ℕ) → x < 2600 → length (called s x) ≤ 4
 unfolding called
 name-short false x h = letter-short x h
 name-short true zero h = omega arith

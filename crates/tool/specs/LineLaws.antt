@@ -1,13 +1,12 @@
--- Laws of the line of `tools`: how long it is, and that 8,193 bytes of the input decide it.
-use mathlib.Core.Bool.{Bool, true, false, cond}
+-- Laws of the line of `tools`: how long that of a put is, and that 8,193 bytes of the input decide it.
+use mathlib.Core.Bool.{Bool, true, false}
 use mathlib.Core.Path.{_≡_, refl, sym, ap, _∙_}
 use mathlib.Core.List.{List, []}
 use Prim.Native.Nat.{ℕ, _+_, _≤_, _<_}
 use native.Mathlib.Omega.{arith}
 use native.Mathlib.Decide.{decLe}
-use borrow.Author.Tests.{lt-leb, leb-true}
-use lib.Dec.{leb, eqb}
-use lib.ListN.{length, getD, take, drop, length-append}
+use borrow.Author.Tests.{lt-leb}
+use lib.ListN.{length, take, length-append}
 use lib.Seq.{length-take-le, take-all}
 use Rattle.rules.specs.Numbers.{SCRATCH, PUT-OUTPUT}
 use Rattle.rules.specs.Answer.{Answer, refusal, success}
@@ -21,10 +20,7 @@ use Rattle.words.specs.declared.fields.Taken.the-variants.{Whole, Cut}
 use Rattle.words.specs.Format.{fieldsOf, sheetOf, planOf, viewOf}
 use Rattle.words.specs.Answers.{bitsWord}
 use Rattle.letters.specs.LookupLaws.{fits-refusal, starts-length}
-use Rattle.letters.specs.Letters.{letter-fits}
-use Rattle.tool.specs.Line.{Ending, says, besides, putLine, puts, byLetter, toolEnding, toolLine}
-use Rattle.tool.specs.WhyLaws.{whys-fit}
-use Rattle.tool.specs.CheckLaws.{checks-fit}
+use Rattle.tool.specs.Line.{Ending, says, besides, putLine, puts, toolEnding, toolLine}
 
 -- HOW LONG A LINE IS
 
@@ -42,7 +38,7 @@ fits-put bits sheet written (success new n) s =
     let m = besides-length bits sheet new n written (omega arith) in
     simp (ok-length, length-append, hex-length) (omega (arith, m, decimal-length n 6 (omega arith)))
 
-fits-puts : (bits : Bool) (bs : List ℕ) (t : Taken) → length (puts bits bs t .line) ≤ LINE
+pub fits-puts : (bits : Bool) (bs : List ℕ) (t : Taken) → length (puts bits bs t .line) ≤ LINE
 unfolding puts
 fits-puts bits bs Cut = fits-refusal 60 (omega arith)
 fits-puts bits bs (Whole f) =
@@ -51,27 +47,6 @@ fits-puts bits bs (Whole f) =
   where
     answered : {x : Answer} → Answered x (reply x) [] (written x []) [] (cleared x [])
     answered = record { answer = refl; output = refl; scratch = refl }
-
-fits-letter : (bs : List ℕ) → length bs ≤ INPUT → length (byLetter bs .line) ≤ LINE
-unfolding byLetter
-fits-letter bs h = let c = getD bs 0 0 in one (eqb c 0x53) _ _ (fits-puts false bs (fieldsOf bs))
-    (one (eqb c 0x57) _ _ (fits-puts true bs (fieldsOf bs))
-    (one (eqb c 0x59) _ _ (omega (arith, whys-fit (drop 1 bs)))
-    (one (eqb c 0x43) _ _ (omega (arith, checks-fit bs (fieldsOf bs)))
-    (letter-fits bs h))))
-  where
-    -- a row and those below it
-    one : (p : Bool) (x y : Ending) → length (x .line) ≤ LINE → length (y .line) ≤ LINE → length (cond p x y .line) ≤ LINE
-    one true x y h k = h
-    one false x y h k = k
-
-pub line-fits : (bs : List ℕ) → length (toolLine bs) ≤ LINE
-unfolding toolLine toolEnding
-line-fits bs = go (leb (length bs) INPUT) refl
-  where
-    go : (p : Bool) → leb (length bs) INPUT ≡ p → length (cond p (byLetter bs) (says (refusalLine 61)) .line) ≤ LINE
-    go true e = fits-letter bs (leb-true _ _ e)
-    go false e = fits-refusal 61 (omega arith)
 
 -- THE FIRST 8,193 BYTES DECIDE IT
 

@@ -42,7 +42,6 @@ use Rattle.tool.specs.Line.{
 }
 use Rattle.tool.specs.WhyLaws.{Explained, whys-output}
 use Rattle.tool.specs.CheckLaws.{checks-output}
-use Rattle.tool.specs.LineLaws.{line-fits}
 
 -- letters S and W
 
@@ -147,9 +146,9 @@ pub ended-as : {e e′ : Ending} {r : ℕ} {t t′ o o′ s s′ : List ℕ} →
 ended-as q w = rw q w
 
 -- the ending is that of the input, and the line fits
-pub printed : (bs : List ℕ) {e : Ending} {r : ℕ} {t t′ o o′ s s′ : List ℕ} → toolEnding bs ≡ e → length t ≡ LINE → Ended e r t t′ o o′ s s′
-    → Front (toolLine bs) t t′ r × Lent bs o o′ s s′
+pub printed : (bs : List ℕ) {e : Ending} {r : ℕ} {t t′ o o′ s s′ : List ℕ} → toolEnding bs ≡ e → length (e .line) ≤ LINE → length t ≡ LINE
+    → Ended e r t t′ o o′ s s′ → Front (toolLine bs) t t′ r × Lent bs o o′ s s′
 unfolding toolLine
-printed bs q l w =
+printed bs q h l w =
     let v = ended-as q w in
-    (wrote-front (v .text) (rw l (line-fits bs)), record { output = v .output; scratch = v .scratch })
+    (wrote-front (v .text) (rw (q, l) h), record { output = v .output; scratch = v .scratch })

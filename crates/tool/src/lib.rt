@@ -10,8 +10,8 @@ use crate::checks::check_line;
 use crate::puts::put_line;
 use crate::whys::why_line;
 
-/// The most bytes of a line: `ok`, a space, a part of 8,187 bytes in hexadecimal, a line feed.
-pub const LINE: usize = 16_378;
+/// The most bytes of a line: `ok`, a space, a text of 16,384 bytes in hexadecimal, a line feed.
+pub const LINE: usize = 32_772;
 
 /// The line that the program prints for an input, at the front of `text`; and how long it is.
 pub fn line(

@@ -52,8 +52,11 @@ pub fn put_then_get(
     out: &mut [u8],
     scratch: &mut [u8],
 ) -> Trip
-    ensures { λ r. ⌜ Tripped (putAnswer (now (sheet .entry)) (now (plan .entry)) (now (view .entry)) allowance (length (now (new .entry))) (length (now (scratch .entry)))) (backAndOut (now (sheet .entry)) allowance (length (now (out .entry))) (length (now (scratch .entry)))) r (now (new .entry)) (now (new .exit)) (now (out .entry)) (now (out .exit)) (now (scratch .entry)) (now (scratch .exit)) ⌝ }
-    ensures { λ r. ⌜ ListStands (now (sheet .entry)) (now (plan .entry)) (now (view .entry)) allowance (length (now (new .entry))) (length (now (out .entry))) (length (now (scratch .entry))) r (now (out .exit)) ⌝ }
+    ensures { λ r. ⌜ Tripped (putAnswer (now (sheet .entry)) (now (plan .entry)) (now (view .entry)) allowance (length (now (new .entry)))
+        (length (now (scratch .entry)))) (backAndOut (now (sheet .entry)) allowance (length (now (out .entry))) (length (now (scratch .entry)))) r
+        (now (new .entry)) (now (new .exit)) (now (out .entry)) (now (out .exit)) (now (scratch .entry)) (now (scratch .exit)) ⌝ }
+    ensures { λ r. ⌜ ListStands (now (sheet .entry)) (now (plan .entry)) (now (view .entry)) allowance (length (now (new .entry)))
+        (length (now (out .entry))) (length (now (scratch .entry))) r (now (out .exit)) ⌝ }
 {
     let answer = calls::put(sheet, plan, view, allowance, new, scratch);
     let reply = answer.reply;
@@ -86,8 +89,11 @@ pub fn get_then_put(
     out: &mut [u8],
     scratch: &mut [u8],
 ) -> Trip
-    ensures { λ r. ⌜ Tripped (getAnswer (now (sheet .entry)) (now (plan .entry)) allowance (length (now (view .entry))) (length (now (scratch .entry)))) (outAndBack (now (sheet .entry)) (now (plan .entry)) (length (now (out .entry))) (length (now (scratch .entry)))) r (now (view .entry)) (now (view .exit)) (now (out .entry)) (now (out .exit)) (now (scratch .entry)) (now (scratch .exit)) ⌝ }
-    ensures { λ r. ⌜ PlanStays (now (sheet .entry)) (now (plan .entry)) allowance (length (now (view .entry))) (length (now (out .entry))) (length (now (scratch .entry))) r (now (out .exit)) ⌝ }
+    ensures { λ r. ⌜ Tripped (getAnswer (now (sheet .entry)) (now (plan .entry)) allowance (length (now (view .entry))) (length (now (scratch .entry))))
+        (outAndBack (now (sheet .entry)) (now (plan .entry)) (length (now (out .entry))) (length (now (scratch .entry)))) r (now (view .entry))
+        (now (view .exit)) (now (out .entry)) (now (out .exit)) (now (scratch .entry)) (now (scratch .exit)) ⌝ }
+    ensures { λ r. ⌜ PlanStays (now (sheet .entry)) (now (plan .entry)) allowance (length (now (view .entry))) (length (now (out .entry)))
+        (length (now (scratch .entry))) r (now (out .exit)) ⌝ }
 {
     match calls::get(sheet, plan, allowance, view, scratch) {
         Reply::Refused(c) => Trip::Stopped(c),

@@ -44,8 +44,15 @@ pub fn put_and_undo(
     out: &mut [u8],
     scratch: &mut [u8],
 ) -> Trip
-    ensures { λ r. ⌜ ThreeCalls (now (plan .entry)) (getAnswer (now (sheet .entry)) (now (plan .entry)) reading (length (now (list .entry))) (length (now (scratch .entry)))) (putAnswer (now (sheet .entry)) (now (plan .entry)) (now (edited .entry)) allowance (length (now (new .entry))) (length (now (scratch .entry)))) (firstIntoNew (now (sheet .entry)) allowance (length (now (out .entry))) (length (now (scratch .entry)))) r (now (list .entry)) (now (list .exit)) (now (new .entry)) (now (new .exit)) (now (out .entry)) (now (out .exit)) (now (scratch .entry)) (now (scratch .exit)) ⌝ }
-    ensures { λ r. ⌜ TakesBack (now (sheet .entry)) (now (plan .entry)) (getAnswer (now (sheet .entry)) (now (plan .entry)) reading (length (now (list .entry))) (length (now (scratch .entry)))) (putAnswer (now (sheet .entry)) (now (plan .entry)) (now (edited .entry)) allowance (length (now (new .entry))) (length (now (scratch .entry)))) (length (now (out .entry))) r (now (out .exit)) ⌝ }
+    ensures { λ r. ⌜ ThreeCalls (now (plan .entry)) (getAnswer (now (sheet .entry)) (now (plan .entry)) reading (length (now (list .entry)))
+        (length (now (scratch .entry)))) (putAnswer (now (sheet .entry)) (now (plan .entry)) (now (edited .entry)) allowance (length (now (new .entry)))
+        (length (now (scratch .entry)))) (firstIntoNew (now (sheet .entry)) allowance (length (now (out .entry))) (length (now (scratch .entry)))) r
+        (now (list .entry)) (now (list .exit)) (now (new .entry)) (now (new .exit)) (now (out .entry)) (now (out .exit)) (now (scratch .entry))
+        (now (scratch .exit)) ⌝ }
+    ensures { λ r. ⌜ TakesBack (now (sheet .entry)) (now (plan .entry))
+        (getAnswer (now (sheet .entry)) (now (plan .entry)) reading (length (now (list .entry))) (length (now (scratch .entry))))
+        (putAnswer (now (sheet .entry)) (now (plan .entry)) (now (edited .entry)) allowance (length (now (new .entry))) (length (now (scratch .entry))))
+        (length (now (out .entry))) r (now (out .exit)) ⌝ }
 {
     match calls::get(sheet, plan, reading, list, scratch) {
         Reply::Refused(c) => Trip::Stopped(c),

@@ -16,8 +16,7 @@ use Rattle.step.specs.declared.Scope.{Scope}
 use Rattle.step.specs.declared.Span.{Span}
 use Rattle.step.specs.Step.{When, placeOf, nowhere}
 use Rattle.starts.specs.declared.NewPlan.{NewPlan}
-use Rattle.starts.specs.NewPlan.{noPlan, grownBy, grown-one}
-use Rattle.starts.specs.Starts.{noStarts}
+use Rattle.starts.specs.NewPlan.{planOf, grownBy, grown-one}
 use Rattle.walk.specs.Parts.{part, Kept, Copied, part-length, part-kept, part-join, kept-refl, kept-then}
 use Rattle.walk.specs.Scope.{Spanning}
 
@@ -50,15 +49,9 @@ pub record AllGathered (slots : List ℕ) (sc : Scope) (b a : List ℕ) (r : New
   pub count : r .starts .count ≡ sc .count
   pub all : Gathered (sc .count) slots sc b a (r .len) (r .starts .at)
 
--- i values are gathered in the plan p
-pub record GatheredIn (i : ℕ) (slots : List ℕ) (sc : Scope) (b a : List ℕ) (p : NewPlan) : Type 0 where
-  pub count : p .starts .count ≡ i
-  pub so-far : Gathered i slots sc b a (p .len) (p .starts .at)
-
-pub gathered-none : {slots : List ℕ} {sc : Scope} (b : List ℕ) {p : NewPlan} → p ≡ noPlan → GatheredIn 0 slots sc b b p
-unfolding flat places starts noPlan noStarts
-gathered-none b e =
-    rw e (record { count = refl; so-far = record { kept = kept-refl STACK b; short = omega arith; told = λ _. refl; starting = λ _. refl } })
+pub gathered-none : {slots : List ℕ} {sc : Scope} (b : List ℕ) → Gathered 0 slots sc b b 0 (replicate 16 0)
+unfolding flat places starts
+gathered-none b = record { kept = kept-refl STACK b; short = omega arith; told = λ _. refl; starting = λ _. refl }
 
 flat-snoc : (ws : List Value) (v : Value) → flat (ws ++ (v ∷ [])) ≡ flat ws ++ encode v
 unfolding flat
@@ -108,22 +101,19 @@ module _ {i : ℕ} {slots : List ℕ} {sc : Scope} {b a : List ℕ} {len : ℕ} 
           part-join a′ STACK len (p .len) ∙ ap₂ _++_ x y ∙ sym (flat-snoc (take i ws) (getD ws i vfalse)) ∙ sym (ap flat (one-more w))
 
 -- the plan with one value more
-pub grown-more : {i : ℕ} {slots : List ℕ} {sc : Scope} {b a a′ : List ℕ} {q q′ : NewPlan} (g : GatheredIn i slots sc b a q) (s : SomePlaced b slots sc)
-    → i < sc .count → {p : Span} {l : ℕ} → l ≡ getD (sc .lens) i 0 + 1 → When (i < VARIABLES) p (placeOf (getD slots i 0) i (getD (sc .starts) i 0) l) nowhere
-    → Copied (p .start) (STACK + q .len) (p .len) a a′ → q′ ≡ grownBy q (p .len) → GatheredIn (i + 1) slots sc b a′ q′
-grown-more {i} {q = q} g s h {p} stood place c e =
-    let m = gathered-more (g .so-far) s h stood place c in
-    let f = gather-fits (g .so-far) s h stood place in
+pub grown-more : {i : ℕ} {slots : List ℕ} {sc : Scope} {b a a′ : List ℕ} {len len′ : ℕ} {ss ss′ : List ℕ} (g : Gathered i slots sc b a len ss)
+    (s : SomePlaced b slots sc) → i < sc .count → {p : Span} {l : ℕ} → l ≡ getD (sc .lens) i 0 + 1
+    → When (i < VARIABLES) p (placeOf (getD slots i 0) i (getD (sc .starts) i 0) l) nowhere → Copied (p .start) (STACK + len) (p .len) a a′
+    → len′ ≡ grownBy (planOf i ss len) (p .len) .len → ss′ ≡ grownBy (planOf i ss len) (p .len) .starts .at → Gathered (i + 1) slots sc b a′ len′ ss′
+grown-more {i} {len = len} {ss = ss} g s h {p} stood place c e f =
     let w = s .placed in
-    let k = grown-one q (p .len) (omega (arith, g .count, w .count, w .few)) (omega (arith, f .1, g .so-far .kept .long, w .long)) in
-    rw (e, k, g .count) (record { count = refl; so-far = m })
+    let fits = gather-fits g s h stood place in
+    let k = grown-one (planOf i ss len) (p .len) (omega (arith, w .count, w .few)) (omega (arith, fits .1, g .kept .long, w .long)) in
+    rw (e, f, k) (gathered-more g s h stood place c)
 
-pub gathered-all : {i : ℕ} {slots : List ℕ} {sc : Scope} {b a : List ℕ} {p : NewPlan} → GatheredIn i slots sc b a p → i ≡ sc .count
-    → AllGathered slots sc b a p
-gathered-all {slots = slots} {sc} {b} {a} {p} g e = go (g .count ∙ e) (rw e at (g .so-far))
-  where
-    go : p .starts .count ≡ sc .count → Gathered (sc .count) slots sc b a (p .len) (p .starts .at) → AllGathered slots sc b a p
-    go c h = record { count = c; all = h }
+pub gathered-all : {i : ℕ} {slots : List ℕ} {sc : Scope} {b a : List ℕ} {len : ℕ} {ss : List ℕ} → Gathered i slots sc b a len ss → i ≡ sc .count
+    → Gathered (sc .count) slots sc b a len ss
+gathered-all g e = rw e at g
 
 -- THE FIRST CELLS: cell i for variable i
 

@@ -9,7 +9,7 @@ use native.Mathlib.Omega.{arith}
 use Rattle.answer.specs.Answer.{isRefusal, doneAs, lenOf, startOf, stepsOf, len-small, start-small, steps-small}
 use Rattle.value.specs.Value.{Value}
 use Rattle.value.specs.Tests.{passes}
-use Rattle.value.specs.Parts.{passesBytes}
+use Rattle.value.specs.Parts.{byKinds, passesBytes}
 use Rattle.rules.specs.Text
 use Rattle.rules.specs.Explain.{tested}
 use Rattle.rules.specs.Numbers.{STACK}
@@ -29,6 +29,11 @@ pub record Judgeable (a : List ℕ) (g : ℕ) : Type 0 where
 -- whether a test says yes to it
 abbrev pub saysOf : (test g : ℕ) → List ℕ → Bool
 saysOf test g a = passesBytes test (part a (startOf g) (lenOf g))
+
+-- the test 0 says yes to anything
+pub says-any : {test : ℕ} (bs : List ℕ) → test ≡ 0 → passesBytes test bs ≡ true
+unfolding passesBytes byKinds
+says-any bs e = rw e
 
 -- as the code asks the test, of the bytes from its start to its end
 pub says-part : (test g : ℕ) (b : List ℕ) {start len : ℕ} {p q : Bool} → start ≡ startOf g → len ≡ lenOf g

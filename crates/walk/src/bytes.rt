@@ -61,7 +61,8 @@ pub fn copy_in(from: &[u8], arena: &mut [u8])
 /// A part of the arena is copied into `whole`.
 pub fn fill(whole: &mut [u8; 256], at: usize, arena: &[u8], start: usize, len: usize)
     requires { ⌜ (length (now whole) ≡ 256) × (at + len ≤ 256) × (start + len ≤ length (now arena)) ⌝ }
-    ensures { λ _. ⌜ (now (whole .exit) ≡ paste (now (whole .entry)) at (drop start (now (arena .entry))) len) × (length (now (whole .exit)) ≡ length (now (whole .entry))) ⌝ }
+    ensures { λ _. ⌜ (now (whole .exit) ≡ paste (now (whole .entry)) at (drop start (now (arena .entry))) len) ×
+        (length (now (whole .exit)) ≡ length (now (whole .entry))) ⌝ }
 {
     let mut i = 0;
     while i < len {
@@ -81,7 +82,8 @@ pub fn rebuild(
     slen: usize,
 )
     requires { ⌜ (length (now whole) ≡ 256) × (1 + flen + slen ≤ 256) × (first + flen ≤ length (now arena)) × (second + slen ≤ length (now arena)) ⌝ }
-    ensures { λ _. ⌜ (now (whole .exit) ≡ rebuiltIn (now (whole .entry)) (now (arena .entry)) kind first flen second slen) × (length (now (whole .exit)) ≡ 256) ⌝ }
+    ensures { λ _. ⌜ (now (whole .exit) ≡ rebuiltIn (now (whole .entry)) (now (arena .entry)) kind first flen second slen) ×
+        (length (now (whole .exit)) ≡ 256) ⌝ }
 {
     whole[0] = kind;
     fill(whole, 1, arena, first, flen);

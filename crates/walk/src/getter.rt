@@ -35,7 +35,8 @@ use step::Scope;
 // The number of a constant (14).
 fn get_number(sheet: &[u8], arena: &mut [u8], n: u16, top: usize) -> usize
     requires { ⌜ (top + 3 ≤ length (now arena)) × (top < SCRATCH) ⌝ }
-    ensures { λ r. ⌜ (now (arena .exit) ≡ numbered (now (arena .entry)) top (256 * getD (now (sheet .entry)) (n + 1) 0 + getD (now (sheet .entry)) (n + 2) 0)) × (r ≡ doneAs top 3 0) ⌝ }
+    ensures { λ r. ⌜ (now (arena .exit) ≡ numbered (now (arena .entry)) top
+        (256 * getD (now (sheet .entry)) (n + 1) 0 + getD (now (sheet .entry)) (n + 2) 0)) × (r ≡ doneAs top 3 0) ⌝ }
 {
     let number = value::number(sheet::byte_of(sheet, n, 1), sheet::byte_of(sheet, n, 2));
     arena[top] = 4;
@@ -66,7 +67,8 @@ fn get_leaf(
 ) -> usize
     requires { ⌜ Ready (now sheet) (now table) (now arena) scope (at .top) (suc (at .levels)) (suc (at .left)) (own kind (now sheet) n) ⌝ }
     requires { ⌜ Childless kind ⌝ }
-    ensures { λ r. ⌜ Gives (now (arena .entry)) (now (arena .exit)) (now (sheet .entry)) scope (at .top) (at .top) (at .left) r (at .levels) (own kind (now (sheet .entry)) n) ⌝ }
+    ensures { λ r. ⌜ Gives (now (arena .entry)) (now (arena .exit)) (now (sheet .entry)) scope (at .top) (at .top) (at .left) r (at .levels)
+        (own kind (now (sheet .entry)) n) ⌝ }
 {
     let top = at.top;
     if kind == 0x10 {
@@ -141,7 +143,8 @@ fn get_two(
 ) -> usize
     requires { ⌜ Ready (now sheet) (now table) (now arena) scope (at .top) (suc (at .levels)) (suc (at .left)) (own kind (now sheet) n) ⌝ }
     requires { ⌜ Two kind ⌝ }
-    ensures { λ r. ⌜ Gives (now (arena .entry)) (now (arena .exit)) (now (sheet .entry)) scope (at .top) (at .top) (at .left) r (at .levels) (own kind (now (sheet .entry)) n) ⌝ }
+    ensures { λ r. ⌜ Gives (now (arena .entry)) (now (arena .exit)) (now (sheet .entry)) scope (at .top) (at .top) (at .left) r (at .levels)
+        (own kind (now (sheet .entry)) n) ⌝ }
 {
     let top = at.top;
     let made = step::made(kind);
@@ -183,7 +186,8 @@ fn get_case(
 ) -> usize
     requires { ⌜ Ready (now sheet) (now table) (now arena) scope (at .top) (suc (at .levels)) (suc (at .left)) (own kind (now sheet) n) ⌝ }
     requires { ⌜ Case kind ⌝ }
-    ensures { λ r. ⌜ Gives (now (arena .entry)) (now (arena .exit)) (now (sheet .entry)) scope (at .top) (at .top) (at .left) r (at .levels) (own kind (now (sheet .entry)) n) ⌝ }
+    ensures { λ r. ⌜ Gives (now (arena .entry)) (now (arena .exit)) (now (sheet .entry)) scope (at .top) (at .top) (at .left) r (at .levels)
+        (own kind (now (sheet .entry)) n) ⌝ }
 {
     let subject = sheet::number_of(sheet, n, 1);
     let got = get_node(sheet, table, arena, scope, subject, at);
@@ -222,7 +226,8 @@ fn get_call(
 ) -> usize
     requires { ⌜ Ready (now sheet) (now table) (now arena) scope (at .top) (suc (at .levels)) (suc (at .left)) (own kind (now sheet) n) ⌝ }
     requires { ⌜ kind ≡ 0x1A ⌝ }
-    ensures { λ r. ⌜ Gives (now (arena .entry)) (now (arena .exit)) (now (sheet .entry)) scope (at .top) (at .top) (at .left) r (at .levels) (own kind (now (sheet .entry)) n) ⌝ }
+    ensures { λ r. ⌜ Gives (now (arena .entry)) (now (arena .exit)) (now (sheet .entry)) scope (at .top) (at .top) (at .left) r (at .levels)
+        (own kind (now (sheet .entry)) n) ⌝ }
 {
     let x = sheet::number_of(sheet, n, 2);
     let y = sheet::number_of(sheet, n, 3);
@@ -250,7 +255,8 @@ fn get_add(
 ) -> usize
     requires { ⌜ Ready (now sheet) (now table) (now arena) scope (at .top) (suc (at .levels)) (suc (at .left)) (own kind (now sheet) n) ⌝ }
     requires { ⌜ kind ≡ 0x1B ⌝ }
-    ensures { λ r. ⌜ Gives (now (arena .entry)) (now (arena .exit)) (now (sheet .entry)) scope (at .top) (at .top) (at .left) r (at .levels) (own kind (now (sheet .entry)) n) ⌝ }
+    ensures { λ r. ⌜ Gives (now (arena .entry)) (now (arena .exit)) (now (sheet .entry)) scope (at .top) (at .top) (at .left) r (at .levels)
+        (own kind (now (sheet .entry)) n) ⌝ }
 {
     let top = at.top;
     let node = sheet::number_of(sheet, n, 1);
@@ -316,7 +322,8 @@ fn get_each(
 ) -> usize
     requires { ⌜ Ready (now sheet) (now table) (now arena) scope (at .top) (suc (at .levels)) (suc (at .left)) (own kind (now sheet) n) ⌝ }
     requires { ⌜ kind ≡ 0x1C ⌝ }
-    ensures { λ r. ⌜ Gives (now (arena .entry)) (now (arena .exit)) (now (sheet .entry)) scope (at .top) (at .top) (at .left) r (at .levels) (own kind (now (sheet .entry)) n) ⌝ }
+    ensures { λ r. ⌜ Gives (now (arena .entry)) (now (arena .exit)) (now (sheet .entry)) scope (at .top) (at .top) (at .left) r (at .levels)
+        (own kind (now (sheet .entry)) n) ⌝ }
 {
     let subject = sheet::number_of(sheet, n, 1);
     let got = get_node(sheet, table, arena, scope, subject, at);

@@ -4,7 +4,7 @@ ghost use mathlib.Core.Bool.{false};
 ghost use Prim.Native.Nat.{_+_, _-_, _≤_, _<_};
 ghost use lib.ListN.{length};
 ghost use Rattle.answer.specs.Answer.{isRefusal, lenOf, startOf};
-ghost use Rattle.value.specs.Parts.{shapeOf, middleOf};
+ghost use Rattle.value.specs.Parts.{shapeOf, middleOf, passesBytes};
 ghost use Rattle.walk.specs.Parts.{part};
 ghost use Rattle.walk.specs.GetAt.{Movable, Brought};
 ghost use Rattle.walk.specs.GetBranch.{Judgeable, Judged};
@@ -50,6 +50,17 @@ pub fn bring(arena: &mut [u8], got: usize, top: usize) -> usize
     done(top, len, steps_of(got))
 }
 
+// Whether a test says yes to the value that stands from `start` to `end`. The test 0 asks nothing, and no value is looked at for it.
+fn says(arena: &[u8], test: u8, start: usize, end: usize) -> bool
+    requires { ⌜ (start ≤ end) × (end ≤ length (now arena)) ⌝ }
+    ensures { λ r. ⌜ r ≡ passesBytes «test» (part (now (arena .entry)) start (end - start)) ⌝ }
+{
+    if test == 0 {
+        return true;
+    }
+    value::passes(test, &arena[start..end])
+}
+
 /// A branch that was got, judged by its test; it stands no higher than `top` then.
 pub fn judge(arena: &mut [u8], got: usize, test: u8, top: usize) -> usize
     requires { ⌜ (isRefusal got ≡ false → Judgeable (now arena) got) ⌝ }
@@ -61,7 +72,7 @@ pub fn judge(arena: &mut [u8], got: usize, test: u8, top: usize) -> usize
     let start = start_of(got);
     let len = len_of(got);
     let end = start + len;
-    if !value::passes(test, &arena[start..end]) {
+    if !says(arena, test, start, end) {
         return refused(46);
     }
     if start <= top {

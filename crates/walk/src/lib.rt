@@ -85,8 +85,10 @@ fn get_plan(
     arena: &mut [u8],
 ) -> GetWalked
     requires { ⌜ Planned (now sheet) (now plan) table scope allowance (now arena) ⌝ }
-    ensures { λ r. ⌜ PlanWalked GET-OUTPUT (getBytes (now (sheet .entry)) (now (plan .entry)) allowance) (now (arena .entry)) (now (arena .exit)) (r .walked) ⌝ }
-    ensures { λ r. ⌜ Explains (explainGet (now (sheet .entry)) (now (plan .entry)) allowance) allowance (now (arena .entry)) (now (arena .exit)) (r .walked) (r .met) ⌝ }
+    ensures { λ r. ⌜ PlanWalked GET-OUTPUT (getBytes (now (sheet .entry)) (now (plan .entry)) allowance) (now (arena .entry)) (now (arena .exit))
+        (r .walked) ⌝ }
+    ensures { λ r. ⌜ Explains (explainGet (now (sheet .entry)) (now (plan .entry)) allowance) allowance (now (arena .entry)) (now (arena .exit)) (r .walked)
+        (r .met) ⌝ }
 {
     copy_in(plan, arena);
     let at = At {
@@ -114,8 +116,10 @@ fn get_plan(
 /// used; and where a refusal was met. Where the door stays shut, and where the sheet or the plan is refused, the arena is as it was; otherwise those
 /// bytes are free, and may hold anything, but for a refusal's chain.
 pub fn get(sheet: &[u8], plan: &[u8], allowance: usize, arena: &mut [u8]) -> GetWalked
-    ensures { λ r. ⌜ WalkCall (Unread (now (sheet .entry)) (now (plan .entry))) GET-OUTPUT (getBytes (now (sheet .entry)) (now (plan .entry)) allowance) allowance (now (arena .entry)) (now (arena .exit)) (r .walked) ⌝ }
-    ensures { λ r. ⌜ Explains (explainGet (now (sheet .entry)) (now (plan .entry)) allowance) allowance (now (arena .entry)) (now (arena .exit)) (r .walked) (r .met) ⌝ }
+    ensures { λ r. ⌜ WalkCall (Unread (now (sheet .entry)) (now (plan .entry))) GET-OUTPUT (getBytes (now (sheet .entry)) (now (plan .entry)) allowance)
+        allowance (now (arena .entry)) (now (arena .exit)) (r .walked) ⌝ }
+    ensures { λ r. ⌜ Explains (explainGet (now (sheet .entry)) (now (plan .entry)) allowance) allowance (now (arena .entry)) (now (arena .exit)) (r .walked)
+        (r .met) ⌝ }
 {
     let shut = door(arena.len(), allowance);
     if shut != 0 {
@@ -145,18 +149,20 @@ fn gather(arena: &mut [u8], slots: &[u16; rules::VARIABLES], scope: Scope) -> Ne
     requires { ⌜ SomePlaced (now arena) (now slots) scope ⌝ }
     ensures { λ r. ⌜ AllGathered (now (slots .entry)) scope (now (arena .entry)) (now (arena .exit)) r ⌝ }
 {
-    let mut new = starts::no_plan();
+    let mut at = [0u16; 16];
+    let mut len = 0;
     let mut i = 0;
     while i < scope.count as usize {
         let stood = step::length_of(scope.lens[i]);
         let start = scope.starts[i] as usize;
         let from = step::place_of(slots[i], i, start, stood);
-        let to = rules::STACK + new.len;
-        copy(arena, from.start, to, from.len);
-        new = starts::grown(new, from.len);
+        copy(arena, from.start, rules::STACK + len, from.len);
+        len = starts::grow(&mut at, i, len, from.len);
         i += 1;
     }
-    new
+    let count = scope.count as u8;
+    let starts = Starts { count, at };
+    NewPlan { len, starts }
 }
 
 // A refusal of a put that was met there, with no start and no bit.
@@ -186,10 +192,12 @@ fn put_plan(
 ) -> PutWalked
     requires { ⌜ Planned (now sheet) (now plan) table scope allowance (now arena) ⌝ }
     requires { ⌜ Viewed (now view) ⌝ }
-    ensures { λ r. ⌜ PlanWalked PUT-OUTPUT (putBytes (now (sheet .entry)) (now (plan .entry)) (now (view .entry)) allowance) (now (arena .entry)) (now (arena .exit)) (r .walked) ⌝ }
+    ensures { λ r. ⌜ PlanWalked PUT-OUTPUT (putBytes (now (sheet .entry)) (now (plan .entry)) (now (view .entry)) allowance) (now (arena .entry))
+        (now (arena .exit)) (r .walked) ⌝ }
     ensures { λ r. ⌜ r .starts ≡ newStarts (now (sheet .entry)) (now (arena .exit)) (r .walked) ⌝ }
     ensures { λ r. ⌜ r .written ≡ newWritten (now (sheet .entry)) (now (plan .entry)) (now (view .entry)) allowance (r .walked) ⌝ }
-    ensures { λ r. ⌜ Explains (explainPut (now (sheet .entry)) (now (plan .entry)) (now (view .entry)) allowance) allowance (now (arena .entry)) (now (arena .exit)) (r .walked) (r .met) ⌝ }
+    ensures { λ r. ⌜ Explains (explainPut (now (sheet .entry)) (now (plan .entry)) (now (view .entry)) allowance) allowance (now (arena .entry))
+        (now (arena .exit)) (r .walked) (r .met) ⌝ }
 {
     copy_in(plan, arena);
     let mut slots = [0u16; rules::VARIABLES];
@@ -236,10 +244,12 @@ fn put_plan(
 /// used, where its values start, which variables took a view, and where a refusal was met. Where the door stays shut, and where the sheet, the plan
 /// or the view is refused, the arena is as it was; otherwise those bytes are free, and may hold anything, but for a refusal's chain.
 pub fn put(sheet: &[u8], plan: &[u8], view: &[u8], allowance: usize, arena: &mut [u8]) -> PutWalked
-    ensures { λ r. ⌜ WalkCall (PutUnread (now (sheet .entry)) (now (plan .entry)) (now (view .entry))) PUT-OUTPUT (putBytes (now (sheet .entry)) (now (plan .entry)) (now (view .entry)) allowance) allowance (now (arena .entry)) (now (arena .exit)) (r .walked) ⌝ }
+    ensures { λ r. ⌜ WalkCall (PutUnread (now (sheet .entry)) (now (plan .entry)) (now (view .entry))) PUT-OUTPUT
+        (putBytes (now (sheet .entry)) (now (plan .entry)) (now (view .entry)) allowance) allowance (now (arena .entry)) (now (arena .exit)) (r .walked) ⌝ }
     ensures { λ r. ⌜ r .starts ≡ newStarts (now (sheet .entry)) (now (arena .exit)) (r .walked) ⌝ }
     ensures { λ r. ⌜ r .written ≡ newWritten (now (sheet .entry)) (now (plan .entry)) (now (view .entry)) allowance (r .walked) ⌝ }
-    ensures { λ r. ⌜ Explains (explainPut (now (sheet .entry)) (now (plan .entry)) (now (view .entry)) allowance) allowance (now (arena .entry)) (now (arena .exit)) (r .walked) (r .met) ⌝ }
+    ensures { λ r. ⌜ Explains (explainPut (now (sheet .entry)) (now (plan .entry)) (now (view .entry)) allowance) allowance (now (arena .entry))
+        (now (arena .exit)) (r .walked) (r .met) ⌝ }
 {
     let shut = door(arena.len(), allowance);
     if shut != 0 {

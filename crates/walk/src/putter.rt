@@ -89,9 +89,12 @@ fn put_leaf(
     view: &[u8],
     at: At,
 ) -> usize
-    requires { ⌜ Ready (now sheet) (now table) (now arena) (now slots) (Shown (now view)) scope (now cells) (at .cells) (at .cells) (at .top) (suc (at .levels)) (suc (at .left)) (leaf node kind (now sheet) n) ⌝ }
+    requires { ⌜ Ready (now sheet) (now table) (now arena) (now slots) (Shown (now view)) scope (now cells) (at .cells) (at .cells) (at .top)
+        (suc (at .levels)) (suc (at .left)) (leaf node kind (now sheet) n) ⌝ }
     requires { ⌜ Childless kind ⌝ }
-    ensures { λ r. ⌜ Gives (now (arena .entry)) (now (arena .exit)) (now (slots .entry)) (now (slots .exit)) (now (sheet .entry)) (Shown (now (view .entry))) scope (now (cells .entry)) (at .cells) (at .cells) (at .top) (at .left) r (at .levels) (leaf node kind (now (sheet .entry)) n) ⌝ }
+    ensures { λ r. ⌜ Gives (now (arena .entry)) (now (arena .exit)) (now (slots .entry)) (now (slots .exit)) (now (sheet .entry))
+        (Shown (now (view .entry))) scope (now (cells .entry)) (at .cells) (at .cells) (at .top) (at .left) r (at .levels)
+        (leaf node kind (now (sheet .entry)) n) ⌝ }
 {
     if kind == 0x14 {
         return put_number(sheet, n, view);
@@ -120,8 +123,10 @@ pub fn put_node(
     view: &[u8],
     at: At,
 ) -> usize
-    requires { ⌜ Ready (now sheet) (now table) (now arena) (now slots) (Shown (now view)) scope (now cells) (at .cells) (at .cells) (at .top) (at .levels) (at .left) (enter node) ⌝ }
-    ensures { λ r. ⌜ Gives (now (arena .entry)) (now (arena .exit)) (now (slots .entry)) (now (slots .exit)) (now (sheet .entry)) (Shown (now (view .entry))) scope (now (cells .entry)) (at .cells) (at .cells) (at .top) (at .left) r (at .levels) (enter node) ⌝ }
+    requires { ⌜ Ready (now sheet) (now table) (now arena) (now slots) (Shown (now view)) scope (now cells) (at .cells) (at .cells) (at .top) (at .levels)
+        (at .left) (enter node) ⌝ }
+    ensures { λ r. ⌜ Gives (now (arena .entry)) (now (arena .exit)) (now (slots .entry)) (now (slots .exit)) (now (sheet .entry))
+        (Shown (now (view .entry))) scope (now (cells .entry)) (at .cells) (at .cells) (at .top) (at .left) r (at .levels) (enter node) ⌝ }
     ensures { λ r. ⌜ Few (at .left) r ⌝ }
 {
     let code = step::entry(at.levels, at.left);
@@ -186,9 +191,12 @@ fn put_both(
     other: &[u8],
     at: At,
 ) -> usize
-    requires { ⌜ Ready (now sheet) (now table) (now arena) (now slots) (Shown (now view)) scope (now cells) (at .cells) (at .cells) (at .top) (at .levels) (at .left) (pair a b vfalse) ⌝ }
+    requires { ⌜ Ready (now sheet) (now table) (now arena) (now slots) (Shown (now view)) scope (now cells) (at .cells) (at .cells) (at .top) (at .levels)
+        (at .left) (pair a b vfalse) ⌝ }
     requires { ⌜ SomeView (now other) ⌝ }
-    ensures { λ r. ⌜ ((u : Value) → Shown (now (other .entry)) u → Gives (now (arena .entry)) (now (arena .exit)) (now (slots .entry)) (now (slots .exit)) (now (sheet .entry)) (Shown (now (view .entry))) scope (now (cells .entry)) (at .cells) (at .cells) (at .top) (at .left) r (at .levels) (pair a b u)) ⌝ }
+    ensures { λ r. ⌜ ((u : Value) → Shown (now (other .entry)) u → Gives (now (arena .entry)) (now (arena .exit)) (now (slots .entry)) (now (slots .exit))
+        (now (sheet .entry)) (Shown (now (view .entry))) scope (now (cells .entry)) (at .cells) (at .cells) (at .top) (at .left) r (at .levels)
+        (pair a b u)) ⌝ }
 {
     let one = put_node(sheet, table, arena, slots, scope, cells, a, view, at);
     if is_refused(one) {
@@ -212,9 +220,12 @@ fn put_two(
     view: &[u8],
     at: At,
 ) -> usize
-    requires { ⌜ Ready (now sheet) (now table) (now arena) (now slots) (Shown (now view)) scope (now cells) (at .cells) (at .cells) (at .top) (suc (at .levels)) (suc (at .left)) (own kind (now sheet) n) ⌝ }
+    requires { ⌜ Ready (now sheet) (now table) (now arena) (now slots) (Shown (now view)) scope (now cells) (at .cells) (at .cells) (at .top)
+        (suc (at .levels)) (suc (at .left)) (own kind (now sheet) n) ⌝ }
     requires { ⌜ Two kind ⌝ }
-    ensures { λ r. ⌜ Gives (now (arena .entry)) (now (arena .exit)) (now (slots .entry)) (now (slots .exit)) (now (sheet .entry)) (Shown (now (view .entry))) scope (now (cells .entry)) (at .cells) (at .cells) (at .top) (at .left) r (at .levels) (own kind (now (sheet .entry)) n) ⌝ }
+    ensures { λ r. ⌜ Gives (now (arena .entry)) (now (arena .exit)) (now (slots .entry)) (now (slots .exit)) (now (sheet .entry))
+        (Shown (now (view .entry))) scope (now (cells .entry)) (at .cells) (at .cells) (at .top) (at .left) r (at .levels)
+        (own kind (now (sheet .entry)) n) ⌝ }
 {
     let Apart::At(mid) = step::take_apart(kind, value::shape_of(view)) else {
         return refused(51);
@@ -248,10 +259,13 @@ fn put_under(
     view: &[u8],
     at: At,
 ) -> usize
-    requires { ⌜ Ready (now sheet) (now table) (now arena) (now slots) (Shown (now view)) scope (now cells) (at .cells) (at .cells) (at .top) (at .levels) (at .left) (inside kind branch subject vfalse vfalse) ⌝ }
+    requires { ⌜ Ready (now sheet) (now table) (now arena) (now slots) (Shown (now view)) scope (now cells) (at .cells) (at .cells) (at .top) (at .levels)
+        (at .left) (inside kind branch subject vfalse vfalse) ⌝ }
     requires { ⌜ Inner scope (at .cells) (at .levels) ⌝ }
     requires { ⌜ SomeParts (now arena) (at .top) (parts .start) (parts .first) (parts .second) ⌝ }
-    ensures { λ r. ⌜ ((f u : Value) → PartsAt (now (arena .entry)) (at .top) (parts .start) (parts .first) (parts .second) f u → Gives (now (arena .entry)) (now (arena .exit)) (now (slots .entry)) (now (slots .exit)) (now (sheet .entry)) (Shown (now (view .entry))) scope (now (cells .entry)) (at .cells) (at .cells) (at .top) (at .left) r (at .levels) (inside kind branch subject f u)) ⌝ }
+    ensures { λ r. ⌜ ((f u : Value) → PartsAt (now (arena .entry)) (at .top) (parts .start) (parts .first) (parts .second) f u → Gives (now (arena .entry))
+        (now (arena .exit)) (now (slots .entry)) (now (slots .exit)) (now (sheet .entry)) (Shown (now (view .entry))) scope (now (cells .entry)) (at .cells)
+        (at .cells) (at .top) (at .left) r (at .levels) (inside kind branch subject f u)) ⌝ }
 {
     let c = at.cells;
     slots[c] = 0;
@@ -303,9 +317,12 @@ fn put_rebuilt(
     parts: Parts,
     at: At,
 ) -> usize
-    requires { ⌜ Ready (now sheet) (now table) (now arena) (now slots) Any scope (now cells) (at .cells) (at .cells + 2) (at .top) (at .levels) (at .left) (rebuilt kind node vfalse vfalse) ⌝ }
+    requires { ⌜ Ready (now sheet) (now table) (now arena) (now slots) Any scope (now cells) (at .cells) (at .cells + 2) (at .top) (at .levels) (at .left)
+        (rebuilt kind node vfalse vfalse) ⌝ }
     requires { ⌜ SomeParts (now arena) (at .top) (parts .start) (parts .first) (parts .second) ⌝ }
-    ensures { λ r. ⌜ ((f u : Value) → PartsAt (now (arena .entry)) (at .top) (parts .start) (parts .first) (parts .second) f u → Gives (now (arena .entry)) (now (arena .exit)) (now (slots .entry)) (now (slots .exit)) (now (sheet .entry)) Any scope (now (cells .entry)) (at .cells) (at .cells + 2) (at .top) (at .left) r (at .levels) (rebuilt kind node f u)) ⌝ }
+    ensures { λ r. ⌜ ((f u : Value) → PartsAt (now (arena .entry)) (at .top) (parts .start) (parts .first) (parts .second) f u → Gives (now (arena .entry))
+        (now (arena .exit)) (now (slots .entry)) (now (slots .exit)) (now (sheet .entry)) Any scope (now (cells .entry)) (at .cells) (at .cells + 2)
+        (at .top) (at .left) r (at .levels) (rebuilt kind node f u)) ⌝ }
     ensures { λ r. ⌜ Few (at .left) r ⌝ }
 {
     let c = at.cells;
@@ -340,9 +357,12 @@ fn put_case(
     view: &[u8],
     at: At,
 ) -> usize
-    requires { ⌜ Ready (now sheet) (now table) (now arena) (now slots) (Shown (now view)) scope (now cells) (at .cells) (at .cells) (at .top) (suc (at .levels)) (suc (at .left)) (own kind (now sheet) n) ⌝ }
+    requires { ⌜ Ready (now sheet) (now table) (now arena) (now slots) (Shown (now view)) scope (now cells) (at .cells) (at .cells) (at .top)
+        (suc (at .levels)) (suc (at .left)) (own kind (now sheet) n) ⌝ }
     requires { ⌜ Case kind ⌝ }
-    ensures { λ r. ⌜ Gives (now (arena .entry)) (now (arena .exit)) (now (slots .entry)) (now (slots .exit)) (now (sheet .entry)) (Shown (now (view .entry))) scope (now (cells .entry)) (at .cells) (at .cells) (at .top) (at .left) r (at .levels) (own kind (now (sheet .entry)) n) ⌝ }
+    ensures { λ r. ⌜ Gives (now (arena .entry)) (now (arena .exit)) (now (slots .entry)) (now (slots .exit)) (now (sheet .entry))
+        (Shown (now (view .entry))) scope (now (cells .entry)) (at .cells) (at .cells) (at .top) (at .left) r (at .levels)
+        (own kind (now (sheet .entry)) n) ⌝ }
 {
     let subject = sheet::number_of(sheet, n, 1);
     let got = get_node(sheet, table, arena, scope, subject, at);
@@ -414,7 +434,8 @@ fn two_defaults(
     at: At,
 ) -> usize
     requires { ⌜ BothAsked (now sheet) (now table) (now arena) seen n (at .top) (at .levels) (at .left) ⌝ }
-    ensures { λ r. ⌜ Defaults (now (sheet .entry)) n (Sees (now (arena .entry)) seen (at .top)) (now (arena .entry)) (now (arena .exit)) (at .top) (at .levels) (at .left) r ⌝ }
+    ensures { λ r. ⌜ Defaults (now (sheet .entry)) n (Sees (now (arena .entry)) seen (at .top)) (now (arena .entry)) (now (arena .exit)) (at .top)
+        (at .levels) (at .left) r ⌝ }
 {
     let first = sheet::number_of(sheet, n, 6);
     let got = get_node(sheet, table, arena, seen, first, at);
@@ -447,7 +468,8 @@ fn defaults(
     at: At,
 ) -> usize
     requires { ⌜ DefaultsAsked (now sheet) (now table) (now arena) (now view) n (at .top) (at .levels) (at .left) ⌝ }
-    ensures { λ r. ⌜ Defaults (now (sheet .entry)) n (Shown (now (view .entry))) (now (arena .entry)) (now (arena .exit)) (at .top) (at .levels) (at .left) r ⌝ }
+    ensures { λ r. ⌜ Defaults (now (sheet .entry)) n (Shown (now (view .entry))) (now (arena .entry)) (now (arena .exit)) (at .top) (at .levels) (at .left)
+        r ⌝ }
 {
     let top = at.top;
     let len = view.len();
@@ -475,10 +497,13 @@ fn put_switch(
     view: &[u8],
     at: At,
 ) -> usize
-    requires { ⌜ Ready (now sheet) (now table) (now arena) (now slots) (Shown (now view)) scope (now cells) (at .cells) (at .cells) (at .top) (at .levels) (at .left) (switchAt (now sheet) n) ⌝ }
+    requires { ⌜ Ready (now sheet) (now table) (now arena) (now slots) (Shown (now view)) scope (now cells) (at .cells) (at .cells) (at .top) (at .levels)
+        (at .left) (switchAt (now sheet) n) ⌝ }
     requires { ⌜ Inner scope (at .cells) (at .levels) ⌝ }
     requires { ⌜ at .top + 512 + 513 * at .levels ≤ CHAIN ⌝ }
-    ensures { λ r. ⌜ Gives (now (arena .entry)) (now (arena .exit)) (now (slots .entry)) (now (slots .exit)) (now (sheet .entry)) (Shown (now (view .entry))) scope (now (cells .entry)) (at .cells) (at .cells) (at .top) (at .left) r (at .levels) (switchAt (now (sheet .entry)) n) ⌝ }
+    ensures { λ r. ⌜ Gives (now (arena .entry)) (now (arena .exit)) (now (slots .entry)) (now (slots .exit)) (now (sheet .entry))
+        (Shown (now (view .entry))) scope (now (cells .entry)) (at .cells) (at .cells) (at .top) (at .left) r (at .levels)
+        (switchAt (now (sheet .entry)) n) ⌝ }
 {
     let got = defaults(sheet, table, arena, n, view, at);
     if is_refused(got) {
@@ -525,9 +550,12 @@ fn put_call(
     view: &[u8],
     at: At,
 ) -> usize
-    requires { ⌜ Ready (now sheet) (now table) (now arena) (now slots) (Shown (now view)) scope (now cells) (at .cells) (at .cells) (at .top) (suc (at .levels)) (suc (at .left)) (own kind (now sheet) n) ⌝ }
+    requires { ⌜ Ready (now sheet) (now table) (now arena) (now slots) (Shown (now view)) scope (now cells) (at .cells) (at .cells) (at .top)
+        (suc (at .levels)) (suc (at .left)) (own kind (now sheet) n) ⌝ }
     requires { ⌜ kind ≡ 0x1A ⌝ }
-    ensures { λ r. ⌜ Gives (now (arena .entry)) (now (arena .exit)) (now (slots .entry)) (now (slots .exit)) (now (sheet .entry)) (Shown (now (view .entry))) scope (now (cells .entry)) (at .cells) (at .cells) (at .top) (at .left) r (at .levels) (own kind (now (sheet .entry)) n) ⌝ }
+    ensures { λ r. ⌜ Gives (now (arena .entry)) (now (arena .exit)) (now (slots .entry)) (now (slots .exit)) (now (sheet .entry))
+        (Shown (now (view .entry))) scope (now (cells .entry)) (at .cells) (at .cells) (at .top) (at .left) r (at .levels)
+        (own kind (now (sheet .entry)) n) ⌝ }
 {
     let x = sheet::number_of(sheet, n, 2);
     let y = sheet::number_of(sheet, n, 3);
@@ -557,9 +585,12 @@ fn put_add(
     view: &[u8],
     at: At,
 ) -> usize
-    requires { ⌜ Ready (now sheet) (now table) (now arena) (now slots) (Shown (now view)) scope (now cells) (at .cells) (at .cells) (at .top) (suc (at .levels)) (suc (at .left)) (own kind (now sheet) n) ⌝ }
+    requires { ⌜ Ready (now sheet) (now table) (now arena) (now slots) (Shown (now view)) scope (now cells) (at .cells) (at .cells) (at .top)
+        (suc (at .levels)) (suc (at .left)) (own kind (now sheet) n) ⌝ }
     requires { ⌜ kind ≡ 0x1B ⌝ }
-    ensures { λ r. ⌜ Gives (now (arena .entry)) (now (arena .exit)) (now (slots .entry)) (now (slots .exit)) (now (sheet .entry)) (Shown (now (view .entry))) scope (now (cells .entry)) (at .cells) (at .cells) (at .top) (at .left) r (at .levels) (own kind (now (sheet .entry)) n) ⌝ }
+    ensures { λ r. ⌜ Gives (now (arena .entry)) (now (arena .exit)) (now (slots .entry)) (now (slots .exit)) (now (sheet .entry))
+        (Shown (now (view .entry))) scope (now (cells .entry)) (at .cells) (at .cells) (at .top) (at .left) r (at .levels)
+        (own kind (now (sheet .entry)) n) ⌝ }
 {
     let Shape::Number(m) = value::shape_of(view) else {
         return refused(51);
@@ -612,7 +643,8 @@ fn put_one(
     requires { ⌜ MembersAsked (now sheet) (now table) (now arena) (now slots) scope (now cells) by (at .cells) (at .top) (at .levels) (at .left) ⌝ }
     requires { ⌜ SomeView (now view) ⌝ }
     requires { ⌜ (length (now whole) ≡ 256) × (built + 1 ≤ 256) ⌝ }
-    ensures { λ r. ⌜ MemberTold (now (sheet .entry)) (now (arena .entry)) (now (arena .exit)) (now (slots .entry)) (now (slots .exit)) (now (whole .entry)) (now (whole .exit)) scope (now (cells .entry)) by (now (view .entry)) built (at .cells) (at .top) (at .levels) (at .left) r ⌝ }
+    ensures { λ r. ⌜ MemberTold (now (sheet .entry)) (now (arena .entry)) (now (arena .exit)) (now (slots .entry)) (now (slots .exit)) (now (whole .entry))
+        (now (whole .exit)) scope (now (cells .entry)) by (now (view .entry)) built (at .cells) (at .top) (at .levels) (at .left) r ⌝ }
 {
     let old = by.old;
     let mid = value::middle(&arena[old..]);
@@ -655,7 +687,8 @@ fn put_all(
 ) -> usize
     requires { ⌜ MembersAsked (now sheet) (now table) (now arena) (now slots) scope (now cells) by (at .cells) (at .top) (at .levels) (at .left) ⌝ }
     requires { ⌜ SomeList (now view) ⌝ }
-    ensures { λ r. ⌜ MembersTold (now (sheet .entry)) (now (arena .entry)) (now (arena .exit)) (now (slots .entry)) (now (slots .exit)) scope (now (cells .entry)) by (now (view .entry)) (at .cells) (at .top) (at .levels) (at .left) r ⌝ }
+    ensures { λ r. ⌜ MembersTold (now (sheet .entry)) (now (arena .entry)) (now (arena .exit)) (now (slots .entry)) (now (slots .exit)) scope
+        (now (cells .entry)) by (now (view .entry)) (at .cells) (at .top) (at .levels) (at .left) r ⌝ }
 {
     let mut whole = [0u8; 256];
     let mut to = at;
@@ -707,9 +740,12 @@ fn put_each(
     view: &[u8],
     at: At,
 ) -> usize
-    requires { ⌜ Ready (now sheet) (now table) (now arena) (now slots) (Shown (now view)) scope (now cells) (at .cells) (at .cells) (at .top) (suc (at .levels)) (suc (at .left)) (own kind (now sheet) n) ⌝ }
+    requires { ⌜ Ready (now sheet) (now table) (now arena) (now slots) (Shown (now view)) scope (now cells) (at .cells) (at .cells) (at .top)
+        (suc (at .levels)) (suc (at .left)) (own kind (now sheet) n) ⌝ }
     requires { ⌜ kind ≡ 0x1C ⌝ }
-    ensures { λ r. ⌜ Gives (now (arena .entry)) (now (arena .exit)) (now (slots .entry)) (now (slots .exit)) (now (sheet .entry)) (Shown (now (view .entry))) scope (now (cells .entry)) (at .cells) (at .cells) (at .top) (at .left) r (at .levels) (own kind (now (sheet .entry)) n) ⌝ }
+    ensures { λ r. ⌜ Gives (now (arena .entry)) (now (arena .exit)) (now (slots .entry)) (now (slots .exit)) (now (sheet .entry))
+        (Shown (now (view .entry))) scope (now (cells .entry)) (at .cells) (at .cells) (at .top) (at .left) r (at .levels)
+        (own kind (now (sheet .entry)) n) ⌝ }
 {
     if step::unfit(3, view[0]) {
         return refused(51);

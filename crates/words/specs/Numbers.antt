@@ -5,6 +5,6 @@ use Prim.Native.Nat.{ℕ}
 abbrev pub INPUT : ℕ
 INPUT = 8192
 
--- the bytes of a line of `tools`, at most: `ok`, a space, a part of 8,187 bytes in hexadecimal, a line feed
+-- the bytes of a line of `tools`, at most: `ok`, a space, a text of 16,384 bytes in hexadecimal, a line feed
 abbrev pub LINE : ℕ
-LINE = 16378
+LINE = 32772

@@ -65,3 +65,14 @@ pub fn unpacked(answer: u64) -> Result<usize, NodeRefusal> {
         refusal => Err(refusal.into()),
     }
 }
+
+/// Why a text is no sheet.
+#[derive(Clone, Copy, Debug, PartialEq, Eq)]
+pub struct Fault {
+    /// 90 to 94; or 1, of the output, and then the others are 0.
+    pub refusal: Refusal,
+    /// How many bytes of the text stand before it.
+    pub place: usize,
+    /// What was expected, or what is wrong.
+    pub detail: u8,
+}

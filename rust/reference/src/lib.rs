@@ -2,13 +2,13 @@
 //! version": 1 (the node 1C), 2 (the starts of a plan's values), 4 (numbers over 65,535: the kind of value 06 and the node 1D), 5 (defaults of
 //! a list case that take after the list sent), 6 (the check of a sheet by types), 7 (two sheets joined), 8 (which variables a put wrote),
 //! 9 (why a call is refused), 10 (plans made by a venue's own system), 11 (lists as JSON), 12 (one numbering for a sheet file) and 14 (how
-//! much longer the list can get).
+//! much longer the list can get); and sheets as text, written from the manual of that language.
 //!
 //! It was written from the papers and shares no line with the Rattle code, so that where the two agree on a job, two readings of the
 //! papers agree. Its tests and the benchmark's baseline are its only uses: programs use the crate `lens`.
 //!
 //! [`get`], [`put`], [`load`], [`put_starts`], [`put_written`] and the tools ([`number`], [`join`], [`growth`], [`check_plan`], [`to_json`],
-//! [`from_json`], [`check_types`]) work in the caller's buffers exactly as the archive's functions do, and answer in the same form, which
+//! [`from_json`], [`check_types`], [`read_sheet`], [`print_sheet`]) work in the caller's buffers exactly as the archive's functions do, and answer in the same form, which
 //! [`answer`] takes apart.
 
 #![forbid(unsafe_code)]
@@ -21,8 +21,11 @@ mod join;
 mod json;
 mod numbering;
 mod plan;
+mod printed;
+mod read;
 mod record;
 mod sheet;
+mod tokens;
 pub mod tool;
 mod types;
 mod value;
@@ -36,6 +39,8 @@ pub use join::join;
 pub use json::{from_json, to_json};
 pub use numbering::number;
 pub use plan::{find, from_front, part};
+pub use printed::print_sheet;
+pub use read::read_sheet;
 pub use types::check_types;
 
 use answer::{made, Success};
@@ -50,6 +55,8 @@ pub const GET_OUT: usize = 256;
 pub const PUT_OUT: usize = 4096;
 /// Bytes of output that a tool asks for that writes a sheet.
 pub const SHEET_OUT: usize = 2048;
+/// Bytes of output that a sheet asks for that is printed as text.
+pub const TEXT_OUT: usize = 16_384;
 /// Bytes of output that a value asks for that is written as JSON.
 pub const JSON_OUT: usize = 2048;
 /// Bytes of output that a text asks for that is read as a value.

@@ -13,10 +13,7 @@ fn numbered(sheet: &[u8], out: &mut [u8]) -> Result<usize, NodeRefusal> {
     if out.len() < SHEET_OUT {
         return Err(1.into());
     }
-    let sheet = Sheet::read(sheet)?;
-    if let Some(node) = lowest_used_twice(&sheet) {
-        return Err(NodeRefusal { refusal: 81, node: Some(node) });
-    }
+    let sheet = read_used_once(sheet)?;
     let order = order(&sheet);
     let mut new = [0; MOST_NODES];
     for (number, &old) in order.iter().enumerate() {
@@ -33,6 +30,15 @@ fn numbered(sheet: &[u8], out: &mut [u8]) -> Result<usize, NodeRefusal> {
     }
     out[..bytes.len()].copy_from_slice(&bytes);
     Ok(bytes.len())
+}
+
+/// A sheet that uses each node at most once; 81 of another.
+pub fn read_used_once(sheet: &[u8]) -> Result<Sheet, NodeRefusal> {
+    let sheet = Sheet::read(sheet)?;
+    match lowest_used_twice(&sheet) {
+        Some(node) => Err(NodeRefusal { refusal: 81, node: Some(node) }),
+        None => Ok(sheet),
+    }
 }
 
 /// The lowest node that is used more than once as a child or a root. Records that are never met use their children too.

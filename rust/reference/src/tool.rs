@@ -1,10 +1,10 @@
 //! The inputs of the program `tools`, and what it prints.
 
-use crate::answer::{taken, unpacked, NodeRefusal};
+use crate::answer::{taken, unpacked, Fault, NodeRefusal};
 use crate::job::{counted, Job, LONGEST_INPUT};
 use crate::vectors::hex;
 use crate::why::Explanation;
-use crate::{Refusal, JSON_OUT, PUT_OUT, SCRATCH, SHEET_OUT, STARTS_MAX, VALUE_OUT};
+use crate::{Refusal, JSON_OUT, PUT_OUT, SCRATCH, SHEET_OUT, STARTS_MAX, TEXT_OUT, VALUE_OUT};
 
 /// One call.
 #[derive(Clone, Debug, PartialEq, Eq)]
@@ -31,14 +31,20 @@ pub enum Tool {
     FromJson { text: Vec<u8> },
     /// 54: a sheet checked by types.
     Types { sheet: Vec<u8>, types: Vec<u8> },
+    /// 41: a text read to its sheet.
+    Read { text: Vec<u8> },
+    /// 55: a sheet printed as text.
+    Print { sheet: Vec<u8> },
 }
 
 /// What a call gives.
 #[derive(Clone, Debug, PartialEq, Eq)]
 pub enum Given {
     Starts(Vec<u16>),
-    /// A value or a sheet.
+    /// A value, a sheet, or the text of a sheet, in hexadecimal.
     Bytes(Vec<u8>),
+    /// The sheet of a text.
+    Read(Result<Vec<u8>, Fault>),
     Put {
         steps: u32,
         plan: Vec<u8>,
@@ -99,6 +105,8 @@ impl Tool {
                 let (sheet, types) = counted(fields)?;
                 Some(Tool::Types { sheet: sheet.to_vec(), types: types.to_vec() })
             }
+            0x41 => Some(Tool::Read { text: fields.to_vec() }),
+            0x55 => Some(Tool::Print { sheet: fields.to_vec() }),
             0x43 => {
                 let Job { sheet, plan, view, allowance } = Job::put(fields)?;
                 let fields = view?;
@@ -167,6 +175,19 @@ impl Tool {
                 Ok(Given::Passed)
             }
             Tool::Growth { sheet, variable } => Ok(Given::Growth(unpacked(crate::growth(sheet, *variable))?)),
+            Tool::Read { text } => {
+                let (mut out, mut place) = ([0; SHEET_OUT], 0);
+                let answer = crate::read_sheet(text, &mut out, &mut place);
+                Ok(Given::Read(match answer as u8 {
+                    0 => Ok(out[..(answer >> 8) as usize].to_vec()),
+                    refusal => Err(Fault { refusal, place, detail: (answer >> 8) as u8 }),
+                }))
+            }
+            Tool::Print { sheet } => {
+                let mut out = [0; TEXT_OUT];
+                let length = unpacked(crate::print_sheet(sheet, &mut out))?;
+                Ok(Given::Bytes(out[..length].to_vec()))
+            }
         }
     }
 }
@@ -175,7 +196,8 @@ impl Tool {
 pub fn printed(input: &[u8], run: impl Fn(&Tool) -> Result<Given, NodeRefusal>) -> String {
     match Tool::from_input(input).map_err(NodeRefusal::from).and_then(|tool| run(&tool)) {
         Ok(Given::Starts(starts)) => format!("ok {}", decimal(&starts)),
-        Ok(Given::Bytes(bytes)) => format!("ok {}", hex(&bytes)),
+        Ok(Given::Bytes(bytes) | Given::Read(Ok(bytes))) => format!("ok {}", hex(&bytes)),
+        Ok(Given::Read(Err(Fault { refusal, place, detail }))) => format!("no {refusal} {place} {detail}"),
         Ok(Given::Put { steps, plan, starts }) => format!("ok {steps} {} {}", hex(&plan), decimal(&starts)),
         Ok(Given::Written { steps, plan, written }) => format!("ok {steps} {} {written:04X}", hex(&plan)),
         Ok(Given::Growth(growth)) => format!("ok {growth}"),

@@ -48,16 +48,18 @@ pub fn check_jobs(printed: impl Fn(&[u8]) -> String) {
 }
 
 /// Runs the inputs of `tools` of the file that `LENS_TOOL_VECTORS` names; or else those of `vectors/tools.txt`, and of
-/// `shared/vectors/tools-full.txt` and `tools-next.txt` beside the repository where that folder is there: of the latter those whose
-/// letter stands in `vectors/letters.txt`.
+/// `shared/vectors/tools-full.txt`, `tools-text.txt` and `tools-next.txt` beside the repository where that folder is there: of the latter
+/// those whose letter stands in `vectors/letters.txt`.
 pub fn check_tools(printed: impl Fn(&[u8]) -> String) {
     check_files("LENS_TOOL_VECTORS", "tools.txt", "tools-full.txt", &printed);
-    let next = Path::new(BESIDE).join("tools-next.txt");
-    if std::env::var_os("LENS_TOOL_VECTORS").is_none() && next.exists() {
-        let file = read(&next);
-        let landed = |line: &str| LETTERS.lines().any(|letter| line.starts_with(letter));
-        check_lines(&next, &file.lines().filter(|line| landed(line)).collect::<Vec<_>>(), printed);
+    if std::env::var_os("LENS_TOOL_VECTORS").is_some() || !Path::new(BESIDE).exists() {
+        return;
     }
+    check_file(&Path::new(BESIDE).join("tools-text.txt"), &printed);
+    let next = Path::new(BESIDE).join("tools-next.txt");
+    let file = read(&next);
+    let landed = |line: &str| LETTERS.lines().any(|letter| line.starts_with(letter));
+    check_lines(&next, &file.lines().filter(|line| landed(line)).collect::<Vec<_>>(), printed);
 }
 
 /// The letters of `tools-next.txt` that the program has, in hexadecimal, one a line.

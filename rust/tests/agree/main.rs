@@ -19,6 +19,8 @@ mod sent;
 mod sheets;
 mod starts;
 mod switches;
+mod text;
+mod texts;
 mod tools;
 mod typed;
 mod types;

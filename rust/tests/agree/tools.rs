@@ -2,14 +2,16 @@
 
 use crate::random::Random;
 use crate::setting;
-use lens::raw::{Answer, SCRATCH};
+use lens::raw::{Answer, SCRATCH, TEXT_OUT};
 use std::fmt::Debug;
 
 const CASES: u64 = 20_000;
 
-/// Bytes of an output that may be lent, and bytes behind them that nobody may touch.
-const ROOM: usize = 2048 + 64;
+/// Bytes of an output that may be lent beyond what is asked for, and bytes behind them that nobody may touch.
+const MORE: usize = 64;
 const GUARD: usize = 64;
+/// Room for the longest output.
+const ROOM: usize = TEXT_OUT + MORE + GUARD;
 
 /// Both sides' outputs, and how often each answer came.
 pub struct Both {
@@ -23,9 +25,9 @@ pub struct Both {
 }
 
 impl Both {
-    fn new() -> Both {
+    pub fn new() -> Both {
         let mut random = Random::new(1);
-        let noise: Vec<u8> = (0..ROOM + GUARD).map(|_| random.byte()).collect();
+        let noise: Vec<u8> = (0..ROOM).map(|_| random.byte()).collect();
         let scratch_noise: Vec<u8> = (0..SCRATCH + 64 + GUARD).map(|_| random.byte() | 1).collect();
         let scratches = [scratch_noise.clone(), scratch_noise.clone()];
         Both { archive: noise.clone(), reference: noise.clone(), noise, scratch_noise, scratches, seen: [0; 256] }
@@ -38,15 +40,18 @@ impl Both {
         archive: impl FnOnce(&mut [u8]) -> Answer,
         reference: impl FnOnce(&mut [u8]) -> u64,
     ) -> (Answer, Vec<u8>) {
-        self.archive.copy_from_slice(&self.noise);
-        self.reference.copy_from_slice(&self.noise);
-        let answer = archive(&mut self.archive[..out_len]);
-        let wanted = reference(&mut self.reference[..out_len]);
-        self.same(answer, wanted);
-        assert!(self.archive == self.reference, "the archive gives other bytes than the reference, after {:016X}", answer.0);
+        let all = out_len + GUARD;
+        let noise = &self.noise[..all];
+        let (ours, theirs) = (&mut self.archive[..all], &mut self.reference[..all]);
+        ours.copy_from_slice(noise);
+        theirs.copy_from_slice(noise);
+        let answer = archive(&mut ours[..out_len]);
+        let wanted = reference(&mut theirs[..out_len]);
+        assert!(answer.0 != wanted || ours == theirs, "the archive gives other bytes than the reference, after {:016X}", answer.0);
         let given = if answer.number() == 0 { answer.length() } else { 0 };
-        assert!(self.archive[given..] == self.noise[given..], "bytes behind what is given changed, after {:016X}", answer.0);
-        (answer, self.archive[..given].to_vec())
+        assert!(ours[given..] == noise[given..], "bytes behind what is given changed, after {:016X}", answer.0);
+        let given = ours[..given].to_vec();
+        (self.same(answer, wanted), given)
     }
 
     /// A tool that works in a scratch of this length and has no output.
@@ -114,7 +119,7 @@ pub fn out_len(random: &mut Random, asked: usize) -> usize {
     match random.below(100) {
         0 => random.below(asked),
         1 => asked - 1,
-        2..=30 => asked + random.below(ROOM - asked + 1),
+        2..=30 => asked + random.below(MORE + 1),
         _ => asked,
     }
 }

@@ -1,7 +1,8 @@
-//! The stack that a call of the archive takes, on the deepest jobs. `cargo test --test stack -- --nocapture` prints it job by job.
+//! The stack that a call of the archive takes, on the deepest jobs and texts. `cargo test --test stack -- --nocapture` prints it job by job.
 
 mod jobs;
 mod painted;
+mod texts;
 
 use lens::raw;
 use reference::job::Job;
@@ -52,6 +53,24 @@ fn run(job: &Job, lent: &mut Lent) -> u64 {
     answer.0
 }
 
+/// Reads a text and prints its sheet: both answers.
+fn run_text(text: &str, sheet: &mut [u8], printed: &mut [u8]) -> [u64; 2] {
+    let read = raw::read_sheet(text.as_bytes(), sheet, &mut 0);
+    [read.0, raw::print_sheet(&sheet[..read.length()], printed).0]
+}
+
+/// The texts are sheets that have hardly room for a node more.
+#[test]
+fn the_texts_are_the_deepest() {
+    for deep in texts::deepest() {
+        let (mut sheet, mut printed) = ([0; raw::SHEET_OUT], [0; raw::TEXT_OUT]);
+        let answers = run_text(&deep.text, &mut sheet, &mut printed);
+        assert_eq!(answers.map(|answer| answer as u8), [0, 0], "{}", deep.name);
+        let more = format!("{} section g(_, _) = [0, 0, 0, 0]", deep.text);
+        assert_eq!(raw::read_sheet(more.as_bytes(), &mut sheet, &mut 0).number(), 94, "{}", deep.name);
+    }
+}
+
 /// The jobs are as deep as they say: a chain that ends at depth 48 gives its list or plan, a longer one is refused.
 #[test]
 fn the_jobs_are_the_deepest() {
@@ -76,6 +95,14 @@ fn the_stack_is_as_stated() {
         println!("{used:>8} {}", deep.name);
         most = most.max(used);
     }
+    for deep in texts::deepest() {
+        let (mut sheet, mut printed) = (vec![0; raw::SHEET_OUT], vec![0; raw::TEXT_OUT]);
+        let used = painted::stack_of(&mut || {
+            run_text(&deep.text, &mut sheet, &mut printed);
+        });
+        println!("{used:>8} a text of {}", deep.name);
+        most = most.max(used);
+    }
     let rounded = most.next_multiple_of(PAGE);
     println!("{most:>8} bytes of stack are the most: STACK is to be {rounded}");
     assert!(
@@ -97,5 +124,11 @@ fn a_thread_with_little_more_does() {
         let thread = std::thread::Builder::new().stack_size(raw::STACK + LITTLE);
         let answer = thread.spawn(move || run(&deep.job, &mut lent)).unwrap().join().unwrap();
         assert!(deep.number.is_none_or(|number| number == answer as u8), "{}", deep.name);
+    }
+    for deep in texts::deepest() {
+        let (mut sheet, mut printed) = (vec![0; raw::SHEET_OUT], vec![0; raw::TEXT_OUT]);
+        let thread = std::thread::Builder::new().stack_size(raw::STACK + LITTLE);
+        let answers = thread.spawn(move || run_text(&deep.text, &mut sheet, &mut printed)).unwrap().join().unwrap();
+        assert_eq!(answers.map(|answer| answer as u8), [0, 0], "{}", deep.name);
     }
 }

@@ -24,15 +24,12 @@ element-copy-out-at c = search needs
 cast-at : tie.Need-cast-at Inv-loop μ-loop
 cast-at c = search needs
 
-node-at-requires : tie.Need-node-at-requires Inv-loop μ-loop
-node-at-requires c κs = search needs
-
-in-range-requires : tie.Need-in-range-requires Inv-loop μ-loop
-in-range-requires c κs = search needs
+record-in-range-requires : tie.Need-record-in-range-requires Inv-loop μ-loop
+record-in-range-requires c κs = search needs
 
 returns : tie.Need-returns Inv-loop μ-loop
-returns c = node-out (c .before .before .before .before .before .loop .inv) (c .before .before .before .before .loop-test .taken)
-    (c .before .before .node-at .ensures) (c .before .in-range .ensures) (not-true _ (c .if1 .taken))
+returns c = node-out (c .before .before .before .before .loop .inv) (c .before .before .before .loop-test .taken) (c .before .record-in-range .ensures)
+    (not-true _ (c .if1 .taken))
 
 add-i : tie.Need-add-i Inv-loop μ-loop
 add-i c = search needs
@@ -41,8 +38,8 @@ loop-less : tie.Need-loop-less Inv-loop μ-loop
 loop-less c = search needs
 
 loop-again : tie.Need-loop-again Inv-loop μ-loop
-loop-again c = node-in (c .before .before .before .before .before .loop .inv) (c .before .before .before .before .loop-test .taken)
-    (c .before .before .node-at .ensures) (c .before .in-range .ensures) (not-false _ (c .if1 .left))
+loop-again c = node-in (c .before .before .before .before .loop .inv) (c .before .before .before .loop-test .taken) (c .before .record-in-range .ensures)
+    (not-false _ (c .if1 .left))
 
 returns-2 : tie.Need-returns-2 Inv-loop μ-loop
 returns-2 c = nodes-all (c .before .loop .inv) (c .loop-test .left)
@@ -57,8 +54,7 @@ nodes-in-range-spec =
     mul-at
     element-copy-out-at
     cast-at
-    node-at-requires
-    in-range-requires
+    record-in-range-requires
     returns
     add-i
     loop-less

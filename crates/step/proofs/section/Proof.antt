@@ -1,20 +1,17 @@
--- `section` meets its contract. Assumes nothing.
-use mathlib.Core.Path.{refl}
-use native.Mathlib.Omega.{arith}
-use Rattle.step.specs.StepLaws.{when-in, when-out}
+-- `section` meets its contract: by then both numbers are in range. Assumes nothing.
+use mathlib.Core.Path.{ap₂}
 use borrow.Author.Needs.{needs}
+use Rattle.step.specs.Step.{picked}
 use Rattle.step.proofs.section.Statement.{statement}
 use Rattle.step.proofs.section.Tie as tie
 
+-- PLACES: both numbers are brought into range
+abbrev in-range : tie.After-two4 → tie.After-in-room2
+in-range c = c .before .before .before .before
+
 returns : tie.Need-returns
-returns c = when-out (λ p. omega (arith, p .0, c)) refl
-
-returns-2 : tie.Need-returns-2
-returns-2 c = when-out (λ p. omega (arith, p .1, c)) refl
-
-returns-3 : tie.Need-returns-3
-returns-3 c = when-in (omega (arith, c), omega (arith, c)) refl
+returns c = let i = in-range c in ap₂ (picked (i .before .before .args .t1)) (i .before .in-room .ensures .0) (i .in-room2 .ensures .0)
 
 pub section-spec : {M : Type 1} → statement M
-section-spec = tie.close (tie.spec returns returns-2 (λ c. search needs) (λ c. search needs) (λ c. search needs) (λ c. search needs)
-    (λ c. search needs) (λ c. search needs) (λ c. search needs) (λ c. search needs) (λ c. search needs) (λ c. search needs) returns-3)
+section-spec = tie.close (tie.spec (λ c κs. search needs) (λ c κs. search needs) (λ c. search needs) (λ c. search needs) (λ c. search needs)
+    (λ c. search needs) (λ c. search needs) (λ c. search needs) (λ c. search needs) (λ c. search needs) (λ c. search needs) (λ c. search needs) returns)

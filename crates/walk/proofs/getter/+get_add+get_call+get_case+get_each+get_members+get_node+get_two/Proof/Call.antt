@@ -9,6 +9,7 @@ use Rattle.walk.specs.Gets.{here, ready-scope, as-scope}
 use lib.ListN.{getD}
 use Rattle.sheet.specs.Table.{sectionAt}
 use Rattle.step.specs.Step.{picked}
+use Rattle.step.specs.StepLaws.{in-room}
 use Rattle.walk.specs.GetCall.{Looked, call-42₁, call-42₂, call-asks, call-told}
 use Rattle.walk.proofs.getter.get_call.Reads as get-call
 use Rattle.walk.proofs.getter.get_node.Reads as get-node
@@ -81,8 +82,8 @@ module _ (t : ℕ) where
       c .section .result ≡ picked (e .args .scope) (getD (e .args .sheet .now) (e .args .n + 2) 0) (getD (e .args .sheet .now) (e .args .n + 3) 0)
   section-is c =
       let i = in-scope (found c) in
-      c .section .ensures .inside (few i) ∙ ap₂ (picked (entry i .args .scope)) (i .before .before .before .before .number-of .ensures)
-      (i .before .before .before .number-of2 .ensures)
+      c .section .ensures ∙ ap₂ (picked (entry i .args .scope)) (in-room (few i .0) ∙ i .before .before .before .before .number-of .ensures)
+      (in-room (few i .1) ∙ i .before .before .before .number-of2 .ensures)
 
   get-node-requires : At lts.Need-get-node-requires
   get-node-requires c κs = let s = c .before in (omega (arith, entry (in-scope (found s)) .pre .0), ready-scope (section-is s) (call-asks (looked (found s))))

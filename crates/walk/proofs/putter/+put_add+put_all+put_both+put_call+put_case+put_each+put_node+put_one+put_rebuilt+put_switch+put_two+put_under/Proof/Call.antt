@@ -9,6 +9,7 @@ use Rattle.sheet.specs.Table.{sectionAt}
 use Rattle.step.specs.Step.{picked, pickedTwo}
 use Rattle.rules.specs.Numbers.{VARIABLES}
 use Rattle.walk.specs.Cells.{Shown}
+use Rattle.step.specs.StepLaws.{in-room}
 use Rattle.walk.specs.Puts.{put-here}
 use Rattle.walk.specs.PutReady.{ready-as, gives-as}
 use Rattle.walk.specs.PutCall.{PutLooked, call-42₁, call-42₂, call-asks, call-told}
@@ -78,8 +79,8 @@ module _ (t : ℕ) where
       c .section .result ≡ picked (e .args .scope) (getD (e .args .sheet .now) (e .args .n + 2) 0) (getD (e .args .sheet .now) (e .args .n + 3) 0)
   section-is c =
       let i = in-scope (found c) in
-      c .section .ensures .inside (few i) ∙ ap₂ (picked (entry i .args .scope)) (i .before .before .before .before .number-of .ensures)
-      (i .before .before .before .number-of2 .ensures)
+      c .section .ensures ∙ ap₂ (picked (entry i .args .scope)) (in-room (few i .0) ∙ i .before .before .before .before .number-of .ensures)
+      (in-room (few i .1) ∙ i .before .before .before .number-of2 .ensures)
 
   cells-are : (c : At lts.After-pick-cells) → let i = in-scope (found (scoped c)) in let e = entry i in
       c .pick-cells .result ≡ pickedTwo (e .args .cells .now) (getD (e .args .sheet .now) (e .args .n + 2) 0) (getD (e .args .sheet .now) (e .args .n + 3) 0)

@@ -171,7 +171,8 @@ module _ (t : ℕ) where
   returns-3 c =
       let p = c .before .before .before .before .before .before in
       let b = two-read p in
-      body-told (entered b) (two-range p .0) (two-range p .1) (told-as (b .before .below .ensures) (p .put-two .ensures)) (out b (c .before .before .leave3 .ensures))
+      body-told (entered b) (two-range p .0) (two-range p .1) (told-as (b .before .below .ensures) (p .put-two .ensures))
+      (out b (c .before .before .leave3 .ensures))
 
   put-case-requires : At lts.Need-put-case-requires
   put-case-requires c κs =
@@ -224,7 +225,8 @@ module _ (t : ℕ) where
   returns-6 c =
       let p = c .before .before .before .before .before .before in
       let b = add-read p in
-      body-told (entered b) (add-range p .0) (add-range p .1) (told-as (b .before .below .ensures) (p .put-add .ensures)) (out b (c .before .before .leave6 .ensures))
+      body-told (entered b) (add-range p .0) (add-range p .1) (told-as (b .before .below .ensures) (p .put-add .ensures))
+      (out b (c .before .before .leave6 .ensures))
 
   put-each-requires : At lts.Need-put-each-requires
   put-each-requires c κs =
