@@ -64,7 +64,8 @@ module _ {s slots front fresh : List ℕ} {r : Cursor} (p : Passed s [] slots fr
   unfolding sheetOf sheetRead placed answerOf _>>=_
   first-fault h =
       let f = told-fault (p .told) h in
-      let e : textRead (λ w. some 0) (tokens between s) ≡ fault (r .code) (f .left) (f .inside) (r .detail) = ap (λ (R : Name → Option ℕ). textRead R (tokens between s)) (sym (no-table s)) ∙ f .is in
+      let e : textRead (λ w. some 0) (tokens between s) ≡ fault (r .code) (f .left) (f .inside) (r .detail) = ap
+      (λ (R : Name → Option ℕ). textRead R (tokens between s)) (sym (no-table s)) ∙ f .is in
       rw (e, ← f .place)
 
 -- THE SECOND, with the names of the sections
@@ -87,7 +88,8 @@ module _ {s slots front fresh slots₂ front₂ fresh₂ : List ℕ} {a r : Curs
       let f = first-read .known .few in
       let l : length (take (a .found + 1) fresh) ≡ a .found + 1 = length-take-le (a .found + 1) fresh (omega arith) in
       fun-ext (λ w. some-table s (take (a .found + 1) fresh) (a .found) w l
-      ∙ ap (λ (ns : List Name). find ns w) (stack-kept s (take (a .found + 1) fresh) fresh 1 (a .found) (same-front (a .found)) ∙ sym (first-read .known .names-are)))
+      ∙ ap (λ (ns : List Name). find ns w) (stack-kept s (take (a .found + 1) fresh) fresh 1 (a .found) (same-front (a .found))
+      ∙ sym (first-read .known .names-are)))
     where
       same-front : (m : ℕ) → take (1 + m) (take (m + 1) fresh) ≡ take (1 + m) fresh
       same-front m = take-take (1 + m) (m + 1) fresh (omega arith)
@@ -95,7 +97,8 @@ module _ {s slots front fresh slots₂ front₂ fresh₂ : List ℕ} {a r : Curs
   twice : sheetRead (tokens between s) ≡ textRead (resolveBy s (take (a .found + 1) fresh)) (tokens between s) >>= λ (ns, sh). ok sh
   unfolding sheetRead _>>=_
   twice =
-      let e : textRead (λ w. some 0) (tokens between s) ≡ ok (first-read .what) = ap (λ (R : Name → Option ℕ). textRead R (tokens between s)) (sym (no-table s)) ∙ first-read .is in
+      let e : textRead (λ w. some 0) (tokens between s) ≡ ok (first-read .what) = ap (λ (R : Name → Option ℕ). textRead R (tokens between s))
+      (sym (no-table s)) ∙ first-read .is in
       rw (e, ← by-names)
 
   pub second-fault : (r .code ≡ 0 → ⊥) → answerOf (sheetOf s) ≡ met (r .code) (r .at) (r .detail)
@@ -153,6 +156,7 @@ pub small-told : (t out : List ℕ) → length out < 2048
 unfolding replyOf outputOf
 small-told t out h = rw (small-answer t (length out) h) (refl, refl)
 
-pub large-told : (t out : List ℕ) {out′ : List ℕ} {r : Reading} → 2048 ≤ length out → (r ≡ replyOf (answerOf (sheetOf t))) × (out′ ≡ outputOf (answerOf (sheetOf t)) out)
+pub large-told : (t out : List ℕ) {out′ : List ℕ} {r : Reading} → 2048 ≤ length out
+    → (r ≡ replyOf (answerOf (sheetOf t))) × (out′ ≡ outputOf (answerOf (sheetOf t)) out)
     → (r ≡ replyOf (readAnswer t (length out))) × (out′ ≡ outputOf (readAnswer t (length out)) out)
 large-told t out h w = rw (large-answer t (length out) h) w

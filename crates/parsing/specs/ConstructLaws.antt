@@ -26,14 +26,17 @@ use Rattle.parsing.specs.Lexing.{Between, ahead, part, tokenAt, Shape, N
 use Rattle.parsing.specs.Cursor.{faultAt, entered, Told, on, off, fault-told, Behind, With, Fault, fault-same, Carries, carries-then, Goes, told-then}
 use Rattle.parsing.specs.Cursor as cursor
 use Rattle.parsing.specs.Names.{word-is, word-none, nameAt, name-sent, stackOf, stack-kept}
-use Rattle.parsing.specs.Expect.{marked, mark-is, markAt, mark-own, mark-other, Again, Binds, Named, Numbers, Number, isVariable, isTest, isCallee, resolveBy, calleeOf, Resolves, scopeAt, fault-here}
+use Rattle.parsing.specs.Expect.{marked, mark-is, markAt, mark-own, mark-other, Again, Binds, Named, Numbers, Number, isVariable, isTest}
+use Rattle.parsing.specs.Expect.{isCallee, resolveBy, calleeOf, Resolves, scopeAt, fault-here}
 use Rattle.parsing.specs.Nodes.{Slot, Slots, more, slots-append, Kept, kept-refl, kept-fewer, kept-then, slots-kept}
 use Rattle.parsing.specs.Nodes.{none as no-slots}
-use Rattle.parsing.specs.Expressions.{beginCode, beginBy, bytesIn, behindIt, begin-coded, rowOf, Stored, Below, Leafy, Leaf, Var, Call, Constant, goes-told, enters, stored-kept, stored-more}
+use Rattle.parsing.specs.Expressions.{beginCode, beginBy, bytesIn, behindIt, begin-coded, rowOf, Stored, Below, Leafy, Leaf, Var, Call}
+use Rattle.parsing.specs.Expressions.{Constant, goes-told, enters, stored-kept, stored-more}
 use Rattle.parsing.specs.declared.cursor.Cursor.{Cursor}
 use Rattle.parsing.specs.declared.lexer.Lexeme.{Lexeme}
 use Rattle.parsing.specs.declared.expect.Scope.{Scope as Names}
-use Rattle.parsing.specs.Constructs.{Ready, Inner, Begun, Childless, Cased, Parsed, anExpr, aBranch, aDefault, byBegin, byBranch, topped, Expr, Shaped, Pair, Listed, Front, Back, Let, Each, Case, Branch}
+use Rattle.parsing.specs.Constructs.{Ready, Inner, Begun, Childless, Cased, Parsed, anExpr, aBranch, aDefault, byBegin, byBranch, topped, Expr}
+use Rattle.parsing.specs.Constructs.{Shaped, Pair, Listed, Front, Back, Let, Each, Case, Branch}
 use Rattle.parsing.specs.Constructs.{Default, Cases, Branches, Truth, Lists, together, twoOf, Both, Two}
 
 -- NAMES
@@ -76,7 +79,8 @@ pub part-told : {def : Reader → Scope → ℕ → List Token → Nodes} {s tab
 part-told e z b q p h f g = rw (b .tokens, p, ← q) (e .told z (b .here) (rw q h) f (rw q (omega arith)))
 
 -- a fault that is given is handed on
-pub parsed-on : {over : ℕ} {def : Reader → Scope → ℕ → List Token → Nodes} {s table names slots : List ℕ} {sc : Names} {c : Cursor} → c .count ≤ 200 → (c .code ≡ 0 → ⊥)
+pub parsed-on : {over : ℕ} {def : Reader → Scope → ℕ → List Token → Nodes} {s table names slots : List ℕ} {sc : Names} {c : Cursor} → c .count ≤ 200
+    → (c .code ≡ 0 → ⊥)
     → Parsed over def s table names slots sc c names slots c
 parsed-on {names = names} {slots = slots} {c = c} few h = record {
   carries = λ q. fault-same c;
@@ -88,9 +92,11 @@ parsed-on {names = names} {slots = slots} {c = c} few h = record {
 }
 
 -- a fault that is met
-pub parsed-fault : {over : ℕ} {def : Reader → Scope → ℕ → List Token → Nodes} {s table names slots : List ℕ} {sc : Names} {c : Cursor} (code at d : ℕ) → c .count ≤ 200 → c .code ≡ 0
+pub parsed-fault : {over : ℕ} {def : Reader → Scope → ℕ → List Token → Nodes} {s table names slots : List ℕ} {sc : Names} {c : Cursor} (code at d : ℕ)
+    → c .count ≤ 200 → c .code ≡ 0
     → (Between s (c .at) → (f : ℕ) → 200 ≤ over + c .count + f
-    → Told s (With s (Stored slots (c .count))) (def (reader.read (resolveBy s table) f) (scopeAt s names sc) (c .count) (ahead s (c .at))) (faultAt c code at d))
+    → Told s (With s (Stored slots (c .count))) (def (reader.read (resolveBy s table) f) (scopeAt s names sc) (c .count) (ahead s (c .at)))
+    (faultAt c code at d))
     → Parsed over def s table names slots sc c names slots (faultAt c code at d)
 parsed-fault {names = names} {slots = slots} {c = c} code at d few z t = record {
   carries = λ q. absurd (q z);
@@ -208,7 +214,8 @@ front-parsed {s} {table} {sc} {c} {names} {slots} {names₁} {slots₁} {names�
     long₂ = eb .kept .long ∙ ea .kept .long ∙ w .ready .slots-long
 
 -- A NODE WITHOUT FIELDS, at a token
-module _ {s : List ℕ} (c : Cursor) {t : Lexeme} (slots : List ℕ) {slots₁ : List ℕ} {d r : Cursor} (n : Next s (c .at) t) (few : c .count < 200) (long : length slots ≡ 1600)
+module _ {s : List ℕ} (c : Cursor) {t : Lexeme} (slots : List ℕ) {slots₁ : List ℕ} {d r : Cursor} (n : Next s (c .at) t) (few : c .count < 200)
+    (long : length slots ≡ 1600)
     (e : d ≡ cursor.behind c (t .end) 0 0) (k : ℕ) (st : slots₁ ≡ sets slots (8 * d .count) (rowOf k [])) (f : r ≡ entered d) where
   bare-told : (x : Node) → take (width x) (rowOf k []) ≡ written x → Between s (c .at)
       → Told s (With s (Stored slots₁ (c .count))) (ok (x ∷ [], rest (ahead s (c .at)))) r
@@ -247,7 +254,8 @@ list-empty {s} {c = c} {slots = slots} {t = t} w n k e st f =
     (λ b g h. rw (n .token, mark-is s t, k, mark-own 93 refl) (bare-told c slots n (w .free) (w .ready .slots-long) e 19 st f node.Empty refl b))
 
 -- or one with members
-pub list-front : {s table : List ℕ} {sc : Names} {c : Cursor} {names slots names₁ slots₁ : List ℕ} {r : Cursor} {t : Lexeme} → Next s (c .at) t → (t .kind ≡ 93 → ⊥)
+pub list-front : {s table : List ℕ} {sc : Names} {c : Cursor} {names slots names₁ slots₁ : List ℕ} {r : Cursor} {t : Lexeme} → Next s (c .at) t
+    → (t .kind ≡ 93 → ⊥)
     → Front s table names slots sc c names₁ slots₁ r → Listed s table names slots sc c names₁ slots₁ r
 unfolding listOf listBy marked
 list-front {s} {t = t} n k e = record {
@@ -261,7 +269,8 @@ list-front {s} {t = t} n k e = record {
 
 -- THE REST OF A LIST
 module _ {s table : List ℕ} {sc : Names} {c : Cursor} {t : Lexeme} (n : Next s (c .at) t) (z : c .code ≡ 0) where
-  pub back-bar : {names slots names₁ slots₁ : List ℕ} {d b r : Cursor} → t .kind ≡ 124 → d ≡ cursor.behind c (t .end) 0 0 → Expr s table names slots sc d names₁ slots₁ b
+  pub back-bar : {names slots names₁ slots₁ : List ℕ} {d b r : Cursor} → t .kind ≡ 124 → d ≡ cursor.behind c (t .end) 0 0
+      → Expr s table names slots sc d names₁ slots₁ b
       → Goes s (Behind s) (symbol (marked 93) 14) b r → Back s table names slots sc c names₁ slots₁ r
   unfolding back behindOf behind markAt marked same
   back-bar {names} {slots} {names₁} {slots₁} {d} {b} {r} k e eb ge =
@@ -275,9 +284,11 @@ module _ {s table : List ℕ} {sc : Names} {c : Cursor} {t : Lexeme} (n : Next s
         below = eb .below;
         kept = rw i at (eb .kept);
         told = λ q h many f g. rw (n .token, mark-is s t, k)
-            (told-then _ (part-told eb y (record { here = rw l (n .here h); tokens = rw l (n .behind) }) i refl many f (omega arith)) (ge .carries) (λ (x, ts₁) zb ub.
+            (told-then _ (part-told eb y (record { here = rw l (n .here h); tokens = rw l (n .behind) }) i refl many f (omega arith)) (ge .carries)
+            (λ (x, ts₁) zb ub.
             told-then _ (goes-told ge zb (ub .stands)) (λ q. fault-same r) (λ ts₂ ze ue.
-            on {x = (x, ts₂)} {r = r} ze (record { stands = ue; value = record { counted = ge .same ∙ ub .value .counted; some = ub .value .some; held = ub .value .held } }))));
+            on {x = (x, ts₂)} {r = r} ze (record
+            { stands = ue; value = record { counted = ge .same ∙ ub .value .counted; some = ub .value .some; held = ub .value .held } }))));
       }
 
   pub back-full : {names slots : List ℕ} → t .kind ≡ 44 → c .count ≡ 200 → Back s table names slots sc c names slots (faultAt c 94 (t .at) 72)
@@ -285,7 +296,8 @@ module _ {s table : List ℕ} {sc : Names} {c : Cursor} {t : Lexeme} (n : Next s
   back-full {names} {slots} k m = parsed-fault 94 (t .at) 72 (omega arith) z (λ b f g. rw (n .token, mark-is s t, k) (full f b))
     where
       full : (f : ℕ) → Between s (c .at)
-          → Told s (With s (Stored slots (c .count))) (reader.read (resolveBy s table) f reader.more (scopeAt s names sc) (c .count) (ahead s (c .at))) (faultAt c 94 (t .at) 72)
+          → Told s (With s (Stored slots (c .count))) (reader.read (resolveBy s table) f reader.more (scopeAt s names sc) (c .count) (ahead s (c .at)))
+          (faultAt c 94 (t .at) 72)
       full zero b = unfold reader.read parted room in rw (eq-eqb (c .count) 200 m) (fault-here c n b (omega arith))
       full (suc f) b = unfold reader.read parted room in rw (eq-eqb (c .count) 200 m) (fault-here c n b (omega arith))
 
@@ -313,7 +325,8 @@ module _ {s table : List ℕ} {sc : Names} {c : Cursor} {t : Lexeme} (n : Next s
 
   pub back-end-full : {names slots : List ℕ} → t .kind ≡ 93 → c .count ≡ 200 → Back s table names slots sc c names slots (faultAt c 94 (t .at) 72)
   unfolding back behindOf behind markAt same room
-  back-end-full k m = parsed-fault 94 (t .at) 72 (omega arith) z (λ b f g. rw (n .token, mark-is s t, k, eq-eqb (c .count) 200 m) (fault-here c n b (omega arith)))
+  back-end-full k m = parsed-fault 94 (t .at) 72 (omega arith) z (λ b f g. rw (n .token, mark-is s t, k, eq-eqb (c .count) 200 m)
+      (fault-here c n b (omega arith)))
 
   pub back-end : {names slots slots₁ : List ℕ} {d r : Cursor} → length slots ≡ 1600 → t .kind ≡ 93 → c .count < 200 → d ≡ cursor.behind c (t .end) 0 0
       → slots₁ ≡ sets slots (8 * d .count) (rowOf 19 []) → r ≡ entered d → Back s table names slots sc c names slots₁ r
@@ -358,7 +371,8 @@ two-told {s} {names} {names₁} {names₂} {sc} mk {d} {c} {x} {m} {r} bx gm by 
       told-then _ (bx .told z b) (carries-then (gm .carries) (by .carries)) (λ (w, ts₁) zx ux.
       told-then _ (goes-told gm zx (ux .stands)) (by .carries) (λ ts₂ zm um.
       let e = stack-one s names names₁ (sc .base) (sc .many) first-kept (ap (nameAt s) (ux .value .noted) ∙ ux .value .name) in
-      told-then {Q = With s (Named s names₂ (sc .base + (sc .many + 1)))} _ (rw (um .tokens, ← e) (by .told zm (um .here))) (λ q. fault-same r) (λ (v, ts₃) zy uy.
+      told-then {Q = With s (Named s names₂ (sc .base + (sc .many + 1)))} _ (rw (um .tokens, ← e) (by .told zm (um .here))) (λ q. fault-same r)
+      (λ (v, ts₃) zy uy.
       let g = get-below top names₁ names₂ (omega arith) last-kept in
       let i : sc .base + (sc .many + 1) ≡ top + 1 = omega arith in
       on {x = ((w, v), ts₃)} {r = r} zy (record {
@@ -434,34 +448,37 @@ pub let-parsed : {s table : List ℕ} {sc : Names} {c : Cursor} {names slots nam
     → slots₅ ≡ sets slots₄ (8 * c .count) (rowOf 25 ((c .count + 1) ∷ i .count ∷ []))
     → Let s table names slots sc c names₄ slots₅ r
 unfolding letIn marked scopeAt
-let-parsed {s} {table} {sc} {c} {names} {slots} {names₁} {names₂} {slots₂} {names₃} {names₄} {slots₄} {slots₅} {o} {b} {p} {q} {a} {i} {r} w go tb gp gq ea gi st₃ eb st = record {
-  carries = λ y. absurd (y (w .clear));
-  later = let j = ea .later in let k = eb .later in omega (arith, counts, gi .same);
-  few = eb .few;
-  below = below-then pushed (below-lower top (omega arith) (eb .below));
-  kept = kept-then (kept-then (kept-fewer (omega (arith, counts)) (ea .kept)) (kept-fewer (let j = ea .later in omega (arith, counts, gi .same)) (eb .kept)))
-      (stored-kept slots₄ (w .free) long₄ row refl st);
-  told = λ z h many f g.
-      told-then _ (goes-told go z (record { here = h; tokens = refl })) (carries-then (tb .carries) (carries-then (gp .carries) end₁)) (λ ts₁ zo uo.
-      told-two (stackOf s names (sc .base) (sc .many)) _ 9 ts₁ _ (two-at tb zo uo) (carries-then (gp .carries) end₁) (λ x y ts₄ zb ub.
-      told-then _ (goes-told gp zb (ub .stands)) end₁ (λ ts₅ zp up.
-      told-then _ (goes-told gq zp up) end₂ (λ ts₆ zq uq.
-      told-then _ (part-told ea zq uq counts (scope-kept s names sc (tb .below)) (omega arith) f (omega arith)) (carries-then (gi .carries) (eb .carries)) (λ (v, ts₇) za ua.
-      told-then _ (goes-told gi za (ua .stands)) (eb .carries) (λ ts₈ zi ui.
-      let j : i .count ≡ suc (c .count) + length v = gi .same ∙ ua .value .counted in
-      let k = ua .value .some in
-      told-then _ (part-told eb zi ui j (wider (ub .value)) (omega arith) f (omega arith)) (λ y. fault-same r) (λ (u, ts₉) zr ur.
-      let l = parts-long (v ∷ u ∷ []) in
-      on {x = (node.Split (suc (c .count)) (suc (c .count) + length v) ∷ v ++ (u ++ []), ts₉)} {r = r} zr (record {
-        stands = ur .stands;
-        value = record {
-          counted = omega (arith, ur .value .counted);
-          some = omega arith;
-          held = stored-more slots₄ (w .free) long₄ row refl st (row-two 25 node.Split split-row (add-one (c .count)) j)
-              (slots-append (slots-kept (eb .kept) (omega arith) (ua .value .held)) (slots-append (ur .value .held) no-slots));
-        };
-      }))))))));
-}
+let-parsed {s} {table} {sc} {c} {names} {slots} {names₁} {names₂} {slots₂} {names₃} {names₄} {slots₄} {slots₅} {o} {b} {p} {q} {a} {i} {r} w go tb gp gq ea
+    gi st₃ eb st = record {
+      carries = λ y. absurd (y (w .clear));
+      later = let j = ea .later in let k = eb .later in omega (arith, counts, gi .same);
+      few = eb .few;
+      below = below-then pushed (below-lower top (omega arith) (eb .below));
+      kept = kept-then (kept-then (kept-fewer (omega (arith, counts)) (ea .kept))
+          (kept-fewer (let j = ea .later in omega (arith, counts, gi .same)) (eb .kept)))
+          (stored-kept slots₄ (w .free) long₄ row refl st);
+      told = λ z h many f g.
+          told-then _ (goes-told go z (record { here = h; tokens = refl })) (carries-then (tb .carries) (carries-then (gp .carries) end₁)) (λ ts₁ zo uo.
+          told-two (stackOf s names (sc .base) (sc .many)) _ 9 ts₁ _ (two-at tb zo uo) (carries-then (gp .carries) end₁) (λ x y ts₄ zb ub.
+          told-then _ (goes-told gp zb (ub .stands)) end₁ (λ ts₅ zp up.
+          told-then _ (goes-told gq zp up) end₂ (λ ts₆ zq uq.
+          told-then _ (part-told ea zq uq counts (scope-kept s names sc (tb .below)) (omega arith) f (omega arith)) (carries-then (gi .carries) (eb .carries))
+          (λ (v, ts₇) za ua.
+          told-then _ (goes-told gi za (ua .stands)) (eb .carries) (λ ts₈ zi ui.
+          let j : i .count ≡ suc (c .count) + length v = gi .same ∙ ua .value .counted in
+          let k = ua .value .some in
+          told-then _ (part-told eb zi ui j (wider (ub .value)) (omega arith) f (omega arith)) (λ y. fault-same r) (λ (u, ts₉) zr ur.
+          let l = parts-long (v ∷ u ∷ []) in
+          on {x = (node.Split (suc (c .count)) (suc (c .count) + length v) ∷ v ++ (u ++ []), ts₉)} {r = r} zr (record {
+            stands = ur .stands;
+            value = record {
+              counted = omega (arith, ur .value .counted);
+              some = omega arith;
+              held = stored-more slots₄ (w .free) long₄ row refl st (row-two 25 node.Split split-row (add-one (c .count)) j)
+                  (slots-append (slots-kept (eb .kept) (omega arith) (ua .value .held)) (slots-append (ur .value .held) no-slots));
+            };
+          }))))))));
+    }
   where
     top : ℕ
     top = sc .base + sc .many
@@ -485,7 +502,9 @@ let-parsed {s} {table} {sc} {c} {names} {slots} {names₁} {names₂} {slots₂}
     kept₂ = below-then (tb .below) (ea .below)
 
     pushed : Below (sc .base + sc .many) names names₃
-    pushed = rw st₃ (below-then kept₂ (below-then (below-set (sc .base + sc .many) names₂ (sc .base + sc .many) _ (omega arith)) (below-set (sc .base + sc .many) _ (sc .base + sc .many + 1) _ (omega arith))))
+    pushed = rw st₃ (below-then kept₂
+        (below-then (below-set (sc .base + sc .many) names₂ (sc .base + sc .many) _ (omega arith))
+        (below-set (sc .base + sc .many) _ (sc .base + sc .many + 1) _ (omega arith))))
 
     wider : {x y : Name} → Both s names₁ (sc .base + sc .many) (x, y) b
         → scope (y ∷ x ∷ stackOf s names (sc .base) (sc .many)) (sc .lost) ≡ scopeAt s names₃ (record { base = sc .base; many = sc .many + 2; lost = sc .lost })
@@ -495,10 +514,12 @@ let-parsed {s} {table} {sc} {c} {names} {slots} {names₁} {names₂} {slots₂}
         let t = w .ready .low in
         let v = w .free in
         unfold scopeAt in ap (λ (ns : List Name). scope ns (sc .lost)) (sym (stack-two s names names₃ (sc .base) (sc .many) pushed
-        (ap (nameAt s) (pushed-first names₂ _ _ _ st₃ (omega arith)) ∙ u .first-is) (ap (nameAt s) (pushed-second names₂ _ _ _ st₃ (omega arith)) ∙ u .second-is)))
+        (ap (nameAt s) (pushed-first names₂ _ _ _ st₃ (omega arith)) ∙ u .first-is)
+        (ap (nameAt s) (pushed-second names₂ _ _ _ st₃ (omega arith)) ∙ u .second-is)))
 
 -- AN ARROW AND AN EXPRESSION
-pub branch-parsed : {s table : List ℕ} {sc : Names} {c : Cursor} {names slots names₁ slots₁ : List ℕ} {a r : Cursor} → Goes s (Behind s) (symbol (marked 65) 19) c a
+pub branch-parsed : {s table : List ℕ} {sc : Names} {c : Cursor} {names slots names₁ slots₁ : List ℕ} {a r : Cursor}
+    → Goes s (Behind s) (symbol (marked 65) 19) c a
     → Expr s table names slots sc a names₁ slots₁ r → Branch s table names slots sc c names₁ slots₁ r
 unfolding marked
 branch-parsed {s} {sc = sc} {c = c} {slots = slots} {slots₁ = slots₁} {r = r} ga e = record {
@@ -529,7 +550,8 @@ default-parsed {s} {table} {top} {c} {names} {slots} {names₁} {names₂} {slot
   few = e .few;
   below = below-then noted (below-lower (top + 0) (omega arith) (e .below));
   kept = rw (ga .same) at (e .kept);
-  told = λ z h many f g. told-then _ (ga .told z h) (e .carries) (λ ts zr ur. part-told e zr ur (ga .same) (sees-sent s names top inside st) (omega arith) f (omega arith));
+  told = λ z h many f g. told-then _ (ga .told z h) (e .carries) (λ ts zr ur. part-told e zr ur (ga .same) (sees-sent s names top inside st) (omega arith) f
+      (omega arith));
 }
   where
     noted : Below (top + 0) names names₁
@@ -559,11 +581,13 @@ truth-parsed {s} {table} {n} {sc} {c} {names} {slots} {names₁} {slots₁} {nam
   kept = kept-then (kept-then (kept-fewer (let h = w .after in omega arith) (ea .kept))
       (kept-fewer (let h = w .after in let i = ea .later in omega (arith, gt .same, gm .same)) (eb .kept))) (stored-kept slots₂ free long₂ row refl st);
   told = λ _ h many x some held count f g.
-      told-both _ _ _ (part-told ea z (record { here = h; tokens = refl }) count refl (omega arith) f (omega arith)) (carries-then (gt .carries) end₁) (λ (y, ts₂) za ua.
+      told-both _ _ _ (part-told ea z (record { here = h; tokens = refl }) count refl (omega arith) f (omega arith)) (carries-then (gt .carries) end₁)
+      (λ (y, ts₂) za ua.
       told-then _ (goes-told gt za (ua .stands)) end₁ (λ (v, ts₃) zt ut.
       told-then {Q = Behind s} _ (rw (← ut .value .is-detail) (goes-told gm zt (ut .stands))) end₂ (λ ts₄ zm um.
       let i : m .count ≡ suc n + length x + length y = gm .same ∙ gt .same ∙ ua .value .counted in
-      told-both _ _ _ (part-told eb zm um i (scope-kept s names sc (ea .below)) (omega arith) f (omega arith)) (carries-then (gu .carries) (ge .carries)) (λ (o, ts₆) zb ub.
+      told-both _ _ _ (part-told eb zm um i (scope-kept s names sc (ea .below)) (omega arith) f (omega arith)) (carries-then (gu .carries) (ge .carries))
+      (λ (o, ts₆) zb ub.
       told-then _ (goes-told gu zb (ub .stands)) (ge .carries) (λ (k, ts₇) zu uu.
       told-then {Q = Behind s} _ (rw (← uu .value .is-detail) (goes-told ge zu (uu .stands))) (λ q. fault-same r) (λ ts₈ ze ue.
       let l = parts-long (x ∷ y ∷ o ∷ []) in
@@ -601,11 +625,13 @@ lists-row : {a b t d u e f i j k l m : ℕ} (v w : ℕ) → a ≡ i → b ≡ j 
 unfolding width written
 lists-row v w p q r x y z o e f = rw (p, q, r, y, z, e, f, small-mod v (omega arith), small-mod w (omega arith))
 
-pub again-told : {s : List ℕ} {place d : ℕ} {c r : Cursor} {w : Name} → Again s place d c r → c .code ≡ 0 → {ts : List Token} → Behind s ts c → nameAt s place ≡ w
+pub again-told : {s : List ℕ} {place d : ℕ} {c r : Cursor} {w : Name} → Again s place d c r → c .code ≡ 0 → {ts : List Token} → Behind s ts c
+    → nameAt s place ≡ w
     → 0 < length w → Told s (Behind s) (keyword w d ts) r
 again-told g z b e h = rw (b .tokens, ← e) (g .told z (b .here) (rw e h))
 
-pub lists-parsed : {s table : List ℕ} {n : ℕ} {sc : Names} {c : Cursor} {names slots names₁ slots₁ names₂ names₃ slots₃ names₄ slots₄ names₅ slots₅ slots₆ : List ℕ}
+pub lists-parsed : {s table : List ℕ} {n : ℕ} {sc : Names} {c : Cursor}
+    {names slots names₁ slots₁ names₂ names₃ slots₃ names₄ slots₄ names₅ slots₅ slots₆ : List ℕ}
     {e a t o p q b u m x d k y f r : Cursor} → Cased (length table) (length names) (length slots) (sc .base + sc .many) n c → c .code ≡ 0
     → Goes s (Behind s) (symbol (marked 93) 18) c e → Branch s table names slots sc e names₁ slots₁ a → Goes s (With s isTest) (test 20 21) a t
     → Goes s (Behind s) (symbol (marked 91) (t .detail)) t o → Two s names₁ sc (marked 124) 22 o names₂ p → Goes s (Behind s) (symbol (marked 93) 14) p q
@@ -625,7 +651,8 @@ lists-parsed {s} {table} {n} {sc} {c} {names} {slots} {names₁} {slots₁} {nam
       few = let i = ef .few in omega (arith, gr .same);
       below = below-then (below-then upto₂ (below-lower (sc .base + sc .many) (omega arith) (eb .below)))
           (below-then (below-lower (sc .base + sc .many) (omega arith) (ed .below)) (below-lower (sc .base + sc .many) (omega arith) (ef .below)));
-      kept = kept-then (kept-then (kept-then (kept-fewer low₁ (ea .kept)) (kept-fewer low₂ (eb .kept))) (kept-then (kept-fewer low₃ (ed .kept)) (kept-fewer low₄ (ef .kept))))
+      kept = kept-then (kept-then (kept-then (kept-fewer low₁ (ea .kept)) (kept-fewer low₂ (eb .kept)))
+          (kept-then (kept-fewer low₃ (ed .kept)) (kept-fewer low₄ (ef .kept))))
           (stored-kept slots₅ free long₅ row refl st);
       told = λ _ h many v some held count g fuel.
           told-then _ (goes-told ge z (record { here = h; tokens = refl })) end-e (λ ts₁ ze ue.
@@ -707,8 +734,10 @@ lists-parsed {s} {table} {n} {sc} {c} {names} {slots} {names₁} {slots₁} {nam
     two-here ts j = rw (stack-kept s names names₁ (sc .base) (sc .many) (sym (ea .below .same))) j
 
     wider : {v v′ : Name} → Both s names₂ (sc .base + sc .many) (v, v′) p
-        → scope (v′ ∷ v ∷ stackOf s names (sc .base) (sc .many)) (sc .lost) ≡ scopeAt s names₂ (record { base = sc .base; many = sc .many + 2; lost = sc .lost })
-    wider j = unfold scopeAt in ap (λ (ns : List Name). scope ns (sc .lost)) (sym (stack-two s names names₂ (sc .base) (sc .many) upto₂ (j .first-is) (j .second-is)))
+        → scope (v′ ∷ v ∷ stackOf s names (sc .base) (sc .many)) (sc .lost)
+        ≡ scopeAt s names₂ (record { base = sc .base; many = sc .many + 2; lost = sc .lost })
+    wider j = unfold scopeAt in ap (λ (ns : List Name). scope ns (sc .lost))
+        (sym (stack-two s names names₂ (sc .base) (sc .many) upto₂ (j .first-is) (j .second-is)))
 
     -- faults are handed on
     end-y : Carries y r
@@ -768,7 +797,8 @@ callee-flat {Y} resolve ts g = one (reader.sectionName ts)
     one (ok (w, ts₁)) = two ts₁ (known (resolve w) (length ts) 43)
     one (fault n l i e) = refl
 
-told-callee : {s : List ℕ} {Y : Type 0} {P : ℕ → Cursor → Type 0} {S : Y → Cursor → Type 0} (resolve : Name → Option ℕ) (ts : List Token) (g : ℕ → List Token → Out Y)
+told-callee : {s : List ℕ} {Y : Type 0} {P : ℕ → Cursor → Type 0} {S : Y → Cursor → Type 0} (resolve : Name → Option ℕ) (ts : List Token)
+    (g : ℕ → List Token → Out Y)
     {c r : Cursor} → Told s (With s P) (calleeOf resolve ts) c → Carries c r
     → ((x : ℕ) (ts₁ : List Token) → c .code ≡ 0 → With s P (x, ts₁) c → Told s S (g x ts₁) r)
     → Told s S (reader.sectionName ts >>= λ (w, ts₁). known (resolve w) (length ts) 43 >>= λ x. g x ts₁) r
@@ -794,36 +824,39 @@ pub each-parsed : {s table : List ℕ} {sc : Names} {c : Cursor} {names slots na
     → slots₃ ≡ sets slots₂ (8 * c .count) (rowOf 28 ((c .count + 1) ∷ e .found % 256 ∷ x .found % 256 ∷ k .count ∷ []))
     → Each s table names slots sc c names₂ slots₃ r
 unfolding eachOf marked
-each-parsed {s} {table} {sc} {c} {names} {slots} {names₁} {slots₁} {names₂} {slots₂} {slots₃} {e} {o} {a} {m} {x} {q} {k} {r} w ge go ea gm gx gq gk ed st = record {
-  carries = λ y. absurd (y (w .clear));
-  later = let i = ea .later in let j = ed .later in omega (arith, counts, gm .same, gx .same, gq .same, gk .same);
-  few = ed .few;
-  below = below-then (ea .below) (below-lower (sc .base + sc .many) (omega arith) (ed .below));
-  kept = kept-then (kept-then (kept-fewer (omega (arith, counts)) (ea .kept))
-      (kept-fewer (let i = ea .later in omega (arith, counts, gm .same, gx .same, gq .same, gk .same)) (ed .kept))) (stored-kept slots₂ (w .free) long₂ row refl st);
-  told = λ z h many f g.
-      told-callee (resolveBy s table) _ _ (ge .told z h) (carries-then (go .carries) end-o) (λ v ts₁ ze ue.
-      told-then _ (goes-told go ze (ue .stands)) end-o (λ ts₂ zo uo.
-      told-then _ (part-told ea zo uo counts refl (omega arith) f (omega arith)) end-a (λ (y, ts₃) za ua.
-      told-then _ (goes-told gm za (ua .stands)) end-m (λ ts₄ zm um.
-      told-then {Q = With s (isVariable sc)} _ (rw (scope-kept s names sc (ea .below)) (goes-told gx zm um)) end-x (λ (b, ts₅) zx ux.
-      told-then _ (goes-told gq zx (ux .stands)) end-q (λ ts₆ zq uq.
-      told-then _ (goes-told gk zq uq) (ed .carries) (λ ts₇ zk uk.
-      let i : k .count ≡ suc (c .count) + length y = gk .same ∙ gq .same ∙ gx .same ∙ gm .same ∙ ua .value .counted in
-      let n = w .free in
-      told-then _ (part-told ed zk uk i (no-names s names₁ names₁ (sc .base + sc .many) 42) (omega arith) f (omega arith)) (λ j. fault-same r) (λ (d, ts₈) zd ud.
-      let l = parts-long (y ∷ d ∷ []) in
-      on {x = (node.Each (suc (c .count)) v b (suc (c .count) + length y) ∷ y ++ (d ++ []), ts₈)} {r = r} zd (record {
-        stands = ud .stands;
-        value = record {
-          counted = omega (arith, ud .value .counted);
-          some = omega arith;
-          held = stored-more slots₂ (w .free) long₂ row refl st
-              (each-row v b (add-one (c .count)) (ue .value .is-found) (ue .value .small) (ux .value .is-found) (ux .value .small (omega arith)) i)
-              (slots-append (slots-kept (ed .kept) (omega arith) (ua .value .held)) (slots-append (ud .value .held) no-slots));
-        };
-      })))))))));
-}
+each-parsed {s} {table} {sc} {c} {names} {slots} {names₁} {slots₁} {names₂} {slots₂} {slots₃} {e} {o} {a} {m} {x} {q} {k} {r} w ge go ea gm gx gq gk ed
+    st = record {
+      carries = λ y. absurd (y (w .clear));
+      later = let i = ea .later in let j = ed .later in omega (arith, counts, gm .same, gx .same, gq .same, gk .same);
+      few = ed .few;
+      below = below-then (ea .below) (below-lower (sc .base + sc .many) (omega arith) (ed .below));
+      kept = kept-then (kept-then (kept-fewer (omega (arith, counts)) (ea .kept))
+          (kept-fewer (let i = ea .later in omega (arith, counts, gm .same, gx .same, gq .same, gk .same)) (ed .kept)))
+          (stored-kept slots₂ (w .free) long₂ row refl st);
+      told = λ z h many f g.
+          told-callee (resolveBy s table) _ _ (ge .told z h) (carries-then (go .carries) end-o) (λ v ts₁ ze ue.
+          told-then _ (goes-told go ze (ue .stands)) end-o (λ ts₂ zo uo.
+          told-then _ (part-told ea zo uo counts refl (omega arith) f (omega arith)) end-a (λ (y, ts₃) za ua.
+          told-then _ (goes-told gm za (ua .stands)) end-m (λ ts₄ zm um.
+          told-then {Q = With s (isVariable sc)} _ (rw (scope-kept s names sc (ea .below)) (goes-told gx zm um)) end-x (λ (b, ts₅) zx ux.
+          told-then _ (goes-told gq zx (ux .stands)) end-q (λ ts₆ zq uq.
+          told-then _ (goes-told gk zq uq) (ed .carries) (λ ts₇ zk uk.
+          let i : k .count ≡ suc (c .count) + length y = gk .same ∙ gq .same ∙ gx .same ∙ gm .same ∙ ua .value .counted in
+          let n = w .free in
+          told-then _ (part-told ed zk uk i (no-names s names₁ names₁ (sc .base + sc .many) 42) (omega arith) f (omega arith)) (λ j. fault-same r)
+          (λ (d, ts₈) zd ud.
+          let l = parts-long (y ∷ d ∷ []) in
+          on {x = (node.Each (suc (c .count)) v b (suc (c .count) + length y) ∷ y ++ (d ++ []), ts₈)} {r = r} zd (record {
+            stands = ud .stands;
+            value = record {
+              counted = omega (arith, ud .value .counted);
+              some = omega arith;
+              held = stored-more slots₂ (w .free) long₂ row refl st
+                  (each-row v b (add-one (c .count)) (ue .value .is-found) (ue .value .small) (ux .value .is-found) (ux .value .small (omega arith)) i)
+                  (slots-append (slots-kept (ed .kept) (omega arith) (ua .value .held)) (slots-append (ud .value .held) no-slots));
+            };
+          })))))))));
+    }
   where
     row : List ℕ
     row = rowOf 28 ((c .count + 1) ∷ e .found % 256 ∷ x .found % 256 ∷ k .count ∷ [])
@@ -852,7 +885,8 @@ each-parsed {s} {table} {sc} {c} {names} {slots} {names₁} {slots₁} {names₂
 -- A CASE
 pub case-parsed : {s table : List ℕ} {sc : Names} {c : Cursor} {names slots names₁ slots₁ names₂ slots₂ : List ℕ} {a o r : Cursor}
     → Inner (length table) (length names) (length slots) (sc .base + sc .many) c → Expr s table names slots sc (entered c) names₁ slots₁ a
-    → Goes s (Behind s) (keyword (bytes "of") 16) a o → Branches s table (c .count) names₁ slots₁ sc o names₂ slots₂ r → Case s table names slots sc c names₂ slots₂ r
+    → Goes s (Behind s) (keyword (bytes "of") 16) a o → Branches s table (c .count) names₁ slots₁ sc o names₂ slots₂ r
+    → Case s table names slots sc c names₂ slots₂ r
 unfolding caseOf
 case-parsed {s} {table} {sc} {c} {names} {slots} {names₁} {slots₁} {names₂} {slots₂} {a} {o} {r} w ea go eb = record {
   carries = λ y. absurd (y (w .clear));
@@ -861,7 +895,8 @@ case-parsed {s} {table} {sc} {c} {names} {slots} {names₁} {slots₁} {names₂
   below = below-then (ea .below) (eb .below);
   kept = kept-then (kept-fewer (omega arith) (ea .kept)) (eb .kept);
   told = λ z h many f g.
-      told-then _ (part-told ea z (record { here = h; tokens = refl }) (add-one (c .count)) refl (omega arith) f (omega arith)) (carries-then (go .carries) (eb .carries)) (λ (x, ts₁) za ua.
+      told-then _ (part-told ea z (record { here = h; tokens = refl }) (add-one (c .count)) refl (omega arith) f (omega arith))
+      (carries-then (go .carries) (eb .carries)) (λ (x, ts₁) za ua.
       told-then _ (goes-told go za (ua .stands)) (eb .carries) (λ ts₂ zo uo.
       rw (uo .tokens, scope-kept s names sc (ea .below))
       (eb .told zo (uo .here) many x (ua .value .some) (ua .value .held) (go .same ∙ ua .value .counted) f (omega arith))));
@@ -935,15 +970,18 @@ name-bytes : (s : List ℕ) (t : Lexeme) → t .kind ≡ 97 → bytesIn (tokenAt
 unfolding tokenAt bytesIn wordOf
 name-bytes s t k = rw k
 
-second-mark : {s : List ℕ} {t : Lexeme} {b : ℕ} {c : Cursor} {u : Lexeme} → Begun s t b c → Next s (t .end) u → markOf (first (rest (ahead s (c .at)))) ≡ markAt (u .kind)
+second-mark : {s : List ℕ} {t : Lexeme} {b : ℕ} {c : Cursor} {u : Lexeme} → Begun s t b c → Next s (t .end) u
+    → markOf (first (rest (ahead s (c .at)))) ≡ markAt (u .kind)
 second-mark {s} {u = u} g m = rw (g .is-next .behind, m .token) (mark-is s u)
 
-begin-is : {s : List ℕ} {t : Lexeme} {b : ℕ} {c : Cursor} → Begun s t b c → (k : ℕ) → b ≡ k → beginOf (first (ahead s (c .at))) ≡ beginBy k (bytesIn (tokenAt s t)) (behindIt (tokenAt s t))
+begin-is : {s : List ℕ} {t : Lexeme} {b : ℕ} {c : Cursor} → Begun s t b c → (k : ℕ) → b ≡ k
+    → beginOf (first (ahead s (c .at))) ≡ beginBy k (bytesIn (tokenAt s t)) (behindIt (tokenAt s t))
 begin-is {s} {t} w k e = rw (w .is-next .token) (begin-coded (tokenAt s t) ∙ rw (← w .coded, e))
 
 module _ {s table : List ℕ} {sc : Names} {c : Cursor} {t : Lexeme} {b : ℕ} (g : Begun s t b c) (z : c .code ≡ 0) where
   shape-inner : {D : Reader → Scope → ℕ → List Token → Nodes} {names slots names₁ slots₁ : List ℕ} {d r : Cursor} (k : ℕ)
-      → ((rd : Reader) (S : Scope) (n : ℕ) (ts : List Token) (w : List ℕ) (l : Bool) → shaped (resolveBy s table) rd S n ts (beginBy k w l) ≡ D rd S n (rest ts))
+      → ((rd : Reader) (S : Scope) (n : ℕ) (ts : List Token) (w : List ℕ) (l : Bool)
+      → shaped (resolveBy s table) rd S n ts (beginBy k w l) ≡ D rd S n (rest ts))
       → b ≡ k → d ≡ cursor.behind c (t .end) 0 0 → Parsed 1 D s table names slots sc d names₁ slots₁ r → Shaped s table names slots sc c names₁ slots₁ r
   shape-inner {names = names} {d = d} k eq e f w =
       let i : d .count ≡ c .count = rw f in
@@ -955,7 +993,8 @@ module _ {s table : List ℕ} {sc : Names} {c : Cursor} {t : Lexeme} {b : ℕ} (
         few = w .few;
         below = w .below;
         kept = rw i at (w .kept);
-        told = λ q h many f m. rw (begin-is g k e, eq _ _ _ _ _ _, g .is-next .behind, ← l, ← i) (w .told y (rw l (g .is-next .here h)) (rw i many) f (omega arith));
+        told = λ q h many f m. rw (begin-is g k e, eq _ _ _ _ _ _, g .is-next .behind, ← l, ← i)
+            (w .told y (rw l (g .is-next .here h)) (rw i many) f (omega arith));
       }
 
   module _ {names slots names₁ slots₁ : List ℕ} {d r : Cursor} where
@@ -975,7 +1014,8 @@ module _ {s table : List ℕ} {sc : Names} {c : Cursor} {t : Lexeme} {b : ℕ} (
     unfolding shaped beginBy
     shaped-pair = shape-inner 6 (λ rd S n ts w l. refl)
 
-    pub shaped-list : b ≡ 7 → d ≡ cursor.behind c (t .end) 0 0 → Listed s table names slots sc d names₁ slots₁ r → Shaped s table names slots sc c names₁ slots₁ r
+    pub shaped-list : b ≡ 7 → d ≡ cursor.behind c (t .end) 0 0 → Listed s table names slots sc d names₁ slots₁ r
+        → Shaped s table names slots sc c names₁ slots₁ r
     unfolding shaped beginBy
     shaped-list = shape-inner 7 (λ rd S n ts w l. refl)
 
@@ -995,7 +1035,8 @@ module _ {s table : List ℕ} {sc : Names} {c : Cursor} {t : Lexeme} {b : ℕ} (
   -- A VARIABLE
   from-leaf : {names slots slots₁ : List ℕ} {r : Cursor} → c .count < 200 → r .count ≡ c .count + 1 → Kept (c .count) slots slots₁
       → (Between s (c .at) → sc .many ≤ 256 → (f : ℕ)
-      → Told s (With s (Stored slots₁ (c .count))) (byBegin (resolveBy s table) (reader.read (resolveBy s table) f) (scopeAt s names sc) (c .count) (ahead s (c .at))) r)
+      → Told s (With s (Stored slots₁ (c .count))) (byBegin (resolveBy s table) (reader.read (resolveBy s table) f) (scopeAt s names sc) (c .count)
+      (ahead s (c .at))) r)
       → Shaped s table names slots sc c names slots₁ r
   from-leaf {names} few e k t = record {
     carries = λ q. absurd (q z);
@@ -1006,7 +1047,8 @@ module _ {s table : List ℕ} {sc : Names} {c : Cursor} {t : Lexeme} {b : ℕ} (
     told = λ q h many f m. t h (omega arith) f;
   }
 
-  pub leaf-hash : {names slots slots₁ : List ℕ} {r : Cursor} → b ≡ 9 → c .count < 200 → Var s names slots sc c slots₁ r → Shaped s table names slots sc c names slots₁ r
+  pub leaf-hash : {names slots slots₁ : List ℕ} {r : Cursor} → b ≡ 9 → c .count < 200 → Var s names slots sc c slots₁ r
+      → Shaped s table names slots sc c names slots₁ r
   unfolding shaped beginBy
   leaf-hash e few v = from-leaf few (v .later) (v .kept) (λ h many f. rw (begin-is g 9 e) (v .told z h many))
 
@@ -1026,10 +1068,12 @@ module _ {s table : List ℕ} {sc : Names} {c : Cursor} {t : Lexeme} {b : ℕ} (
         let l : d .at ≡ u .end = rw f in
         let o : rest (rest (ahead s (c .at))) ≡ ahead s (d .at) = rw (g .is-next .behind, m .behind, l) in
         from-leaf few (v .later ∙ ap (λ (n : ℕ). n + 1) i) (rw i at (v .kept)) (λ h many x.
-        rw (begin-is g 8 e, second-mark g m, q, mark-own 40 refl, name-bytes s t k, o, ← i) (v .told y (rw l (m .here (g .is-next .here h))) many (length (ahead s (c .at))) (g .is-next .place h)))
+        rw (begin-is g 8 e, second-mark g m, q, mark-own 40 refl, name-bytes s t k, o, ← i)
+        (v .told y (rw l (m .here (g .is-next .here h))) many (length (ahead s (c .at))) (g .is-next .place h)))
 
 -- A NUMBER, or an amount and what it is added to
-digit-bytes : (s : List ℕ) (t : Lexeme) → t .kind ≡ 48 → (bytesIn (tokenAt s t) ≡ part s (t .at) (t .end)) × (behindIt (tokenAt s t) ≡ letterFirst (drop (t .end) s))
+digit-bytes : (s : List ℕ) (t : Lexeme) → t .kind ≡ 48
+    → (bytesIn (tokenAt s t) ≡ part s (t .at) (t .end)) × (behindIt (tokenAt s t) ≡ letterFirst (drop (t .end) s))
 unfolding tokenAt bytesIn behindIt
 digit-bytes s t k = (rw k, rw k)
 
@@ -1043,7 +1087,8 @@ module _ {s : List ℕ} (table : List ℕ) (sc : Names) {c : Cursor} {t : Lexeme
   number-then : (names : List ℕ) {slots′ : List ℕ} {r : Cursor} (f : ℕ) → Between s (c .at) → Carries v r
       → ((x : ℕ) → v .code ≡ 0 → Number (t .end) 4294967295 x v
       → Told s (With s (Stored slots′ (c .count))) (amountOf (reader.read (resolveBy s table) f) (scopeAt s names sc) (c .count) (ahead s (t .end)) x) r)
-      → Told s (With s (Stored slots′ (c .count))) (byBegin (resolveBy s table) (reader.read (resolveBy s table) f) (scopeAt s names sc) (c .count) (ahead s (c .at))) r
+      → Told s (With s (Stored slots′ (c .count))) (byBegin (resolveBy s table) (reader.read (resolveBy s table) f) (scopeAt s names sc) (c .count)
+      (ahead s (c .at))) r
   unfolding shaped beginBy
   number-then names f h carry next =
       rw (begin-is g 10 refl, digit-bytes s t k .0, digit-bytes s t k .1, g .is-next .behind)
@@ -1089,7 +1134,8 @@ module _ {s : List ℕ} (table : List ℕ) (sc : Names) {c : Cursor} {t : Lexeme
               value = record { counted = j; some = omega arith; held = w };
             })
 
-    pub amount-large : {names slots : List ℕ} → c .count ≤ 200 → p .kind ≡ 43 → 65535 < v .found → Shaped s table names slots sc c names slots (faultAt c 93 (p .at) 63)
+    pub amount-large : {names slots : List ℕ} → c .count ≤ 200 → p .kind ≡ 43 → 65535 < v .found
+        → Shaped s table names slots sc c names slots (faultAt c 93 (p .at) 63)
     unfolding amountOf amountBy marked
     amount-large {names} {slots} few k h = record {
       carries = λ q. absurd (q z);
@@ -1121,7 +1167,8 @@ module _ {s : List ℕ} (table : List ℕ) (sc : Names) {c : Cursor} {t : Lexeme
           told = λ q b many f o. number-then names f b (λ a. absurd (a y)) (λ x _ u.
               let a = u .is-found in
               rw (m .token, mark-is s p, k, mark-own 43 refl, le-leb x 65535 (omega arith))
-              (told-then _ (part-told ea j (record { here = rw l (m .here (g .is-next .here b)); tokens = rw l (m .behind) }) (i ∙ add-one (c .count)) refl (omega arith) f (omega arith))
+              (told-then _ (part-told ea j (record { here = rw l (m .here (g .is-next .here b)); tokens = rw l (m .behind) }) (i ∙ add-one (c .count)) refl
+              (omega arith) f (omega arith))
               (λ a. fault-same r) (λ (w, ts) zr ur.
               let n = parts-long (w ∷ []) in
               on {x = (node.Add (suc (c .count)) x ∷ w ++ [], ts)} {r = r} zr (record {
@@ -1180,7 +1227,8 @@ module _ (R : Name → Option ℕ) (S : Scope) (n : ℕ) (ts : List Token) where
   read-full zero h e = begun-room n ts (beginOf (first ts)) _ h ∙ rw (eq-eqb n 200 e)
   read-full (suc f) h e = begun-room n ts (beginOf (first ts)) _ h ∙ rw (eq-eqb n 200 e)
 
-  read-more : (f : ℕ) → (beginCode (beginOf (first ts)) ≡ 0 → ⊥) → (n ≡ 200 → ⊥) → reader.read R (suc f) whole S n ts ≡ shaped R (reader.read R f) S n ts (beginOf (first ts))
+  read-more : (f : ℕ) → (beginCode (beginOf (first ts)) ≡ 0 → ⊥) → (n ≡ 200 → ⊥)
+      → reader.read R (suc f) whole S n ts ≡ shaped R (reader.read R f) S n ts (beginOf (first ts))
   unfolding reader.read parted room
   read-more f h e = begun-room n ts (beginOf (first ts)) _ h ∙ rw (ne-eqb n 200 e)
 
@@ -1194,7 +1242,8 @@ module _ {s table : List ℕ} {sc : Names} {c : Cursor} {t : Lexeme} {b : ℕ} (
 
   pub expr-full : {names slots : List ℕ} → (b ≡ 0 → ⊥) → c .count ≡ 200 → Expr s table names slots sc c names slots (faultAt c 94 (t .at) 72)
   expr-full {names} e q = parsed-fault 94 (t .at) 72 (omega arith) z (λ h f m.
-      rw (read-full (resolveBy s table) (scopeAt s names sc) (c .count) (ahead s (c .at)) f (λ i. e (sym (its-code g) ∙ i)) q) (fault-here c (g .is-next) h (omega arith)))
+      rw (read-full (resolveBy s table) (scopeAt s names sc) (c .count) (ahead s (c .at)) f (λ i. e (sym (its-code g) ∙ i)) q)
+      (fault-here c (g .is-next) h (omega arith)))
 
   pub expr-shaped : {names slots names₁ slots₁ : List ℕ} {r : Cursor} → (b ≡ 0 → ⊥) → c .count < 200 → Shaped s table names slots sc c names₁ slots₁ r
       → Expr s table names slots sc c names₁ slots₁ r
@@ -1259,7 +1308,8 @@ code-hash : (w : List ℕ) (l : Bool) → beginCode (beginOf (hash w l)) ≡ 9
 unfolding beginOf beginCode
 code-hash w l = refl
 
-code-by : (k : ℕ) (a c d e f : Bool) (x y z : List ℕ) (l m : Bool) → let o = cond a (word x) (cond c (digits y l) (cond d (hash z m) (cond e (mark arrow) (cond f (mark []) (mark (k ∷ [])))))) in
+code-by : (k : ℕ) (a c d e f : Bool) (x y z : List ℕ) (l m : Bool)
+    → let o = cond a (word x) (cond c (digits y l) (cond d (hash z m) (cond e (mark arrow) (cond f (mark []) (mark (k ∷ [])))))) in
     (beginCode (beginOf o) ≡ 8 → a ≡ true) × (beginCode (beginOf o) ≡ 10 → c ≡ true)
 code-by k true c d e f x y z l m = (λ q. refl, λ q. absurd (omega (arith, code-word x)))
 code-by k false true d e f x y z l m = (λ q. absurd (omega (arith, code-digits y l)), λ q. refl)
@@ -1268,7 +1318,8 @@ code-by k false false false true f x y z l m = (λ q. absurd (omega (arith, code
 code-by k false false false false true x y z l m = (λ q. absurd (omega (arith, code-mark [])), λ q. absurd (omega (arith, code-mark [])))
 code-by k false false false false false x y z l m = (λ q. absurd (omega (arith, code-mark (k ∷ []))), λ q. absurd (omega (arith, code-mark (k ∷ []))))
 
-codes : (s : List ℕ) (t : Lexeme) → (beginCode (beginOf (tokenAt s t)) ≡ 8 → eqb (t .kind) 97 ≡ true) × (beginCode (beginOf (tokenAt s t)) ≡ 10 → eqb (t .kind) 48 ≡ true)
+codes : (s : List ℕ) (t : Lexeme)
+    → (beginCode (beginOf (tokenAt s t)) ≡ 8 → eqb (t .kind) 97 ≡ true) × (beginCode (beginOf (tokenAt s t)) ≡ 10 → eqb (t .kind) 48 ≡ true)
 unfolding tokenAt
 codes s t = code-by (t .kind) (eqb (t .kind) 97) (eqb (t .kind) 48) (eqb (t .kind) 35) (eqb (t .kind) 65) (eqb (t .kind) 90) _ _ _ _ _
 
@@ -1308,14 +1359,16 @@ count-behind c e = rw e
 pub code-behind : (c : Cursor) {d : Cursor} {at f k : ℕ} → d ≡ cursor.behind c at f k → d .code ≡ 0
 code-behind c e = rw e
 
-pub inner-ready : {T N L N′ L′ top : ℕ} {c : Cursor} → Inner T N L top c → {d : Cursor} → N′ ≡ N → L′ ≡ L → c .count < d .count → d .count ≤ 200 → {high : ℕ} → high ≤ top + 2
+pub inner-ready : {T N L N′ L′ top : ℕ} {c : Cursor} → Inner T N L top c → {d : Cursor} → N′ ≡ N → L′ ≡ L → c .count < d .count → d .count ≤ 200 → {high : ℕ}
+    → high ≤ top + 2
     → Ready T N′ L′ high d
 inner-ready w n l h few k =
     let r = w .ready in
     let i = r .low in
     record { table-few = r .table-few; names-long = n ∙ r .names-long; slots-long = l ∙ r .slots-long; few = few; low = omega arith }
 
-pub cased-ready : {T N L N′ L′ top n : ℕ} {c : Cursor} → Cased T N L top n c → {d : Cursor} → N′ ≡ N → L′ ≡ L → n < d .count → d .count ≤ 200 → {high : ℕ} → high ≤ top + 2
+pub cased-ready : {T N L N′ L′ top n : ℕ} {c : Cursor} → Cased T N L top n c → {d : Cursor} → N′ ≡ N → L′ ≡ L → n < d .count → d .count ≤ 200 → {high : ℕ}
+    → high ≤ top + 2
     → Ready T N′ L′ high d
 cased-ready w n l h few k =
     let i = w .low in
@@ -1339,7 +1392,8 @@ leafy w =
     let f = w .free in
     record { few = w .free; names-in = omega arith; slots-long = r .slots-long }
 
-pub leafy-behind : {T N L : ℕ} {sc : Names} (c : Cursor) {d : Cursor} {at f k : ℕ} → Inner T N L (sc .base + sc .many) c → d ≡ cursor.behind c at f k → Leafy N L sc d
+pub leafy-behind : {T N L : ℕ} {sc : Names} (c : Cursor) {d : Cursor} {at f k : ℕ} → Inner T N L (sc .base + sc .many) c → d ≡ cursor.behind c at f k
+    → Leafy N L sc d
 leafy-behind c w e =
     let r = w .ready in
     let i = r .low in
@@ -1347,3 +1401,12 @@ leafy-behind c w e =
     let f = w .free in
     let n = count-behind c e in
     record { few = omega arith; names-in = omega arith; slots-long = r .slots-long }
+
+-- an answer from a cursor that is another one
+pub parsed-at : {over : ℕ} {def : Reader → Scope → ℕ → List Token → Nodes} {s table names slots : List ℕ} {sc : Names} {c d : Cursor}
+    {names′ slots′ : List ℕ} {r : Cursor}
+    → c ≡ d → Parsed over def s table names slots sc c names′ slots′ r → Parsed over def s table names slots sc d names′ slots′ r
+parsed-at e w = rw e at w
+
+pub goes-at : {s : List ℕ} {X : Type 0} {Q : X → Cursor → Type 0} {f : List Token → Out X} {c d r : Cursor} → c ≡ d → Goes s Q f c r → Goes s Q f d r
+goes-at e w = rw e at w

@@ -26,7 +26,8 @@ use Rattle.parsing.specs.Lexing.{Between, ahead, part, tokenAt, Shape, N
 use Rattle.parsing.specs.Cursor.{faultAt, entered, Told, on, off, fault-told, Behind, With, Fault, fault-same, Carries, carries-then, Goes, told-then}
 use Rattle.parsing.specs.Cursor as cursor
 use Rattle.parsing.specs.Names.{word-is, word-none, nameAt, name-sent, stackOf, stack-kept}
-use Rattle.parsing.specs.Expect.{marked, mark-is, Again, Binds, Named, Numbers, Number, isVariable, isTest, isCallee, resolveBy, calleeOf, Resolves, scopeAt, fault-here}
+use Rattle.parsing.specs.Expect.{marked, mark-is, Again, Binds, Named, Numbers, Number, isVariable, isTest, isCallee, resolveBy, calleeOf}
+use Rattle.parsing.specs.Expect.{Resolves, scopeAt, fault-here}
 use Rattle.parsing.specs.Nodes.{Slot, Slots, more, slots-append, Kept, kept-refl, kept-fewer, kept-then, slots-kept}
 use Rattle.parsing.specs.Nodes.{none as no-slots}
 use Rattle.parsing.specs.Expressions.{beginCode, rowOf, Stored, Below, Leaf, Var, Call, Constant, goes-told, enters, stored-kept, stored-more}

@@ -11,7 +11,8 @@ use lib.ListN.{length, getD, take, drop, set, drop-of-length-le, length-set}
 use lib.Seq.{take-set-le, getD-set-same}
 use borrow.Author.Tests.{ne-eqb, eq-eqb, le-leb, lt-leb, not-true, not-false, eqb-true, eqb-false, leb-true}
 use Rattle.syntax.specs.Quoted.{bytes}
-use Rattle.syntax.specs.Tokens.{Token, word, digits, hash, mark, Class, blank, letter, digit, dash, sharp, other, classOf, arrow, first, rest, wordOf, markOf, same}
+use Rattle.syntax.specs.Tokens.{Token, word, digits, hash, mark, Class, blank, letter, digit, dash, sharp, other, classOf, arrow, first, rest, wordOf}
+use Rattle.syntax.specs.Tokens.{markOf, same}
 use Rattle.syntax.specs.Reader.{Out, ok, fault, _>>=_, Name, Scope, scope, find, isSome, wild, tests, isName, symbol, keyword, bind, sectionName, known}
 use Rattle.syntax.specs.Reader.{Valued, is, over, value, zeroFirst, valued, number, byNumber, variableBy, variable, testBy, test}
 use Rattle.syntax.specs.Laid.{isDigit, isLetter}
@@ -179,7 +180,8 @@ pub binds-on : (s names : List ℕ) (base many : ℕ) (c : Cursor) → (c .code 
 binds-on s names base many c h = record { same = refl; carries = λ q. fault-same c; long = refl; kept = refl; told = λ e b. absurd (h e) }
 
 module _ {s names : List ℕ} (base many : ℕ) {c : Cursor} {t : Lexeme} (n : Next s (c .at) t) (z : c .code ≡ 0) where
-  binds-fault : {code d : ℕ} → (Between s (c .at) → Told s (With s (Named s names (base + many))) (bind (stackOf s names base many) (ahead s (c .at))) (faultAt c code (t .at) d))
+  binds-fault : {code d : ℕ} → (Between s (c .at)
+      → Told s (With s (Named s names (base + many))) (bind (stackOf s names base many) (ahead s (c .at))) (faultAt c code (t .at) d))
       → Binds s names base many c names (faultAt c code (t .at) d)
   binds-fault f = record { same = refl; carries = λ q. absurd (q z); long = refl; kept = refl; told = λ e b. f b }
 
@@ -215,7 +217,8 @@ module _ {s names : List ℕ} (base many : ℕ) {c : Cursor} {t : Lexeme} (n : N
     bind-wild e = noted (λ b. rw (n .token, e, or-true (isName (wordOf (tokenAt s t)))))
 
     pub bind-new : {x : ℕ} → same (wordOf (tokenAt s t)) wild ≡ false → isName (wordOf (tokenAt s t)) ≡ true
-        → Found s names base many (wordOf (tokenAt s t)) x → many ≤ x → Binds s names base many c (set names (base + many) (t .at)) (behind c (t .end) (t .at) 0)
+        → Found s names base many (wordOf (tokenAt s t)) x → many ≤ x
+        → Binds s names base many c (set names (base + many) (t .at)) (behind c (t .end) (t .at) 0)
     unfolding bind
     bind-new {x} e f g h = noted (λ b. rw (n .token, e, f, g .not (let z = g .most in omega arith)))
 
@@ -271,7 +274,8 @@ pub record Number (end most v : ℕ) (r : Cursor) : Type 0 where
 
 pub record Numbers (s : List ℕ) (from end most detail : ℕ) (c r : Cursor) : Type 0 where
   pub same : r .count ≡ c .count
-  pub told : (left inner : ℕ) → placeAt s left + inner ≡ from → Told s (Number end most) (number most detail left inner (part s from end) (letterFirst (drop end s))) r
+  pub told : (left inner : ℕ) → placeAt s left + inner ≡ from
+      → Told s (Number end most) (number most detail left inner (part s from end) (letterFirst (drop end s))) r
 
 pub letter-first : (s : List ℕ) (at : ℕ) → at < length s → {k : ℕ} → k ≡ codeOf (classOf (getD s at 0)) → eqb k 1 ≡ letterFirst (drop at s)
 letter-first s at h e = rw (at-byte s at h, e) (go (classOf (getD s at 0)))
@@ -336,7 +340,8 @@ module _ {s : List ℕ} {from end most : ℕ} (g : Digits s from end most) where
     }
 
     -- a number that is too large
-    pub counted-over : (detail : ℕ) (c : Cursor) → most < 10 * v + (getD s i 0 - 48) → zeroFirst (part s from end) ≡ false → Numbers s from end most detail c (faultAt c 93 i detail)
+    pub counted-over : (detail : ℕ) (c : Cursor) → most < 10 * v + (getD s i 0 - 48) → zeroFirst (part s from end) ≡ false
+        → Numbers s from end most detail c (faultAt c 93 i detail)
     unfolding number value valued
     counted-over detail c b z = record {
       same = refl;
@@ -345,7 +350,8 @@ module _ {s : List ℕ} {from end most : ℕ} (g : Digits s from end most) where
           let m = part-length s from end (g .inside) in
           let w = k .later in
           let q : inner + (length (part s from end) - suc (length (part s (i + 1) end))) ≡ inner + (i - from) = omega arith in
-          rw (z, k .so-far, digit-split i h, lt-leb (10 * v + (getD s i 0 - 48)) most b, q) (fault-told c 93 left (inner + (i - from)) detail i (omega arith) (omega arith));
+          rw (z, k .so-far, digit-split i h, lt-leb (10 * v + (getD s i 0 - 48)) most b, q)
+          (fault-told c 93 left (inner + (i - from)) detail i (omega arith) (omega arith));
     }
 
   pub zero-fault : (detail : ℕ) (c : Cursor) → zeroFirst (part s from end) ≡ true → Numbers s from end most detail c (faultAt c 93 (from + 1) 61)
@@ -370,12 +376,17 @@ module _ {s : List ℕ} {from end most : ℕ} (g : Digits s from end most) where
 
     pub number-read : (detail : ℕ) (c : Cursor) → letterFirst (drop end s) ≡ false → Numbers s from end most detail c (behind c end v 0)
     unfolding number valued
-    number-read detail c b = record { same = refl; told = λ left inner e. rw (z, all-value, b) (on refl (record { is-found = refl; is-behind = refl; fits = k .small })) }
+    number-read detail c b = record {
+      same = refl;
+      told = λ left inner e. rw (z, all-value, b)
+          (on refl (record { is-found = refl; is-behind = refl; fits = k .small }));
+    }
 
 -- A VARIABLE BY ITS NUMBER
 pub record ByNumber (s : List ℕ) (t : Lexeme) (c r : Cursor) : Type 0 where
   pub same : r .count ≡ c .count
-  pub told : (left : ℕ) → placeAt s left ≡ t .at → Told s (Number (t .end) 255) (byNumber left (part s (suc (t .at)) (t .end)) (letterFirst (drop (t .end) s))) r
+  pub told : (left : ℕ) → placeAt s left ≡ t .at
+      → Told s (Number (t .end) 255) (byNumber left (part s (suc (t .at)) (t .end)) (letterFirst (drop (t .end) s))) r
 
 module _ {s : List ℕ} {t : Lexeme} (g : Shape s t) (k : t .kind ≡ 35) where
   pub no-number : (c : Cursor) → t .end - t .at < 2 → ByNumber s t c (faultAt c 90 (t .at + 1) 12)
@@ -393,7 +404,8 @@ module _ {s : List ℕ} {t : Lexeme} (g : Shape s t) (k : t .kind ≡ 35) where
   pub by-number-told : {c r : Cursor} → 2 ≤ t .end - t .at → Numbers s (t .at + 1) (t .end) 255 64 c r → ByNumber s t c r
   by-number-told {c} {r} h w = record {
     same = w .same;
-    told = λ left e. rw (some-digits (part s (suc (t .at)) (t .end)) left _ (rw (part-length s (suc (t .at)) (t .end) (g .inside)) (omega arith))) (rw add-one at (w .told left 1 (omega arith)));
+    told = λ left e. rw (some-digits (part s (suc (t .at)) (t .end)) left _ (rw (part-length s (suc (t .at)) (t .end) (g .inside)) (omega arith)))
+        (rw add-one at (w .told left 1 (omega arith)));
   }
     where
       some-digits : (l : List ℕ) (left : ℕ) (b : Bool) → 0 < length l → byNumber left l b ≡ number 255 64 left 1 l b
@@ -410,7 +422,8 @@ pub record isVariable (sc : Names) (x : ℕ) (r : Cursor) : Type 0 where
 
 -- any other token than these two is none
 variable-other : (sc : Scope) (left : ℕ) (a b c d e : Bool) (x y z w : List ℕ) (f g : Bool) (k : ℕ) → a ≡ false → c ≡ false
-    → variableBy sc left (cond a (word x) (cond b (digits y f) (cond c (hash z g) (cond d (mark arrow) (cond e (mark []) (mark (k ∷ []))))))) ≡ fault 90 left 0 11
+    → variableBy sc left (cond a (word x) (cond b (digits y f) (cond c (hash z g) (cond d (mark arrow) (cond e (mark []) (mark (k ∷ [])))))))
+    ≡ fault 90 left 0 11
 unfolding variableBy
 variable-other sc left true b c d e x y z w f g k p q = let i : _≡_ {A = ℕ} 0 1 = cc in absurd (omega arith)
 variable-other sc left false true c d e x y z w f g k p q = refl
@@ -435,7 +448,8 @@ module _ {s : List ℕ} (names : List ℕ) (sc : Names) (c : Cursor) {t : Lexeme
   Variable r = Goes s (With s (isVariable sc)) (variable (scopeAt s names sc)) c r
 
   as-variable : {r : Cursor} → r .count ≡ c .count
-      → (Between s (c .at) → Told s (With s (isVariable sc)) (variableBy (scopeAt s names sc) (length (ahead s (c .at))) (tokenAt s t) >>= λ x. ok (x, rest (ahead s (c .at)))) r)
+      → (Between s (c .at) → Told s (With s (isVariable sc))
+      (variableBy (scopeAt s names sc) (length (ahead s (c .at))) (tokenAt s t) >>= λ x. ok (x, rest (ahead s (c .at)))) r)
       → Variable r
   unfolding variable
   as-variable e f = goes _ z e (λ b. rw (n .token) (f b))
@@ -454,10 +468,12 @@ module _ {s : List ℕ} (names : List ℕ) (sc : Names) (c : Cursor) {t : Lexeme
   pub variable-none : (t .kind ≡ 35 → ⊥) → isName (wordOf (tokenAt s t)) ≡ false → Variable (faultAt c 90 (t .at) 11)
   variable-none h e = as-variable refl (λ b. rw (refused (eqb (t .kind) 97) refl) (none-read b))
     where
-      none-read : Between s (c .at) → Told s (With s (isVariable sc)) (fault 90 (length (ahead s (c .at))) 0 11 >>= λ x. ok (x, rest (ahead s (c .at)))) (faultAt c 90 (t .at) 11)
+      none-read : Between s (c .at) → Told s (With s (isVariable sc)) (fault 90 (length (ahead s (c .at))) 0 11 >>= λ x. ok (x, rest (ahead s (c .at))))
+          (faultAt c 90 (t .at) 11)
       none-read b = unfold _>>=_ in fault-here c n b (omega arith)
 
-      refused : (b : Bool) → eqb (t .kind) 97 ≡ b → variableBy (scopeAt s names sc) (length (ahead s (c .at))) (tokenAt s t) ≡ fault 90 (length (ahead s (c .at))) 0 11
+      refused : (b : Bool) → eqb (t .kind) 97 ≡ b
+          → variableBy (scopeAt s names sc) (length (ahead s (c .at))) (tokenAt s t) ≡ fault 90 (length (ahead s (c .at))) 0 11
       refused true q = variable-no-name s t (scopeAt s names sc) _ (eqb-true (t .kind) 97 q) e
       refused false q = variable-none-of s t (scopeAt s names sc) _ q (ne-eqb (t .kind) 35 h)
 
@@ -476,7 +492,8 @@ module _ {s : List ℕ} (names : List ℕ) (sc : Names) (c : Cursor) {t : Lexeme
     variable-named {x} g h =
         let m = g .most in
         let l : x < sc .many = omega arith in
-        as-variable refl (λ b. rw (by-name, g .is l) (on refl (record { stands = over-it c n x 0 b; value = record { is-found = refl; small = λ q. omega arith } })))
+        as-variable refl (λ b. rw (by-name, g .is l)
+        (on refl (record { stands = over-it c n x 0 b; value = record { is-found = refl; small = λ q. omega arith } })))
 
 -- THE NAME OF A SECTION: by the names of the sections, of which the first entry of the table is none; with no table it is 0
 unfoldable pub resolveBy : List ℕ → List ℕ → Name → Option ℕ
@@ -508,7 +525,8 @@ module _ (s table : List ℕ) (t : Lexeme) (c : Cursor) where
       empty (x ∷ l) q = absurd (omega arith)
 
       none-known : (left : ℕ) → Told s (Resolved c) (known (resolveBy s [] (wordOf (tokenAt s t))) left 43) (behind c (c .at) 0 0)
-      none-known left = unfold resolveBy known in on {x = 0} {r = behind c (c .at) 0 0} refl (record { is-callee = record { is-found = refl; small = omega arith }; stays = refl })
+      none-known left = unfold resolveBy known in
+          on {x = 0} {r = behind c (c .at) 0 0} refl (record { is-callee = record { is-found = refl; small = omega arith }; stays = refl })
 
   by-table : (l : List ℕ) (w : Name) → (length l ≡ 0 → ⊥) → resolveBy s l w ≡ find (stackOf s l 1 (length l - 1)) w
   unfolding resolveBy
@@ -543,7 +561,8 @@ module _ {s : List ℕ} (table : List ℕ) (c : Cursor) {t : Lexeme} (n : Next s
       → Goes s (With s isCallee) (calleeOf (resolveBy s table)) c r
   unfolding calleeOf sectionName
   callee-read {r} e w = goes _ z (w .same) (λ b. rw (n .token, e)
-      (told-then {Q = λ x a. (x .0 ≡ wordOf (tokenAt s t)) × Behind s (x .1) a} _ (on {r = behind c (t .end) 0 0} refl (refl, over-it c n 0 0 b)) (λ q. absurd (q refl))
+      (told-then {Q = λ x a. (x .0 ≡ wordOf (tokenAt s t)) × Behind s (x .1) a} _ (on {r = behind c (t .end) 0 0} refl (refl, over-it c n 0 0 b))
+      (λ q. absurd (q refl))
       (λ x p v. rw (v .0) (told-then {Q = λ y a. Resolved (behind c (t .end) 0 0) y a} _ (w .told (length (ahead s (c .at))) (n .place b)) (λ q. fault-same _)
       (λ y q u.
       let h : Between s (r .at) = rw (u .stays) (v .1 .here) in
@@ -604,7 +623,8 @@ module _ {s : List ℕ} (bare after : ℕ) (c : Cursor) {t : Lexeme} (n : Next s
       where
         go : (o : Option ℕ) → find tests (wordOf (tokenAt s u)) ≡ o → numberOr o ≡ 7 → Between s (c .at)
             → Told s (With s isTest) (testBy o (length (rest (ahead s (c .at)))) (rest (rest (ahead s (c .at)))) after) (faultAt c 90 (u .at) 23)
-        go none p q b = unfold testBy in rw (n .behind) (fault-told c 90 (length (ahead s (t .end))) 0 23 (u .at) (omega arith) (let i = m .place (n .here b) in omega arith))
+        go none p q b = unfold testBy in
+            rw (n .behind) (fault-told c 90 (length (ahead s (t .end))) 0 23 (u .at) (omega arith) (let i = m .place (n .here b) in omega arith))
         go (some x) p q b = let y = tests-few tests _ p in let v : x ≡ 7 = unfold numberOr in q in absurd (omega arith)
 
     pub test-read : {k : ℕ} → k ≡ numberOr (find tests (wordOf (tokenAt s u))) → (k ≡ 7 → ⊥) → Test (behind c (u .end) k after)

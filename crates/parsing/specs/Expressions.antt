@@ -18,7 +18,8 @@ use Rattle.syntax.specs.Quoted.{bytes}
 use Rattle.syntax.specs.Tokens.{Token, word, digits, hash, mark, arrow, first, rest, wordOf, markOf, same}
 use Rattle.syntax.specs.Reader.{Out, ok, fault, _>>=_, Name, Scope, scope, find, isSome, isName, symbol, keyword, bind, known, number, variable, test}
 use Rattle.syntax.specs.Reader.{Begin, nothing, aFalse, aTrue, aLet, aCase, anEach, aPair, aList, aName, aHash, aNumber, wordBegin, beginOf, behindOf, branchOf}
-use Rattle.syntax.specs.Reader.{Part, whole, more, Nodes, Reader, room, begun, constant, pairOf, behind, back, frontOf, listBy, listOf, letIn, amountBy, amountOf}
+use Rattle.syntax.specs.Reader.{Part, whole, more, Nodes, Reader, room, begun, constant, pairOf, behind, back, frontOf, listBy, listOf, letIn}
+use Rattle.syntax.specs.Reader.{amountBy, amountOf}
 use Rattle.syntax.specs.Reader.{truthCase, listCase, branches, caseOf, callOf, eachOf, named, shaped, parted}
 use Rattle.syntax.specs.Reader as reader
 use Rattle.syntax.specs.Ahead.{letterFirst, placeAt}
@@ -26,7 +27,8 @@ use Rattle.parsing.specs.Lexing.{Between, ahead, part, tokenAt, Shape, N
 use Rattle.parsing.specs.Cursor.{faultAt, entered, Told, on, off, fault-told, Behind, With, Fault, fault-same, Carries, carries-then, Goes, told-then}
 use Rattle.parsing.specs.Cursor as cursor
 use Rattle.parsing.specs.Names.{word-is, word-none, nameAt, stackOf, stack-kept}
-use Rattle.parsing.specs.Expect.{marked, mark-is, Again, Binds, Named, Numbers, Number, isVariable, isTest, isCallee, resolveBy, calleeOf, Resolves, scopeAt, fault-here}
+use Rattle.parsing.specs.Expect.{marked, mark-is, Again, Binds, Named, Numbers, Number, isVariable, isTest, isCallee, resolveBy, calleeOf}
+use Rattle.parsing.specs.Expect.{Resolves, scopeAt, fault-here}
 use Rattle.parsing.specs.Nodes.{Slot, Slots, none, more, slots-append, Kept, kept-refl, kept-fewer, kept-then, slots-kept, store-kept, store-more}
 use Rattle.parsing.specs.declared.cursor.Cursor.{Cursor}
 use Rattle.parsing.specs.declared.lexer.Lexeme.{Lexeme}
@@ -202,7 +204,8 @@ module _ (s : List ℕ) (t : Lexeme) where
   unfolding tokenAt beginOf beginCode same
   begin-list k = rw k
 
-  pub begin-mark : (t .kind ≡ 97 → ⊥) → (t .kind ≡ 48 → ⊥) → (t .kind ≡ 35 → ⊥) → (t .kind ≡ 40 → ⊥) → (t .kind ≡ 91 → ⊥) → 0 ≡ beginCode (beginOf (tokenAt s t))
+  pub begin-mark : (t .kind ≡ 97 → ⊥) → (t .kind ≡ 48 → ⊥) → (t .kind ≡ 35 → ⊥) → (t .kind ≡ 40 → ⊥) → (t .kind ≡ 91 → ⊥)
+      → 0 ≡ beginCode (beginOf (tokenAt s t))
   unfolding tokenAt
   begin-mark a b c d e =
       rw (ne-eqb (t .kind) 97 a, ne-eqb (t .kind) 48 b, ne-eqb (t .kind) 35 c) (go (eqb (t .kind) 65) (eqb (t .kind) 90))
@@ -225,7 +228,8 @@ small-mod : (x : ℕ) → x < 256 → x % 256 ≡ x
 small-mod x h = mod-eq-of-lt h
 
 -- a node stored where its number says
-module _ (slots : List ℕ) {slots′ : List ℕ} {n : ℕ} (few : n < 200) (long : length slots ≡ 1600) (row : List ℕ) (l : length row ≡ 8) (e : slots′ ≡ sets slots (8 * n) row) where
+module _ (slots : List ℕ) {slots′ : List ℕ} {n : ℕ} (few : n < 200) (long : length slots ≡ 1600) (row : List ℕ) (l : length row ≡ 8)
+    (e : slots′ ≡ sets slots (8 * n) row) where
   pub stored-kept : Kept n slots slots′
   stored-kept = rw e (store-kept slots n row l (omega arith))
 
@@ -246,7 +250,12 @@ var-told {s} names {slots} {slots′} {sc} {c} {x} {r} w g e f = rw f (record {
       let p = g .same in
       on {x = (node.Var v ∷ [], ts)} {r = entered x} q (record {
         stands = record { here = u .stands .here; tokens = u .stands .tokens };
-        value = record { counted = omega arith; some = omega arith; held = stored-more slots (w .few) (w .slots-long) (rowOf 16 (x .found % 256 ∷ [])) refl e {x = node.Var v} (var-row (x .found) v i y) none };
+        value = record {
+          counted = omega arith;
+          some = omega arith;
+          held = stored-more slots (w .few) (w .slots-long)
+              (rowOf 16 (x .found % 256 ∷ [])) refl e {x = node.Var v} (var-row (x .found) v i y) none;
+        };
       }));
 })
   where
@@ -257,7 +266,8 @@ var-told {s} names {slots} {slots′} {sc} {c} {x} {r} w g e f = rw f (record {
 pub constant-small : (slots : List ℕ) {slots′ : List ℕ} {n : ℕ} (v : ℕ) → n < 200 → length slots ≡ 1600 → v ≤ 65535
     → slots′ ≡ sets slots (8 * n) (rowOf 20 (v / 256 % 256 ∷ v % 256 ∷ [])) → Constant slots n v slots′
 unfolding constant
-constant-small slots v few long h e = rw (le-leb v 65535 h) (stored-more slots few long (rowOf 20 (v / 256 % 256 ∷ v % 256 ∷ [])) refl e {x = node.Number v} row none)
+constant-small slots v few long h e = rw (le-leb v 65535 h) (stored-more slots few long
+    (rowOf 20 (v / 256 % 256 ∷ v % 256 ∷ [])) refl e {x = node.Number v} row none)
   where
     row : take (width (node.Number v)) (rowOf 20 (v / 256 % 256 ∷ v % 256 ∷ [])) ≡ written (node.Number v)
     row = unfold width written in rw (small-mod (v / 256) (omega arith))
@@ -272,7 +282,8 @@ constant-wide slots v few long g h e = rw (lt-leb v 65535 g) (stored-more slots 
     row = unfold width written in rw (small-mod (v / 256 / 256 / 256) (omega arith))
 
 -- A CALL
-pub call-told : {s table : List ℕ} (names : List ℕ) {slots slots′ : List ℕ} {sc : Names} {t : Lexeme} {c w x m y e r : Cursor} → Leafy (length names) (length slots) sc c
+pub call-told : {s table : List ℕ} (names : List ℕ) {slots slots′ : List ℕ} {sc : Names} {t : Lexeme} {c w x m y e r : Cursor}
+    → Leafy (length names) (length slots) sc c
     → Resolves s table t c w → Goes s (With s (isVariable sc)) (variable (scopeAt s names sc)) w x → Goes s (Behind s) (symbol (marked 44) 9) x m
     → Goes s (With s (isVariable sc)) (variable (scopeAt s names sc)) m y → Goes s (Behind s) (symbol (marked 41) 10) y e
     → slots′ ≡ sets slots (8 * c .count) (rowOf 26 (w .found % 256 ∷ x .found % 256 ∷ y .found % 256 ∷ [])) → r ≡ entered e
@@ -282,7 +293,8 @@ call-told {s} {table} names {slots} {slots′} {sc} {t} {c} {w} {x} {m} {y} {e} 
   later = count-is;
   kept = stored-kept slots (k .few) (k .slots-long) (rowOf 26 (w .found % 256 ∷ x .found % 256 ∷ y .found % 256 ∷ [])) refl q;
   told = λ z b many left place.
-      told-then _ (gw .told left place) (carries-then (carries-then (carries-then (carries-then (gx .carries) (gm .carries)) (gy .carries)) (ge .carries)) (enters e)) (λ v zw uw.
+      told-then _ (gw .told left place) (carries-then (carries-then (carries-then (carries-then (gx .carries) (gm .carries)) (gy .carries)) (ge .carries))
+      (enters e)) (λ v zw uw.
       told-then _ (goes-told gx zw (record { here = rw (uw .stays) b; tokens = rw (uw .stays) }))
       (carries-then (carries-then (carries-then (gm .carries) (gy .carries)) (ge .carries)) (enters e)) (λ (a, ts) zx ux.
       told-then _ (goes-told gm zx (ux .stands)) (carries-then (carries-then (gy .carries) (ge .carries)) (enters e)) (λ ts₁ zm um.

@@ -142,7 +142,8 @@ part-more : (s : List ℕ) (at end : ℕ) → at ≤ end → end < length s → 
 part-more s at end h g =
     let e : end + 1 - at ≡ suc (end - at) = omega arith in
     let f : at + (end - at) ≡ end = omega arith in
-    rw e (take-suc (drop at s) (end - at) 0 (rw length-drop (omega arith)) ∙ ap (λ (b : ℕ). part s at end ++ b ∷ []) (getD-drop at s (end - at) 0 ∙ ap (λ (n : ℕ). getD s n 0) f))
+    rw e (take-suc (drop at s) (end - at) 0 (rw length-drop (omega arith))
+    ∙ ap (λ (b : ℕ). part s at end ++ b ∷ []) (getD-drop at s (end - at) 0 ∙ ap (λ (n : ℕ). getD s n 0) f))
 
 part-none : (s : List ℕ) (at : ℕ) → part s at at ≡ []
 part-none s at = let e : at - at ≡ 0 = omega arith in rw e
@@ -294,7 +295,8 @@ one-dash s at e h = record { printed = λ i f. let z : _≡_ {A = ℕ} 0 3 = rw 
 pub is-dash : (c : ℕ) → codeOf (classOf c) ≡ 3 → c ≡ 45
 is-dash c e = dash-byte c (code-dash (classOf c) e)
 
-pub gap-comment : (s : List ℕ) (at : ℕ) {r : ℕ} → at + 1 < length s → codeOf (classOf (getD s at 0)) ≡ 3 → getD s (at + 1) 0 ≡ 45 → Comment s (at + 2) r → Gap s at r
+pub gap-comment : (s : List ℕ) (at : ℕ) {r : ℕ} → at + 1 < length s → codeOf (classOf (getD s at 0)) ≡ 3 → getD s (at + 1) 0 ≡ 45 → Comment s (at + 2) r
+    → Gap s at r
 gap-comment s at h e f w =
     let g = at-comment at (drop (at + 2) s) in
     let z : suc (suc at) ≡ at + 2 = omega arith in
@@ -521,7 +523,8 @@ module _ {s : List ℕ} {at : ℕ} (m : Mark s at) where
       let c = getD s at 0 in
       rw (ne-eqb c 97 kind-97, ne-eqb c 48 kind-48, ne-eqb c 35 kind-35, ne-eqb c 65 kind-65, ne-eqb c 90 kind-90)
 
-  lexed : {t : Token} → Meets at between (drop at s) t at (at + 1) (drop (at + 1) s) → t ≡ mark (getD s at 0 ∷ []) → Lexed s at (lexeme (getD s at 0) at (at + 1))
+  lexed : {t : Token} → Meets at between (drop at s) t at (at + 1) (drop (at + 1) s) → t ≡ mark (getD s at 0 ∷ [])
+      → Lexed s at (lexeme (getD s at 0) at (at + 1))
   lexed w e = record {
     begins = refl;
     meets = meets-as w refl (e ∙ sym one-byte) refl;

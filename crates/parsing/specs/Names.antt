@@ -70,7 +70,8 @@ pub part-at : (s : List ℕ) (at end i : ℕ) → i < end - at → getD (part s 
 part-at s at end i h = rw (getD-take, getD-drop)
 
 -- THE WORD OF A TOKEN
-no-word : (a b c d : Bool) (v w x y z : List ℕ) (e f : Bool) → wordOf (cond a (digits v e) (cond b (hash w f) (cond c (mark x) (cond d (mark y) (mark z))))) ≡ []
+no-word : (a b c d : Bool) (v w x y z : List ℕ) (e f : Bool)
+    → wordOf (cond a (digits v e) (cond b (hash w f) (cond c (mark x) (cond d (mark y) (mark z))))) ≡ []
 unfolding wordOf
 no-word true b c d v w x y z e f = refl
 no-word false true c d v w x y z e f = refl

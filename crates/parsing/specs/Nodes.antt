@@ -90,7 +90,8 @@ module _ (s : List ℕ) (n : ℕ) (row : List ℕ) (l : length row ≡ 8) (h : 8
   store-above m g = ap (take 8) (sets-after row s (8 * n) (8 * m) (omega arith))
 
 -- above it too
-pub store-slots : (s : List ℕ) (n : ℕ) (row : List ℕ) {m : ℕ} {a : List Node} → length row ≡ 8 → 8 * n + 8 ≤ length s → n < m → Slots s m a → Slots (sets s (8 * n) row) m a
+pub store-slots : (s : List ℕ) (n : ℕ) (row : List ℕ) {m : ℕ} {a : List Node} → length row ≡ 8 → 8 * n + 8 ≤ length s → n < m → Slots s m a
+    → Slots (sets s (8 * n) row) m a
 store-slots s n row l h g none = none
 store-slots s n row {m} l h g (more {x = x} e a) = more (ap (take (width x)) (store-above s n row l h m g) ∙ e) (store-slots s n row l h (omega arith) a)
 
@@ -144,7 +145,8 @@ records-more s n zero = let e : n + 0 ≡ n = omega arith in rw e (append-nil (r
 records-more s n (suc k) =
     let e : suc k + 1 ≡ suc (k + 1) = omega arith in
     let f : n + suc k ≡ suc n + k = omega arith in
-    rw (e, f) (ap (λ (l : List ℕ). recordIn s n ++ l) (records-more s (suc n) k) ∙ sym (append-assoc (recordIn s n) (recordsFrom s (suc n) k) (recordIn s (suc n + k))))
+    rw (e, f) (ap (λ (l : List ℕ). recordIn s n ++ l) (records-more s (suc n) k)
+    ∙ sym (append-assoc (recordIn s n) (recordsFrom s (suc n) k) (recordIn s (suc n + k))))
 
 -- the width of a kind is its nodes'
 kind-wide : (x : Node) → kindWidth (row x .kind) ≡ width x
@@ -179,7 +181,8 @@ record-written s n x e =
     let f : take (width x) d ≡ written x = sym (take-take (width x) 8 d (width-8 x)) ∙ e in
     let z : 8 * n + 0 ≡ 8 * n = omega arith in
     let k : getD s (8 * n) 0 ≡ row x .kind =
-    ap (λ (m : ℕ). getD s m 0) (sym z) ∙ sym (getD-drop (8 * n) s 0 0) ∙ sym (getD-take (width x) d 0 0 (some-width x)) ∙ ap (λ (l : List ℕ). getD l 0 0) f ∙ first-byte x in
+    ap (λ (m : ℕ). getD s m 0) (sym z) ∙ sym (getD-drop (8 * n) s 0 0) ∙ sym (getD-take (width x) d 0 0 (some-width x)) ∙ ap (λ (l : List ℕ). getD l 0 0) f
+    ∙ first-byte x in
     rw (k, kind-wide x) f
 
 pub records-written : {s : List ℕ} {n : ℕ} {ns : List Node} → Slots s n ns → recordsFrom s n (length ns) ≡ allWritten ns
@@ -202,7 +205,8 @@ pub written-first : {s : List ℕ} {m at : ℕ} {out out′ : List ℕ} {r : ℕ
 unfolding recordsFrom
 written-first w = record { few = omega arith; wrote = w }
 
-pub written-more : {s : List ℕ} {n k at : ℕ} {out out₁ out₂ : List ℕ} {m r : ℕ} → Written s n k at out out₁ m → Wrote (recordIn s k) m out₁ out₂ r → k < n → Written s n (k + 1) at out out₂ r
+pub written-more : {s : List ℕ} {n k at : ℕ} {out out₁ out₂ : List ℕ} {m r : ℕ} → Written s n k at out out₁ m → Wrote (recordIn s k) m out₁ out₂ r → k < n
+    → Written s n (k + 1) at out out₂ r
 written-more {s} {n} {k} w v h =
     let z : 0 + k ≡ k = omega arith in
     record { few = omega arith; wrote = wrote-text (wrote-then (w .wrote) v) (sym (records-more s 0 k ∙ ap (λ (n : ℕ). recordsFrom s 0 k ++ recordIn s n) z)) }

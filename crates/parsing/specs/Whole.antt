@@ -16,7 +16,8 @@ use Rattle.sheet.specs.Sheet.{Sheet}
 use Rattle.sheet.specs.Rows.{rootsWritten}
 use Rattle.syntax.specs.Quoted.{bytes}
 use Rattle.syntax.specs.Tokens.{Token, between, tokens, first, rest, wordOf, markOf, same}
-use Rattle.syntax.specs.Reader.{Out, ok, fault, _>>=_, Name, Scope, scope, find, isSome, isName, wild, symbol, keyword, bind, sectionName, unknown, whole, plan, section}
+use Rattle.syntax.specs.Reader.{Out, ok, fault, _>>=_, Name, Scope, scope, find, isSome, isName, wild, symbol, keyword, bind, sectionName, unknown}
+use Rattle.syntax.specs.Reader.{whole, plan, section}
 use Rattle.syntax.specs.Reader.{sections, textRead}
 use Rattle.syntax.specs.Reader as reader
 use Rattle.syntax.specs.Ahead.{here-first}
@@ -58,7 +59,11 @@ or-true false = refl
 module _ {s : List ℕ} {c : Cursor} {t : Lexeme} (n : Next s (c .at) t) where
   pub full-wild : same (wordOf (tokenAt s t)) wild ≡ true → Full s c (faultAt c 94 (t .at) 70)
   unfolding plan
-  full-wild e = record { same-count = refl; told = λ b names names′. rw (n .token, e, or-true (isName (wordOf (tokenAt s t)))) (fault-here c n b (omega arith)) }
+  full-wild e = record {
+    same-count = refl;
+    told = λ b names names′. rw (n .token, e, or-true (isName (wordOf (tokenAt s t))))
+        (fault-here c n b (omega arith));
+  }
 
   pub full-name : same (wordOf (tokenAt s t)) wild ≡ false → isName (wordOf (tokenAt s t)) ≡ true → Full s c (faultAt c 94 (t .at) 70)
   unfolding plan
@@ -114,7 +119,8 @@ module _ {s names names₁ : List ℕ} {i : ℕ} {c b : Cursor} (few : i < 16) (
           }))));
     }
 
-    pub plan-more : {names₂ : List ℕ} {d r : Cursor} → t .kind ≡ 44 → d ≡ cursor.behind b (t .end) 0 0 → Planned s names₁ (i + 1) d names₂ r → Planned s names i c names₂ r
+    pub plan-more : {names₂ : List ℕ} {d r : Cursor} → t .kind ≡ 44 → d ≡ cursor.behind b (t .end) 0 0 → Planned s names₁ (i + 1) d names₂ r
+        → Planned s names i c names₂ r
     unfolding plan marked
     plan-more {names₂} {d} {r} k e p =
         let l : d .at ≡ t .end = rw e in
@@ -157,7 +163,8 @@ module _ {s : List ℕ} (fresh : List ℕ) {i : ℕ} {c : Cursor} {t : Lexeme} (
     told = λ _ b. rw (n .token, e) (fault-here c n b (omega arith));
   }
 
-  pub title-taken : {x : ℕ} → isName (wordOf (tokenAt s t)) ≡ true → Found s fresh 1 i (wordOf (tokenAt s t)) x → x < i → Titled s fresh i c fresh (faultAt c 92 (t .at) 51)
+  pub title-taken : {x : ℕ} → isName (wordOf (tokenAt s t)) ≡ true → Found s fresh 1 i (wordOf (tokenAt s t)) x → x < i
+      → Titled s fresh i c fresh (faultAt c 92 (t .at) 51)
   unfolding titleOf sectionName unknown _>>=_
   title-taken e g h = record {
     same-count = refl;
@@ -218,7 +225,8 @@ title-flat {Y} names ts g = one (sectionName ts)
     one (ok (w, ts₁)) = two w ts₁ (unknown (find names w) (length ts))
     one (fault n l i e) = refl
 
-told-title : {s : List ℕ} {Y : Type 0} {P : Name → Cursor → Type 0} {S : Y → Cursor → Type 0} (names : List Name) (ts : List Token) (g : Name → List Token → Out Y)
+told-title : {s : List ℕ} {Y : Type 0} {P : Name → Cursor → Type 0} {S : Y → Cursor → Type 0} (names : List Name) (ts : List Token)
+    (g : Name → List Token → Out Y)
     {c r : Cursor} → Told s (With s P) (titleOf names ts) c → Carries c r
     → ((w : Name) (ts₁ : List Token) → c .code ≡ 0 → With s P (w, ts₁) c → Told s S (g w ts₁) r)
     → Told s S (sectionName ts >>= λ (w, ts₁). unknown (find names w) (length ts) >>= λ u. g w ts₁) r
@@ -228,7 +236,8 @@ told-title {s} {Y} {S = S} names ts g {r = r} t k h =
 abbrev pub sees : ℕ → Names
 sees many = record { base = 0; many = many; lost = 40 }
 
-both-seen : (s names names′ : List ℕ) {x y : Name} {r : Cursor} → Below (0 + 0) names names′ → Both s names′ (0 + 0) (x, y) r → scope (y ∷ x ∷ []) 40 ≡ scopeAt s names′ (sees 2)
+both-seen : (s names names′ : List ℕ) {x y : Name} {r : Cursor} → Below (0 + 0) names names′ → Both s names′ (0 + 0) (x, y) r
+    → scope (y ∷ x ∷ []) 40 ≡ scopeAt s names′ (sees 2)
 unfolding scopeAt stackOf
 both-seen s names names′ b u = ap (λ (ns : List Name). scope ns 40) (sym (stack-two s names names′ 0 0 b (u .first-is) (u .second-is)))
 
@@ -250,7 +259,8 @@ section-parsed {s} {table} {names} {slots} {fresh} {i} {c} {fresh₁} {names₁}
       told-two [] _ 9 ts₂ _ (two-at tb zo uo) end-b (λ x y ts₅ zb ub.
       told-then _ (goes-told gp zb (ub .stands)) end-p (λ ts₆ zp up.
       told-then _ (goes-told gq zp up) (e .carries) (λ ts₇ zq uq.
-      told-then _ (part-told e zq uq counts (both-seen s names names₁ (tb .below) (ub .value)) (omega arith) 200 (omega arith)) (λ j. fault-same r) (λ (v, ts₈) zr ur.
+      told-then _ (part-told e zq uq counts (both-seen s names names₁ (tb .below) (ub .value)) (omega arith) 200 (omega arith)) (λ j. fault-same r)
+      (λ (v, ts₈) zr ur.
       on {x = ((w, v), ts₈)} {r = r} zr (record { stands = ur .stands; value = record { stored = ur .value; noted = ua .value .name } })))))));
 }
   where
@@ -310,7 +320,8 @@ module _ {s table slots front fresh : List ℕ} {i : ℕ} {c : Cursor} (few : c 
     pub sections-end : i ≤ 8 → t .kind ≡ 90 → Sections s table slots front fresh i c slots front fresh (cursor.behind c (c .at) i 0)
     sections-end h k = sections-stay refl (λ q. absurd (q z)) (λ _ b. rw (n .ended k) (all-read (8 - i)))
       where
-        all-read : (l : ℕ) → Told s (Closing s slots front front fresh i (c .count)) (sections (resolveBy s table) l (stackOf s fresh 1 i) (c .count) []) (cursor.behind c (c .at) i 0)
+        all-read : (l : ℕ) → Told s (Closing s slots front front fresh i (c .count)) (sections (resolveBy s table) l (stackOf s fresh 1 i) (c .count) [])
+            (cursor.behind c (c .at) i 0)
         all-read l = rw (none-left l) (on {r = cursor.behind c (c .at) i 0} refl (record {
           many = let e : i ≡ i + 0 = omega arith in e;
           few = h;
@@ -320,11 +331,13 @@ module _ {s table slots front fresh : List ℕ} {i : ℕ} {c : Cursor} (few : c 
           names-are = refl;
         }))
           where
-            none-left : (l : ℕ) → sections (resolveBy s table) l (stackOf s fresh 1 i) (c .count) [] ≡ ok (record { names = stackOf s fresh 1 i; roots = []; nodes = [] })
+            none-left : (l : ℕ) → sections (resolveBy s table) l (stackOf s fresh 1 i) (c .count) []
+                ≡ ok (record { names = stackOf s fresh 1 i; roots = []; nodes = [] })
             none-left zero = unfold sections in refl
             none-left (suc l) = unfold sections in refl
 
-    pub sections-none : (t .kind ≡ 90 → ⊥) → same (wordOf (tokenAt s t)) (bytes "section") ≡ false → Sections s table slots front fresh i c slots front fresh (faultAt c 90 (t .at) 6)
+    pub sections-none : (t .kind ≡ 90 → ⊥) → same (wordOf (tokenAt s t)) (bytes "section") ≡ false
+        → Sections s table slots front fresh i c slots front fresh (faultAt c 90 (t .at) 6)
     sections-none k e = sections-stay refl (λ q. absurd (q z)) (λ _ b. rw (not-one (8 - i)) (fault-here c n b (omega arith)))
       where
         not-one : (l : ℕ) → sections (resolveBy s table) l (stackOf s fresh 1 i) (c .count) (ahead s (c .at)) ≡ fault 90 (length (ahead s (c .at))) 0 6
@@ -348,15 +361,18 @@ front-noted a {b} i v e h =
     let c = set a (3 + 2 * i) 32 in
     let k : 4 + 2 * i < length c = rw length-set h in
     ap (take (3 + 2 * (i + 1))) e ∙ ap (λ (n : ℕ). take n (set c (4 + 2 * i) v)) l ∙ take-suc-set c (4 + 2 * i) v k
-    ∙ ap (λ (x : List ℕ). x ++ v ∷ []) (ap (λ (n : ℕ). take n c) m ∙ take-suc-set a (3 + 2 * i) 32 (omega arith)) ∙ append-assoc (take (3 + 2 * i) a) (32 ∷ []) (v ∷ [])
+    ∙ ap (λ (x : List ℕ). x ++ v ∷ []) (ap (λ (n : ℕ). take n c) m ∙ take-suc-set a (3 + 2 * i) 32 (omega arith))
+    ∙ append-assoc (take (3 + 2 * i) a) (32 ∷ []) (v ∷ [])
 
-pub sections-more : {s table names slots front fresh : List ℕ} {i : ℕ} {c : Cursor} {t : Lexeme} {front₁ names₁ slots₁ fresh₁ slots₂ front₂ fresh₂ : List ℕ} {d a r : Cursor}
+pub sections-more : {s table names slots front fresh : List ℕ} {i : ℕ} {c : Cursor} {t : Lexeme} {front₁ names₁ slots₁ fresh₁ slots₂ front₂ fresh₂ : List ℕ}
+    {d a r : Cursor}
     → Next s (c .at) t → c .code ≡ 0 → i < 8 → length front ≡ 19 → (t .kind ≡ 90 → ⊥) → same (wordOf (tokenAt s t)) (bytes "section") ≡ true
     → d ≡ cursor.behind c (t .end) 0 0 → front₁ ≡ set (set front (3 + 2 * i) 32) (4 + 2 * i) (c .count)
     → Sectioned s table names slots fresh i d names₁ slots₁ fresh₁ a → Sections s table slots₁ front₁ fresh₁ (i + 1) a slots₂ front₂ fresh₂ r
     → Sections s table slots front fresh i c slots₂ front₂ fresh₂ r
 unfolding sections keyword first rest
-sections-more {s} {table} {names} {slots} {front} {fresh} {i} {c} {t} {front₁} {names₁} {slots₁} {fresh₁} {slots₂} {front₂} {fresh₂} {d} {a} {r} n z few long k e f st w es =
+sections-more {s} {table} {names} {slots} {front} {fresh} {i} {c} {t} {front₁} {names₁} {slots₁} {fresh₁} {slots₂} {front₂} {fresh₂} {d} {a} {r} n z few long
+    k e f st w es =
     let o : d .count ≡ c .count = rw f in
     let y : d .code ≡ 0 = rw f in
     let l : d .at ≡ t .end = rw f in
@@ -374,7 +390,8 @@ sections-more {s} {table} {names} {slots} {front} {fresh} {i} {c} {t} {front₁}
           told-then {Q = With s (Ending s slots₁ fresh₁ (c .count) i)} _ (section-at u b l o y) (es .carries) (λ (x, ts₂) za ua.
           let v = ua .value .stored .counted in
           let h = stack-one s fresh fresh₁ 1 i (w .below) (ua .value .noted) in
-          told-then {Q = Closing s slots₂ front₁ front₂ fresh₂ (i + 1) (c .count + length (x .1))} _ (rw (ua .stands .tokens, ← v, ← h) (es .told za (ua .stands .here)))
+          told-then {Q = Closing s slots₂ front₁ front₂ fresh₂ (i + 1) (c .count + length (x .1))} _
+          (rw (ua .stands .tokens, ← v, ← h) (es .told za (ua .stands .here)))
           (λ q. fault-same r) (λ p zr up.
           on {x = record { names = p .names; roots = c .count ∷ p .roots; nodes = x .1 ++ p .nodes }} {r = r} zr (record {
             many = let j = up .many in omega arith;
@@ -417,7 +434,8 @@ front-first (x ∷ y ∷ z ∷ a) k e h = rw e
 pub start-here : (s : List ℕ) → Between s 0
 start-here s = here-first s
 
-pub pass-fault : {s table names slots front fresh : List ℕ} {m k : Cursor} → Goes s (Behind s) (keyword (bytes "plan") 1) (cursor.behind (record { at = 0; count = 0; found = 0; code = 0; detail = 0 }) 0 0 0) m
+pub pass-fault : {s table names slots front fresh : List ℕ} {m k : Cursor}
+    → Goes s (Behind s) (keyword (bytes "plan") 1) (cursor.behind (record { at = 0; count = 0; found = 0; code = 0; detail = 0 }) 0 0 0) m
     → {names₁ : List ℕ} → Planned s names 0 m names₁ k → (k .code ≡ 0 → ⊥) → Passed s table slots front fresh k
 unfolding textRead
 pass-fault {s} {k = k} gm p h = record {
@@ -426,30 +444,35 @@ pass-fault {s} {k = k} gm p h = record {
       told-then _ (plan-told p zm um) (λ q. fault-same k) (λ x y. absurd (h y)));
 }
 
-pub pass-parsed : {s table names slots : List ℕ} (front : List ℕ) {fresh : List ℕ} {m k l q a r : Cursor} {names₁ names₂ slots₂ front₂ slots₃ front₃ fresh₃ : List ℕ}
-    → Goes s (Behind s) (keyword (bytes "plan") 1) (cursor.behind (record { at = 0; count = 0; found = 0; code = 0; detail = 0 }) 0 0 0) m → Planned s names 0 m names₁ k → k .code ≡ 0
+pub pass-parsed : {s table names slots : List ℕ} (front : List ℕ) {fresh : List ℕ} {m k l q a r : Cursor}
+    {names₁ names₂ slots₂ front₂ slots₃ front₃ fresh₃ : List ℕ}
+    → Goes s (Behind s) (keyword (bytes "plan") 1) (cursor.behind (record { at = 0; count = 0; found = 0; code = 0; detail = 0 }) 0 0 0) m
+    → Planned s names 0 m names₁ k → k .code ≡ 0
     → length front ≡ 19 → front₂ ≡ set (set (set front 0 1) 1 (k .found)) 2 0 → Goes s (Behind s) (keyword (bytes "list") 3) k l
     → Goes s (Behind s) (symbol (marked 61) 4) l q → Expr s table names₁ slots (record { base = 0; many = k .found; lost = 40 }) q names₂ slots₂ a
     → Sections s table slots₂ front₂ fresh 0 a slots₃ front₃ fresh₃ r → Passed s table slots₃ front₃ fresh₃ r
 unfolding textRead marked stackOf
-pass-parsed {s} {table} {names} {slots} front {fresh} {m} {k} {l} {q} {a} {r} {names₁} {names₂} {slots₂} {front₂} {slots₃} {front₃} {fresh₃} gm p y long st gl gq e es = record {
-  few = es .few;
-  told = told-then _ (gm .told refl (start-here s)) (carries-then (p .carries) end-k) (λ ts₁ zm um.
-      told-then _ (plan-told p zm um) end-k (λ (ns, ts₂) zk uk.
-      told-then _ (goes-told gl zk (uk .stands)) (carries-then (gq .carries) (carries-then (e .carries) (es .carries))) (λ ts₃ zl ul.
-      told-then _ (goes-told gq zl ul) (carries-then (e .carries) (es .carries)) (λ ts₄ zq uq.
-      told-then _ (part-told e zq uq counts (seen (uk .value .are)) (let f = uk .value .few in omega arith) 200 (omega arith)) (es .carries) (λ (x, ts₅) za ua.
-      let v : a .count ≡ length x = (let i = ua .value .counted in omega arith) in
-      told-then {Q = Closing s slots₃ front₂ front₃ fresh₃ 0 (length x)} _ (rw (ua .stands .tokens, ← v) (es .told za (ua .stands .here))) (λ j. fault-same r) (λ o zr ur.
-      on {x = (o .names, record { k = length ns; root = 0; sections = o .roots; nodes = x ++ o .nodes })} {r = r} zr (record {
-        counted = let i = length-append x (o .nodes) in let j = ur .counted in omega arith;
-        held = slots-append (slots-kept (es .kept) (let i = ua .value .counted in omega arith) (ua .value .held)) (rw (zero-add (length x)) (ur .held));
-        few = ur .few;
-        fronted = ur .fronted ∙ ap (λ (b : List ℕ). b ++ rootsWritten (o .roots) []) (front-first front (k .found) st long)
-            ∙ ap (λ (n : ℕ). 1 ∷ n ∷ 0 ∷ rootsWritten (o .roots) []) (sym (ap length (uk .value .are) ∙ stack-length s names₁ 0 (k .found)));
-        names-are = ur .names-are;
-      })))))));
-}
+pass-parsed {s} {table} {names} {slots} front {fresh} {m} {k} {l} {q} {a} {r} {names₁} {names₂} {slots₂} {front₂} {slots₃} {front₃} {fresh₃} gm p y long st
+    gl gq e es = record {
+      few = es .few;
+      told = told-then _ (gm .told refl (start-here s)) (carries-then (p .carries) end-k) (λ ts₁ zm um.
+          told-then _ (plan-told p zm um) end-k (λ (ns, ts₂) zk uk.
+          told-then _ (goes-told gl zk (uk .stands)) (carries-then (gq .carries) (carries-then (e .carries) (es .carries))) (λ ts₃ zl ul.
+          told-then _ (goes-told gq zl ul) (carries-then (e .carries) (es .carries)) (λ ts₄ zq uq.
+          told-then _ (part-told e zq uq counts (seen (uk .value .are)) (let f = uk .value .few in omega arith) 200 (omega arith)) (es .carries)
+          (λ (x, ts₅) za ua.
+          let v : a .count ≡ length x = (let i = ua .value .counted in omega arith) in
+          told-then {Q = Closing s slots₃ front₂ front₃ fresh₃ 0 (length x)} _ (rw (ua .stands .tokens, ← v) (es .told za (ua .stands .here)))
+          (λ j. fault-same r) (λ o zr ur.
+          on {x = (o .names, record { k = length ns; root = 0; sections = o .roots; nodes = x ++ o .nodes })} {r = r} zr (record {
+            counted = let i = length-append x (o .nodes) in let j = ur .counted in omega arith;
+            held = slots-append (slots-kept (es .kept) (let i = ua .value .counted in omega arith) (ua .value .held)) (rw (zero-add (length x)) (ur .held));
+            few = ur .few;
+            fronted = ur .fronted ∙ ap (λ (b : List ℕ). b ++ rootsWritten (o .roots) []) (front-first front (k .found) st long)
+                ∙ ap (λ (n : ℕ). 1 ∷ n ∷ 0 ∷ rootsWritten (o .roots) []) (sym (ap length (uk .value .are) ∙ stack-length s names₁ 0 (k .found)));
+            names-are = ur .names-are;
+          })))))));
+    }
   where
     end-k : Carries k r
     end-k = carries-then (gl .carries) (carries-then (gq .carries) (carries-then (e .carries) (es .carries)))

@@ -161,7 +161,8 @@ fn by_number(text: &[u8], t: Lexeme, c: Cursor) -> Cursor
 /// A variable: its name, or `#` and its number.
 pub fn variable(text: &[u8], names: &[usize], sc: Scope, c: Cursor) -> Cursor
     requires { ⌜ sc .base + sc .many ≤ length (now names) ⌝ }
-    ensures { λ r. ⌜ Goes (now (text .entry)) (With (now (text .entry)) (isVariable sc)) (reader.variable (scopeAt (now (text .entry)) (now (names .entry)) sc)) c r ⌝ }
+    ensures { λ r. ⌜ Goes (now (text .entry)) (With (now (text .entry)) (isVariable sc))
+        (reader.variable (scopeAt (now (text .entry)) (now (names .entry)) sc)) c r ⌝ }
 {
     if c.code != 0 {
         return c;

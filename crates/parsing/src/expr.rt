@@ -245,7 +245,8 @@ fn shaped(
     c: Cursor,
 ) -> Cursor
     requires { ⌜ Inner (length (now table)) (length (now names)) (length (now slots)) (sc .base + sc .many) c × Begun (now text) t b c × (b ≡ 0 → ⊥) ⌝ }
-    ensures { λ r. ⌜ Shaped (now (text .entry)) (now (table .entry)) (now (names .entry)) (now (slots .entry)) sc c (now (names .exit)) (now (slots .exit)) r ⌝ }
+    ensures { λ r. ⌜ Shaped (now (text .entry)) (now (table .entry)) (now (names .entry)) (now (slots .entry)) sc c (now (names .exit))
+        (now (slots .exit)) r ⌝ }
 {
     let behind = read(c, t.end, 0, 0);
     if b == LET {
@@ -301,7 +302,8 @@ fn list(
     c: Cursor,
 ) -> Cursor
     requires { ⌜ Inner (length (now table)) (length (now names)) (length (now slots)) (sc .base + sc .many) c ⌝ }
-    ensures { λ r. ⌜ Listed (now (text .entry)) (now (table .entry)) (now (names .entry)) (now (slots .entry)) sc c (now (names .exit)) (now (slots .exit)) r ⌝ }
+    ensures { λ r. ⌜ Listed (now (text .entry)) (now (table .entry)) (now (names .entry)) (now (slots .entry)) sc c (now (names .exit))
+        (now (slots .exit)) r ⌝ }
 {
     let t = next(text, c.at);
     if t.kind == b']' {
@@ -411,7 +413,8 @@ fn amount(
     c: Cursor,
 ) -> Cursor
     requires { ⌜ Inner (length (now table)) (length (now names)) (length (now slots)) (sc .base + sc .many) c × Begun (now text) t 10 c ⌝ }
-    ensures { λ r. ⌜ Shaped (now (text .entry)) (now (table .entry)) (now (names .entry)) (now (slots .entry)) sc c (now (names .exit)) (now (slots .exit)) r ⌝ }
+    ensures { λ r. ⌜ Shaped (now (text .entry)) (now (table .entry)) (now (names .entry)) (now (slots .entry)) sc c (now (names .exit))
+        (now (slots .exit)) r ⌝ }
 {
     let v = number(text, t.at, t.end, MOST, 60, c);
     if v.code != 0 {
@@ -445,7 +448,8 @@ fn leaf(
     c: Cursor,
 ) -> Cursor
     requires { ⌜ Inner (length (now table)) (length (now names)) (length (now slots)) (sc .base + sc .many) c × Begun (now text) t b c × Childless b ⌝ }
-    ensures { λ r. ⌜ Shaped (now (text .entry)) (now (table .entry)) (now (names .entry)) (now (slots .entry)) sc c (now (names .exit)) (now (slots .exit)) r ⌝ }
+    ensures { λ r. ⌜ Shaped (now (text .entry)) (now (table .entry)) (now (names .entry)) (now (slots .entry)) sc c (now (names .exit))
+        (now (slots .exit)) r ⌝ }
 {
     if b == FALSE {
         return bare(slots, read(c, t.end, 0, 0), 0x11);
@@ -528,7 +532,8 @@ fn branches(
     c: Cursor,
 ) -> Cursor
     requires { ⌜ Cased (length (now table)) (length (now names)) (length (now slots)) (sc .base + sc .many) n c ⌝ }
-    ensures { λ r. ⌜ Branches (now (text .entry)) (now (table .entry)) n (now (names .entry)) (now (slots .entry)) sc c (now (names .exit)) (now (slots .exit)) r ⌝ }
+    ensures { λ r. ⌜ Branches (now (text .entry)) (now (table .entry)) n (now (names .entry)) (now (slots .entry)) sc c (now (names .exit))
+        (now (slots .exit)) r ⌝ }
 {
     if c.code != 0 {
         return c;
@@ -553,7 +558,8 @@ fn branch(
     c: Cursor,
 ) -> Cursor
     requires { ⌜ Ready (length (now table)) (length (now names)) (length (now slots)) (sc .base + sc .many) c ⌝ }
-    ensures { λ r. ⌜ Branch (now (text .entry)) (now (table .entry)) (now (names .entry)) (now (slots .entry)) sc c (now (names .exit)) (now (slots .exit)) r ⌝ }
+    ensures { λ r. ⌜ Branch (now (text .entry)) (now (table .entry)) (now (names .entry)) (now (slots .entry)) sc c (now (names .exit))
+        (now (slots .exit)) r ⌝ }
 {
     let arrow = symbol(text, c, ARROW, 19);
     expr(text, table, names, slots, sc, arrow)
@@ -569,7 +575,8 @@ fn default(
     c: Cursor,
 ) -> Cursor
     requires { ⌜ Ready (length (now table)) (length (now names)) (length (now slots)) (top + 1) c ⌝ }
-    ensures { λ r. ⌜ Default (now (text .entry)) (now (table .entry)) (now (names .entry)) (now (slots .entry)) top c (now (names .exit)) (now (slots .exit)) r ⌝ }
+    ensures { λ r. ⌜ Default (now (text .entry)) (now (table .entry)) (now (names .entry)) (now (slots .entry)) top c (now (names .exit))
+        (now (slots .exit)) r ⌝ }
 {
     let equals = symbol(text, c, b'=', 4);
     names[top] = text.len();
@@ -592,7 +599,8 @@ fn truth_case(
     c: Cursor,
 ) -> Cursor
     requires { ⌜ Cased (length (now table)) (length (now names)) (length (now slots)) (sc .base + sc .many) n c × (c .code ≡ 0) ⌝ }
-    ensures { λ r. ⌜ Truth (now (text .entry)) (now (table .entry)) n (now (names .entry)) (now (slots .entry)) sc c (now (names .exit)) (now (slots .exit)) r ⌝ }
+    ensures { λ r. ⌜ Truth (now (text .entry)) (now (table .entry)) n (now (names .entry)) (now (slots .entry)) sc c (now (names .exit))
+        (now (slots .exit)) r ⌝ }
 {
     let a = branch(text, table, names, slots, sc, c);
     let t = test(text, a, 28, 29);
@@ -624,7 +632,8 @@ fn list_case(
     c: Cursor,
 ) -> Cursor
     requires { ⌜ Cased (length (now table)) (length (now names)) (length (now slots)) (sc .base + sc .many) n c × (c .code ≡ 0) ⌝ }
-    ensures { λ r. ⌜ Lists (now (text .entry)) (now (table .entry)) n (now (names .entry)) (now (slots .entry)) sc c (now (names .exit)) (now (slots .exit)) r ⌝ }
+    ensures { λ r. ⌜ Lists (now (text .entry)) (now (table .entry)) n (now (names .entry)) (now (slots .entry)) sc c (now (names .exit))
+        (now (slots .exit)) r ⌝ }
 {
     let top = sc.base + sc.many;
     let none = symbol(text, c, b']', 18);

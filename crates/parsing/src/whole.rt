@@ -96,7 +96,8 @@ fn section(
     c: Cursor,
 ) -> Cursor
     requires { ⌜ (i < 8) × (length (now fresh) ≡ 9) × Lent (length (now table)) (length (now names)) (length (now slots)) c ⌝ }
-    ensures { λ r. ⌜ Sectioned (now (text .entry)) (now (table .entry)) (now (names .entry)) (now (slots .entry)) (now (fresh .entry)) i c (now (names .exit)) (now (slots .exit)) (now (fresh .exit)) r ⌝ }
+    ensures { λ r. ⌜ Sectioned (now (text .entry)) (now (table .entry)) (now (names .entry)) (now (slots .entry)) (now (fresh .entry)) i c
+        (now (names .exit)) (now (slots .exit)) (now (fresh .exit)) r ⌝ }
 {
     let named = title(text, fresh, i, c);
     let open = symbol(text, named, b'(', 8);
@@ -128,7 +129,8 @@ fn sections(
     c: Cursor,
 ) -> Cursor
     requires { ⌜ (i ≤ 8) × (length (now fresh) ≡ 9) × (length (now front) ≡ 19) × Lent (length (now table)) (length (now names)) (length (now slots)) c ⌝ }
-    ensures { λ r. ⌜ Sections (now (text .entry)) (now (table .entry)) (now (slots .entry)) (now (front .entry)) (now (fresh .entry)) i c (now (slots .exit)) (now (front .exit)) (now (fresh .exit)) r ⌝ }
+    ensures { λ r. ⌜ Sections (now (text .entry)) (now (table .entry)) (now (slots .entry)) (now (front .entry)) (now (fresh .entry)) i c (now (slots .exit))
+        (now (front .exit)) (now (fresh .exit)) r ⌝ }
     ensures { λ _. ⌜ length (now (names .exit)) ≡ length (now (names .entry)) ⌝ }
 {
     if c.code != 0 {
@@ -161,7 +163,8 @@ fn pass(
 ) -> Cursor
     requires { ⌜ (length (now table) ≤ 9) × (length (now names) ≡ 416) × (length (now slots) ≡ 1600) × (length (now front) ≡ 19) × (length (now fresh) ≡ 9) ⌝ }
     ensures { λ r. ⌜ Passed (now (text .entry)) (now (table .entry)) (now (slots .exit)) (now (front .exit)) (now (fresh .exit)) r ⌝ }
-    ensures { λ _. ⌜ (length (now (names .exit)) ≡ 416) × (length (now (slots .exit)) ≡ 1600) × (length (now (front .exit)) ≡ 19) × (length (now (fresh .exit)) ≡ 9) ⌝ }
+    ensures { λ _. ⌜ (length (now (names .exit)) ≡ 416) × (length (now (slots .exit)) ≡ 1600) × (length (now (front .exit)) ≡ 19) ×
+        (length (now (fresh .exit)) ≡ 9) ⌝ }
 {
     let start = Cursor {
         at: 0,

@@ -23,14 +23,16 @@ returns-3 c =
     let i = c .before in
     let n = i .before .before .before .before in
     let a = n .before .before .before .before .args in
-    rw (c .fault2 .ensures) (again-other (a .place) (a .detail) (n .next .ensures) (n .before .if1 .left) (sym (i .before .is-same .ensures) ∙ not-true _ (i .if3 .taken)))
+    rw (c .fault2 .ensures) (again-other (a .place) (a .detail) (n .next .ensures) (n .before .if1 .left)
+    (sym (i .before .is-same .ensures) ∙ not-true _ (i .if3 .taken)))
 
 returns-4 : tie.Need-returns-4
 returns-4 c =
     let i = c .before in
     let n = i .before .before .before .before in
     let a = n .before .before .before .before .args in
-    rw (c .read .ensures) (again-read (a .place) (a .detail) (n .next .ensures) (n .before .if1 .left) (sym (i .before .is-same .ensures) ∙ not-false _ (i .if3 .left)))
+    rw (c .read .ensures) (again-read (a .place) (a .detail) (n .next .ensures) (n .before .if1 .left)
+    (sym (i .before .is-same .ensures) ∙ not-false _ (i .if3 .left)))
 
 pub again-spec : {M : Type 1} → statement M
 again-spec =

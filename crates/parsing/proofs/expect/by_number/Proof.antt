@@ -12,7 +12,8 @@ add-fault : tie.Need-add-fault
 add-fault c = let e = c .before .before .before .before in omega (arith, e .pre .0 .a-hash (e .pre .1) .0, e .pre .0 .inside)
 
 returns : tie.Need-returns
-returns c = let e = c .before .before .before .before .before in rw (c .fault .ensures) (no-number (e .pre .0) (e .pre .1) (e .args .c) (c .before .before .if1 .taken))
+returns c = let e = c .before .before .before .before .before in
+    rw (c .fault .ensures) (no-number (e .pre .0) (e .pre .1) (e .args .c) (c .before .before .if1 .taken))
 
 add-number : tie.Need-add-number
 add-number c = let e = c .before .before .before .before in omega (arith, e .pre .0 .a-hash (e .pre .1) .0, e .pre .0 .inside)

@@ -76,7 +76,8 @@ returns-3 c =
     let l = i .before .before .before in
     let e = l .before .before .before .before in
     rw (c .fault3 .ensures)
-    (letter-fault (e .pre) (sym (l .before .before .zero-first .ensures) ∙ l .before .if1 .left) (at-end (l .loop .inv) (i .before .before .loop-test .left)) (e .args .detail) (e .args .c)
+    (letter-fault (e .pre) (sym (l .before .before .zero-first .ensures) ∙ l .before .if1 .left) (at-end (l .loop .inv) (i .before .before .loop-test .left))
+    (e .args .detail) (e .args .c)
     (sym (i .before .letter-at .ensures) ∙ i .if3 .taken))
 
 returns-4 : tie.Need-returns-4 Inv-loop μ-loop
@@ -85,7 +86,8 @@ returns-4 c =
     let l = i .before .before .before in
     let e = l .before .before .before .before in
     rw (c .read .ensures)
-    (number-read (e .pre) (sym (l .before .before .zero-first .ensures) ∙ l .before .if1 .left) (at-end (l .loop .inv) (i .before .before .loop-test .left)) (e .args .detail) (e .args .c)
+    (number-read (e .pre) (sym (l .before .before .zero-first .ensures) ∙ l .before .if1 .left) (at-end (l .loop .inv) (i .before .before .loop-test .left))
+    (e .args .detail) (e .args .c)
     (sym (i .before .letter-at .ensures) ∙ i .if3 .left))
 
 pub number-spec : {M : Type 1} → statement M

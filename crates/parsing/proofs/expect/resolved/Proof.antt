@@ -6,7 +6,8 @@ use Rattle.parsing.proofs.expect.resolved.Statement.{statement}
 use Rattle.parsing.proofs.expect.resolved.Tie as tie
 
 returns : tie.Need-returns
-returns c = let a = c .before .before .before .before .args in rw (c .read .ensures) (no-table (a .text .now) (a .table .now) (a .t) (a .c) (c .before .if1 .taken))
+returns c = let a = c .before .before .before .before .args in
+    rw (c .read .ensures) (no-table (a .text .now) (a .table .now) (a .t) (a .c) (c .before .if1 .taken))
 
 lookup-requires : tie.Need-lookup-requires
 lookup-requires c κs = let e = c .before .before .before in (e .pre .0, e .pre .1, omega arith)

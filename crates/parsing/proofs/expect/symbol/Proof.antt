@@ -12,13 +12,15 @@ returns-2 : tie.Need-returns-2
 returns-2 c =
     let n = c .before .before .before in
     let e = n .before .before .before .before in
-    rw (c .fault .ensures) (goes _ (n .before .if1 .left) refl (symbol-other (e .args .c) (n .next .ensures) (e .args .detail) (e .args .mark) (c .before .if2 .taken)))
+    rw (c .fault .ensures) (goes _ (n .before .if1 .left) refl
+    (symbol-other (e .args .c) (n .next .ensures) (e .args .detail) (e .args .mark) (c .before .if2 .taken)))
 
 returns-3 : tie.Need-returns-3
 returns-3 c =
     let n = c .before .before .before in
     let e = n .before .before .before .before in
-    rw (c .read .ensures) (goes _ (n .before .if1 .left) refl (symbol-read (e .args .c) (n .next .ensures) (e .args .detail) (e .args .mark) (e .pre) (c .before .if2 .left)))
+    rw (c .read .ensures) (goes _ (n .before .if1 .left) refl
+    (symbol-read (e .args .c) (n .next .ensures) (e .args .detail) (e .args .mark) (e .pre) (c .before .if2 .left)))
 
 pub symbol-spec : {M : Type 1} → statement M
 symbol-spec =

@@ -20,25 +20,32 @@ abbrev asked : lts.Start (is-word-reads.Asked, is-word-reads.Learnt) reads.Pre r
 asked e = wordOf (tokenAt (e .args .text .now) (e .args .t))
 
 -- PLACES: so many tests were compared
-abbrev entry-1 : lts.Else1 (is-word-reads.Asked, is-word-reads.Learnt) reads.Pre reads.Post → lts.Start (is-word-reads.Asked, is-word-reads.Learnt) reads.Pre reads.Post
+abbrev entry-1 : lts.Else1 (is-word-reads.Asked, is-word-reads.Learnt) reads.Pre reads.Post
+    → lts.Start (is-word-reads.Asked, is-word-reads.Learnt) reads.Pre reads.Post
 entry-1 c = c .before .before .before .before
 
-abbrev entry-2 : lts.Else2 (is-word-reads.Asked, is-word-reads.Learnt) reads.Pre reads.Post → lts.Start (is-word-reads.Asked, is-word-reads.Learnt) reads.Pre reads.Post
+abbrev entry-2 : lts.Else2 (is-word-reads.Asked, is-word-reads.Learnt) reads.Pre reads.Post
+    → lts.Start (is-word-reads.Asked, is-word-reads.Learnt) reads.Pre reads.Post
 entry-2 c = entry-1 (c .before .before .before)
 
-abbrev entry-3 : lts.Else3 (is-word-reads.Asked, is-word-reads.Learnt) reads.Pre reads.Post → lts.Start (is-word-reads.Asked, is-word-reads.Learnt) reads.Pre reads.Post
+abbrev entry-3 : lts.Else3 (is-word-reads.Asked, is-word-reads.Learnt) reads.Pre reads.Post
+    → lts.Start (is-word-reads.Asked, is-word-reads.Learnt) reads.Pre reads.Post
 entry-3 c = entry-2 (c .before .before .before)
 
-abbrev entry-4 : lts.Else4 (is-word-reads.Asked, is-word-reads.Learnt) reads.Pre reads.Post → lts.Start (is-word-reads.Asked, is-word-reads.Learnt) reads.Pre reads.Post
+abbrev entry-4 : lts.Else4 (is-word-reads.Asked, is-word-reads.Learnt) reads.Pre reads.Post
+    → lts.Start (is-word-reads.Asked, is-word-reads.Learnt) reads.Pre reads.Post
 entry-4 c = entry-3 (c .before .before .before)
 
-abbrev entry-5 : lts.Else5 (is-word-reads.Asked, is-word-reads.Learnt) reads.Pre reads.Post → lts.Start (is-word-reads.Asked, is-word-reads.Learnt) reads.Pre reads.Post
+abbrev entry-5 : lts.Else5 (is-word-reads.Asked, is-word-reads.Learnt) reads.Pre reads.Post
+    → lts.Start (is-word-reads.Asked, is-word-reads.Learnt) reads.Pre reads.Post
 entry-5 c = entry-4 (c .before .before .before)
 
-abbrev entry-6 : lts.Else6 (is-word-reads.Asked, is-word-reads.Learnt) reads.Pre reads.Post → lts.Start (is-word-reads.Asked, is-word-reads.Learnt) reads.Pre reads.Post
+abbrev entry-6 : lts.Else6 (is-word-reads.Asked, is-word-reads.Learnt) reads.Pre reads.Post
+    → lts.Start (is-word-reads.Asked, is-word-reads.Learnt) reads.Pre reads.Post
 entry-6 c = entry-5 (c .before .before .before)
 
-abbrev entry-7 : lts.Else7 (is-word-reads.Asked, is-word-reads.Learnt) reads.Pre reads.Post → lts.Start (is-word-reads.Asked, is-word-reads.Learnt) reads.Pre reads.Post
+abbrev entry-7 : lts.Else7 (is-word-reads.Asked, is-word-reads.Learnt) reads.Pre reads.Post
+    → lts.Start (is-word-reads.Asked, is-word-reads.Learnt) reads.Pre reads.Post
 entry-7 c = entry-6 (c .before .before .before)
 
 -- WHAT IS KNOWN THERE: its number among all tests is that among the others

@@ -18,13 +18,15 @@ returns-4 : tie.Need-returns-4
 returns-4 c = let a = c .before .before .before .before .before .before .before .before .before .args in begin-pair (a .text .now) (a .t) (c .if4 .taken)
 
 returns-5 : tie.Need-returns-5
-returns-5 c = let a = c .before .before .before .before .before .before .before .before .before .before .before .args in begin-list (a .text .now) (a .t) (c .if5 .taken)
+returns-5 c = let a = c .before .before .before .before .before .before .before .before .before .before .before .args in
+    begin-list (a .text .now) (a .t) (c .if5 .taken)
 
 returns-6 : tie.Need-returns-6
 returns-6 c =
     let i = c .before .before .before .before in
     let a = i .before .before .before .before .before .before .before .args in
-    begin-mark (a .text .now) (a .t) (i .before .before .before .before .if1 .left) (i .before .before .if2 .left) (i .if3 .left) (c .before .before .if4 .left) (c .if5 .left)
+    begin-mark (a .text .now) (a .t) (i .before .before .before .before .if1 .left) (i .before .before .if2 .left) (i .if3 .left)
+    (c .before .before .if4 .left) (c .if5 .left)
 
 pub begins-spec : {M : Type 1} → statement M
 begins-spec =

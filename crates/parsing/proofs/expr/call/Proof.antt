@@ -16,7 +16,8 @@ variable-requires-2 : tie.Need-variable-requires-2
 variable-requires-2 c κs = c .before .before .before .before .before .before .before .pre .0 .names-in
 
 store-requires : tie.Need-store-requires
-store-requires c κs = let w = c .before .before .before .before .before .before .before .before .before .before .before .before .before .pre .0 in let l = w .slots-long in let f = w .few in (refl, omega arith)
+store-requires c κs = let w = c .before .before .before .before .before .before .before .before .before .before .before .before .before .pre .0 in
+    let l = w .slots-long in let f = w .few in (refl, omega arith)
 
 enter-requires : tie.Need-enter-requires
 enter-requires c κs =

@@ -16,7 +16,8 @@ add-t12 : tie.Need-add-t12
 add-t12 c = let h = c .before .before .before .before .before .before .before .before .pre .0 in omega arith
 
 bind-requires-2 : tie.Need-bind-requires-2
-bind-requires-2 c κs = let x = c .before .before .before .before .before in let h = x .before .before .before .before .pre .0 in let l = x .bind .ensures .long in omega arith
+bind-requires-2 c κs = let x = c .before .before .before .before .before in let h = x .before .before .before .before .pre .0 in
+    let l = x .bind .ensures .long in omega arith
 
 returns : tie.Need-returns
 returns c =

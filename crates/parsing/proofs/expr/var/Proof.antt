@@ -10,7 +10,8 @@ store-requires : tie.Need-store-requires
 store-requires c κs = let w = c .before .before .before .before .before .before .pre in let l = w .slots-long in let f = w .few in (refl, omega arith)
 
 enter-requires : tie.Need-enter-requires
-enter-requires c κs = let v = c .before .before .before .before .before in let f = v .before .before .before .before .pre .few in let q = v .variable .ensures .same in omega arith
+enter-requires c κs = let v = c .before .before .before .before .before in let f = v .before .before .before .before .pre .few in
+    let q = v .variable .ensures .same in omega arith
 
 returns : tie.Need-returns
 returns c =

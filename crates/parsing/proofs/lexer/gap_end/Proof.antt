@@ -40,11 +40,13 @@ returns-5 c =
     let f = b .before .before .before in
     let k = f .before .before in
     let e = k .before .before .before in
-    gap-comment (e .args .text .now) (e .args .at) (omega (arith, b .before .before .if3 .left)) (sym (k .class .ensures) ∙ f .if2 .left) (b .if4 .left) (c .comment-end .ensures)
+    gap-comment (e .args .text .now) (e .args .at) (omega (arith, b .before .before .if3 .left)) (sym (k .class .ensures) ∙ f .if2 .left) (b .if4 .left)
+    (c .comment-end .ensures)
 
 pub gap-end-spec : {M : Type 1} → statement M
 gap-end-spec =
     tie.close
     (tie.spec
-    (λ c. search needs) (λ c κs. search needs) (λ c. search needs) returns returns-2 (λ c. search needs) returns-3 (λ c. search needs) (λ c. search needs) returns-4
+    (λ c. search needs) (λ c κs. search needs) (λ c. search needs) returns returns-2 (λ c. search needs) returns-3 (λ c. search needs)
+    (λ c. search needs) returns-4
     (λ c. search needs) (λ c κs. search needs) returns-5)

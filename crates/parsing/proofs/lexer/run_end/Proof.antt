@@ -23,7 +23,8 @@ returns c = record { run = c .before .before .before .before .loop .inv; stops =
 
 loop-again : tie.Need-loop-again Inv-loop μ-loop
 loop-again c =
-    run-more (c .before .before .before .before .loop .inv) (c .before .before .before .loop-test .taken) (sym (c .before .goes-on .ensures) ∙ not-false _ (c .if1 .left))
+    run-more (c .before .before .before .before .loop .inv) (c .before .before .before .loop-test .taken)
+    (sym (c .before .goes-on .ensures) ∙ not-false _ (c .if1 .left))
 
 returns-2 : tie.Need-returns-2 Inv-loop μ-loop
 returns-2 c = record { run = c .before .loop .inv; stops = λ h. absurd (omega arith) }

@@ -21,40 +21,52 @@ abbrev asked : lts.Start (is-word-reads.Asked, is-word-reads.Learnt) reads.Pre r
 asked e = wordOf (tokenAt (e .args .text .now) (e .args .t))
 
 -- PLACES: so many words were compared
-abbrev entry-1 : lts.Else1 (is-word-reads.Asked, is-word-reads.Learnt) reads.Pre reads.Post → lts.Start (is-word-reads.Asked, is-word-reads.Learnt) reads.Pre reads.Post
+abbrev entry-1 : lts.Else1 (is-word-reads.Asked, is-word-reads.Learnt) reads.Pre reads.Post
+    → lts.Start (is-word-reads.Asked, is-word-reads.Learnt) reads.Pre reads.Post
 entry-1 c = c .before .before .before .before
 
-abbrev entry-2 : lts.Else2 (is-word-reads.Asked, is-word-reads.Learnt) reads.Pre reads.Post → lts.Start (is-word-reads.Asked, is-word-reads.Learnt) reads.Pre reads.Post
+abbrev entry-2 : lts.Else2 (is-word-reads.Asked, is-word-reads.Learnt) reads.Pre reads.Post
+    → lts.Start (is-word-reads.Asked, is-word-reads.Learnt) reads.Pre reads.Post
 entry-2 c = entry-1 (c .before .before .before)
 
-abbrev entry-3 : lts.Else3 (is-word-reads.Asked, is-word-reads.Learnt) reads.Pre reads.Post → lts.Start (is-word-reads.Asked, is-word-reads.Learnt) reads.Pre reads.Post
+abbrev entry-3 : lts.Else3 (is-word-reads.Asked, is-word-reads.Learnt) reads.Pre reads.Post
+    → lts.Start (is-word-reads.Asked, is-word-reads.Learnt) reads.Pre reads.Post
 entry-3 c = entry-2 (c .before .before .before)
 
-abbrev entry-4 : lts.Else4 (is-word-reads.Asked, is-word-reads.Learnt) reads.Pre reads.Post → lts.Start (is-word-reads.Asked, is-word-reads.Learnt) reads.Pre reads.Post
+abbrev entry-4 : lts.Else4 (is-word-reads.Asked, is-word-reads.Learnt) reads.Pre reads.Post
+    → lts.Start (is-word-reads.Asked, is-word-reads.Learnt) reads.Pre reads.Post
 entry-4 c = entry-3 (c .before .before .before)
 
-abbrev entry-5 : lts.Else5 (is-word-reads.Asked, is-word-reads.Learnt) reads.Pre reads.Post → lts.Start (is-word-reads.Asked, is-word-reads.Learnt) reads.Pre reads.Post
+abbrev entry-5 : lts.Else5 (is-word-reads.Asked, is-word-reads.Learnt) reads.Pre reads.Post
+    → lts.Start (is-word-reads.Asked, is-word-reads.Learnt) reads.Pre reads.Post
 entry-5 c = entry-4 (c .before .before .before)
 
-abbrev entry-6 : lts.Else6 (is-word-reads.Asked, is-word-reads.Learnt) reads.Pre reads.Post → lts.Start (is-word-reads.Asked, is-word-reads.Learnt) reads.Pre reads.Post
+abbrev entry-6 : lts.Else6 (is-word-reads.Asked, is-word-reads.Learnt) reads.Pre reads.Post
+    → lts.Start (is-word-reads.Asked, is-word-reads.Learnt) reads.Pre reads.Post
 entry-6 c = entry-5 (c .before .before .before)
 
-abbrev entry-7 : lts.Else7 (is-word-reads.Asked, is-word-reads.Learnt) reads.Pre reads.Post → lts.Start (is-word-reads.Asked, is-word-reads.Learnt) reads.Pre reads.Post
+abbrev entry-7 : lts.Else7 (is-word-reads.Asked, is-word-reads.Learnt) reads.Pre reads.Post
+    → lts.Start (is-word-reads.Asked, is-word-reads.Learnt) reads.Pre reads.Post
 entry-7 c = entry-6 (c .before .before .before)
 
-abbrev entry-8 : lts.Else8 (is-word-reads.Asked, is-word-reads.Learnt) reads.Pre reads.Post → lts.Start (is-word-reads.Asked, is-word-reads.Learnt) reads.Pre reads.Post
+abbrev entry-8 : lts.Else8 (is-word-reads.Asked, is-word-reads.Learnt) reads.Pre reads.Post
+    → lts.Start (is-word-reads.Asked, is-word-reads.Learnt) reads.Pre reads.Post
 entry-8 c = entry-7 (c .before .before .before)
 
-abbrev entry-9 : lts.Else9 (is-word-reads.Asked, is-word-reads.Learnt) reads.Pre reads.Post → lts.Start (is-word-reads.Asked, is-word-reads.Learnt) reads.Pre reads.Post
+abbrev entry-9 : lts.Else9 (is-word-reads.Asked, is-word-reads.Learnt) reads.Pre reads.Post
+    → lts.Start (is-word-reads.Asked, is-word-reads.Learnt) reads.Pre reads.Post
 entry-9 c = entry-8 (c .before .before .before)
 
-abbrev entry-10 : lts.Else10 (is-word-reads.Asked, is-word-reads.Learnt) reads.Pre reads.Post → lts.Start (is-word-reads.Asked, is-word-reads.Learnt) reads.Pre reads.Post
+abbrev entry-10 : lts.Else10 (is-word-reads.Asked, is-word-reads.Learnt) reads.Pre reads.Post
+    → lts.Start (is-word-reads.Asked, is-word-reads.Learnt) reads.Pre reads.Post
 entry-10 c = entry-9 (c .before .before .before)
 
-abbrev entry-11 : lts.Else11 (is-word-reads.Asked, is-word-reads.Learnt) reads.Pre reads.Post → lts.Start (is-word-reads.Asked, is-word-reads.Learnt) reads.Pre reads.Post
+abbrev entry-11 : lts.Else11 (is-word-reads.Asked, is-word-reads.Learnt) reads.Pre reads.Post
+    → lts.Start (is-word-reads.Asked, is-word-reads.Learnt) reads.Pre reads.Post
 entry-11 c = entry-10 (c .before .before .before)
 
-abbrev entry-12 : lts.Else12 (is-word-reads.Asked, is-word-reads.Learnt) reads.Pre reads.Post → lts.Start (is-word-reads.Asked, is-word-reads.Learnt) reads.Pre reads.Post
+abbrev entry-12 : lts.Else12 (is-word-reads.Asked, is-word-reads.Learnt) reads.Pre reads.Post
+    → lts.Start (is-word-reads.Asked, is-word-reads.Learnt) reads.Pre reads.Post
 entry-12 c = entry-11 (c .before .before .before)
 
 -- WHAT IS KNOWN THERE: it is among all words where it is among the others
@@ -172,9 +184,14 @@ is-reserved-spec =
     tie.close
     (tie.spec
     (λ c. search needs) (λ c κs. search needs) returns (λ c. search needs) (λ c κs. (entry-1 (c .before) .pre, omega arith)) returns-2
-    (λ c. search needs) (λ c κs. (entry-2 (c .before) .pre, omega arith)) returns-3 (λ c. search needs) (λ c κs. (entry-3 (c .before) .pre, omega arith)) returns-4
-    (λ c. search needs) (λ c κs. (entry-4 (c .before) .pre, omega arith)) returns-5 (λ c. search needs) (λ c κs. (entry-5 (c .before) .pre, omega arith)) returns-6
-    (λ c. search needs) (λ c κs. (entry-6 (c .before) .pre, omega arith)) returns-7 (λ c. search needs) (λ c κs. (entry-7 (c .before) .pre, omega arith)) returns-8
-    (λ c. search needs) (λ c κs. (entry-8 (c .before) .pre, omega arith)) returns-9 (λ c. search needs) (λ c κs. (entry-9 (c .before) .pre, omega arith)) returns-10
-    (λ c. search needs) (λ c κs. (entry-10 (c .before) .pre, omega arith)) returns-11 (λ c. search needs) (λ c κs. (entry-11 (c .before) .pre, omega arith)) returns-12
+    (λ c. search needs) (λ c κs. (entry-2 (c .before) .pre, omega arith)) returns-3 (λ c. search needs)
+    (λ c κs. (entry-3 (c .before) .pre, omega arith)) returns-4
+    (λ c. search needs) (λ c κs. (entry-4 (c .before) .pre, omega arith)) returns-5 (λ c. search needs)
+    (λ c κs. (entry-5 (c .before) .pre, omega arith)) returns-6
+    (λ c. search needs) (λ c κs. (entry-6 (c .before) .pre, omega arith)) returns-7 (λ c. search needs)
+    (λ c κs. (entry-7 (c .before) .pre, omega arith)) returns-8
+    (λ c. search needs) (λ c κs. (entry-8 (c .before) .pre, omega arith)) returns-9 (λ c. search needs)
+    (λ c κs. (entry-9 (c .before) .pre, omega arith)) returns-10
+    (λ c. search needs) (λ c κs. (entry-10 (c .before) .pre, omega arith)) returns-11 (λ c. search needs)
+    (λ c κs. (entry-11 (c .before) .pre, omega arith)) returns-12
     (λ c. search needs) (λ c κs. (entry-12 (c .before) .pre, omega arith)) returns-13)

@@ -28,7 +28,8 @@ returns c =
     c .is-word .ensures ∙ same-sym w (bytes "sent") ∙ ap (λ (x : Name). same x w) (sym (name-sent (e .args .text .now) (e .args .place) (i .if1 .taken)))
 
 loop-holds : tie.Need-loop-holds Inv-loop μ-loop
-loop-holds c = let e = c .before .before in (alike-none (e .args .text .now) (e .args .place) (part (e .args .text .now) (e .args .t .at) (e .args .t .end)), omega arith)
+loop-holds c = let e = c .before .before in
+    (alike-none (e .args .text .now) (e .args .place) (part (e .args .text .now) (e .args .t .at) (e .args .t .end)), omega arith)
 
 sub-if2 : tie.Need-sub-if2 Inv-loop μ-loop
 sub-if2 c = omega (arith, c .before .before .before .before .pre .0 .order)
@@ -38,7 +39,8 @@ returns-2 c =
     let l = c .before .before .before in
     let e = l .before .before .before in
     let n = part-length (e .args .text .now) (e .args .t .at) (e .args .t .end) (e .pre .0 .inside) in
-    name-alike (e .pre .0) (e .pre .1) (omega (arith, l .before .if1 .left)) (alike-short (l .loop .inv .0) (omega (arith, c .if3 .taken)) (omega (arith, c .before .if2 .taken)))
+    name-alike (e .pre .0) (e .pre .1) (omega (arith, l .before .if1 .left))
+    (alike-short (l .loop .inv .0) (omega (arith, c .if3 .taken)) (omega (arith, c .before .if2 .taken)))
 
 returns-3 : tie.Need-returns-3 Inv-loop μ-loop
 returns-3 c =
@@ -60,15 +62,19 @@ loop-again c =
     let s = e .args .text .now in
     let t = e .args .t in
     let n = part-length s (t .at) (t .end) (e .pre .0 .inside) in
-    let p = part-at s (t .at) (t .end) (l .loop .i) (omega (arith, g .before .if2 .taken)) in
-    (alike-more (l .loop .inv .0) (e .pre .0 .a-word (e .pre .1) .1) (omega (arith, g .if3 .left)) (omega (arith, g .before .if2 .taken)) (c .if4 .left ∙ sym p), omega (arith, g .if3 .left))
+    let p = part-at s (t .at) (t .end) (l .loop .i) (omega (arith, g .before .if2 .taken)) in (
+      alike-more (l .loop .inv .0) (e .pre .0 .a-word (e .pre .1) .1) (omega (arith, g .if3 .left)) (omega (arith, g .before .if2 .taken))
+          (c .if4 .left ∙ sym p),
+      omega (arith, g .if3 .left),
+    )
 
 returns-4 : tie.Need-returns-4 Inv-loop μ-loop
 returns-4 c =
     let l = c .before .before .before in
     let e = l .before .before .before in
     let n = part-length (e .args .text .now) (e .args .t .at) (e .args .t .end) (e .pre .0 .inside) in
-    name-alike (e .pre .0) (e .pre .1) (omega (arith, l .before .if1 .left)) (c .ends-word .ensures ∙ alike-all (l .loop .inv .0) (omega (arith, c .before .if2 .left)))
+    name-alike (e .pre .0) (e .pre .1) (omega (arith, l .before .if1 .left))
+    (c .ends-word .ensures ∙ alike-all (l .loop .inv .0) (omega (arith, c .before .if2 .left)))
 
 pub is-same-spec : {M : Type 1} → statement M
 is-same-spec =

@@ -76,8 +76,11 @@ module _ (t : ℕ) where
       let j = w .before .before in
       let n = j .before .before in
       let i = n .before in
-      let e = i .before .before .before .before .before .before .before .before in
-      (rw (f .fault .ensures) (sections-none (e .pre .1 .3 .few) (n .next .ensures) (i .if1 .left) (j .if2 .left) (sym (w .is-word .ensures) ∙ not-true _ (k .if3 .taken))), refl)
+      let e = i .before .before .before .before .before .before .before .before in (
+        rw (f .fault .ensures) (sections-none (e .pre .1 .3 .few) (n .next .ensures) (i .if1 .left) (j .if2 .left)
+            (sym (w .is-word .ensures) ∙ not-true _ (k .if3 .taken))),
+        refl,
+      )
 
   returns-4 : At lts.Need-returns-4
   returns-4 c =
@@ -88,8 +91,11 @@ module _ (t : ℕ) where
       let j = w .before .before in
       let n = j .before .before in
       let i = n .before in
-      let e = i .before .before .before .before .before .before .before .before in
-      (rw (f .fault2 .ensures) (sections-full (e .pre .1 .3 .few) (n .next .ensures) (i .if1 .left) (m .if4 .taken) (j .if2 .left) (sym (w .is-word .ensures) ∙ not-false _ (k .if3 .left))), refl)
+      let e = i .before .before .before .before .before .before .before .before in (
+        rw (f .fault2 .ensures) (sections-full (e .pre .1 .3 .few) (n .next .ensures) (i .if1 .left) (m .if4 .taken) (j .if2 .left)
+            (sym (w .is-word .ensures) ∙ not-false _ (k .if3 .left))),
+        refl,
+      )
 
   mul-front : At lts.Need-mul-front
   mul-front c =
@@ -151,8 +157,22 @@ module _ (t : ℕ) where
       let h = e .pre .1 .0 in
       let q = m .if4 .left in
       let p = x .section .ensures in
-      let l = e .pre .1 .3 in
-      (omega (arith, e .pre .0), (omega arith, p .below .long ∙ e .pre .1 .1, simp length-set (e .pre .1 .2), record { table-few = l .table-few; names-long = p .long ∙ l .names-long; slots-long = p .kept .long ∙ l .slots-long; few = p .few }))
+      let l = e .pre .1 .3 in (
+        omega (arith, e .pre .0),
+        (
+          omega arith,
+          p .below .long
+              ∙ e .pre .1 .1,
+          simp length-set (e .pre .1 .2),
+          record {
+            table-few = l .table-few;
+            names-long = p .long ∙ l .names-long;
+            slots-long = p .kept .long
+                ∙ l .slots-long;
+            few = p .few;
+          },
+        ),
+      )
 
   returns-5 : At lts.Need-returns-5
   returns-5 c =
@@ -168,7 +188,8 @@ module _ (t : ℕ) where
       let e = i .before .before .before .before .before .before .before .before in
       let h = e .pre .1 .0 in
       let q = m .if4 .left in (
-        sections-more (n .next .ensures) (i .if1 .left) (omega arith) (e .pre .1 .2) (j .if2 .left) (sym (w .is-word .ensures) ∙ not-false _ (k .if3 .left)) (r .read2 .ensures) refl (x .section .ensures) (y .sections .ensures .0),
+        sections-more (n .next .ensures) (i .if1 .left) (omega arith) (e .pre .1 .2) (j .if2 .left) (sym (w .is-word .ensures) ∙ not-false _ (k .if3 .left))
+            (r .read2 .ensures) refl (x .section .ensures) (y .sections .ensures .0),
         y .sections .ensures .1 ∙ x .section .ensures .long,
       )
 

@@ -36,7 +36,8 @@ cast-front c =
     let p = i .before .before .before .before in
     let g = p .before .before in
     let e = g .before .before .before .before .before .before .before .before in
-    let f = plan-found (record { at = 0; count = 0; found = 0; code = 0; detail = 0 }) refl (start-here (e .args .text .now)) (g .keyword .ensures) (p .plan .ensures) (i .if1 .left) in omega arith
+    let f = plan-found (record { at = 0; count = 0; found = 0; code = 0; detail = 0 }) refl (start-here (e .args .text .now)) (g .keyword .ensures)
+    (p .plan .ensures) (i .if1 .left) in omega arith
 
 slice-write-front-2 : tie.Need-slice-write-front-2
 slice-write-front-2 c =
@@ -56,7 +57,8 @@ expr-requires c κs =
     let p = i .before .before .before .before in
     let g = p .before .before in
     let e = g .before .before .before .before .before .before .before .before in
-    let f = plan-found (record { at = 0; count = 0; found = 0; code = 0; detail = 0 }) refl (start-here (e .args .text .now)) (g .keyword .ensures) (p .plan .ensures) (i .if1 .left) in
+    let f = plan-found (record { at = 0; count = 0; found = 0; code = 0; detail = 0 }) refl (start-here (e .args .text .now)) (g .keyword .ensures)
+    (p .plan .ensures) (i .if1 .left) in
     let j = q .symbol .ensures .same ∙ l .keyword2 .ensures .same ∙ p .plan .ensures .same-count ∙ g .keyword .ensures .same in
     record { table-few = e .pre .0; names-long = p .plan .ensures .long ∙ e .pre .1; slots-long = e .pre .2; few = omega arith; low = omega arith }
 
@@ -106,7 +108,8 @@ returns-2 c =
     let g = p .before .before in
     let e = g .before .before .before .before .before .before .before .before in
     let s = y .sections .ensures .0 in (
-      pass-parsed (e .args .front .now) (g .keyword .ensures) (p .plan .ensures) (i .if1 .left) (e .pre .3) refl (l .keyword2 .ensures) (q .symbol .ensures) (x .expr .ensures) s,
+      pass-parsed (e .args .front .now) (g .keyword .ensures) (p .plan .ensures) (i .if1 .left) (e .pre .3) refl (l .keyword2 .ensures) (q .symbol .ensures)
+          (x .expr .ensures) s,
       (
         y .sections .ensures .1 ∙ x .expr .ensures .below .long ∙ p .plan .ensures .long ∙ e .pre .1,
         s .kept .long ∙ x .expr .ensures .kept .long ∙ e .pre .2,

@@ -38,7 +38,8 @@ slice-aggregate-pass-6 : tie.Need-slice-aggregate-pass-6
 slice-aggregate-pass-6 c =
     let i = c .before .before in
     let p = i .before .before .before .before .before .before in
-    let f = few-titles (p .pass .ensures .0) (i .if1 .left) in let l = p .pass .ensures .1 .3 in sym (length-take-le (p .pass .result .found + 1) _ (omega arith))
+    let f = few-titles (p .pass .ensures .0) (i .if1 .left) in let l = p .pass .ensures .1 .3 in
+    sym (length-take-le (p .pass .result .found + 1) _ (omega arith))
 
 pass-requires-2 : tie.Need-pass-requires-2
 pass-requires-2 c κs =
@@ -81,7 +82,8 @@ slice-aggregate-write : tie.Need-slice-aggregate-write
 slice-aggregate-write c =
     let j = c .before .before in
     let q = j .before .before .before .before .before .before in
-    let f = few-titles (q .pass2 .ensures .0) (j .if2 .left) in let l = q .pass2 .ensures .1 .2 in sym (length-take-le (3 + 2 * q .pass2 .result .found) _ (omega arith))
+    let f = few-titles (q .pass2 .ensures .0) (j .if2 .left) in let l = q .pass2 .ensures .1 .2 in
+    sym (length-take-le (3 + 2 * q .pass2 .result .found) _ (omega arith))
 
 write-requires : tie.Need-write-requires
 write-requires c κs =

@@ -31,4 +31,5 @@ returns c = written-all (c .before .loop .inv) (c .loop-test .left)
 pub records-spec : {M : Type 1} → statement M
 records-spec =
     tie.close
-    (tie.spec Inv-loop μ-loop (λ c κs. search needs) loop-holds record-requires (λ c. omega arith) (λ c. omega arith) loop-again (λ c. wrote-long (returns c)) returns)
+    (tie.spec Inv-loop μ-loop (λ c κs. search needs) loop-holds record-requires (λ c. omega arith) (λ c. omega arith) loop-again
+    (λ c. wrote-long (returns c)) returns)

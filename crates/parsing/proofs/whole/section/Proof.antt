@@ -28,7 +28,14 @@ expr-requires c κs =
     let l = e .pre .2 in
     let j = l .few in
     let i = (q .symbol3 .ensures .same ∙ p .symbol2 .ensures .same ∙ w .two .ensures .same-count ∙ g .symbol .ensures .same ∙ a .title .ensures .same-count) in
-    record { table-few = l .table-few; names-long = w .two .ensures .below .long ∙ l .names-long; slots-long = l .slots-long; few = omega arith; low = omega arith }
+    record {
+      table-few = l .table-few;
+      names-long = w .two .ensures .below .long
+          ∙ l .names-long;
+      slots-long = l .slots-long;
+      few = omega arith;
+      low = omega arith;
+    }
 
 returns : tie.Need-returns
 returns c =

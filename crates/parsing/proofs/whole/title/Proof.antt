@@ -49,7 +49,8 @@ returns-3 c =
     let n = m .before in
     let i = n .before in
     let e = i .before .before .before .before in
-    rw (f .fault2 .ensures) (title-taken (e .args .fresh .now) (n .next .ensures) (i .if1 .left) (sym (m .is-name .ensures) ∙ not-false _ (j .if2 .left)) (l .lookup .ensures) (k .if3 .taken))
+    rw (f .fault2 .ensures) (title-taken (e .args .fresh .now) (n .next .ensures) (i .if1 .left) (sym (m .is-name .ensures) ∙ not-false _ (j .if2 .left))
+    (l .lookup .ensures) (k .if3 .taken))
 
 add-fresh : tie.Need-add-fresh
 add-fresh c =
@@ -78,7 +79,8 @@ returns-4 c =
     let e = i .before .before .before .before in
     let h = e .pre .0 in
     let p = e .pre .1 in
-    rw (r .read .ensures) (title-new (e .args .fresh .now) (n .next .ensures) (i .if1 .left) (sym (m .is-name .ensures) ∙ not-false _ (j .if2 .left)) (l .lookup .ensures) (k .if3 .left) (omega arith))
+    rw (r .read .ensures) (title-new (e .args .fresh .now) (n .next .ensures) (i .if1 .left) (sym (m .is-name .ensures) ∙ not-false _ (j .if2 .left))
+    (l .lookup .ensures) (k .if3 .left) (omega arith))
 
 pub title-spec : {M : Type 1} → statement M
 title-spec =

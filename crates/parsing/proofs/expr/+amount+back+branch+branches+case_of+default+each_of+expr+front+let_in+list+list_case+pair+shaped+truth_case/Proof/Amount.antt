@@ -1,6 +1,7 @@
 -- `amount` meets its contract.
 -- Assumes nothing.
-use mathlib.Core.Path.{refl, sym, _∙_}
+use Rattle.parsing.specs.Cursor.{entered}
+use mathlib.Core.Path.{refl, sym, ap, _∙_}
 use Prim.Native.Nat.{ℕ}
 use native.Mathlib.Omega.{arith}
 use borrow.Author.Needs.{needs}
@@ -43,6 +44,38 @@ module _ (t : ℕ) where
   abbrev At : PlacesOf amount lts.Claims → Type 0
   At P = P (claims t) (AtMeasure amount t) amount-reads.Post
 
+  -- PLACES: what stands before each call, and the entry
+  abbrev entry-number : At lts.After-number → At lts.Start
+  entry-number c = c .before .before .before .before .before
+
+  abbrev before-next : At lts.After-next → At lts.After-number
+  before-next c = c .before .before .before
+
+  abbrev entry-next : At lts.After-next → At lts.Start
+  entry-next c = entry-number (before-next c)
+
+  abbrev before-read : At lts.After-read → At lts.After-next
+  before-read c = c .before .before .before .before .before
+
+  abbrev entry-read : At lts.After-read → At lts.Start
+  entry-read c = entry-next (before-read c)
+
+  abbrev before-enter : At lts.After-enter → At lts.After-read
+  before-enter c = c .before
+
+  abbrev entry-enter : At lts.After-enter → At lts.Start
+  entry-enter c = entry-read (before-enter c)
+
+  abbrev before-expr : At lts.After-expr → At lts.After-enter
+  before-expr c = c .before .before .before
+
+  abbrev entry-expr : At lts.After-expr → At lts.Start
+  entry-expr c = entry-enter (before-expr c)
+
+  abbrev before-store : At lts.After-store → At lts.After-expr
+  before-store c = c .before .before .before .before .before .before .before .before .before
+
+  -- NEEDS
   number-requires : At lts.Need-number-requires
   number-requires c κs =
       let e = c .before .before .before .before in
@@ -55,14 +88,15 @@ module _ (t : ℕ) where
   returns c =
       let i = c in
       let v = i .before .before in
-      let e = v .before .before .before .before .before in
+      let e = entry-number v in
       let w = e .pre .1 .0 in
-      amount-fault (e .args .table .now) (e .args .sc) (e .pre .1 .1) (number-kind (e .pre .1 .1) refl) (w .clear) (v .number .ensures) (w .ready .few) (i .if1 .taken)
+      amount-fault (e .args .table .now) (e .args .sc) (e .pre .1 .1) (number-kind (e .pre .1 .1) refl) (w .clear) (v .number .ensures) (w .ready .few)
+      (i .if1 .taken)
 
   constant-requires : At lts.Need-constant-requires
   constant-requires c κs =
-      let v = c .before .before .before .before .before .before in
-      let e = v .before .before .before .before .before in
+      let v = before-next (c .before .before .before) in
+      let e = entry-number v in
       let w = e .pre .1 .0 in
       let i = v .number .ensures .same in
       let f = w .free in
@@ -75,9 +109,10 @@ module _ (t : ℕ) where
       let n = m .before .before in
       let i = n .before in
       let v = i .before .before in
-      let e = v .before .before .before .before .before in
+      let e = entry-number v in
       let w = e .pre .1 .0 in
-      amount-constant (e .args .table .now) (e .args .sc) (e .pre .1 .1) (number-kind (e .pre .1 .1) refl) (w .clear) (v .number .ensures) (i .if1 .left) (n .next .ensures)
+      amount-constant (e .args .table .now) (e .args .sc) (e .pre .1 .1) (number-kind (e .pre .1 .1) refl) (w .clear) (v .number .ensures) (i .if1 .left)
+      (n .next .ensures)
       (w .free) (m .if2 .taken) (k .constant .ensures .0) (k .constant .ensures .1 .0) (k .constant .ensures .1 .1)
 
   returns-3 : At lts.Need-returns-3
@@ -88,15 +123,16 @@ module _ (t : ℕ) where
       let n = m .before .before in
       let i = n .before in
       let v = i .before .before in
-      let e = v .before .before .before .before .before in
+      let e = entry-number v in
       let w = e .pre .1 .0 in
-      rw (f .fault .ensures) (amount-large (e .args .table .now) (e .args .sc) (e .pre .1 .1) (number-kind (e .pre .1 .1) refl) (w .clear) (v .number .ensures) (i .if1 .left) (n .next .ensures)
+      rw (f .fault .ensures) (amount-large (e .args .table .now) (e .args .sc) (e .pre .1 .1) (number-kind (e .pre .1 .1) refl) (w .clear)
+      (v .number .ensures) (i .if1 .left) (n .next .ensures)
       (w .ready .few) (m .if2 .left) (q .if3 .taken))
 
   enter-requires : At lts.Need-enter-requires
   enter-requires c κs =
       let r = c in
-      let e = r .before .before .before .before .before .before .before .before .before .before .before .before .before in
+      let e = entry-read r in
       let i = count-behind (e .args .c) (r .read .ensures) in
       let f = e .pre .1 .0 .free in
       omega arith
@@ -104,8 +140,8 @@ module _ (t : ℕ) where
   expr-requires : At lts.Need-expr-requires
   expr-requires c κs =
       let n = c .before .before in
-      let r = n .before in
-      let e = r .before .before .before .before .before .before .before .before .before .before .before .before .before in
+      let r = before-enter n in
+      let e = entry-read r in
       let i = count-behind (e .args .c) (r .read .ensures) in
       let j = count-entered (r .read .result) (n .enter .ensures) in
       let f = e .pre .1 .0 .free in
@@ -113,12 +149,12 @@ module _ (t : ℕ) where
 
   add-first : At lts.Need-add-first
   add-first c =
-      let e = c .before .before .before .before .before .before .before .before .before .before .before .before .before .before .before .before .before .before .before .before .before .before in
+      let e = entry-expr (c .before .before .before .before .before) in
       let f = e .pre .1 .0 .free in omega arith
 
   cast-first : At lts.Need-cast-first
   cast-first c =
-      let e = c .before .before .before .before .before .before .before .before .before .before .before .before .before .before .before .before .before .before .before .before .before .before in
+      let e = entry-expr (c .before .before .before .before .before) in
       let f = e .pre .1 .0 .free in omega arith
 
   cast-high : At lts.Need-cast-high
@@ -129,7 +165,7 @@ module _ (t : ℕ) where
   store-requires : At lts.Need-store-requires
   store-requires c κs =
       let x = c .before .before .before .before .before .before .before .before in
-      let e = x .before .before .before .before .before .before .before .before .before .before .before .before .before .before .before .before .before in
+      let e = entry-expr x in
       let w = e .pre .1 .0 in
       let l = w .ready .slots-long in
       let f = w .free in
@@ -139,18 +175,19 @@ module _ (t : ℕ) where
   returns-4 : At lts.Need-returns-4
   returns-4 c =
       let s = c .before .before in
-      let x = s .before .before .before .before .before .before .before .before .before in
-      let y = x .before .before .before in
-      let r = y .before in
+      let x = before-store s in
+      let y = before-expr x in
+      let r = before-enter y in
       let q = r .before in
       let m = q .before .before in
       let n = m .before .before in
       let i = n .before in
       let v = i .before .before in
-      let e = v .before .before .before .before .before in
+      let e = entry-number v in
       let w = e .pre .1 .0 in
-      amount-added (e .args .table .now) (e .args .sc) (e .pre .1 .1) (number-kind (e .pre .1 .1) refl) (w .clear) (v .number .ensures) (i .if1 .left) (n .next .ensures)
-      (w .free) (w .ready .slots-long) (m .if2 .left) (q .if3 .left) (rw (r .read .ensures) at (y .enter .ensures)) (x .expr .ensures) (s .store .ensures)
+      amount-added (e .args .table .now) (e .args .sc) (e .pre .1 .1) (number-kind (e .pre .1 .1) refl) (w .clear) (v .number .ensures) (i .if1 .left)
+      (n .next .ensures)
+      (w .free) (w .ready .slots-long) (m .if2 .left) (q .if3 .left) (y .enter .ensures ∙ ap entered (r .read .ensures)) (x .expr .ensures) (s .store .ensures)
 
 pub amount-met : {M : Type 1} (t : ℕ) → lts.Closed (claims t) (AtMeasure amount t) amount-reads.Post M
 amount-met t = lts.spec (claims t) (AtMeasure amount t) amount-reads.Post

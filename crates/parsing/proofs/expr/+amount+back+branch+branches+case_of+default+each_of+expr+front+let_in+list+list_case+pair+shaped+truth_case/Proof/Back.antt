@@ -1,6 +1,6 @@
 -- `back` meets its contract.
 -- Assumes nothing.
-use mathlib.Core.Path.{refl, sym, _∙_}
+use mathlib.Core.Path.{refl, sym, ap, _∙_}
 use Prim.Native.Nat.{ℕ}
 use native.Mathlib.Omega.{arith}
 use borrow.Author.Needs.{needs}
@@ -40,6 +40,26 @@ module _ (t : ℕ) where
   abbrev At : PlacesOf back lts.Claims → Type 0
   At P = P (claims t) (AtMeasure back t) back-reads.Post
 
+  -- PLACES: what stands before each call, and the entry
+  abbrev entry-next : At lts.After-next → At lts.Start
+  entry-next c = c .before .before .before .before .before .before .before
+
+  abbrev before-read : At lts.After-read → At lts.After-next
+  before-read c = c .before .before .before .before .before
+
+  abbrev entry-read : At lts.After-read → At lts.Start
+  entry-read c = entry-next (before-read c)
+
+  abbrev before-expr : At lts.After-expr → At lts.After-read
+  before-expr c = c .before
+
+  abbrev before-symbol : At lts.After-symbol → At lts.After-expr
+  before-symbol c = c .before .before .before .before .before
+
+  abbrev before-bare : At lts.After-bare → At lts.After-read3
+  before-bare c = c .before
+
+  -- NEEDS
   returns : At lts.Need-returns
   returns c =
       let i = c in
@@ -49,18 +69,21 @@ module _ (t : ℕ) where
   expr-requires : At lts.Need-expr-requires
   expr-requires c κs =
       let r = c in
-      let e = r .before .before .before .before .before .before .before .before .before .before .before .before in
+      let e = entry-read r in
       let i = count-behind (e .args .c) (r .read .ensures) in
       let w = e .pre .1 in
       let f = w .few in
-      let l = w .low in
-      (omega (arith, e .pre .0), record { table-few = w .table-few; names-long = w .names-long; slots-long = w .slots-long; few = omega arith; low = omega arith })
+      let l = w .low in (
+        omega (arith, e .pre .0),
+        record
+            { table-few = w .table-few; names-long = w .names-long; slots-long = w .slots-long; few = omega arith; low = omega arith },
+      )
 
   returns-2 : At lts.Need-returns-2
   returns-2 c =
       let g = c in
-      let x = g .before .before .before .before .before in
-      let r = x .before in
+      let x = before-symbol g in
+      let r = before-expr x in
       let k = r .before .before .before in
       let n = k .before .before in
       let i = n .before in
@@ -79,7 +102,7 @@ module _ (t : ℕ) where
   front-requires c κs =
       let r = c in
       let m = r .before .before .before in
-      let e = m .before .before .before .before .before .before .before .before .before .before .before .before .before in
+      let e = entry-next (m .before .before .before .before .before .before) in
       let i = count-behind (e .args .c) (r .read2 .ensures) in
       let w = e .pre .1 in
       let f = w .few in
@@ -123,7 +146,7 @@ module _ (t : ℕ) where
   bare-requires c κs =
       let r = c in
       let q = r .before .before in
-      let e = q .before .before .before .before .before .before .before .before .before .before .before .before .before .before .before in
+      let e = entry-next (q .before .before .before .before .before .before .before .before) in
       let i = count-behind (e .args .c) (r .read3 .ensures) in
       let f = e .pre .1 .few in
       let h = q .if6 .left in
@@ -132,7 +155,7 @@ module _ (t : ℕ) where
   returns-7 : At lts.Need-returns-7
   returns-7 c =
       let b = c .before .before in
-      let r = b .before in
+      let r = before-bare b in
       let q = r .before .before in
       let m = q .before .before in
       let n = m .before .before .before .before .before .before in
@@ -140,7 +163,8 @@ module _ (t : ℕ) where
       let e = i .before .before .before .before .before .before in
       let f = e .pre .1 .few in
       let h = q .if6 .left in
-      back-end (n .next .ensures) (i .if1 .left) (e .pre .1 .slots-long) (m .if5 .left) (omega arith) (r .read3 .ensures) (b .bare .ensures .1) (b .bare .ensures .0)
+      back-end (n .next .ensures) (i .if1 .left) (e .pre .1 .slots-long) (m .if5 .left) (omega arith) (r .read3 .ensures) (b .bare .ensures .1)
+      (b .bare .ensures .0)
 
 pub back-met : {M : Type 1} (t : ℕ) → lts.Closed (claims t) (AtMeasure back t) back-reads.Post M
 back-met t = lts.spec (claims t) (AtMeasure back t) back-reads.Post

@@ -1,10 +1,10 @@
 -- `each_of` meets its contract.
 -- Assumes nothing.
-use mathlib.Core.Path.{refl, sym, _∙_}
+use mathlib.Core.Path.{refl, sym, ap, _∙_}
 use Prim.Native.Nat.{ℕ}
 use native.Mathlib.Omega.{arith}
 use borrow.Author.Needs.{needs}
-use Rattle.parsing.specs.ConstructLaws.{each-parsed, inner-ready, count-entered}
+use Rattle.parsing.specs.ConstructLaws.{each-parsed, goes-at, inner-ready, count-entered}
 use Rattle.parsing.proofs.expect.callee.Reads as callee-reads
 use Rattle.parsing.proofs.cursor.enter.Reads as enter-reads
 use Rattle.parsing.proofs.expect.keyword.Reads as keyword-reads
@@ -40,6 +40,62 @@ module _ (t : ℕ) where
   abbrev At : PlacesOf each-of lts.Claims → Type 0
   At P = P (claims t) (AtMeasure each-of t) each-of-reads.Post
 
+  -- PLACES: what stands before each call, and the entry
+  abbrev entry-enter : At lts.After-enter → At lts.Start
+  entry-enter c = c .before .before .before .before .before
+
+  abbrev before-callee : At lts.After-callee → At lts.After-enter
+  before-callee c = c .before
+
+  abbrev entry-callee : At lts.After-callee → At lts.Start
+  entry-callee c = entry-enter (before-callee c)
+
+  abbrev before-symbol : At lts.After-symbol → At lts.After-callee
+  before-symbol c = c .before
+
+  abbrev entry-symbol : At lts.After-symbol → At lts.Start
+  entry-symbol c = entry-callee (before-symbol c)
+
+  abbrev before-expr : At lts.After-expr → At lts.After-symbol
+  before-expr c = c .before .before .before
+
+  abbrev entry-expr : At lts.After-expr → At lts.Start
+  entry-expr c = entry-symbol (before-expr c)
+
+  abbrev before-symbol2 : At lts.After-symbol2 → At lts.After-expr
+  before-symbol2 c = c .before .before .before .before .before
+
+  abbrev entry-symbol2 : At lts.After-symbol2 → At lts.Start
+  entry-symbol2 c = entry-expr (before-symbol2 c)
+
+  abbrev before-variable : At lts.After-variable → At lts.After-symbol2
+  before-variable c = c .before .before
+
+  abbrev entry-variable : At lts.After-variable → At lts.Start
+  entry-variable c = entry-symbol2 (before-variable c)
+
+  abbrev before-symbol3 : At lts.After-symbol3 → At lts.After-variable
+  before-symbol3 c = c .before
+
+  abbrev entry-symbol3 : At lts.After-symbol3 → At lts.Start
+  entry-symbol3 c = entry-variable (before-symbol3 c)
+
+  abbrev before-keyword : At lts.After-keyword → At lts.After-symbol3
+  before-keyword c = c .before .before
+
+  abbrev entry-keyword : At lts.After-keyword → At lts.Start
+  entry-keyword c = entry-symbol3 (before-keyword c)
+
+  abbrev before-expr2 : At lts.After-expr2 → At lts.After-keyword
+  before-expr2 c = c .before .before .before .before
+
+  abbrev entry-expr2 : At lts.After-expr2 → At lts.Start
+  entry-expr2 c = entry-keyword (before-expr2 c)
+
+  abbrev before-store : At lts.After-store → At lts.After-expr2
+  before-store c = c .before .before .before .before .before .before .before .before .before .before
+
+  -- NEEDS
   enter-requires : At lts.Need-enter-requires
   enter-requires c κs =
       let e = c .before .before .before .before in
@@ -47,15 +103,15 @@ module _ (t : ℕ) where
 
   callee-requires : At lts.Need-callee-requires
   callee-requires c κs =
-      let e = c .before .before .before .before .before in
+      let e = entry-enter c in
       e .pre .1 .ready .table-few
 
   expr-requires : At lts.Need-expr-requires
   expr-requires c κs =
       let h = c .before .before in
-      let g = h .before in
-      let n = g .before in
-      let e = n .before .before .before .before .before in
+      let g = before-symbol h in
+      let n = before-callee g in
+      let e = entry-enter n in
       let i = count-entered (e .args .c) (n .enter .ensures) in
       let f = e .pre .1 .free in
       let j₁ = g .callee .ensures .same in
@@ -64,8 +120,8 @@ module _ (t : ℕ) where
 
   variable-requires : At lts.Need-variable-requires
   variable-requires c κs =
-      let x = c .before .before .before .before .before .before in
-      let e = x .before .before .before .before .before .before .before .before .before .before in
+      let x = before-symbol2 (c .before) in
+      let e = entry-expr x in
       let l = e .pre .1 .ready .low in
       let f = e .pre .1 .free in
       let m = e .pre .1 .ready .names-long in
@@ -73,20 +129,20 @@ module _ (t : ℕ) where
 
   add-first : At lts.Need-add-first
   add-first c =
-      let e = c .before .before .before .before .before .before .before .before .before .before .before .before .before .before .before .before .before .before .before .before .before in
+      let e = entry-keyword (c .before) in
       let l = e .pre .1 .ready .low in let f = e .pre .1 .free in omega arith
 
   expr-requires-2 : At lts.Need-expr-requires-2
   expr-requires-2 c κs =
       let k = c .before .before .before in
-      let q = k .before .before in
-      let v = q .before in
-      let m = v .before .before in
-      let x = m .before .before .before .before .before in
-      let h = x .before .before .before in
-      let g = h .before in
-      let n = g .before in
-      let e = n .before .before .before .before .before in
+      let q = before-keyword k in
+      let v = before-symbol3 q in
+      let m = before-variable v in
+      let x = before-symbol2 m in
+      let h = before-expr x in
+      let g = before-symbol h in
+      let n = before-callee g in
+      let e = entry-enter n in
       let i = count-entered (e .args .c) (n .enter .ensures) in
       let f = e .pre .1 .free in
       let j₁ = g .callee .ensures .same in
@@ -102,28 +158,28 @@ module _ (t : ℕ) where
 
   add-first-2 : At lts.Need-add-first-2
   add-first-2 c =
-      let e = c .before .before .before .before .before .before .before .before .before .before .before .before .before .before .before .before .before .before .before .before .before .before .before .before .before .before .before .before .before in
+      let e = entry-expr2 (c .before .before .before .before .before) in
       let f = e .pre .1 .free in omega arith
 
   cast-first : At lts.Need-cast-first
   cast-first c =
-      let e = c .before .before .before .before .before .before .before .before .before .before .before .before .before .before .before .before .before .before .before .before .before .before .before .before .before .before .before .before .before in
+      let e = entry-expr2 (c .before .before .before .before .before) in
       let f = e .pre .1 .free in omega arith
 
   cast-second : At lts.Need-cast-second
   cast-second c =
-      let k = c .before .before .before .before .before .before .before .before .before .before .before .before in
-      let q = k .before .before in
-      let v = q .before in
-      let m = v .before .before in
-      let x = m .before .before .before .before .before in
+      let k = before-expr2 (c .before .before .before .before .before .before .before .before) in
+      let q = before-keyword k in
+      let v = before-symbol3 q in
+      let m = before-variable v in
+      let x = before-symbol2 m in
       omega (arith, k .keyword .ensures .same, q .symbol3 .ensures .same, v .variable .ensures .same, m .symbol2 .ensures .same, x .expr .ensures .few)
 
   store-requires : At lts.Need-store-requires
   store-requires c κs =
       let y = c .before .before .before .before .before .before .before .before .before in
-      let x = y .before .before .before .before .before .before .before .before .before .before .before .before .before .before in
-      let e = x .before .before .before .before .before .before .before .before .before .before in
+      let x = before-symbol2 (before-variable (before-symbol3 (before-keyword (before-expr2 y)))) in
+      let e = entry-expr x in
       let l = e .pre .1 .ready .slots-long in
       let f = e .pre .1 .free in
       let i = x .expr .ensures .kept .long in
@@ -133,17 +189,18 @@ module _ (t : ℕ) where
   returns : At lts.Need-returns
   returns c =
       let s = c .before .before in
-      let y = s .before .before .before .before .before .before .before .before .before .before in
-      let k = y .before .before .before .before in
-      let q = k .before .before in
-      let v = q .before in
-      let m = v .before .before in
-      let x = m .before .before .before .before .before in
-      let h = x .before .before .before in
-      let g = h .before in
-      let n = g .before in
-      let e = n .before .before .before .before .before in
-      each-parsed (e .pre .1) (rw (n .enter .ensures) at (g .callee .ensures)) (h .symbol .ensures) (x .expr .ensures) (m .symbol2 .ensures) (v .variable .ensures)
+      let y = before-store s in
+      let k = before-expr2 y in
+      let q = before-keyword k in
+      let v = before-symbol3 q in
+      let m = before-variable v in
+      let x = before-symbol2 m in
+      let h = before-expr x in
+      let g = before-symbol h in
+      let n = before-callee g in
+      let e = entry-enter n in
+      each-parsed (e .pre .1) (goes-at (n .enter .ensures) (g .callee .ensures)) (h .symbol .ensures) (x .expr .ensures) (m .symbol2 .ensures)
+      (v .variable .ensures)
       (q .symbol3 .ensures) (k .keyword .ensures) (y .expr2 .ensures) (s .store .ensures)
 
 pub each-of-met : {M : Type 1} (t : ℕ) → lts.Closed (claims t) (AtMeasure each-of t) each-of-reads.Post M

@@ -1,6 +1,6 @@
 -- `expr` meets its contract.
 -- Assumes nothing.
-use mathlib.Core.Path.{refl, sym, _∙_}
+use mathlib.Core.Path.{refl, sym, ap, _∙_}
 use Prim.Native.Nat.{ℕ}
 use native.Mathlib.Omega.{arith}
 use borrow.Author.Needs.{needs}
@@ -31,6 +31,11 @@ module _ (t : ℕ) where
   abbrev At : PlacesOf expr lts.Claims → Type 0
   At P = P (claims t) (AtMeasure expr t) expr-reads.Post
 
+  -- PLACES: what stands before each call, and the entry
+  abbrev before-begins : At lts.After-begins → At lts.After-next
+  before-begins c = c .before
+
+  -- NEEDS
   returns : At lts.Need-returns
   returns c =
       let i = c in
@@ -47,7 +52,7 @@ module _ (t : ℕ) where
       let f = c in
       let k = f .before in
       let g = k .before in
-      let n = g .before in
+      let n = before-begins g in
       let i = n .before in
       let e = i .before .before .before .before .before .before in
       rw (f .fault .ensures) (expr-none (record { is-next = n .next .ensures; coded = g .begins .ensures }) (i .if1 .left) (e .pre .1 .few) (k .if2 .taken))
@@ -58,7 +63,7 @@ module _ (t : ℕ) where
       let m = f .before in
       let k = m .before .before in
       let g = k .before in
-      let n = g .before in
+      let n = before-begins g in
       let i = n .before in
       let e = i .before .before .before .before .before .before in
       rw (f .fault2 .ensures) (expr-full (record { is-next = n .next .ensures; coded = g .begins .ensures }) (i .if1 .left) (k .if2 .left) (m .if3 .taken))
@@ -68,12 +73,18 @@ module _ (t : ℕ) where
       let m = c .before .before in
       let k = m .before .before in
       let g = k .before in
-      let n = g .before in
+      let n = before-begins g in
       let i = n .before in
       let e = i .before .before .before .before .before .before in
       let f = e .pre .1 .few in
-      let q = m .if3 .left in
-      (omega (arith, e .pre .0), (record { ready = e .pre .1; free = omega arith; clear = i .if1 .left }, record { is-next = n .next .ensures; coded = g .begins .ensures }, k .if2 .left))
+      let q = m .if3 .left in (
+        omega (arith, e .pre .0),
+        (
+          record { ready = e .pre .1; free = omega arith; clear = i .if1 .left },
+          record { is-next = n .next .ensures; coded = g .begins .ensures },
+          k .if2 .left,
+        ),
+      )
 
   returns-4 : At lts.Need-returns-4
   returns-4 c =
@@ -81,7 +92,7 @@ module _ (t : ℕ) where
       let m = y .before .before .before in
       let k = m .before .before in
       let g = k .before in
-      let n = g .before in
+      let n = before-begins g in
       let i = n .before in
       let e = i .before .before .before .before .before .before in
       let f = e .pre .1 .few in

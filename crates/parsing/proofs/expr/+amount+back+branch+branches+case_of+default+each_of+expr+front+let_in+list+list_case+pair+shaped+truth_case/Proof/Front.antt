@@ -1,10 +1,10 @@
 -- `front` meets its contract.
 -- Assumes nothing.
-use mathlib.Core.Path.{refl, sym, _∙_}
+use mathlib.Core.Path.{refl, sym, ap, _∙_}
 use Prim.Native.Nat.{ℕ}
 use native.Mathlib.Omega.{arith}
 use borrow.Author.Needs.{needs}
-use Rattle.parsing.specs.ConstructLaws.{front-parsed, inner-ready, count-entered}
+use Rattle.parsing.specs.ConstructLaws.{front-parsed, parsed-at, inner-ready, count-entered}
 use Rattle.parsing.proofs.cursor.enter.Reads as enter-reads
 use Rattle.parsing.proofs.nodes.store.Reads as store-reads
 use Rattle.parsing.proofs.expr.back.Reads as back-reads
@@ -31,6 +31,26 @@ module _ (t : ℕ) where
   abbrev At : PlacesOf front lts.Claims → Type 0
   At P = P (claims t) (AtMeasure front t) front-reads.Post
 
+  -- PLACES: what stands before each call, and the entry
+  abbrev entry-enter : At lts.After-enter → At lts.Start
+  entry-enter c = c .before .before .before .before .before .before .before
+
+  abbrev before-expr : At lts.After-expr → At lts.After-enter
+  before-expr c = c .before
+
+  abbrev entry-expr : At lts.After-expr → At lts.Start
+  entry-expr c = entry-enter (before-expr c)
+
+  abbrev before-back : At lts.After-back → At lts.After-expr
+  before-back c = c .before .before .before .before .before .before .before
+
+  abbrev entry-back : At lts.After-back → At lts.Start
+  entry-back c = entry-expr (before-back c)
+
+  abbrev before-store : At lts.After-store → At lts.After-back
+  before-store c = c .before .before .before .before .before .before .before .before
+
+  -- NEEDS
   enter-requires : At lts.Need-enter-requires
   enter-requires c κs =
       let e = c .before .before .before .before .before .before in
@@ -39,7 +59,7 @@ module _ (t : ℕ) where
   expr-requires : At lts.Need-expr-requires
   expr-requires c κs =
       let n = c in
-      let e = n .before .before .before .before .before .before .before in
+      let e = entry-enter n in
       let i = count-entered (e .args .c) (n .enter .ensures) in
       let f = e .pre .1 .free in
       (omega (arith, e .pre .0), inner-ready (e .pre .1) refl refl (omega arith) (omega arith) (omega arith))
@@ -47,8 +67,8 @@ module _ (t : ℕ) where
   back-requires : At lts.Need-back-requires
   back-requires c κs =
       let x = c .before .before .before .before .before .before in
-      let n = x .before in
-      let e = n .before .before .before .before .before .before .before in
+      let n = before-expr x in
+      let e = entry-enter n in
       let i = count-entered (e .args .c) (n .enter .ensures) in
       let f = e .pre .1 .free in
       let p = x .expr .ensures in
@@ -57,24 +77,24 @@ module _ (t : ℕ) where
 
   add-first : At lts.Need-add-first
   add-first c =
-      let e = c .before .before .before .before .before .before .before .before .before .before .before .before .before .before .before .before .before .before .before .before in
+      let e = entry-back (c .before .before .before .before .before) in
       let f = e .pre .1 .free in omega arith
 
   cast-first : At lts.Need-cast-first
   cast-first c =
-      let e = c .before .before .before .before .before .before .before .before .before .before .before .before .before .before .before .before .before .before .before .before in
+      let e = entry-back (c .before .before .before .before .before) in
       let f = e .pre .1 .free in omega arith
 
   cast-second : At lts.Need-cast-second
   cast-second c =
-      let x = c .before .before .before .before .before .before .before .before .before .before .before .before .before in
+      let x = before-back (c .before .before .before .before .before .before) in
       let k = x .expr .ensures .few in omega arith
 
   store-requires : At lts.Need-store-requires
   store-requires c κs =
       let y = c .before .before .before .before .before .before .before in
-      let x = y .before .before .before .before .before .before .before in
-      let e = x .before .before .before .before .before .before .before .before in
+      let x = before-back y in
+      let e = entry-expr x in
       let l = e .pre .1 .ready .slots-long in
       let f = e .pre .1 .free in
       let i = x .expr .ensures .kept .long in
@@ -84,11 +104,11 @@ module _ (t : ℕ) where
   returns : At lts.Need-returns
   returns c =
       let s = c .before .before in
-      let y = s .before .before .before .before .before .before .before .before in
-      let x = y .before .before .before .before .before .before .before in
-      let n = x .before in
-      let e = n .before .before .before .before .before .before .before in
-      front-parsed (e .pre .1) (rw (n .enter .ensures) at (x .expr .ensures)) (y .back .ensures) (s .store .ensures)
+      let y = before-store s in
+      let x = before-back y in
+      let n = before-expr x in
+      let e = entry-enter n in
+      front-parsed (e .pre .1) (parsed-at (n .enter .ensures) (x .expr .ensures)) (y .back .ensures) (s .store .ensures)
 
 pub front-met : {M : Type 1} (t : ℕ) → lts.Closed (claims t) (AtMeasure front t) front-reads.Post M
 front-met t = lts.spec (claims t) (AtMeasure front t) front-reads.Post

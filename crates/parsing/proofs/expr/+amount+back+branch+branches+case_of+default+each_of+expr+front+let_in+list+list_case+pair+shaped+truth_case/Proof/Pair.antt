@@ -1,10 +1,10 @@
 -- `pair` meets its contract.
 -- Assumes nothing.
-use mathlib.Core.Path.{refl, sym, _∙_}
+use mathlib.Core.Path.{refl, sym, ap, _∙_}
 use Prim.Native.Nat.{ℕ}
 use native.Mathlib.Omega.{arith}
 use borrow.Author.Needs.{needs}
-use Rattle.parsing.specs.ConstructLaws.{pair-parsed}
+use Rattle.parsing.specs.ConstructLaws.{pair-parsed, parsed-at, inner-ready, count-entered}
 use Rattle.parsing.proofs.cursor.enter.Reads as enter-reads
 use Rattle.parsing.proofs.nodes.store.Reads as store-reads
 use Rattle.parsing.proofs.expect.symbol.Reads as symbol-reads
@@ -31,6 +31,38 @@ module _ (t : ℕ) where
   abbrev At : PlacesOf pair lts.Claims → Type 0
   At P = P (claims t) (AtMeasure pair t) pair-reads.Post
 
+  -- PLACES: what stands before each call, and the entry
+  abbrev entry-enter : At lts.After-enter → At lts.Start
+  entry-enter c = c .before .before .before .before .before .before .before
+
+  abbrev before-expr : At lts.After-expr → At lts.After-enter
+  before-expr c = c .before
+
+  abbrev entry-expr : At lts.After-expr → At lts.Start
+  entry-expr c = entry-enter (before-expr c)
+
+  abbrev before-symbol : At lts.After-symbol → At lts.After-expr
+  before-symbol c = c .before .before .before .before .before
+
+  abbrev entry-symbol : At lts.After-symbol → At lts.Start
+  entry-symbol c = entry-expr (before-symbol c)
+
+  abbrev before-expr2 : At lts.After-expr2 → At lts.After-symbol
+  before-expr2 c = c .before .before .before
+
+  abbrev entry-expr2 : At lts.After-expr2 → At lts.Start
+  entry-expr2 c = entry-symbol (before-expr2 c)
+
+  abbrev before-symbol2 : At lts.After-symbol2 → At lts.After-expr2
+  before-symbol2 c = c .before .before .before .before .before
+
+  abbrev entry-symbol2 : At lts.After-symbol2 → At lts.Start
+  entry-symbol2 c = entry-expr2 (before-symbol2 c)
+
+  abbrev before-store : At lts.After-store → At lts.After-symbol2
+  before-store c = c .before .before .before .before
+
+  -- NEEDS
   enter-requires : At lts.Need-enter-requires
   enter-requires c κs =
       let e = c .before .before .before .before .before .before in
@@ -39,46 +71,56 @@ module _ (t : ℕ) where
   expr-requires : At lts.Need-expr-requires
   expr-requires c κs =
       let n = c in
-      let e = n .before .before .before .before .before .before .before in
+      let e = entry-enter n in
       let w = e .pre .1 .ready in
       let f = e .pre .1 .free in
-      rw (n .enter .ensures) (omega (arith, e .pre .0), record { table-few = w .table-few; names-long = w .names-long; slots-long = w .slots-long; few = omega arith; low = let l = w .low in omega arith })
+      let i = count-entered (e .args .c) (n .enter .ensures) in
+      (omega (arith, e .pre .0), inner-ready (e .pre .1) refl refl (omega arith) (omega arith) (omega arith))
 
   expr-requires-2 : At lts.Need-expr-requires-2
   expr-requires-2 c κs =
       let g = c .before .before in
-      let x = g .before .before .before .before .before in
-      let n = x .before in
-      let e = n .before .before .before .before .before .before .before in
+      let x = before-symbol g in
+      let n = before-expr x in
+      let e = entry-enter n in
       let w = e .pre .1 .ready in
       let f = e .pre .1 .free in
-      let p = rw (n .enter .ensures) at (x .expr .ensures) in
+      let p = parsed-at (n .enter .ensures) (x .expr .ensures) in
       let i = g .symbol .ensures .same in
-      let j = p .later in
-      (omega (arith, e .pre .0), record { table-few = w .table-few; names-long = p .below .long ∙ w .names-long; slots-long = p .kept .long ∙ w .slots-long; few = let k = p .few in omega arith; low = let l = w .low in omega arith })
+      let j = p .later in (
+        omega (arith, e .pre .0),
+        record {
+          table-few = w .table-few;
+          names-long = p .below .long ∙ w .names-long;
+          slots-long = p .kept .long ∙ w .slots-long;
+          few = let k = p .few in
+              omega arith;
+          low = let l = w .low in omega arith;
+        },
+      )
 
   add-first : At lts.Need-add-first
   add-first c =
-      let e = c .before .before .before .before .before .before .before .before .before .before .before .before .before .before .before .before .before .before .before .before .before .before in
+      let e = entry-symbol2 (c .before) in
       let f = e .pre .1 .free in omega arith
 
   cast-first : At lts.Need-cast-first
   cast-first c =
-      let e = c .before .before .before .before .before .before .before .before .before .before .before .before .before .before .before .before .before .before .before .before .before .before in
+      let e = entry-symbol2 (c .before) in
       let f = e .pre .1 .free in omega arith
 
   cast-second : At lts.Need-cast-second
   cast-second c =
-      let y = c .before .before .before .before .before .before .before in
-      let g = y .before .before .before in
-      let x = g .before .before .before .before .before in
+      let y = before-symbol2 (c .before .before) in
+      let g = before-expr2 y in
+      let x = before-symbol g in
       let i = g .symbol .ensures .same in let k = x .expr .ensures .few in omega arith
 
   store-requires : At lts.Need-store-requires
   store-requires c κs =
-      let y = c .before .before .before .before .before .before .before .before in
-      let x = y .before .before .before .before .before .before .before .before in
-      let e = x .before .before .before .before .before .before .before .before in
+      let y = before-symbol2 (c .before .before .before) in
+      let x = before-symbol (before-expr2 y) in
+      let e = entry-expr x in
       let w = e .pre .1 .ready in
       let f = e .pre .1 .free in
       let l = w .slots-long in
@@ -89,13 +131,14 @@ module _ (t : ℕ) where
   returns : At lts.Need-returns
   returns c =
       let s = c .before .before in
-      let h = s .before .before .before .before in
-      let y = h .before .before .before .before .before in
-      let g = y .before .before .before in
-      let x = g .before .before .before .before .before in
-      let n = x .before in
-      let e = n .before .before .before .before .before .before .before in
-      pair-parsed (e .pre .1) (rw (n .enter .ensures) at (x .expr .ensures)) (g .symbol .ensures) (y .expr2 .ensures) (h .symbol2 .ensures) (s .store .ensures)
+      let h = before-store s in
+      let y = before-symbol2 h in
+      let g = before-expr2 y in
+      let x = before-symbol g in
+      let n = before-expr x in
+      let e = entry-enter n in
+      pair-parsed (e .pre .1) (parsed-at (n .enter .ensures) (x .expr .ensures)) (g .symbol .ensures) (y .expr2 .ensures) (h .symbol2 .ensures)
+      (s .store .ensures)
 
 pub pair-met : {M : Type 1} (t : ℕ) → lts.Closed (claims t) (AtMeasure pair t) pair-reads.Post M
 pair-met t = lts.spec (claims t) (AtMeasure pair t) pair-reads.Post

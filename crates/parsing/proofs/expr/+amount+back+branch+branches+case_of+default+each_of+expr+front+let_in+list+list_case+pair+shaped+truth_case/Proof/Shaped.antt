@@ -1,6 +1,6 @@
 -- `shaped` meets its contract.
 -- Assumes nothing.
-use mathlib.Core.Path.{refl, sym, _∙_}
+use mathlib.Core.Path.{refl, sym, ap, _∙_}
 use Prim.Native.Nat.{ℕ}
 use native.Mathlib.Omega.{arith}
 use borrow.Author.Needs.{needs}
@@ -43,10 +43,15 @@ module _ (t : ℕ) where
   abbrev At : PlacesOf shaped lts.Claims → Type 0
   At P = P (claims t) (AtMeasure shaped t) shaped-reads.Post
 
+  -- PLACES: what stands before each call, and the entry
+  abbrev entry-read : At lts.After-read → At lts.Start
+  entry-read c = c .before .before .before .before .before
+
+  -- NEEDS
   let-in-requires : At lts.Need-let-in-requires
   let-in-requires c κs =
       let r = c .before .before .before in
-      let e = r .before .before .before .before .before in
+      let e = entry-read r in
       let w = e .pre .1 .0 in
       let i = count-behind (e .args .c) (r .read .ensures) in
       (omega (arith, e .pre .0), ready-inner (e .args .c) (w .ready) (w .free) (r .read .ensures))
@@ -56,13 +61,13 @@ module _ (t : ℕ) where
       let y = c .before .before .before .before in
       let i = y .before .before .before in
       let r = i .before in
-      let e = r .before .before .before .before .before in
+      let e = entry-read r in
       shaped-let (e .pre .1 .1) (e .pre .1 .0 .clear) (i .if1 .taken) (r .read .ensures) (y .let-in .ensures)
 
   case-of-requires : At lts.Need-case-of-requires
   case-of-requires c κs =
       let r = c .before .before .before .before in
-      let e = r .before .before .before .before .before in
+      let e = entry-read r in
       let w = e .pre .1 .0 in
       let i = count-behind (e .args .c) (r .read .ensures) in
       (omega (arith, e .pre .0), ready-inner (e .args .c) (w .ready) (w .free) (r .read .ensures))
@@ -72,13 +77,13 @@ module _ (t : ℕ) where
       let y = c .before .before .before .before in
       let i = y .before .before .before in
       let r = i .before .before in
-      let e = r .before .before .before .before .before in
+      let e = entry-read r in
       shaped-case (e .pre .1 .1) (e .pre .1 .0 .clear) (i .if2 .taken) (r .read .ensures) (y .case-of .ensures)
 
   each-of-requires : At lts.Need-each-of-requires
   each-of-requires c κs =
       let r = c .before .before .before .before .before in
-      let e = r .before .before .before .before .before in
+      let e = entry-read r in
       let w = e .pre .1 .0 in
       let i = count-behind (e .args .c) (r .read .ensures) in
       (omega (arith, e .pre .0), ready-inner (e .args .c) (w .ready) (w .free) (r .read .ensures))
@@ -88,13 +93,13 @@ module _ (t : ℕ) where
       let y = c .before .before .before .before in
       let i = y .before .before .before in
       let r = i .before .before .before in
-      let e = r .before .before .before .before .before in
+      let e = entry-read r in
       shaped-each (e .pre .1 .1) (e .pre .1 .0 .clear) (i .if3 .taken) (r .read .ensures) (y .each-of .ensures)
 
   pair-requires : At lts.Need-pair-requires
   pair-requires c κs =
       let r = c .before .before .before .before .before .before in
-      let e = r .before .before .before .before .before in
+      let e = entry-read r in
       let w = e .pre .1 .0 in
       let i = count-behind (e .args .c) (r .read .ensures) in
       (omega (arith, e .pre .0), ready-inner (e .args .c) (w .ready) (w .free) (r .read .ensures))
@@ -104,13 +109,13 @@ module _ (t : ℕ) where
       let y = c .before .before .before .before in
       let i = y .before .before .before in
       let r = i .before .before .before .before in
-      let e = r .before .before .before .before .before in
+      let e = entry-read r in
       shaped-pair (e .pre .1 .1) (e .pre .1 .0 .clear) (i .if4 .taken) (r .read .ensures) (y .pair .ensures)
 
   list-requires : At lts.Need-list-requires
   list-requires c κs =
       let r = c .before .before .before .before .before .before .before in
-      let e = r .before .before .before .before .before in
+      let e = entry-read r in
       let w = e .pre .1 .0 in
       let i = count-behind (e .args .c) (r .read .ensures) in
       (omega (arith, e .pre .0), ready-inner (e .args .c) (w .ready) (w .free) (r .read .ensures))
@@ -120,13 +125,13 @@ module _ (t : ℕ) where
       let y = c .before .before .before .before in
       let i = y .before .before .before in
       let r = i .before .before .before .before .before in
-      let e = r .before .before .before .before .before in
+      let e = entry-read r in
       shaped-list (e .pre .1 .1) (e .pre .1 .0 .clear) (i .if5 .taken) (r .read .ensures) (y .list .ensures)
 
   amount-requires : At lts.Need-amount-requires
   amount-requires c κs =
       let i = c .before .before in
-      let e = i .before .before .before .before .before .before .before .before .before .before .before in
+      let e = entry-read (i .before .before .before .before .before .before) in
       let g = e .pre .1 .1 in
       (omega (arith, e .pre .0), (e .pre .1 .0, record { is-next = g .is-next; coded = sym (i .if6 .taken) ∙ g .coded }))
 
@@ -143,7 +148,7 @@ module _ (t : ℕ) where
       let i₃ = i₄ .before in
       let i₂ = i₃ .before in
       let i₁ = i₂ .before in
-      let e = i₁ .before .before .before .before .before .before in
+      let e = entry-read (i₁ .before) in
       (e .pre .1 .0, e .pre .1 .1, (i₁ .if1 .left, i₂ .if2 .left, i₃ .if3 .left, i₄ .if4 .left, i₅ .if5 .left, i₆ .if6 .left, e .pre .1 .2))
 
   returns-7 : At lts.Need-returns-7

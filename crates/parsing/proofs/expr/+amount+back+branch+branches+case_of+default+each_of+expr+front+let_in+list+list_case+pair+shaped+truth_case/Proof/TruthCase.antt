@@ -1,6 +1,6 @@
 -- `truth_case` meets its contract.
 -- Assumes nothing.
-use mathlib.Core.Path.{refl, sym, _∙_}
+use mathlib.Core.Path.{refl, sym, ap, _∙_}
 use Prim.Native.Nat.{ℕ}
 use native.Mathlib.Omega.{arith}
 use borrow.Author.Needs.{needs}
@@ -31,6 +31,44 @@ module _ (t : ℕ) where
   abbrev At : PlacesOf truth-case lts.Claims → Type 0
   At P = P (claims t) (AtMeasure truth-case t) truth-case-reads.Post
 
+  -- PLACES: what stands before each call, and the entry
+  abbrev entry-branch : At lts.After-branch → At lts.Start
+  entry-branch c = c .before .before .before .before .before .before .before
+
+  abbrev before-test : At lts.After-test → At lts.After-branch
+  before-test c = c .before .before .before .before .before
+
+  abbrev entry-test : At lts.After-test → At lts.Start
+  entry-test c = entry-branch (before-test c)
+
+  abbrev before-keyword : At lts.After-keyword → At lts.After-test
+  before-keyword c = c .before .before
+
+  abbrev entry-keyword : At lts.After-keyword → At lts.Start
+  entry-keyword c = entry-test (before-keyword c)
+
+  abbrev before-branch2 : At lts.After-branch2 → At lts.After-keyword
+  before-branch2 c = c .before .before .before
+
+  abbrev entry-branch2 : At lts.After-branch2 → At lts.Start
+  entry-branch2 c = entry-keyword (before-branch2 c)
+
+  abbrev before-test2 : At lts.After-test2 → At lts.After-branch2
+  before-test2 c = c .before .before .before .before .before
+
+  abbrev entry-test2 : At lts.After-test2 → At lts.Start
+  entry-test2 c = entry-branch2 (before-test2 c)
+
+  abbrev before-keyword2 : At lts.After-keyword2 → At lts.After-test2
+  before-keyword2 c = c .before .before
+
+  abbrev entry-keyword2 : At lts.After-keyword2 → At lts.Start
+  entry-keyword2 c = entry-test2 (before-keyword2 c)
+
+  abbrev before-store : At lts.After-store → At lts.After-keyword2
+  before-store c = c .before .before .before .before .before .before
+
+  -- NEEDS
   branch-requires : At lts.Need-branch-requires
   branch-requires c κs =
       let e = c .before .before .before .before .before .before in
@@ -42,9 +80,9 @@ module _ (t : ℕ) where
   branch-requires-2 : At lts.Need-branch-requires-2
   branch-requires-2 c κs =
       let k = c .before .before in
-      let v = k .before .before in
-      let x = v .before .before .before .before .before in
-      let e = x .before .before .before .before .before .before .before in
+      let v = before-keyword k in
+      let x = before-test v in
+      let e = entry-branch x in
       let w = e .pre .1 .0 in
       let a = w .after in
       let p = x .branch .ensures in
@@ -56,31 +94,31 @@ module _ (t : ℕ) where
 
   add-subject : At lts.Need-add-subject
   add-subject c =
-      let e = c .before .before .before .before .before .before .before .before .before .before .before .before .before .before .before .before .before .before .before .before .before .before .before .before in
+      let e = entry-keyword2 c in
       let f = e .pre .1 .0 .few in let a = e .pre .1 .0 .after in omega arith
 
   cast-subject : At lts.Need-cast-subject
   cast-subject c =
-      let e = c .before .before .before .before .before .before .before .before .before .before .before .before .before .before .before .before .before .before .before .before .before .before .before .before in
+      let e = entry-keyword2 c in
       let f = e .pre .1 .0 .few in let a = e .pre .1 .0 .after in omega arith
 
   cast-first : At lts.Need-cast-first
   cast-first c =
-      let e = c .before .before .before .before .before .before .before .before .before .before .before .before .before .before .before .before .before .before .before .before .before .before .before .before .before in
+      let e = entry-keyword2 (c .before) in
       let f = e .pre .1 .0 .few in omega arith
 
   cast-second : At lts.Need-cast-second
   cast-second c =
-      let k = c .before .before .before .before .before .before .before .before .before .before .before .before in
-      let v = k .before .before in
-      let x = v .before .before .before .before .before in
+      let k = before-branch2 (before-test2 (before-keyword2 (c .before .before))) in
+      let v = before-keyword k in
+      let x = before-test v in
       omega (arith, k .keyword .ensures .same, v .test .ensures .same, x .branch .ensures .few)
 
   store-requires : At lts.Need-store-requires
   store-requires c κs =
-      let y = c .before .before .before .before .before .before .before .before .before .before .before .before in
-      let x = y .before .before .before .before .before .before .before .before .before .before in
-      let e = x .before .before .before .before .before .before .before in
+      let y = before-test2 (before-keyword2 (c .before .before .before .before .before)) in
+      let x = before-test (before-keyword (before-branch2 y)) in
+      let e = entry-branch x in
       let w = e .pre .1 .0 in
       let l = w .slots-long in
       let f = w .few in
@@ -92,13 +130,13 @@ module _ (t : ℕ) where
   returns : At lts.Need-returns
   returns c =
       let s = c .before .before in
-      let z = s .before .before .before .before .before .before in
-      let u = z .before .before in
-      let y = u .before .before .before .before .before in
-      let k = y .before .before .before in
-      let v = k .before .before in
-      let x = v .before .before .before .before .before in
-      let e = x .before .before .before .before .before .before .before in
+      let z = before-store s in
+      let u = before-keyword2 z in
+      let y = before-test2 u in
+      let k = before-branch2 y in
+      let v = before-keyword k in
+      let x = before-test v in
+      let e = entry-branch x in
       truth-parsed (e .pre .1 .0) (e .pre .1 .1) (x .branch .ensures) (v .test .ensures) (k .keyword .ensures) (y .branch2 .ensures) (u .test2 .ensures)
       (z .keyword2 .ensures) (s .store .ensures)
 
