@@ -173,7 +173,8 @@ pub fn accepts(
     allowance: u32,
     scratch: &mut [u8],
 ) -> Verdict
-    ensures { λ r. ⌜ Accepted (acceptsOf (now (sheet .entry)) (now (old .entry)) (now (view .entry)) (now (new .entry)) allowance (length (now (scratch .entry)))) r (now (scratch .entry)) (now (scratch .exit)) ⌝ }
+    ensures { λ r. ⌜ Accepted (acceptsOf (now (sheet .entry)) (now (old .entry)) (now (view .entry)) (now (new .entry)) allowance
+        (length (now (scratch .entry)))) r (now (scratch .entry)) (now (scratch .exit)) ⌝ }
 {
     let steps_allowed = allowance as usize;
     let refusal = calls::side_door(scratch.len(), steps_allowed);

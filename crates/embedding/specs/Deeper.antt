@@ -86,7 +86,8 @@ module _ (sh : Sheet) where
   put-keeps (suc l) zero h n μ σ v W p = absurd (omega arith)
   put-keeps (suc l) (suc m) h n μ σ v W p =
       let nd = getD (sh .nodes) n False in
-      keeps-plus 1 (rw (← held-itself sh .node n tt) at (put-node-held keeping (held-itself sh) (get l sh) (get m sh) (get-keeps l m (omega arith)) (put l sh) (put m sh)
+      keeps-plus 1 (rw (← held-itself sh .node n tt) at
+      (put-node-held keeping (held-itself sh) (get l sh) (get m sh) (get-keeps l m (omega arith)) (put l sh) (put m sh)
       (put-keeps l m (omega arith)) μ σ v W n nd (held-itself sh .below n tt) (held-itself sh .called n tt)))
 
   pub get-deeper : {l m : ℕ} (n : ℕ) (μ : Env) {v : Value} {s : ℕ} → l ≤ m → get l sh n μ ≡ done v s → get m sh n μ ≡ done v s

@@ -57,14 +57,17 @@ module _ (f : ℕ → ℕ) where
   anew-after (ok a) k e h = rw e (h a)
   anew-after (refusal c) k e h = rw e
 
-  anew-unless : {Q : Type 0} (c : ℕ) (d : Dec Q) {x : Explanation} (y : Explanation) → x ≡ explanationAnew y → unlessBefore c d x ≡ explanationAnew (unlessBefore c d y)
+  anew-unless : {Q : Type 0} (c : ℕ) (d : Dec Q) {x : Explanation} (y : Explanation) → x ≡ explanationAnew y
+      → unlessBefore c d x ≡ explanationAnew (unlessBefore c d y)
   unfolding unlessBefore explanationAnew
   anew-unless c (yes p) y e = e
   anew-unless c (no p) y e = refl
 
-  anew-door : (allowance scratch : ℕ) {x : Explanation} (y : Explanation) → x ≡ explanationAnew y → whyDoor allowance scratch x ≡ explanationAnew (whyDoor allowance scratch y)
+  anew-door : (allowance scratch : ℕ) {x : Explanation} (y : Explanation) → x ≡ explanationAnew y
+      → whyDoor allowance scratch x ≡ explanationAnew (whyDoor allowance scratch y)
   unfolding whyDoor
-  anew-door allowance scratch y e = anew-unless 2 (decLe SCRATCH scratch) _ (anew-unless 3 (decLe 1 allowance) _ (anew-unless 3 (decLe allowance ALLOWANCE) y e))
+  anew-door allowance scratch y e = anew-unless 2 (decLe SCRATCH scratch) _
+      (anew-unless 3 (decLe 1 allowance) _ (anew-unless 3 (decLe allowance ALLOWANCE) y e))
 
   blank-anew : (n : ℕ) → cellsAnew f (replicate n none) ≡ replicate n none
   blank-anew zero = refl
@@ -102,7 +105,8 @@ module _ {P : ℕ → Type 0} {f g : ℕ → ℕ} {sh sh′ : Sheet} (held : Hol
     get-answer-same output scratch = ap (λ o. answer (door GET-OUTPUT output scratch allowance o))
         (rw (e, e′) (reading-same (readPlan (sh .k) plan) same-plan λ μ. ap (mapOut encode) (get-walk-same allowance μ)))
 
-    pub put-answer-same : (view : List ℕ) (output scratch : ℕ) → putAnswer s′ plan view allowance output scratch ≡ putAnswer s plan view allowance output scratch
+    pub put-answer-same : (view : List ℕ) (output scratch : ℕ)
+        → putAnswer s′ plan view allowance output scratch ≡ putAnswer s plan view allowance output scratch
     unfolding putAnswer putBytes reading
     put-answer-same view output scratch = ap (λ o. answer (door PUT-OUTPUT output scratch allowance o))
         (rw (e, e′) (reading-same (readPlan (sh .k) plan) same-plan λ μ. reading-same (readView view) refl λ vs.

@@ -42,7 +42,8 @@ module _ (sh : Sheet) (ranges : Ranges sh) where
   more-levels : (x l n : ℕ) → length (sh .nodes) ≤ n + l → walked (suc l) sh x n ≡ walked l sh x n
   unfolding walked own children variables
   more-levels x zero n h = rw (past-end n (omega arith))
-  more-levels x (suc l) n h = ap (λ (t : ℕ). own x (getD (sh .nodes) n False) + t) (total-ext (walked (suc l) sh x) (walked l sh x) (children (getD (sh .nodes) n False))
+  more-levels x (suc l) n h = ap (λ (t : ℕ). own x (getD (sh .nodes) n False) + t)
+      (total-ext (walked (suc l) sh x) (walked l sh x) (children (getD (sh .nodes) n False))
       (all-behind (λ c. walked (suc l) sh x c ≡ walked l sh x c) n λ c k. more-levels x l c (omega arith)))
 
   -- what a node adds up

@@ -60,12 +60,14 @@ module _ (sh : Sheet) (x : ℕ) where
     node-tallies (Wide n) p = fine refl
     node-tallies (Front a b) p = after-bind (ih a) λ f i _ hf. after-bind (ih b) λ l j _ hl. after-given _ λ c ec. after-given _ λ z ez.
         fine (bind-is _ hf (bind-is _ hl (given-is 43 _ ec (given-is 44 _ ez refl))))
-    node-tallies (Pair a b) p = after-bind (ih a) λ f i _ hf. after-bind (ih b) λ l j _ hl. after-given _ λ z ez. fine (bind-is _ hf (bind-is _ hl (given-is 44 _ ez refl)))
+    node-tallies (Pair a b) p = after-bind (ih a) λ f i _ hf. after-bind (ih b) λ l j _ hl. after-given _ λ z ez. fine
+        (bind-is _ hf (bind-is _ hl (given-is 44 _ ez refl)))
     node-tallies (ListCase s b tb n tn df dr) p = absurd p
     node-tallies (TruthCase s f tf t t₁) p = absurd p
     node-tallies (Split s b) p = absurd p
     node-tallies (Call c y z) p = absurd p
-    node-tallies (Add n k) p = after-bind (ih n) λ v i _ hv. after-given _ λ m em. after-given _ λ z ez. fine (bind-is _ hv (given-is 43 _ em (given-is 45 _ ez refl)))
+    node-tallies (Add n k) p = after-bind (ih n) λ v i _ hv. after-given _ λ m em. after-given _ λ z ez. fine
+        (bind-is _ hv (given-is 43 _ em (given-is 45 _ ez refl)))
     node-tallies (Each s c y d) p = absurd p
 
   module _ (ranges : Ranges sh) (kinds : (n : ℕ) → T (plain (getD (sh .nodes) n False))) where

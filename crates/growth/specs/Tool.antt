@@ -157,7 +157,8 @@ module _ {s : List ℕ} {t : Table} (q : Readied s t) {x : ℕ} {counts : List �
           o (rw k (plain-at (sh .nodes) p (i - 1)))
           ∙ rw k (one-capped sh (rd .ranges) x (i - 1) (λ c. getD counts c 0) (λ c g. to .at sh rd p c (omega arith)))
 
-      here : (sh : Sheet) → Reads s t sh → allPlain (sh .nodes) ≡ true → (j : ℕ) → i - 1 ≤ j → Dec (j ≡ i - 1) → getD (set counts (i - 1) r) j 0 ≡ min 257 (entered sh x j)
+      here : (sh : Sheet) → Reads s t sh → allPlain (sh .nodes) ≡ true → (j : ℕ) → i - 1 ≤ j → Dec (j ≡ i - 1)
+          → getD (set counts (i - 1) r) j 0 ≡ min 257 (entered sh x j)
       here sh rd p j g (yes z) =
           let f = rd .ranges .few-nodes in
           rw z (getD-set-same counts (i - 1) r 0 (omega (arith, to .long, to .few, rd .nodes)) ∙ last sh rd p)

@@ -34,7 +34,8 @@ fn get_line(
     scratch: &mut [u8; rules::SCRATCH],
     text: &mut [u8; LINE],
 ) -> usize
-    ensures { λ r. ⌜ Said (getAnswer (now (sheet .entry)) (now (plan .entry)) allowance GET-OUTPUT SCRATCH) r (now (text .entry)) (now (text .exit)) (now (out .entry)) (now (out .exit)) (now (scratch .entry)) (now (scratch .exit)) ⌝ }
+    ensures { λ r. ⌜ Said (getAnswer (now (sheet .entry)) (now (plan .entry)) allowance GET-OUTPUT SCRATCH) r (now (text .entry)) (now (text .exit))
+        (now (out .entry)) (now (out .exit)) (now (scratch .entry)) (now (scratch .exit)) ⌝ }
 {
     let reply = calls::get(sheet, plan, allowance, out, scratch);
     reply_line(reply, out, text)
@@ -50,7 +51,8 @@ fn put_line(
     scratch: &mut [u8; rules::SCRATCH],
     text: &mut [u8; LINE],
 ) -> usize
-    ensures { λ r. ⌜ Said (putAnswer (now (sheet .entry)) (now (plan .entry)) (now (view .entry)) allowance PUT-OUTPUT SCRATCH) r (now (text .entry)) (now (text .exit)) (now (out .entry)) (now (out .exit)) (now (scratch .entry)) (now (scratch .exit)) ⌝ }
+    ensures { λ r. ⌜ Said (putAnswer (now (sheet .entry)) (now (plan .entry)) (now (view .entry)) allowance PUT-OUTPUT SCRATCH) r (now (text .entry))
+        (now (text .exit)) (now (out .entry)) (now (out .exit)) (now (scratch .entry)) (now (scratch .exit)) ⌝ }
 {
     let answer = calls::put(sheet, plan, view, allowance, out, scratch);
     let reply = answer.reply;

@@ -10,10 +10,12 @@ use lib.ListN.{length, getD, drop}
 use Rattle.value.specs.Value.{Value, Values, vfalse, vtrue, list, pair, nil, cons, encode, encodes}
 use Rattle.value.specs.Result.{Result}
 use Rattle.report.specs.Writing.{Wrote, wrote-long, wrote-text, wrote-then}
-use Rattle.notation.specs.Grammar.{Awaits, value, members, more, token, digits, word, alse, rue, name, named, object, member, white, isDigit, noStart, startOf, begin, found, orMember, orComma, take, ends}
+use Rattle.notation.specs.Grammar.{Awaits, value, members, more, token, digits, word, alse, rue, name, named, object, member, white, isDigit, noStart}
+use Rattle.notation.specs.Grammar.{startOf, begin, found, orMember, orComma, take, ends}
 use Rattle.notation.specs.Reads.{sValue, sMembers, sMore, black, start-number, run-member}
 use Rattle.notation.specs.Written.{in-digits}
-use Rattle.json.specs.Reader.{On, at-byte, on-first, Skips, on-skip, on-take, on-then, off-then, off-take, off-end, Passes, on-passed, off-passed, Gives, gDone, gRefused, handed, and-false}
+use Rattle.json.specs.Reader.{On, at-byte, on-first, Skips, on-skip, on-take, on-then, off-then, off-take, off-end, Passes, on-passed}
+use Rattle.json.specs.Reader.{off-passed, Gives, gDone, gRefused, handed, and-false}
 use Rattle.json.specs.declared.Step.{Step}
 use Rattle.json.specs.declared.Step.the-variants.{Done, Refused}
 
@@ -66,7 +68,8 @@ module _ {s : List ℕ} {at : ℕ} (q : Scalar s at) (l put : ℕ) where
   unfolding take begin
   is-number h m g =
       let d = in-digits (getD s at 0) h m in
-      handed (λ v. v) (λ v. refl) (on-take at-value (q .there) (getD s at 0) refl (black (getD s at 0) (omega arith)) (λ k next. rw (start-number (getD s at 0) d))) g
+      handed (λ v. v) (λ v. refl) (on-take at-value (q .there) (getD s at 0) refl (black (getD s at 0) (omega arith))
+      (λ k next. rw (start-number (getD s at 0) d))) g
 
   -- no value
   pub is-none : (getD s at 0 ≡ 0x66 → ⊥) → (getD s at 0 ≡ 0x74 → ⊥) → isDigit (getD s at 0) ≡ false → {b b′ : List ℕ} → length b′ ≡ length b

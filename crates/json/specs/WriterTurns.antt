@@ -212,7 +212,8 @@ module _ {v : List ℕ} {at : ℕ} (levels put : ℕ) where
         whole = refl;
       }
 
-module _ {v : List ℕ} {at levels put : ℕ} {b₀ : List ℕ} {l : Values} {more : List ℕ} {i : ℕ} {b : List ℕ} {p : ℕ} (t : Turning v at levels put b₀ l more i b p) where
+module _ {v : List ℕ} {at levels put : ℕ} {b₀ : List ℕ} {l : Values} {more : List ℕ} {i : ℕ} {b : List ℕ} {p : ℕ}
+    (t : Turning v at levels put b₀ l more i b p) where
   pub member-held : Held v (i + 1) (t .x) (encodes (t .m) ++ more)
   unfolding encodes
   member-held = record { bytes = tail v i (t .held .bytes) ∙ append-assoc (encode (t .x)) (encodes (t .m)) more }
@@ -251,7 +252,8 @@ module _ {v : List ℕ} {at levels put : ℕ} {b₀ : List ℕ} {l : Values} {mo
         whole = t .whole ∙ sym (append-assoc (t .text) (jsonOf (t .x)) (moreOf (t .m)));
       }
 
-module _ {v : List ℕ} {at levels put : ℕ} {b₀ : List ℕ} {l : Values} {more : List ℕ} {i : ℕ} {b : List ℕ} {p : ℕ} (t : Turned v at levels put b₀ l more i b p) where
+module _ {v : List ℕ} {at levels put : ℕ} {b₀ : List ℕ} {l : Values} {more : List ℕ} {i : ℕ} {b : List ℕ} {p : ℕ}
+    (t : Turned v at levels put b₀ l more i b p) where
   pub rest-there : i < length v
   rest-there = list-begins (t .held)
 
@@ -338,7 +340,8 @@ module _ {v : List ℕ} {at : ℕ} where
           puts = λ a d more h. go a d (rw e at (f .puts a (encode d ++ more) (first-held h))) (rw z at (g .puts d more (second-held h (first-end h))));
         }
           where
-            go : (a d : Value) → Puts (jsonOf a) (depth a) levels (at + size a) p b₁ b₂ (Done i q) → Puts (jsonOf d) (depth d) levels (i + size d) t b₃ b₄ (Done j n)
+            go : (a d : Value) → Puts (jsonOf a) (depth a) levels (at + size a) p b₁ b₂ (Done i q)
+                → Puts (jsonOf d) (depth d) levels (i + size d) t b₃ b₄ (Done j n)
                 → Puts (jsonOf (pair a d)) (max (depth a) (depth d)) levels (at + (size a + size d)) put b b₅ (Done j m)
             go a d (pDone k l s) (pDone k′ l′ s′) = pDone {n = j} (omega arith) (omega arith) (wrote-then w (wrote-then s (wrote-then y (wrote-then s′ x))))
 

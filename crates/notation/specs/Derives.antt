@@ -48,7 +48,8 @@ use Rattle.notation.specs.Grammar.{
   ends,
   run,
 }
-use Rattle.notation.specs.Texts.{Spaces, none, space, Token, here, nEnd, nByte, Digits, dEnd, dMore, Text, tFalse, tTrue, tNumber, tArray, tObject, named as isNamed, Members, mNone, mSome, More, oNone, oSome, Whole, whole}
+use Rattle.notation.specs.Texts.{Spaces, none, space, Token, here, nEnd, nByte, Digits, dEnd, dMore, Text, tFalse, tTrue, tNumber, tArray}
+use Rattle.notation.specs.Texts.{tObject, named as isNamed, Members, mNone, mSome, More, oNone, oSome, Whole, whole}
 use Rattle.notation.specs.Reads.{black, is-digit}
 
 -- the text s is what w awaits, and the value x is read from it
@@ -131,7 +132,8 @@ starts b = t1 (eqb b 0x66) refl
     t2 false e = t3 (eqb b 0x5B) refl
 
     t1 : (d : Bool) → eqb b 0x66 ≡ d
-        → Starts b (cond d startFalse (cond (eqb b 0x74) startTrue (cond (eqb b 0x5B) startArray (cond (eqb b 0x7B) startObject (cond (isDigit b) startNumber noStart)))))
+        → Starts b (cond d startFalse (cond (eqb b 0x74) startTrue
+        (cond (eqb b 0x5B) startArray (cond (eqb b 0x7B) startObject (cond (isDigit b) startNumber noStart)))))
     t1 true e = isFalse (eqb-true b 0x66 e)
     t1 false e = t2 (eqb b 0x74) refl
 

@@ -34,17 +34,21 @@ use Rattle.notation.specs.Grammar.{
 }
 use Rattle.notation.specs.Calls.{fromJson}
 
-reads-object : fromJson (0x7B ∷ 0x22 ∷ 0x61 ∷ 0x22 ∷ 0x3A ∷ 0x20 ∷ 0x37 ∷ 0x2C ∷ 0x22 ∷ 0x62 ∷ 0x22 ∷ 0x3A ∷ 0x5B ∷ 0x74 ∷ 0x72 ∷ 0x75 ∷ 0x65 ∷ 0x5D ∷ 0x7D ∷ []) 256
+reads-object : fromJson (0x7B ∷ 0x22 ∷ 0x61 ∷ 0x22 ∷ 0x3A ∷ 0x20 ∷ 0x37 ∷ 0x2C ∷ 0x22 ∷ 0x62 ∷ 0x22 ∷ 0x3A ∷ 0x5B ∷ 0x74 ∷ 0x72 ∷ 0x75 ∷ 0x65 ∷ 0x5D ∷ 0x7D ∷
+    []) 256
     ≡ ok (5 ∷ 4 ∷ 0 ∷ 7 ∷ 3 ∷ 1 ∷ 2 ∷ [])
-unfolding fromJson readJson run ends judge take skip orDigit orComma orMember found begin startOf follows isDigit white numeral member object named name rue alse word mapResult unless andThen encode encodes size sizes
+unfolding fromJson readJson run ends judge take skip orDigit orComma orMember found begin startOf follows isDigit white numeral member object named name rue
+    alse word mapResult unless andThen encode encodes size sizes
 reads-object = refl
 
 reads-number : fromJson (0x36 ∷ 0x35 ∷ 0x35 ∷ 0x33 ∷ 0x35 ∷ []) 256 ≡ ok (4 ∷ 255 ∷ 255 ∷ [])
-unfolding fromJson readJson run ends judge take skip orDigit found begin startOf follows isDigit white numeral mapResult unless andThen encode encodes size sizes
+unfolding fromJson readJson run ends judge take skip orDigit found begin startOf follows isDigit white numeral mapResult unless andThen encode encodes size
+    sizes
 reads-number = refl
 
 reads-wide : fromJson (0x36 ∷ 0x35 ∷ 0x35 ∷ 0x33 ∷ 0x36 ∷ []) 256 ≡ ok (6 ∷ 0 ∷ 1 ∷ 0 ∷ 0 ∷ [])
-unfolding fromJson readJson run ends judge take skip orDigit found begin startOf follows isDigit white numeral mapResult unless andThen encode encodes size sizes
+unfolding fromJson readJson run ends judge take skip orDigit found begin startOf follows isDigit white numeral mapResult unless andThen encode encodes size
+    sizes
 reads-wide = refl
 
 leading-zero : readJson (0x30 ∷ 0x31 ∷ []) ≡ refusal 70
@@ -53,7 +57,8 @@ leading-zero = refl
 
 -- all of the RFC's white space, and a vertical tab, which is none
 reads-white : fromJson (0x09 ∷ 0x0A ∷ 0x0D ∷ 0x20 ∷ 0x37 ∷ 0x09 ∷ []) 256 ≡ ok (4 ∷ 0 ∷ 7 ∷ [])
-unfolding fromJson readJson run ends judge take skip orDigit found begin startOf follows isDigit white numeral mapResult unless andThen encode encodes size sizes
+unfolding fromJson readJson run ends judge take skip orDigit found begin startOf follows isDigit white numeral mapResult unless andThen encode encodes size
+    sizes
 reads-white = refl
 
 vertical-tab : readJson (0x0B ∷ 0x37 ∷ []) ≡ refusal 70

@@ -147,7 +147,8 @@ Fine (finished v) = Unit
 -- a text that can stand there
 goes-on : (w : Awaits) → Fine w → (t : List ℕ) × (v : Value) × (run t w ≡ ok v)
 unfolding run ends white isDigit
-goes-on (value l k) f = let (t, v, e) = goes-on (k vfalse) (f vfalse .0) in (0x66 ∷ 0x61 ∷ 0x6C ∷ 0x73 ∷ 0x65 ∷ t, v, run-text (tFalse {l = l} {r = t} none) k ∙ e)
+goes-on (value l k) f = let (t, v, e) = goes-on (k vfalse) (f vfalse .0) in
+    (0x66 ∷ 0x61 ∷ 0x6C ∷ 0x73 ∷ 0x65 ∷ t, v, run-text (tFalse {l = l} {r = t} none) k ∙ e)
 goes-on (members l k) f = let (t, v, e) = goes-on (k nil) (f nil .0) in (0x5D ∷ t, v, run-members (mNone {l = l} {r = t} (here none)) k ∙ e)
 goes-on (more l k) f = let (t, v, e) = goes-on (k nil) (f nil .0) in (0x5D ∷ t, v, run-more (oNone {l = l} {r = t} (here none)) k ∙ e)
 goes-on (token c w) f = let (t, v, e) = goes-on w (f .1) in (c ∷ t, v, run-token {r = t} (here none) (f .0) w ∙ e)

@@ -10,7 +10,9 @@ use Rattle.value.specs.Value.{Value, Values, list, number, pair, cons}
 use Rattle.value.specs.Result.{Result, ok}
 use Rattle.value.specs.Laws.{and-true}
 use Rattle.notation.specs.Text.{LEVELS}
-use Rattle.notation.specs.Grammar.{Awaits, value, members, more, token, exactly, digits, finished, word, alse, rue, name, named, object, member, numeral, white, isDigit, startOf, startNumber, begin, found, orMember, orComma, orDigit, skip, take, judge, ends, run}
+use Rattle.notation.specs.Grammar.{Awaits, value, members, more, token, exactly, digits, finished, word, alse, rue, name, named, object, member}
+use Rattle.notation.specs.Grammar.{numeral, white, isDigit, startOf, startNumber, begin, found, orMember, orComma, orDigit, skip, take, judge}
+use Rattle.notation.specs.Grammar.{ends, run}
 use Rattle.notation.specs.Texts.{
   Spaces,
   none,

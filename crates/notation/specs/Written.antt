@@ -10,12 +10,14 @@ use lib.Dec.{leb}
 use Rattle.value.specs.Laws.{and-true}
 use Rattle.notation.specs.Reads.{is-digit}
 use lib.ListN.{length, length-append}
-use Rattle.value.specs.Value.{Value, Values, number, wide, pair, nil, cons, size, sizes, LEAST-WIDE, Encodable, Encodables, eFalse, eTrue, eList, eNumber, eWide, ePair, eNil, eCons}
+use Rattle.value.specs.Value.{Value, Values, number, wide, pair, nil, cons, size, sizes, LEAST-WIDE, Encodable, Encodables, eFalse, eTrue, eList}
+use Rattle.value.specs.Value.{eNumber, eWide, ePair, eNil, eCons}
 use Rattle.report.specs.Text.{digitOf, decimalOf}
 use Rattle.report.specs.TextLaws.{decimal-small, decimal-more, by-digits, decimal-length}
 use Rattle.notation.specs.Text.{jsonOf, membersOf, moreOf, depth, depths, LEVELS}
 use Rattle.notation.specs.Grammar.{numeral, isDigit, follows, MOST}
-use Rattle.notation.specs.Texts.{none, here, NoDigit, nEnd, nByte, Digits, dEnd, dMore, Text, tFalse, tTrue, tNumber, tArray, tObject, Named, named, Members, mNone, mSome, More, oNone, oSome, Whole, whole}
+use Rattle.notation.specs.Texts.{none, here, NoDigit, nEnd, nByte, Digits, dEnd, dMore, Text, tFalse, tTrue, tNumber, tArray, tObject, Named}
+use Rattle.notation.specs.Texts.{named, Members, mNone, mSome, More, oNone, oSome, Whole, whole}
 
 -- A NUMBER'S DIGITS
 

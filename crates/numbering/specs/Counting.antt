@@ -261,7 +261,8 @@ pub record Named (sh : Sheet) (n : ℕ) (c : Children) : Type 0 where
   pub are : take (c .count) (c .nodes) ≡ children (nodeOf sh n)
   pub long : length (c .nodes) ≡ 8
 
-named-of : (l : List ℕ) → length l ≤ 7 → (childrenOf l .count ≡ length l) × (take (childrenOf l .count) (childrenOf l .nodes) ≡ l) × (length (childrenOf l .nodes) ≡ 8)
+named-of : (l : List ℕ) → length l ≤ 7
+    → (childrenOf l .count ≡ length l) × (take (childrenOf l .count) (childrenOf l .nodes) ≡ l) × (length (childrenOf l .nodes) ≡ 8)
 unfolding childrenOf
 named-of l h = (refl, take-append-seam l (replicate (8 - length l) 0), simp (length-append, length-replicate) (omega arith))
 
@@ -313,7 +314,8 @@ counted-more f {n} {c = c} {u} {u′} {ts} v h e q w x =
       so-far = x ∙ ap (λ z. usedAll z ts) (v .so-far) ∙ sym (used-append zeros (roots sh ++ allChildren (take n (sh .nodes))) ts)
           ∙ ap (usedAll zeros) (append-assoc (roots sh) (allChildren (take n (sh .nodes))) ts ∙ ap (λ z. roots sh ++ z)
           (ap (λ z. allChildren (take n (sh .nodes)) ++ z) (w ∙ m .are ∙ sym (append-nil (children (nodeOf sh n))))
-          ∙ sym (ap allChildren (ap (λ k. take k (sh .nodes)) (add-one n) ∙ take-suc (sh .nodes) n False l) ∙ all-append (take n (sh .nodes)) (nodeOf sh n ∷ []))));
+          ∙ sym (ap allChildren (ap (λ k. take k (sh .nodes)) (add-one n) ∙ take-suc (sh .nodes) n False l)
+          ∙ all-append (take n (sh .nodes)) (nodeOf sh n ∷ []))));
     }
 
 pub counted-all : {s : List ℕ} {t : Table} (f : Fine s t) {n : ℕ} {u : List ℕ} → Counted (fine-read f .0) n u → t .nodes ≤ n → Counts s u

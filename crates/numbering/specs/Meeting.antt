@@ -39,7 +39,8 @@ pub record Ordered (s : List ℕ) (ns : Nodes) : Type 0 where
 -- WHAT A TEXT LEAVES BEHIND ITS PLACE
 wrote-drop : {t b b′ : List ℕ} {i r : ℕ} → Wrote t i b b′ r → i + length t ≤ length b → drop i b′ ≡ t ++ drop (i + length t) b
 wrote-drop {t} {b} {b′} {i} w h =
-    ap (drop i) (w .made ∙ sets-eq t b i h ∙ append-assoc (take i b) t (drop (i + length t) b)) ∙ drop-at (take i b) (t ++ drop (i + length t) b) i (length-take-le i b (omega arith))
+    ap (drop i) (w .made ∙ sets-eq t b i h ∙ append-assoc (take i b) t (drop (i + length t) b))
+    ∙ drop-at (take i b) (t ++ drop (i + length t) b) i (length-take-le i b (omega arith))
 
 -- THE MEETING, as far as it has come: `count` nodes are seen, and those from `top` on are still to be met
 pub record Meeting (sh : Sheet) (todo : List ℕ) (top : ℕ) (seen : List ℕ) (count : ℕ) : Type 0 where

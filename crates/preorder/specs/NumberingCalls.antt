@@ -75,7 +75,8 @@ module _ {s t : List ℕ} (h : Anew s t) where
   -- the same variables take a view, and loading a plan gives the same starts
   pub numbered-written : (plan view : List ℕ) (allowance : ℕ) → putWritten t plan view allowance ≡ putWritten s plan view allowance
   numbered-written plan view allowance =
-      put-written-same (numbered-holds ranges) (main-met ranges) (root-numbered ranges) (same-k ranges (h .once)) s t (h .read) numbered-read plan allowance view
+      put-written-same (numbered-holds ranges) (main-met ranges) (root-numbered ranges) (same-k ranges (h .once)) s t
+      (h .read) numbered-read plan allowance view
 
   pub numbered-load : (plan : List ℕ) → loadOf t plan ≡ loadOf s plan
   unfolding loadOf andThen

@@ -37,7 +37,8 @@ sectionTwice = 0x01 ∷ 0x01 ∷ 0x00 ∷ 0x20 ∷ 0x01 ∷ 0x20 ∷ 0x01 ∷ 0x
 
 pub numbers : map (λ s. numberAnswer s 2048) (drawn ∷ anew ∷ shared ∷ unmet ∷ rootTwice ∷ sectionTwice ∷ [])
     ≡ done anew ∷ done anew ∷ twice 1 ∷ twice 2 ∷ twice 0 ∷ twice 1 ∷ []
-unfolding numberAnswer sheetAnswer lowestTwice lowestFrom times numbered newNumber placeOf order roots metFrom uses children renumber ofKind sheetWritten written
+unfolding numberAnswer sheetAnswer lowestTwice lowestFrom times numbered newNumber placeOf order roots metFrom uses children renumber ofKind sheetWritten
+    written
     andThen mapResult orRefuse unless formOf bodyWidth make readNodes oneSection ifSection
     readRecords withNodes readBody nodeInRange nodesInRange rootsInRange inRange readHeader readSheet
 numbers = refl

@@ -21,8 +21,10 @@ use Rattle.rules.specs.Answer.{count}
 use Rattle.rules.specs.ExplainChain.{_∈_, here, there}
 use Rattle.rules.specs.Embedding.{Holds, itself}
 use Rattle.sheet.specs.Ranging.{every-map, map-at, children-in, calls-in}
-use Rattle.preorder.specs.Numbering.{gathered, nodeOf, metFrom, roots, order, placeOf, newNumber, numbered, in-front, in-behind, in-either, in-gathered, of-gathered}
-use Rattle.preorder.specs.Numbering.{every-at, every-of, in-at, in-rest, place-first, place-later, place-at, met-self, met-in, roots-in, order-in, root-met}
+use Rattle.preorder.specs.Numbering.{gathered, nodeOf, metFrom, roots, order, placeOf, newNumber, numbered, in-front, in-behind, in-either}
+use Rattle.preorder.specs.Numbering.{in-gathered, of-gathered}
+use Rattle.preorder.specs.Numbering.{every-at, every-of, in-at, in-rest, place-first, place-later, place-at, met-self, met-in, roots-in}
+use Rattle.preorder.specs.Numbering.{order-in, root-met}
 use Rattle.preorder.specs.Numbering.{children-met, numbered-holds}
 
 -- EACH NUMBER ONCE
@@ -344,7 +346,8 @@ module _ {sh : Sheet} (r : Ranges sh) (once : Once (uses sh)) where
       let n = getD (order sh) i 0 in
       let l = order-in r (in-at (order sh) i h) in
       rw (map-at (λ m. renumber (newNumber sh) itself (nodeOf sh m)) (order sh) i 0 False h)
-      (ranged-anew (newNumber sh) itself (length (sh .nodes)) (length (sh .sections)) n (length (order sh)) (length (sh .sections)) i (nodeOf sh n) (r .node n l)
+      (ranged-anew (newNumber sh) itself (length (sh .nodes)) (length (sh .sections)) n (length (order sh)) (length (sh .sections)) i (nodeOf sh n)
+      (r .node n l)
       (every-of (λ c. Child (length (order sh)) i (newNumber sh c)) (children (nodeOf sh n)) (new-child i h)) (calls-in r n l))
 
   new-root : {n : ℕ} → n ∈ roots sh → newNumber sh n < length (order sh)
@@ -406,7 +409,8 @@ unfolding metFrom
 met-enough r zero k n h e f = absurd (omega arith)
 met-enough r (suc l) zero n h e f = absurd (omega arith)
 met-enough {sh} r (suc l) (suc k) n h e f =
-    ap (λ z. n ∷ z) (gathered-same (metFrom l sh) (metFrom k sh) (children (nodeOf sh n)) (λ c i. go c (every-at (Child (length (sh .nodes)) n) (children-in r n h) i)
+    ap (λ z. n ∷ z) (gathered-same (metFrom l sh) (metFrom k sh) (children (nodeOf sh n))
+    (λ c i. go c (every-at (Child (length (sh .nodes)) n) (children-in r n h) i)
     (met-enough r l k c)))
   where
     go : (c : ℕ) → Child (length (sh .nodes)) n c
@@ -475,7 +479,8 @@ module _ {sh : Sheet} (r : Ranges sh) (once : Once (uses sh)) where
   unfolding roots numbered
   roots-numbered = refl
 
-  root-levels : (n : ℕ) → n ∈ roots sh → metFrom (length (numbered sh .nodes)) (numbered sh) (newNumber sh n) ≡ map (newNumber sh) (metFrom (length (sh .nodes)) sh n)
+  root-levels : (n : ℕ) → n ∈ roots sh
+      → metFrom (length (numbered sh .nodes)) (numbered sh) (newNumber sh n) ≡ map (newNumber sh) (metFrom (length (sh .nodes)) sh n)
   root-levels n e =
       let m = nodes-many r once in
       let s = order-short r once in
@@ -507,7 +512,11 @@ of-map f (x ∷ l) (there e) = let (a, i, q) = of-map f l e in (a, there i, q)
 
 once-map : (f : ℕ → ℕ) (l : List ℕ) → Once l → ((a b : ℕ) → a ∈ l → b ∈ l → f a ≡ f b → a ≡ b) → Once (map f l)
 once-map f [] o h = tt
-once-map f (x ∷ l) o h = (λ e. let (a, i, q) = of-map f l e in o .0 (rw (h a x (there i) here q) at i), once-map f l (o .1) (λ a b i j. h a b (there i) (there j)))
+once-map f (x ∷ l) o h = (
+  λ e. let (a, i, q) = of-map f l e in
+      o .0 (rw (h a x (there i) here q) at i),
+  once-map f l (o .1) (λ a b i j. h a b (there i) (there j)),
+)
 
 children-anew : (f g : ℕ → ℕ) (sh : Sheet) (l : List ℕ)
     → allChildren (map (λ n. renumber f g (nodeOf sh n)) l) ≡ map f (gathered (λ n. children (nodeOf sh n)) l)

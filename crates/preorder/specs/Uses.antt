@@ -101,7 +101,8 @@ none-lowest n (suc left) l h = lowest-later n left l (omega (arith, h n)) ∙ no
 -- so of a sheet: no node is used twice
 pub all-once : (sh : Sheet) → length (sh .nodes) ≤ lowestTwice sh → ((n : ℕ) → n ∈ uses sh → n < length (sh .nodes)) → Once (uses sh)
 unfolding lowestTwice
-all-once sh h inside = times-once (uses sh) (λ n i. let z = inside n i in lowest-none 0 (length (sh .nodes)) (uses sh) (omega arith) n (omega arith) (omega arith))
+all-once sh h inside = times-once (uses sh) (λ n i. let z = inside n i in
+    lowest-none 0 (length (sh .nodes)) (uses sh) (omega arith) n (omega arith) (omega arith))
 
 pub once-all : (sh : Sheet) → Once (uses sh) → lowestTwice sh ≡ length (sh .nodes)
 unfolding lowestTwice

@@ -52,7 +52,8 @@ pub fn put_line(
     scratch: &mut [u8; rules::SCRATCH],
     text: &mut [u8],
 ) -> usize
-    ensures { λ r. ⌜ Ended (puts bits (now (input .entry)) (fieldsOf (now (input .entry)))) r (now (text .entry)) (now (text .exit)) (now (out .entry)) (now (out .exit)) (now (scratch .entry)) (now (scratch .exit)) ⌝ }
+    ensures { λ r. ⌜ Ended (puts bits (now (input .entry)) (fieldsOf (now (input .entry)))) r (now (text .entry)) (now (text .exit)) (now (out .entry))
+        (now (out .exit)) (now (scratch .entry)) (now (scratch .exit)) ⌝ }
 {
     let Taken::Whole(f) = words::take_fields(input) else {
         return report::refusal(text, 0, 60);

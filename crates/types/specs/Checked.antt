@@ -16,7 +16,8 @@ use Rattle.sheet.specs.declared.Table.{Table}
 use Rattle.typing.specs.Numbers.{PAST}
 use Rattle.typing.specs.Types.{Ty, truths}
 use Rattle.typing.specs.Fits.{Section, sectionOf}
-use Rattle.typing.specs.Check.{apart, readAll, threes, many, lentOf, twice, unfit, lowest, Verdict, passes, refused, refusedAt, unlessAt, checkSheet, onTypes, onSheet, check}
+use Rattle.typing.specs.Check.{apart, readAll, threes, many, lentOf, twice, unfit, lowest, Verdict, passes, refused, refusedAt, unlessAt, checkSheet}
+use Rattle.typing.specs.Check.{onTypes, onSheet, check}
 use Rattle.typing.specs.CheckLaws.{OnceBelow, Lowest, no-such, lowest-is, Says, all-right, used-twice, not-right}
 use Rattle.typing.specs.Calls.{Judges, no-sheet, no-types, judged, check-judges}
 use Rattle.typing.specs.Written.{types-read}
@@ -74,7 +75,8 @@ module _ (k sections nodes : ℕ) (few : k ≤ 16) (few-sections : sections ≤ 
   module _ {types starts : List ℕ} {ts : List Ty} (few-nodes : nodes ≤ 200) (z : Slotted types starts (lentBelow k sections nodes) ts) where
     at-plan : (x : ℕ) → x < k → At types starts x (getD ts x truths)
     at-plan x h =
-        let n : lentBelow k sections nodes (x + 1) ≡ suc (lentBelow k sections nodes x) = slot-plan (x + 1) (omega arith) ∙ (let e = slot-plan x (omega arith) in omega arith) in
+        let n : lentBelow k sections nodes (x + 1) ≡ suc (lentBelow k sections nodes x) = slot-plan (x + 1) (omega arith)
+        ∙ (let e = slot-plan x (omega arith) in omega arith) in
         rw (slot-plan x (omega arith)) at (z .at x (omega arith) n)
 
     at-section : (j : ℕ) → j < 3 * sections → At types starts (16 + j) (getD ts (k + j) truths)
@@ -98,13 +100,15 @@ unfolding threes
 threes-at zero l c d h = absurd (omega arith)
 threes-at (suc n) l zero d h = refl
 threes-at (suc n) l (suc c) d h =
-    let y : 3 + 3 * c ≡ 3 * suc c = omega arith in let y₁ : 3 + (3 * c + 1) ≡ 3 * suc c + 1 = omega arith in let y₂ : 3 + (3 * c + 2) ≡ 3 * suc c + 2 = omega arith in
+    let y : 3 + 3 * c ≡ 3 * suc c = omega arith in let y₁ : 3 + (3 * c + 1) ≡ 3 * suc c + 1 = omega arith in
+    let y₂ : 3 + (3 * c + 2) ≡ 3 * suc c + 2 = omega arith in
     threes-at n (drop 3 l) c d (omega arith) ∙ rw (getD-drop 3 l (3 * c) truths, getD-drop 3 l (3 * c + 1) truths, getD-drop 3 l (3 * c + 2) truths, y, y₁, y₂)
 
 module _ (sh : Sheet) (g : Ranges sh) {types starts : List ℕ} (ts : List Ty)
     (z : Slotted types starts (lentBelow (sh .k) (length (sh .sections)) (length (sh .nodes))) ts) where
   as-many : length ts ≡ sh .k + 3 * length (sh .sections) + 1 + length (sh .nodes)
-  as-many = types-read _ types (z .read) .many ∙ slots-all (sh .k) (length (sh .sections)) (length (sh .nodes)) (g .few-variables) (g .few-sections) (g .few-nodes)
+  as-many = types-read _ types (z .read) .many ∙ slots-all (sh .k) (length (sh .sections)) (length (sh .nodes)) (g .few-variables) (g .few-sections)
+      (g .few-nodes)
 
   pub plan-long : length (lentOf sh ts .plan) ≡ sh .k
   unfolding lentOf
@@ -141,7 +145,8 @@ module _ (sh : Sheet) (g : Ranges sh) {types starts : List ℕ} (ts : List Ty)
 
       go : (n : ℕ) → n < length (sh .nodes) → At types starts (41 + n) (getD (drop (sh .k + 3 * length (sh .sections) + 1) ts) n truths)
       go n h =
-          let y : 40 + (1 + n) ≡ 41 + n = omega arith in let x : sh .k + 3 * length (sh .sections) + (1 + n) ≡ sh .k + 3 * length (sh .sections) + 1 + n = omega arith in
+          let y : 40 + (1 + n) ≡ 41 + n = omega arith in
+          let x : sh .k + 3 * length (sh .sections) + (1 + n) ≡ sh .k + 3 * length (sh .sections) + 1 + n = omega arith in
           rw (getD-drop (sh .k + 3 * length (sh .sections) + 1) ts n truths, ← x, ← y) (nodes-at (1 + n) (omega arith))
 
 -- THE ANSWERS
@@ -181,7 +186,8 @@ module _ {sheet : List ℕ} {t : Table} {sh : Sheet} (r : Reads sheet t sh) wher
     unfolding checked checkSheet unlessAt lowestIn
     check-81 {n} e = rw is-checked (go (lowest (twice sh) 0 (length (sh .nodes))) e)
       where
-        go : (o : Option ℕ) → Found.At n ≡ lowestIn o → Answer.At 81 n ≡ checked (unlessAt 81 o (unlessAt 82 (lowest (unfit sh (lentOf sh ts)) 0 (length (sh .nodes))) passes))
+        go : (o : Option ℕ) → Found.At n ≡ lowestIn o
+            → Answer.At 81 n ≡ checked (unlessAt 81 o (unlessAt 82 (lowest (unfit sh (lentOf sh ts)) 0 (length (sh .nodes))) passes))
         go none e = apart (cc)
         go (some m) e = let q : n ≡ m = cc in rw q
 

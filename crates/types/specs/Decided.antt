@@ -119,7 +119,8 @@ module _ {types starts : List ℕ} where
   pub kind-is : {x k : ℕ} {t : Ty} → At types starts x t → k ≡ getD (partAt types starts x) 0 0 → k ≡ getD (bytesOf t) 0 0
   kind-is a e = e ∙ ap (λ l. getD l 0 0) (a .is)
 
-  pub var-types : {y : ℕ} {u : Ty} (o : Option Ty) {v w : List ℕ} {r : Bool} → At types starts y u → v ≡ bytesOr o → w ≡ partAt types starts y → r ≡ sameBytes v w
+  pub var-types : {y : ℕ} {u : Ty} (o : Option Ty) {v w : List ℕ} {r : Bool} → At types starts y u → v ≡ bytesOr o → w ≡ partAt types starts y
+      → r ≡ sameBytes v w
       → r ≡ holds (at? o u)
   var-types {u} o b d f e = e ∙ ap₂ sameBytes d (f ∙ b .is) ∙ var-is o u
 
@@ -206,7 +207,8 @@ module _ (ts : Lent) {n : Node} (t : Ty) (Γ : Scope) where
   unfolding fits?
   fits-split {su} e x y = rw (e, x, y) (kind-pairs (typeOf ts su) _)
 
-  pub fits-call : {p q r : Bool} {c x y : ℕ} → n ≡ Call c x y → p ≡ holds (at? (getElem? Γ x) (sectionOf ts c .first)) → q ≡ holds (at? (getElem? Γ y) (sectionOf ts c .second))
+  pub fits-call : {p q r : Bool} {c x y : ℕ} → n ≡ Call c x y → p ≡ holds (at? (getElem? Γ x) (sectionOf ts c .first))
+      → q ≡ holds (at? (getElem? Γ y) (sectionOf ts c .second))
       → r ≡ holds (Ty-discrete t (sectionOf ts c .result)) → p && q && r ≡ holds (fits? ts n t Γ)
   unfolding fits?
   fits-call e x y z = rw (e, x, y, z) (sym (holds-and3 _ _ _))

@@ -174,7 +174,8 @@ module _ (types : List ℕ) (f : ℕ → ℕ) (up : (i j : ℕ) → i ≤ j → 
               rw (List·getD-append (r .done) (t ∷ []) truths (f i) w) (before (at + n) i (omega arith) _ (r .slots i (omega arith) q))
 
     -- the next slot, as the code takes it
-    pub reading-next : (lent : Bool) {n : ℕ} → slot < PAST → f (slot + 1) ≡ cond lent 1 0 + f slot → n ≡ cond lent (typeLen (take (length types - at) (drop at types))) 0
+    pub reading-next : (lent : Bool) {n : ℕ} → slot < PAST → f (slot + 1) ≡ cond lent 1 0 + f slot
+        → n ≡ cond lent (typeLen (take (length types - at) (drop at types))) 0
         → lent && eqb n 0 ≡ false → Reading types f (set starts (slot + 1) (at + n)) (at + n) (slot + 1)
     reading-next true {n} h e q z =
         let w : n ≡ typeLen (drop at types) = rw (take-rest types at) at q in
@@ -182,7 +183,8 @@ module _ (types : List ℕ) (f : ℕ → ℕ) (up : (i j : ℕ) → i ≤ j → 
         one (subst (λ (m : ℕ). Begins (drop at types) m (d .0)) (sym w) (d .1)) h (omega arith)
     reading-next false {n} h e q z = let w : at + n ≡ at = omega arith in rw w (skip h (omega arith))
 
-    pub reading-ends : (lent : Bool) {n : ℕ} → slot < PAST → f (slot + 1) ≡ cond lent 1 0 + f slot → n ≡ cond lent (typeLen (take (length types - at) (drop at types))) 0
+    pub reading-ends : (lent : Bool) {n : ℕ} → slot < PAST → f (slot + 1) ≡ cond lent 1 0 + f slot
+        → n ≡ cond lent (typeLen (take (length types - at) (drop at types))) 0
         → lent && eqb n 0 ≡ true → (l : List ℕ) → TypesRead types f false l
     reading-ends true {n} h e q z l =
         let w : n ≡ typeLen (drop at types) = rw (take-rest types at) at q in

@@ -90,7 +90,8 @@ module _ {sheet rs : List ℕ} {sections : ℕ} (w : Roots sheet sections rs) wh
   pub sections-all : (a : List ℕ) → Sections a 0 rs (placeAll a (sectionScopes 0 rs))
   sections-all a = record { is = refl }
 
-  pub sections-next : {a b g : List ℕ} {c r : ℕ} → c < sections → r ≡ sectionAt sheet c → Sections a c rs g → Put a r (1024 + (16 + 3 * c)) b → Sections b (c + 1) rs g
+  pub sections-next : {a b g : List ℕ} {c r : ℕ} → c < sections → r ≡ sectionAt sheet c → Sections a c rs g → Put a r (1024 + (16 + 3 * c)) b
+      → Sections b (c + 1) rs g
   unfolding placeAll sectionScopes
   sections-next {a} {b} {g} {c} {r} h e k p =
       let l : c < length rs = omega (arith, w .many) in let z : c + 1 ≡ suc c = omega arith in
@@ -131,7 +132,8 @@ module _ (a : List ℕ) (n scope : ℕ) where
   unfolding placeOf
   place-keeps m h = go (ltb n 200) (either (eqb (getD a n 0) 0))
     where
-      go : (b : Bool) → (eqb (getD a n 0) 0 ≡ true) ⊎ (eqb (getD a n 0) 0 ≡ false) → getD (cond b (cond (eqb (getD a n 0) 0) (set a n scope) a) a) m 0 ≡ getD a m 0
+      go : (b : Bool) → (eqb (getD a n 0) 0 ≡ true) ⊎ (eqb (getD a n 0) 0 ≡ false)
+          → getD (cond b (cond (eqb (getD a n 0) 0) (set a n scope) a) a) m 0 ≡ getD a m 0
       go false c = refl
       go true (inr f) = rw f
       go true (inl t) = rw t (getD-set-other a n m scope 0 λ e. h (rw e (eqb-true (getD a n 0) 0 t)))
@@ -176,7 +178,8 @@ found-right m (x ∷ xs) ys e = go (either (eqb m (x .0))) (λ q. found-right m 
     go (inl t) k = let z = rw t at e in apart (cc)
     go (inr f) k = rw f (k (rw f at e))
 
-module _ {types starts a : List ℕ} {l : List (ℕ × Scope)} (w : Standing types starts a l) {n code : ℕ} {Γ : Scope} (h : n < 200) (r : Scoped types starts a code Γ) where
+module _ {types starts a : List ℕ} {l : List (ℕ × Scope)} (w : Standing types starts a l) {n code : ℕ} {Γ : Scope} (h : n < 200)
+    (r : Scoped types starts a code Γ) where
   place-one : Standing types starts (placeOf a n code) (l ++ ((n, Γ) ∷ []))
   unfolding found
   place-one = record {

@@ -59,7 +59,8 @@ module _ {sheet types starts : List ℕ} {root sections i : ℕ} {sh : Sheet} {t
       let o = k .laid .node i (k .own) in let q = rw (h, o .is, a .is) at (sym t ∙ e) in
       bytes-same (typeOf ts i) u (same-bytes (bytesOf (typeOf ts i)) (bytesOf u) (sym q))
 
-  asked-no : {slot : ℕ} {u : Ty} (b : Bool) {r : Bool} → At types starts slot u → r ≡ asked types starts i slot b → r ≡ false → (b ≡ true) × (typeOf ts i ≡ u → ⊥)
+  asked-no : {slot : ℕ} {u : Ty} (b : Bool) {r : Bool} → At types starts slot u → r ≡ asked types starts i slot b → r ≡ false
+      → (b ≡ true) × (typeOf ts i ≡ u → ⊥)
   unfolding asked
   asked-no {u = u} true a e f =
       let o = k .laid .node i (k .own) in let q = rw (o .is, a .is) at (sym f ∙ e) in
@@ -77,7 +78,8 @@ module _ {sheet types starts : List ℕ} {root sections i : ℕ} {sh : Sheet} {t
       let q = asked-no (eqb root i) (k .laid .view) e f in
       absurd (q .1 (p (mainRoot sh ts) here (sym (k .main) ∙ eqb-true root i (q .0))))
 
-  module _ {c s slot : ℕ} (h : c < sections) (n : s ≡ sectionAt sheet c) (e : c < 8 → slot ≡ 16 + 3 * c + 2) {r : Bool} (q : r ≡ asked types starts i slot (eqb s i)) where
+  module _ {c s slot : ℕ} (h : c < sections) (n : s ≡ sectionAt sheet c) (e : c < 8 → slot ≡ 16 + 3 * c + 2) {r : Bool}
+      (q : r ≡ asked types starts i slot (eqb s i)) where
     root-is : s ≡ rootOf sh c
     root-is = n ∙ k .roots .each c (omega (arith, k .roots .many))
 

@@ -19,7 +19,8 @@ use Rattle.typing.specs.Types.{Ty, truths, numbers, lists, pairs}
 use Rattle.typing.specs.Fits.{added}
 use Rattle.rules.specs.Text.{two}
 use Rattle.typing.specs.Check.{apart, makeList, makePair, also, andThen, Kind, unknown, kindOf, begin, readTypes}
-use Rattle.typing.specs.Written.{bytesOf, Short, Taken, nothing, taken, takes, none-owed, one-back, Names, is-truth, is-number, is-list, is-pair, is-other, names}
+use Rattle.typing.specs.Written.{bytesOf, Short, Taken, nothing, taken, takes, none-owed, one-back, Names, is-truth, is-number, is-list, is-pair}
+use Rattle.typing.specs.Written.{is-other, names}
 use Rattle.types.specs.Slots.{behind, upTo, typeLen, partAt, clamp, lentBelow}
 
 -- THE LENGTH OF A TYPE
@@ -174,7 +175,13 @@ module _ (low n slot : ℕ) where
 
 pub lent-none : (k sections nodes : ℕ) → lentBelow k sections nodes 0 ≡ 0
 unfolding lentBelow
-lent-none k sections nodes = omega (arith, clamp-before 0 k 0 (omega arith), clamp-before 16 (3 * sections) 0 (omega arith), clamp-before 40 (suc nodes) 0 (omega arith))
+lent-none k sections nodes = omega (
+  arith,
+  clamp-before 0 k 0 (omega arith),
+  clamp-before 16 (3 * sections) 0 (omega arith),
+  clamp-before 40 (suc nodes) 0
+      (omega arith),
+)
 
 pub lent-up : (k sections nodes i j : ℕ) → i ≤ j → lentBelow k sections nodes i ≤ lentBelow k sections nodes j
 unfolding lentBelow

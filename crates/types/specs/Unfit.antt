@@ -28,8 +28,10 @@ use Rattle.types.specs.declared.Lowest.the-variants.{At, Nothing}
 use Rattle.types.specs.Slots.{Laid}
 use Rattle.types.specs.Slots as Slots
 use Rattle.types.specs.Uses.{sheet-roots, lowestIn, Lower, lower-none, lower-next, lower-found, lower-done}
-use Rattle.types.specs.Scopes.{widen, viewOf, placeOf, placeAll, PutAll, childScopes, sectionScopes, subject, Scoped, base, inner, scope-some, scope-width}
-use Rattle.types.specs.Placing.{place-past, place-long, Both, nowhere, stands, Standing, standing-none, later, place-keeps, place-there, place-other, Steps, ends, more, place-steps}
+use Rattle.types.specs.Scopes.{widen, viewOf, placeOf, placeAll, PutAll, childScopes, sectionScopes, subject, Scoped, base, inner, scope-some}
+use Rattle.types.specs.Scopes.{scope-width}
+use Rattle.types.specs.Placing.{place-past, place-long, Both, nowhere, stands, Standing, standing-none, later, place-keeps, place-there}
+use Rattle.types.specs.Placing.{place-other, Steps, ends, more, place-steps}
 use Rattle.types.specs.Decided.{holds, Stood}
 use Rattle.types.specs.Rooted.{Rooted}
 
@@ -52,7 +54,8 @@ module _ {types starts : List ℕ} {sections nodes : ℕ} {ts : Lent} (k : Laid 
         → Scoped types starts b code Γ → Scoped types starts b (widen code s) (Γ ++ added (typeOf ts s))
     unfolding widen
     inner-scoped {code} {s} {Γ} p q h d e r =
-        rw d (inner {code = 512 * (code / 512 + 2) + 256 + s} s (typeOf ts s) p q Γ (omega (arith, k .few-nodes)) (omega (arith, scope-width r)) (k .node s h) d (rw e r))
+        rw d (inner {code = 512 * (code / 512 + 2) + 256 + s} s (typeOf ts s) p q Γ (omega (arith, k .few-nodes)) (omega (arith, scope-width r))
+        (k .node s h) d (rw e r))
 
     module _ {a : List ℕ} {code : ℕ} {Γ : Scope} (long : length a ≡ 200) (r : Scoped types starts a code Γ) where
       inside : {c : ℕ} → Child nodes i c → c < 200
@@ -106,7 +109,8 @@ module _ {types starts : List ℕ} {sections nodes : ℕ} {ts : Lent} (k : Laid 
       go (suc (suc x)) q = absurd (omega arith)
 
       scoped : Scoped types starts b (1024 + (16 + 3 * c)) (two (sectionOf ts c .first) (sectionOf ts c .second))
-      scoped = base {code = 1024 + (16 + 3 * c)} {Γ = two (sectionOf ts c .first) (sectionOf ts c .second)} (16 + 3 * c) (omega (arith, k .few-sections)) (omega arith) (omega arith) go
+      scoped = base {code = 1024 + (16 + 3 * c)} {Γ = two (sectionOf ts c .first) (sectionOf ts c .second)} (16 + 3 * c) (omega (arith, k .few-sections))
+          (omega arith) (omega arith) go
 
   root-steps : (sh : Sheet) (b : List ℕ) → length (sh .nodes) ≡ nodes → length (sh .sections) ≡ sections → length (ts .plan) ≡ sh .k → Ranges sh
       → Steps types starts b ((sh .root, 512 * sh .k) ∷ sectionScopes 0 (sh .sections)) (map (λ (r : Root). (r .node, r .scope)) (roots sh ts))
@@ -178,7 +182,8 @@ low-none = record { long = refl; is = go }
       where
         at : Dec (m < 200) → getD (replicate 200 0) m 0 < 512 * 17
         at (yes h) = let z : _≡_ {A = ℕ} (getD (replicate 200 0) m 0) 0 = getD-replicate 200 m 0 0 h in omega arith
-        at (no h) = let q : 200 ≤ m = omega arith in let z : _≡_ {A = ℕ} (getD (replicate 200 0) m 0) 0 = List·getD-eq-default (replicate 200 0) 0 q in omega arith
+        at (no h) = let q : 200 ≤ m = omega arith in let z : _≡_ {A = ℕ} (getD (replicate 200 0) m 0) 0 = List·getD-eq-default (replicate 200 0) 0 q in
+            omega arith
 
 -- THE LOOP
 
@@ -223,7 +228,8 @@ module _ {sheet : List ℕ} {t : Table} {types starts : List ℕ} (g : Ready she
   unfolding standing
   walk-start {a} p =
       let r = g .reads .ranges in
-      let e : a ≡ placeAll (replicate 200 0) ((g .sh .root, 512 * g .sh .k) ∷ sectionScopes 0 (g .sh .sections)) = rw (g .reads .root, g .reads .k) at (p .is) in
+      let e : a ≡ placeAll (replicate 200 0) ((g .sh .root, 512 * g .sh .k) ∷ sectionScopes 0 (g .sh .sections)) = rw (g .reads .root, g .reads .k) at
+      (p .is) in
       record {
         lower = lower-none (unfit (g .sh) (g .ts)) (length (g .sh .nodes));
         stood = rw e (place-steps [] (standing-none types starts) (root-steps (g .laid) (g .sh) (replicate 200 0) refl refl (g .planned) r));
@@ -300,7 +306,8 @@ module _ {sheet : List ℕ} {t : Table} {types starts : List ℕ} (g : Ready she
         fresh m c = go refl (w .stood .each m (omega (arith, q .inside, g .laid .few-nodes)))
           where
             q : Child (length (g .sh .nodes)) i m
-            q = counted-in (Child (length (g .sh .nodes)) i) m (children n) c (children-behind (length (g .sh .nodes)) (length (g .sh .sections)) i n (walk-stood .ranged))
+            q = counted-in (Child (length (g .sh .nodes)) i) m (children n) c
+                (children-behind (length (g .sh .nodes)) (length (g .sh .sections)) i n (walk-stood .ranged))
 
             none-used : count m (used (g .sh) i) ≡ 0
             none-used =
@@ -340,7 +347,12 @@ module _ {sheet : List ℕ} {t : Table} {types starts : List ℕ} (g : Ready she
       -- what placing the children asks
       pub walk-asked : (getD stand i 0 < 256000) × (i < 200) × (subject n < 200)
       unfolding subject
-      walk-asked = (omega (arith, w .low .is i, few), few, go (children n) (children-behind (length (g .sh .nodes)) (length (g .sh .sections)) i n (walk-stood .ranged)))
+      walk-asked = (
+        omega (arith, w .low .is i, few),
+        few,
+        go (children n)
+            (children-behind (length (g .sh .nodes)) (length (g .sh .sections)) i n (walk-stood .ranged)),
+      )
         where
           go : (l : List ℕ) → Every (Child (length (g .sh .nodes)) i) l → getD l 0 0 < 200
           go [] q = omega arith

@@ -151,7 +151,8 @@ roots-next {rs} {c} {root} w h e k =
     let l : c < length rs = omega (arith, w .many) in let q : getD rs c 0 ≡ _ = sym (e ∙ w .each c l) in
     rw (one-root rs c root l) at (rw (← q) at k)
 
-pub roots-done : {uses sheet rs : List ℕ} {sections c root : ℕ} → Roots sheet sections rs → sections ≤ c → Counted uses (root ∷ take c rs) → Counted uses (root ∷ rs)
+pub roots-done : {uses sheet rs : List ℕ} {sections c root : ℕ} → Roots sheet sections rs → sections ≤ c → Counted uses (root ∷ take c rs)
+    → Counted uses (root ∷ rs)
 roots-done {rs} {c} w h k = rw (take-all c rs (omega (arith, w .many))) at k
 
 -- as the table of a sheet tells them

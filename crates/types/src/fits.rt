@@ -215,7 +215,8 @@ fn is_placed(
     i: usize,
 ) -> bool
     requires { ⌜ (i < 200) × (sections ≤ 8) ⌝ }
-    ensures { λ r. ⌜ ((sh : Sheet) (ts : Types) → Rooted (now (sheet .entry)) (now (types .entry)) (now (starts .entry)) root sections i sh ts → r ≡ holds (placed? sh ts i)) ⌝ }
+    ensures { λ r. ⌜ ((sh : Sheet) (ts : Types) → Rooted (now (sheet .entry)) (now (types .entry)) (now (starts .entry)) root sections i sh ts
+        → r ≡ holds (placed? sh ts i)) ⌝ }
 {
     if !is_asked(types, starts, i, VIEW, root == i) {
         return false;

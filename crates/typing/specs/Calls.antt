@@ -29,7 +29,8 @@ use Rattle.typing.specs.Check.{apart, readAll, many, lentOf, Verdict, pa
 use Rattle.typing.specs.Check as Check
 use Rattle.typing.specs.CheckLaws.{Says, all-right, check-says}
 use Rattle.typing.specs.Sound.{Scoped}
-use Rattle.typing.specs.Walks.{typed, typedAll, If, typed-of, all-typed, Permitted, plainly, never-42, never-43, Facts, get-explained-met, get-walk-refused, get-walk-done, put-explained-met, put-walk-refused, put-walk-done}
+use Rattle.typing.specs.Walks.{typed, typedAll, If, typed-of, all-typed, Permitted, plainly, never-42, never-43, Facts, get-explained-met}
+use Rattle.typing.specs.Walks.{get-walk-refused, get-walk-done, put-explained-met, put-walk-refused, put-walk-done}
 use Rattle.typing.specs.Judging.{lacks, judging}
 
 -- what the check read, and what it found
@@ -113,7 +114,8 @@ told-success : {R : ℕ → Type 0} {Q : List ℕ → Type 0} {bs : List ℕ} {n
 told-success (answered q) = q
 
 module _ {sh : Sheet} {P : ℕ → Type 0} {Q : List ℕ → Type 0} where
-  only-door : (need output scratch allowance : ℕ) {o : Out (List ℕ)} → Only (Permitted sh P) Q o → Only (Permitted sh P) Q (door need output scratch allowance o)
+  only-door : (need output scratch allowance : ℕ) {o : Out (List ℕ)} → Only (Permitted sh P) Q o
+      → Only (Permitted sh P) Q (door need output scratch allowance o)
   unfolding door
   only-door need output scratch allowance h = only-given 1 _ (plainly (omega arith)) (only-given 2 _ (plainly (omega arith))
       (only-given 3 _ (plainly (omega arith)) (only-given 3 _ (plainly (omega arith)) h)))
@@ -168,7 +170,8 @@ module _ {sheet types : List ℕ} (p : Passes sheet types) (w : Bool) (plan : Li
         typed-of w _ _ (first-readable (r .readable) (omega (arith, r .count)) .encodable) view-typed
 
     -- PUT: a plan of the stated types, or a refusal that is permitted
-    pub put-call : Told-of (Permitted (p .sh) (If w)) (Plan-of (If w) (lentOf (p .sh) (p .types-read) .plan)) (putAnswer sheet plan view allowance output scratch)
+    pub put-call : Told-of (Permitted (p .sh) (If w)) (Plan-of (If w) (lentOf (p .sh) (p .types-read) .plan))
+        (putAnswer sheet plan view allowance output scratch)
     unfolding putAnswer putBytes reading
     put-call = only-answer (rw (p .sheet-is, plan-is, view-is) (only-door _ _ _ _ (only-map _ (only (putWalk allowance (p .sh) μ (getD vs 0 vfalse))
         (λ c s q. put-walk-refused (sheet-ranges sheet (p .sheet-is)) (p .passed) wides plan-scoped allowance view-of q)
@@ -205,5 +208,6 @@ module _ {sheet types : List ℕ} (p : Passes sheet types) (plan : List ℕ) {μ
   pub put-not-43 : (view : List ℕ) {vs : List Value} → readView view ≡ ok vs → typed false (lentOf (p .sh) (p .types-read) .view) (getD vs 0 vfalse) ≡ true
       → putAnswer sheet plan view allowance output scratch ≡ Answer.refusal 43 → ⊥
   put-not-43 view view-is view-typed e =
-      never-43 (told-refusal (rw e at (put-call p false plan plan-is plan-typed (λ n k q. absurd (narrow n k q)) allowance output scratch view view-is view-typed)))
+      never-43 (told-refusal (rw e at
+      (put-call p false plan plan-is plan-typed (λ n k q. absurd (narrow n k q)) allowance output scratch view view-is view-typed)))
       refl

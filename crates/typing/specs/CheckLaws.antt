@@ -19,7 +19,8 @@ use Rattle.sheet.specs.Sheet.{Sheet}
 use Rattle.sheet.specs.Laws.{Child, Ranged, Ranges}
 use Rattle.typing.specs.Types.{Ty}
 use Rattle.typing.specs.Fits.{Lent, Scope, nodeOf, typeOf, places, In, here, there, Root, sectionRoots, roots, Reached, root, child, Right, Passed}
-use Rattle.typing.specs.Check.{apart, none-in, in-cons, count, used, twice, refuted, found, right?, below, standing, misfits, unfit, lowest, Verdict, passes, refusedAt, unlessAt, checkSheet, check}
+use Rattle.typing.specs.Check.{apart, none-in, in-cons, count, used, twice, refuted, found, right?, below, standing, misfits, unfit, lowest}
+use Rattle.typing.specs.Check.{Verdict, passes, refusedAt, unlessAt, checkSheet, check}
 
 -- THE LOWEST
 
@@ -53,7 +54,8 @@ module _ (p : ℕ → Bool) where
   lowest-is i zero = no-such λ k a b. apart (omega arith)
   lowest-is i (suc left) = go (lowest-is (suc i) left) (either (p i))
     where
-      go : Lowest (suc i) (suc i + left) (lowest p (suc i) left) → (p i ≡ true) ⊎ (p i ≡ false) → Lowest i (i + suc left) (cond (p i) (some i) (lowest p (suc i) left))
+      go : Lowest (suc i) (suc i + left) (lowest p (suc i) left) → (p i ≡ true) ⊎ (p i ≡ false)
+          → Lowest i (i + suc left) (cond (p i) (some i) (lowest p (suc i) left))
       go h (inl t) =
           let le : i ≤ i = omega arith in let lt : i < i + suc left = omega arith in
           rw t (such le lt t λ k a b. apart (omega arith))

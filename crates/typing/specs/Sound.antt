@@ -68,7 +68,8 @@ module _ (sh : Sheet) (ts : Lent) (P : ℕ → Type 0) (g : Getter) (t : Ty) (Γ
       bounded-ends (rw f (isPair ou ov))
   get-node-ends (ListCase s e te n tn df dr) f r w h = always-next (h .child here sc) λ v ov. saw-list _ _ (rw (f .0) at ov) λ l el.
       always-list el (λ _. tested-ends te (rw (f .2) at (h .child (there here) sc)))
-      λ x y ox ey. tested-ends tn (rw (f .3) at (h .child {ν = μ ++ two x (list y)} (there (there here)) (rw (f .0) (all2-append sc (more ox (more (isList ey) ends))))))
+      λ x y ox ey. tested-ends tn (rw (f .3) at
+      (h .child {ν = μ ++ two x (list y)} (there (there here)) (rw (f .0) (all2-append sc (more ox (more (isList ey) ends))))))
   get-node-ends (TruthCase s f₁ tf t₁ tt₁) f r w h = always-next (h .child here sc) λ v ov. saw-truth _ _ (rw (f .0) at ov) λ b. tested-ends _ (side (b .0))
     where
       side : (b : Bool) → Always (Inside sh P (TruthCase s f₁ tf t₁ tt₁)) (Of P t) (g (pick b f₁ t₁) μ)
@@ -144,7 +145,8 @@ module _ (sh : Sheet) (ts : Lent) (P : ℕ → Type 0) (g : Getter) (p : Putter)
   unfolding Text.constant
   constant-ends nd u = asked (own 50 none) none _ (omega arith) λ _. gives hw
 
-  write-ends : (nd : Node) (n c : ℕ) (o : Option Cell) → getElem? Θ c ≡ some t → Always (Inside sh P nd) (Held P Θ) (Text.write judging (judging .mark n) c v W o)
+  write-ends : (nd : Node) (n c : ℕ) (o : Option Cell) → getElem? Θ c ≡ some t
+      → Always (Inside sh P nd) (Held P Θ) (Text.write judging (judging .mark n) c v W o)
   unfolding Text.write
   write-ends nd n c none e = gives (all2-flip (all2-set c _ (all2-flip hw) e (full ov)))
   write-ends nd n c (some w) e = asked (own 54 (some (w .by))) none _ (omega arith) λ _. gives hw

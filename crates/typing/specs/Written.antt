@@ -39,7 +39,8 @@ module _ (t u : Ty) where
   pair-again none = refl
   pair-again (some (ts, bs)) = refl
 
-pub one-back : (t : Ty) (bs : List ℕ) (room k n : ℕ) → k ≡ length (bytesOf t) + room → readTypes (bytesOf t ++ bs) k (suc n) ≡ andThen (readTypes bs room n) (also t)
+pub one-back : (t : Ty) (bs : List ℕ) (room k n : ℕ) → k ≡ length (bytesOf t) + room
+    → readTypes (bytesOf t ++ bs) k (suc n) ≡ andThen (readTypes bs room n) (also t)
 unfolding bytesOf readTypes begin kindOf
 one-back truths bs room k n e = let q : k ≡ suc room = omega arith in rw q
 one-back numbers bs room k n e = let q : k ≡ suc room = omega arith in rw q
@@ -126,7 +127,8 @@ unfolding kindOf
 names b = go (decLt b 0x30)
   where
     go : Dec (b < 0x30) → Names b (getD (replicate 0x30 unknown ++ kTruth ∷ kNumber ∷ kList ∷ kPair ∷ []) b unknown)
-    go (yes h) = rw (List·getD-append (replicate 0x30 unknown) (kTruth ∷ kNumber ∷ kList ∷ kPair ∷ []) unknown b h, getD-replicate 0x30 b unknown unknown h) is-other
+    go (yes h) = rw (List·getD-append (replicate 0x30 unknown) (kTruth ∷ kNumber ∷ kList ∷ kPair ∷ []) unknown b h, getD-replicate 0x30 b unknown unknown h)
+        is-other
     go (no h) = let q : 0x30 + (b - 0x30) ≡ b = omega arith in
         rw q at (rw (← getD-append-add (replicate 0x30 unknown) (kTruth ∷ kNumber ∷ kList ∷ kPair ∷ []) (b - 0x30) unknown) at (names-from (b - 0x30)))
 

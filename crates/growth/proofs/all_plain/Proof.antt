@@ -34,13 +34,15 @@ returns : tie.Need-returns Inv-loop μ-loop
 returns c =
     let j = c .before in
     let t = turn j in
-    plain-out (entry (t .before) .pre) (t .before .loop .inv) (t .loop-test .taken) (j .before .node-at .ensures) (j .is-plain .ensures) (not-true _ (c .if1 .taken))
+    plain-out (entry (t .before) .pre) (t .before .loop .inv) (t .loop-test .taken) (j .before .node-at .ensures) (j .is-plain .ensures)
+    (not-true _ (c .if1 .taken))
 
 loop-again : tie.Need-loop-again Inv-loop μ-loop
 loop-again c =
     let j = c .before in
     let t = turn j in
-    plain-in (entry (t .before) .pre) (t .before .loop .inv) (t .loop-test .taken) (j .before .node-at .ensures) (j .is-plain .ensures) (not-false _ (c .if1 .left))
+    plain-in (entry (t .before) .pre) (t .before .loop .inv) (t .loop-test .taken) (j .before .node-at .ensures) (j .is-plain .ensures)
+    (not-false _ (c .if1 .left))
 
 returns-2 : tie.Need-returns-2 Inv-loop μ-loop
 returns-2 c = plains-all (entry (c .before) .pre) (c .before .loop .inv) (c .loop-test .left)

@@ -27,7 +27,8 @@ mul-at : tie.Need-mul-at Inv-loop μ-loop
 mul-at c = let q = entry (c .before) .pre in omega (arith, c .before .loop .inv .few, q .reads .nodes, q .reads .ranges .few-nodes)
 
 element-copy-out-at : tie.Need-element-copy-out-at Inv-loop μ-loop
-element-copy-out-at c = let q = entry (c .before) .pre in omega (arith, c .loop-test .taken, c .before .loop .inv .few, q .reads .nodes, q .reads .ranges .few-nodes)
+element-copy-out-at c = let q = entry (c .before) .pre in
+    omega (arith, c .loop-test .taken, c .before .loop .inv .few, q .reads .nodes, q .reads .ranges .few-nodes)
 
 slice-aggregate-count-of : tie.Need-slice-aggregate-count-of Inv-loop μ-loop
 slice-aggregate-count-of c = sym (c .before .before .before .before .loop .inv .long)

@@ -39,14 +39,16 @@ returns-4 c =
     let k = c .before .before in
     let a = there k in
     let f = fine a in
-    tells-88 (read f) (entry f .args .variable) (a .before .all-plain .ensures) (not-false _ (a .if2 .left)) (k .if3 .left) (c .before .count .ensures) (c .if4 .taken)
+    tells-88 (read f) (entry f .args .variable) (a .before .all-plain .ensures) (not-false _ (a .if2 .left)) (k .if3 .left) (c .before .count .ensures)
+    (c .if4 .taken)
 
 returns-5 : tie.Need-returns-5
 returns-5 c =
     let k = c .before .before in
     let a = there k in
     let f = fine a in
-    tells-times (read f) (entry f .args .variable) (a .before .all-plain .ensures) (not-false _ (a .if2 .left)) (k .if3 .left) (c .before .count .ensures) (c .if4 .left)
+    tells-times (read f) (entry f .args .variable) (a .before .all-plain .ensures) (not-false _ (a .if2 .left)) (k .if3 .left) (c .before .count .ensures)
+    (c .if4 .left)
 
 pub growth-spec : {M : Type 1} → statement M
 growth-spec = tie.close (tie.spec (λ c κs. search needs) returns (λ c κs. read c) returns-2 returns-3 (λ c κs. read (fine (there c))) returns-4 returns-5)

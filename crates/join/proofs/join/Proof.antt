@@ -89,9 +89,11 @@ returns-7 c =
     let b = both k in
     let e = entry (room (one b)) in
     all-written _ _ _ (room (one b) .if1 .left) (first (one b)) (second b) (k .if4 .left) (n .if5 .left) (s .if6 .left)
-    (bytes-known (e .args .first .now) (room (one b) .before .before .before .shared-slice-known .given)) (bytes-known (e .args .second .now) (room (one b) .before .before .shared-slice-known2 .given))
+    (bytes-known (e .args .first .now) (room (one b) .before .before .before .shared-slice-known .given))
+    (bytes-known (e .args .second .now) (room (one b) .before .before .shared-slice-known2 .given))
     (c .before .before .write .ensures)
 
 pub join-spec : {M : Type 1} → statement M
-join-spec = tie.close (tie.spec returns (λ c κs. search needs) returns-2 (λ c κs. search needs) returns-3 returns-4 add-if5 add-if5-2 returns-5 add-if6 returns-6
+join-spec = tie.close (tie.spec returns (λ c κs. search needs) returns-2
+    (λ c κs. search needs) returns-3 returns-4 add-if5 add-if5-2 returns-5 add-if6 returns-6
     write-requires (λ c. search needs) returns-7)

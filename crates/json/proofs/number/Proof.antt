@@ -2,7 +2,8 @@
 use Prim.Native.Nat.{_-_}
 use native.Mathlib.Omega.{arith}
 use lib.ListN.{length}
-use Rattle.json.specs.Reader.{Counted, none-counted, counted, ended-there, ended-below, ended-above, counted-more, counted-over, no-follow-zero, no-follow-over, gives-long}
+use Rattle.json.specs.Reader.{Counted, none-counted, counted, ended-there, ended-below, ended-above, counted-more, counted-over, no-follow-zero}
+use Rattle.json.specs.Reader.{no-follow-over, gives-long}
 use Rattle.json.proofs.number.Statement.{statement}
 use Rattle.json.proofs.number.Tie as tie
 
@@ -26,7 +27,8 @@ store-requires c κs = c .before .before .before .before .loop .inv .most
 returns : tie.Need-returns Inv-loop μ-loop
 returns c =
     let at = c .before .before .before .before .before .before .before in
-    counted (at .loop .inv) (ended-below (at .loop .inv) (c .before .before .before .before .before .before .loop-test .taken) (c .before .before .before .before .if1 .taken)) (c .before .before .store .ensures)
+    counted (at .loop .inv) (ended-below (at .loop .inv) (c .before .before .before .before .before .before .loop-test .taken)
+    (c .before .before .before .before .if1 .taken)) (c .before .before .store .ensures)
 
 same-length : tie.Need-same-length Inv-loop μ-loop
 same-length c = gives-long (returns c)
@@ -37,7 +39,8 @@ store-requires-2 c κs = c .before .before .before .before .before .loop .inv .m
 returns-2 : tie.Need-returns-2 Inv-loop μ-loop
 returns-2 c =
     let at = c .before .before .before .before .before .before .before .before in
-    counted (at .loop .inv) (ended-above (at .loop .inv) (c .before .before .before .before .before .before .before .loop-test .taken) (c .before .before .before .before .if2 .taken)) (c .before .before .store2 .ensures)
+    counted (at .loop .inv) (ended-above (at .loop .inv) (c .before .before .before .before .before .before .before .loop-test .taken)
+    (c .before .before .before .before .if2 .taken)) (c .before .before .store2 .ensures)
 
 same-length-2 : tie.Need-same-length-2 Inv-loop μ-loop
 same-length-2 c = gives-long (returns-2 c)
@@ -45,7 +48,8 @@ same-length-2 c = gives-long (returns-2 c)
 returns-3 : tie.Need-returns-3 Inv-loop μ-loop
 returns-3 c =
     let at = c .before .before .before .before .before in
-    counted-over (at .loop .inv) (c .before .before .before .before .loop-test .taken) (omega arith) (omega arith) (c .before .before .before .before .before .before .before .before .args .put)
+    counted-over (at .loop .inv) (c .before .before .before .before .loop-test .taken) (omega arith) (omega arith)
+    (c .before .before .before .before .before .before .before .before .args .put)
     (no-follow-zero (at .loop .n) _ (c .if3 .taken))
 
 same-length-3 : tie.Need-same-length-3 Inv-loop μ-loop
@@ -63,7 +67,8 @@ add-n c = omega arith
 returns-4 : tie.Need-returns-4 Inv-loop μ-loop
 returns-4 c =
     let at = c .before .before .before .before .before .before in
-    counted-over (at .loop .inv) (c .before .before .before .before .before .loop-test .taken) (omega arith) (omega arith) (c .before .before .before .before .before .before .before .before .before .args .put)
+    counted-over (at .loop .inv) (c .before .before .before .before .before .loop-test .taken) (omega arith) (omega arith)
+    (c .before .before .before .before .before .before .before .before .before .args .put)
     (no-follow-over (at .loop .n) _ (c .if4 .taken))
 
 same-length-4 : tie.Need-same-length-4 Inv-loop μ-loop

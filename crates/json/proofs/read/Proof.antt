@@ -27,13 +27,15 @@ returns-2 : tie.Need-returns-2
 returns-2 c =
     let v = c .before .before .before .before .before .before in
     let a = v .before .before .before .before .before .args in
-    read-more (a .text .now) (a .out .now) (v .before .before .if1 .left) (v .value .ensures) (c .before .before .before .at .given .1) (c .before .skip .ensures) (c .if2 .taken)
+    read-more (a .text .now) (a .out .now) (v .before .before .if1 .left) (v .value .ensures) (c .before .before .before .at .given .1)
+    (c .before .skip .ensures) (c .if2 .taken)
 
 returns-3 : tie.Need-returns-3
 returns-3 c =
     let v = c .before .before .before .before .before .before .before in
     let a = v .before .before .before .before .before .args in
-    read-long (a .text .now) (a .out .now) (v .before .before .if1 .left) (v .value .ensures) (c .before .before .before .before .at .given .1) (c .before .before .skip .ensures) (c .before .if2 .left)
+    read-long (a .text .now) (a .out .now) (v .before .before .if1 .left) (v .value .ensures) (c .before .before .before .before .at .given .1)
+    (c .before .before .skip .ensures) (c .before .if2 .left)
     refl (c .if3 .taken)
 
 slice-aggregate-copy : tie.Need-slice-aggregate-copy
@@ -55,7 +57,9 @@ returns-5 : tie.Need-returns-5
 returns-5 c =
     let v = c .before .before .before .before .before .before .before .before .before .before .before .before in
     let a = v .before .before .before .before .before .args in
-    read-done (a .text .now) (a .out .now) (v .before .before .if1 .left) (v .value .ensures) (c .before .before .before .before .before .before .before .before .before .at .given .1) (c .before .before .before .before .before .before .before .skip .ensures) (c .before .before .before .before .before .before .if2 .left)
+    read-done (a .text .now) (a .out .now) (v .before .before .if1 .left) (v .value .ensures)
+    (c .before .before .before .before .before .before .before .before .before .at .given .1)
+    (c .before .before .before .before .before .before .before .skip .ensures) (c .before .before .before .before .before .before .if2 .left)
     refl (c .before .before .before .before .before .if3 .left) (c .before .before .copy .ensures)
 
 pub read-spec : {M : Type 1} → statement M

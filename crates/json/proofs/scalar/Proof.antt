@@ -30,7 +30,8 @@ same-length c = search needs
 returns-2 : tie.Need-returns-2
 returns-2 c l =
     let start = c .before .before .before .before .before .before .before .before .before in
-    is-number (start .pre) l (start .args .put) (c .before .before .before .before .if2 .left) (c .before .before .before .before .before .if1 .taken) (c .before .before .number .ensures)
+    is-number (start .pre) l (start .args .put) (c .before .before .before .before .if2 .left) (c .before .before .before .before .before .if1 .taken)
+    (c .before .before .number .ensures)
 
 add-spell : tie.Need-add-spell
 add-spell c = search needs
@@ -57,7 +58,8 @@ returns-4 : tie.Need-returns-4
 unfolding alse
 returns-4 c l =
     let start = c .before .before .before .before .before .before .before .before .before .before .before .before in
-    is-false (start .pre) l (start .args .put) (c .before .before .before .before .before .before .before .if3 .taken) (c .before .before .before .before .before .spell .ensures) (c .before .before .before .before .if4 .left) (c .before .before .byte .ensures)
+    is-false (start .pre) l (start .args .put) (c .before .before .before .before .before .before .before .if3 .taken)
+    (c .before .before .before .before .before .spell .ensures) (c .before .before .before .before .if4 .left) (c .before .before .byte .ensures)
 
 add-spell-2 : tie.Need-add-spell-2
 add-spell-2 c = search needs
@@ -84,7 +86,8 @@ returns-6 : tie.Need-returns-6
 unfolding rue
 returns-6 c l =
     let start = c .before .before .before .before .before .before .before .before .before .before .before .before .before in
-    is-true (start .pre) l (start .args .put) (c .before .before .before .before .before .before .before .if5 .taken) (c .before .before .before .before .before .spell2 .ensures) (c .before .before .before .before .if6 .left) (c .before .before .byte2 .ensures)
+    is-true (start .pre) l (start .args .put) (c .before .before .before .before .before .before .before .if5 .taken)
+    (c .before .before .before .before .before .spell2 .ensures) (c .before .before .before .before .if6 .left) (c .before .before .byte2 .ensures)
 
 returns-7 : tie.Need-returns-7
 returns-7 c l =

@@ -23,7 +23,9 @@ same-length : tie.Need-same-length
 same-length c = search needs
 
 returns : tie.Need-returns
-returns c = stored-small (c .before .before .before .before .before .before .before .before .before .before .before .before .if1 .taken) (c .before .before .before .before .before .before .before .before .before .before .byte .ensures) (c .before .before .before .before .before .before .byte2 .ensures) (c .before .before .byte3 .ensures)
+returns c = stored-small (c .before .before .before .before .before .before .before .before .before .before .before .before .if1 .taken)
+    (c .before .before .before .before .before .before .before .before .before .before .byte .ensures)
+    (c .before .before .before .before .before .before .byte2 .ensures) (c .before .before .byte3 .ensures)
 
 byte-requires-4 : tie.Need-byte-requires-4
 byte-requires-4 c κs = search needs
@@ -57,8 +59,12 @@ same-length-2 c = search needs
 
 returns-2 : tie.Need-returns-2
 returns-2 c =
-    let first = c .before .before .before .before .before .before .before .before .before .before .before .before .before .before .before .before .before .before in
-    stored-wide (first .before .before .if1 .left) (first .byte4 .ensures) (c .before .before .before .before .before .before .before .before .before .before .before .before .before .before .byte5 .ensures) (c .before .before .before .before .before .before .before .before .before .before .byte6 .ensures) (c .before .before .before .before .before .before .byte7 .ensures)
+    let midway = c .before .before .before .before .before .before .before .before .before in
+    let first = midway .before .before .before .before .before .before .before .before .before in
+    stored-wide (first .before .before .if1 .left) (first .byte4 .ensures)
+    (c .before .before .before .before .before .before .before .before .before .before .before .before .before .before .byte5 .ensures)
+    (c .before .before .before .before .before .before .before .before .before .before .byte6 .ensures)
+    (c .before .before .before .before .before .before .byte7 .ensures)
     (c .before .before .byte8 .ensures)
 
 pub store-spec : {M : Type 1} → statement M

@@ -26,62 +26,92 @@ fits c a h = let bs = entry c .args .input .now in letter-fits bs (c .byte-at .e
 returns : tie.Need-returns
 returns c =
     let said = c .before .before in
-    let told = said .before .before in
-    (wrote-text (said .load-line .ensures) (letter-L _ (told .before .byte-at .ensures) (told .match .keys1)), fits (told .before) (λ q. absurd (omega (arith, q, told .match .keys1))))
+    let told = said .before .before in (
+      wrote-text (said .load-line .ensures) (letter-L _ (told .before .byte-at .ensures) (told .match .keys1)),
+      fits (told .before)
+          (λ q. absurd (omega (arith, q, told .match .keys1))),
+    )
 
 returns-2 : tie.Need-returns-2
 returns-2 c =
     let said = c .before .before in
-    let told = said .before .before in
-    (wrote-text (said .value-line .ensures) (letter-V _ (told .before .byte-at .ensures) (told .match .keys2)), fits (told .before) (λ q. absurd (omega (arith, q, told .match .keys2))))
+    let told = said .before .before in (
+      wrote-text (said .value-line .ensures) (letter-V _ (told .before .byte-at .ensures) (told .match .keys2)),
+      fits (told .before)
+          (λ q. absurd (omega (arith, q, told .match .keys2))),
+    )
 
 returns-3 : tie.Need-returns-3
 returns-3 c =
     let said = c .before .before in
-    let told = said .before .before in
-    (wrote-text (said .number-line .ensures) (letter-N _ (told .before .byte-at .ensures) (told .match .keys3)), fits (told .before) (λ q. absurd (omega (arith, q, told .match .keys3))))
+    let told = said .before .before in (
+      wrote-text (said .number-line .ensures) (letter-N _ (told .before .byte-at .ensures) (told .match .keys3)),
+      fits (told .before)
+          (λ q. absurd (omega (arith, q, told .match .keys3))),
+    )
 
 returns-4 : tie.Need-returns-4
 returns-4 c =
     let said = c .before .before in
-    let told = said .before .before in
-    (wrote-text (said .join-line .ensures) (letter-J _ (told .before .byte-at .ensures) (told .match .keys4)), fits (told .before) (λ q. absurd (omega (arith, q, told .match .keys4))))
+    let told = said .before .before in (
+      wrote-text (said .join-line .ensures) (letter-J _ (told .before .byte-at .ensures) (told .match .keys4)),
+      fits (told .before)
+          (λ q. absurd (omega (arith, q, told .match .keys4))),
+    )
 
 returns-5 : tie.Need-returns-5
 returns-5 c =
     let said = c .before .before in
-    let told = said .before .before in
-    (wrote-text (said .growth-line .ensures) (letter-R _ (told .before .byte-at .ensures) (told .match .keys5)), fits (told .before) (λ q. absurd (omega (arith, q, told .match .keys5))))
+    let told = said .before .before in (
+      wrote-text (said .growth-line .ensures) (letter-R _ (told .before .byte-at .ensures) (told .match .keys5)),
+      fits (told .before)
+          (λ q. absurd (omega (arith, q, told .match .keys5))),
+    )
 
 returns-6 : tie.Need-returns-6
 returns-6 c =
     let said = c .before .before in
-    let told = said .before .before in
-    (wrote-text (said .text-line .ensures) (letter-D _ (told .before .byte-at .ensures) (told .match .keys6)), fits (told .before) (λ q. absurd (omega (arith, q, told .match .keys6))))
+    let told = said .before .before in (
+      wrote-text (said .text-line .ensures) (letter-D _ (told .before .byte-at .ensures) (told .match .keys6)),
+      fits (told .before)
+          (λ q. absurd (omega (arith, q, told .match .keys6))),
+    )
 
 returns-7 : tie.Need-returns-7
 returns-7 c =
     let said = c .before .before in
-    let told = said .before .before in
-    (wrote-text (said .parsed-line .ensures) (letter-E _ (told .before .byte-at .ensures) (told .match .keys7)), fits (told .before) (λ q. absurd (omega (arith, q, told .match .keys7))))
+    let told = said .before .before in (
+      wrote-text (said .parsed-line .ensures) (letter-E _ (told .before .byte-at .ensures) (told .match .keys7)),
+      fits (told .before)
+          (λ q. absurd (omega (arith, q, told .match .keys7))),
+    )
 
 returns-8 : tie.Need-returns-8
 returns-8 c =
     let said = c .before .before in
-    let told = said .before .before in
-    (wrote-text (said .types-line .ensures) (letter-T _ (told .before .byte-at .ensures) (told .match .keys8)), fits (told .before) (λ q. absurd (omega (arith, q, told .match .keys8))))
+    let told = said .before .before in (
+      wrote-text (said .types-line .ensures) (letter-T _ (told .before .byte-at .ensures) (told .match .keys8)),
+      fits (told .before)
+          (λ q. absurd (omega (arith, q, told .match .keys8))),
+    )
 
 returns-9 : tie.Need-returns-9
 returns-9 c =
     let said = c .before .before in
-    let told = said .before .before in
-    (wrote-text (said .read-line .ensures .0) (letter-A _ (told .before .byte-at .ensures) (told .match .keys9)), fits (told .before) (λ q. said .read-line .ensures .1))
+    let told = said .before .before in (
+      wrote-text (said .read-line .ensures .0) (letter-A _ (told .before .byte-at .ensures) (told .match .keys9)),
+      fits (told .before)
+          (λ q. said .read-line .ensures .1),
+    )
 
 returns-10 : tie.Need-returns-10
 returns-10 c =
     let said = c .before .before in
-    let told = said .before .before in
-    (wrote-text (said .print-line .ensures) (letter-U _ (told .before .byte-at .ensures) (told .match .keys10)), fits (told .before) (λ q. absurd (omega (arith, q, told .match .keys10))))
+    let told = said .before .before in (
+      wrote-text (said .print-line .ensures) (letter-U _ (told .before .byte-at .ensures) (told .match .keys10)),
+      fits (told .before)
+          (λ q. absurd (omega (arith, q, told .match .keys10))),
+    )
 
 returns-11 : tie.Need-returns-11
 returns-11 c =

@@ -31,4 +31,5 @@ returns c =
     c .before .loop .inv ∙ ap (usedAll (a .uses .now)) (take-all (c .before .loop .i) (a .ns .now) (c .loop-test .left))
 
 pub count-all-spec : {M : Type 1} → statement M
-count-all-spec = tie.close (tie.spec Inv-loop μ-loop loop-holds (λ c. search needs) (λ c κs. search needs) (λ c. search needs) (λ c. search needs) loop-again returns)
+count-all-spec = tie.close (tie.spec Inv-loop μ-loop loop-holds (λ c. search needs) (λ c κs. search needs) (λ c. search needs)
+    (λ c. search needs) loop-again returns)

@@ -39,7 +39,8 @@ module _ (c : tie.In-loop Inv-loop μ-loop) where
 
 module _ (c : tie.After-children-at Inv-loop μ-loop) where
   named : let k = turn c in Named (fine-read (g k .fine) .0) (getD (l k .loop .todo) (l k .loop .top) 0) (c .children-at .result)
-  named = let k = turn c in named-there (g k .fine) (next-in (g k .fine) (g k .once) (l k .loop .inv (g k)) (k .loop-test .taken)) refl (c .children-at .ensures)
+  named = let k = turn c in named-there (g k .fine) (next-in (g k .fine) (g k .once) (l k .loop .inv (g k)) (k .loop-test .taken)) refl
+      (c .children-at .ensures)
 
 -- NEEDS
 sub-top : tie.Need-sub-top Inv-loop μ-loop
@@ -87,7 +88,8 @@ loop-again c g =
     let t = turn k in
     let i = t .loop-test .taken in
     let v = t .before .loop .inv g in
-    meeting-next (g .fine) (g .once) v i (named-there (g .fine) (next-in (g .fine) (g .once) v i) refl (k .children-at .ensures)) refl (c .before .bytes .ensures)
+    meeting-next (g .fine) (g .once) v i (named-there (g .fine) (next-in (g .fine) (g .once) v i) refl (k .children-at .ensures)) refl
+    (c .before .bytes .ensures)
 
 returns : tie.Need-returns Inv-loop μ-loop
 returns c = let g = entry (c .before) .pre in meeting-ends (g .fine) (g .once) (c .before .loop .inv g) (c .loop-test .left)

@@ -64,5 +64,6 @@ returns-4 c =
     (w .write .ensures)
 
 pub number-spec : {M : Type 1} → statement M
-number-spec = tie.close (tie.spec returns (λ c κs. search needs) returns-2 count-uses-requires lowest-requires returns-3 meet-requires in-order-requires write-requires
+number-spec = tie.close (tie.spec returns
+    (λ c κs. search needs) returns-2 count-uses-requires lowest-requires returns-3 meet-requires in-order-requires write-requires
     (λ c. search needs) returns-4)

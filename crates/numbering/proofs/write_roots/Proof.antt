@@ -34,5 +34,6 @@ returns : tie.Need-returns Inv-loop μ-loop
 returns c = let l = c .before .before in rooted-all (l .before .before .before .byte .ensures) (l .loop .inv) (c .if1 .left)
 
 pub write-roots-spec : {M : Type 1} → statement M
-write-roots-spec = tie.close (tie.spec Inv-loop μ-loop (λ c. search needs) (λ c κs. search needs) loop-holds (λ c κs. search needs) cast-byte-2 (λ c κs. search needs)
+write-roots-spec = tie.close (tie.spec Inv-loop μ-loop (λ c. search needs) (λ c κs. search needs) loop-holds (λ c κs. search needs) cast-byte-2
+    (λ c κs. search needs)
     (λ c. search needs) (λ c. search needs) loop-again (λ c. wrote-long (returns c)) returns)

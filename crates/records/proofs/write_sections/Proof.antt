@@ -25,7 +25,8 @@ loop-again c =
     let k = t .before .before .before .before .before in
     let r = e .before .section-root .ensures in (
       omega (arith, t .loop-test .taken),
-      rooted-more (t .before .loop .inv .1) r (byte-root (k .before .args .s .now) (t .before .loop .i) r (k .shared-slice-known .given (4 + 2 * t .before .loop .i)))
+      rooted-more (t .before .loop .inv .1) r (byte-root (k .before .args .s .now) (t .before .loop .i) r
+          (k .shared-slice-known .given (4 + 2 * t .before .loop .i)))
           (e .entry .ensures) (a .byte .ensures) (b .byte2 .ensures),
     )
 

@@ -111,7 +111,8 @@ module _ (t : ℕ) where
   returns-5 c =
       let b = c .before .before .before .before .before .before in
       let k = b .before in
-      more-close (behind (k .before .before)) (k .skip2 .ensures) (b .if3 .left) (c .before .before .before .before .if4 .taken) (c .before .before .byte3 .ensures)
+      more-close (behind (k .before .before)) (k .skip2 .ensures) (b .if3 .left) (c .before .before .before .before .if4 .taken)
+      (c .before .before .byte3 .ensures)
 
   returns-6 : At lts.Need-returns-6
   returns-6 c =

@@ -76,7 +76,8 @@ module _ (t : ℕ) where
       let v = got c in
       let l = labelled v in
       let e = entry (l .before) in
-      first-read (e .args .levels) (e .args .put) (e .pre .1) (l .before .label .ensures) (l .if1 .left) (v .before .before .before .before .byte .ensures) (v .value .ensures)
+      first-read (e .args .levels) (e .args .put) (e .pre .1) (l .before .label .ensures) (l .if1 .left) (v .before .before .before .before .byte .ensures)
+      (v .value .ensures)
       (c .i .given .1)
 
   both : (c : At lts.After-j)
@@ -88,7 +89,8 @@ module _ (t : ℕ) where
       let v = got-second c in
       let a = again v in
       let p = a .before .before .before in
-      second-read (one (passed p)) (p .pass .ensures) (a .before .before .if2 .left) (a .before .label2 .ensures) (a .if3 .left) (v .value2 .ensures) (c .j .given .1)
+      second-read (one (passed p)) (p .pass .ensures) (a .before .before .if2 .left) (a .before .label2 .ensures) (a .if3 .left) (v .value2 .ensures)
+      (c .j .given .1)
 
   -- NEEDS
   returns : At lts.Need-returns
@@ -137,7 +139,8 @@ module _ (t : ℕ) where
       let v = c .before .before .before .before .before in
       let l = labelled v in
       let e = entry (l .before) in
-      first-refused (e .args .levels) (e .args .put) (e .pre .1) (l .before .label .ensures) (l .if1 .left) (v .before .before .before .before .byte .ensures) (v .value .ensures)
+      first-refused (e .args .levels) (e .args .put) (e .pre .1) (l .before .label .ensures) (l .if1 .left)
+      (v .before .before .before .before .byte .ensures) (v .value .ensures)
       (c .before .code .given .1)
 
   returns-6 : At lts.Need-returns-6

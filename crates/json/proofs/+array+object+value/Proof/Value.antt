@@ -49,7 +49,8 @@ module _ (t : ℕ) where
       let b = c .before .before in
       let k = skipped b in
       let e = entry k in
-      array-deep (e .args .levels) (e .args .put) (e .pre .1) (k .skip .ensures) (b .before .if1 .left) (c .before .if2 .taken) (c .if3 .taken) (e .args .out .now)
+      array-deep (e .args .levels) (e .args .put) (e .pre .1) (k .skip .ensures) (b .before .if1 .left) (c .before .if2 .taken) (c .if3 .taken)
+      (e .args .out .now)
 
   array-requires : At lts.Need-array-requires
   array-requires c κs =
@@ -71,7 +72,8 @@ module _ (t : ℕ) where
       let b = c .before .before .before in
       let k = skipped b in
       let e = entry k in
-      object-deep (e .args .levels) (e .args .put) (e .pre .1) (k .skip .ensures) (b .before .if1 .left) (c .before .if4 .taken) (c .if5 .taken) (e .args .out .now)
+      object-deep (e .args .levels) (e .args .put) (e .pre .1) (k .skip .ensures) (b .before .if1 .left) (c .before .if4 .taken) (c .if5 .taken)
+      (e .args .out .now)
 
   object-requires : At lts.Need-object-requires
   object-requires c κs =
@@ -85,7 +87,8 @@ module _ (t : ℕ) where
       let b = c .before .before .before .before .before .before .before in
       let k = skipped b in
       let e = entry k in
-      value-object (e .args .levels) (e .args .put) (e .pre .1) (k .skip .ensures) (b .before .if1 .left) (c .before .before .before .before .before .if4 .taken)
+      value-object (e .args .levels) (e .args .put) (e .pre .1) (k .skip .ensures) (b .before .if1 .left)
+      (c .before .before .before .before .before .if4 .taken)
       (c .before .before .before .before .if5 .left) (c .before .before .object .ensures)
 
   scalar-requires : At lts.Need-scalar-requires

@@ -73,7 +73,8 @@ module _ (t : ℕ) where
       → let w = got c in
       let e = into (head w) in
       let a = e .args in
-      Turned (a .v .now) (a .at) (a .levels) (a .put) (a .text .now) (e .pre .1 .l) (e .pre .1 .more) (c .behind .given .0 .0) (w .write-value .last .1 .1 .1 .0)
+      Turned (a .v .now) (a .at) (a .levels) (a .put) (a .text .now) (e .pre .1 .l) (e .pre .1 .more) (c .behind .given .0 .0)
+      (w .write-value .last .1 .1 .1 .0)
       (c .behind .given .0 .1 .0)
   turned c = let w = got c in member-done (turning (head w)) (w .write-value .ensures) (c .behind .given .1)
 
@@ -126,7 +127,8 @@ module _ (t : ℕ) where
 
 pub array-met : {M : Type 1} (t : ℕ) → lts.Closed (claims t) (AtMeasure array t) array-reads.Post M
 array-met t = lts.spec (claims t) (AtMeasure array t) array-reads.Post Inv-loop μ-loop
-    (λ c κs. search needs) (λ c. list-begins (entry t (c .before .before .before) .pre .1 .held)) (λ c. omega (arith, list-begins (entry t (c .before .before .before .before) .pre .1 .held)))
+    (λ c κs. search needs) (λ c. list-begins (entry t (c .before .before .before) .pre .1 .held))
+    (λ c. omega (arith, list-begins (entry t (c .before .before .before .before) .pre .1 .held)))
     (λ c κs. search needs)
     (λ c. writes-list-long (entry t (c .before .before .before .before .before .before .before .before) .pre .1) (returns t c)) (returns t) (loop-holds t)
     (λ c. omega (arith, member-there (turning t c))) (value-requires t) (λ c. search needs)

@@ -61,7 +61,8 @@ module _ (t : ℕ) where
       let y = between u in
       let i = first y in
       let w = got i in
-      second-deep (opened w .bytes .ensures) (w .write-value .ensures) (i .i .given .1) (y .bytes2 .ensures) (u .write-value2 .ensures) (c .before .code2 .given .1)
+      second-deep (opened w .bytes .ensures) (w .write-value .ensures) (i .i .given .1) (y .bytes2 .ensures) (u .write-value2 .ensures)
+      (c .before .code2 .given .1)
 
   returns-3 : At lts.Need-returns-3
   returns-3 c =

@@ -27,7 +27,8 @@ module _ (t : ℕ) where
   scalar-requires : At lts.Need-write-scalar-requires
   scalar-requires c κs =
       let small = c .before in
-      is-scalar (entry (small .before) .pre .1) (λ e. omega (arith, small .if1 .taken)) (λ e. omega (arith, small .if1 .taken)) (λ e. omega (arith, small .if1 .taken))
+      is-scalar (entry (small .before) .pre .1) (λ e. omega (arith, small .if1 .taken)) (λ e. omega (arith, small .if1 .taken))
+      (λ e. omega (arith, small .if1 .taken))
 
   returns : At lts.Need-returns
   returns c = c .before .before .write-scalar .ensures _
@@ -46,7 +47,8 @@ module _ (t : ℕ) where
   returns-3 c =
       let l = c .before .before .before .before in
       let e = entry (l .before .before .before) in
-      value-list (l .before .before .if1 .left) (l .before .if2 .taken) (e .args .levels) (e .args .put) (l .if3 .left) (c .before .before .write-array .ensures)
+      value-list (l .before .before .if1 .left) (l .before .if2 .taken) (e .args .levels) (e .args .put) (l .if3 .left)
+      (c .before .before .write-array .ensures)
 
   returns-4 : At lts.Need-returns-4
   returns-4 c =
@@ -75,7 +77,8 @@ module _ (t : ℕ) where
 pub value-met : {M : Type 1} (t : ℕ) → lts.Closed (claims t) (AtMeasure value t) value-reads.Post M
 value-met t = lts.spec (claims t) (AtMeasure value t) value-reads.Post
     (λ c. value-there (entry t c .pre .1)) (scalar-requires t)
-    (λ c. writes-long (entry t (c .before .before .before .before .before) .pre .1) (returns t c)) (returns t) (returns-2 t) (λ c. omega arith) (array-requires t)
+    (λ c. writes-long (entry t (c .before .before .before .before .before) .pre .1) (returns t c)) (returns t) (returns-2 t) (λ c. omega arith)
+    (array-requires t)
     (λ c. writes-long (entry t (c .before .before .before .before .before .before .before) .pre .1) (returns-3 t c)) (returns-3 t) (returns-4 t)
     (λ c. omega (arith, value-there (entry t (c .before .before .before .before) .pre .1))) (λ c. omega arith) (object-requires t)
     (λ c. writes-long (entry t (c .before .before .before .before .before .before .before .before) .pre .1) (returns-5 t c)) (returns-5 t) (scalar-requires-2 t)

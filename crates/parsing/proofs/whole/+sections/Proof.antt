@@ -145,7 +145,8 @@ module _ (t : ℕ) where
 
   add-sections : At lts.Need-add-sections
   add-sections c =
-      let e = c .before .before .before .before .before .before .before .before .before .before .before .before .before .before .before .before .before .before .before .before .before .before .before .before .before .before .before .before .before .before .before in
+      let midway = c .before .before .before .before .before .before .before .before .before .before .before .before .before .before .before in
+      let e = midway .before .before .before .before .before .before .before .before .before .before .before .before .before .before .before .before in
       let h = e .pre .1 .0 in omega arith
 
   sections-requires : At lts.Need-sections-requires

@@ -3,7 +3,8 @@ use Prim.Native.Nat.{_-_, _<_}
 use native.Mathlib.Omega.{arith}
 use borrow.Author.Tests.{not-true, not-false}
 use Rattle.types.specs.Uses.{sheet-roots}
-use Rattle.types.specs.Unfit.{Ready, Walking, ready-few, ready-nodes, ready-rooted, walk-start, walk-skip, walk-here, walk-stood, walk-unfit, walk-misplaced, walk-asked, walk-next, walk-done}
+use Rattle.types.specs.Unfit.{Ready, Walking, ready-few, ready-nodes, ready-rooted, walk-start, walk-skip, walk-here, walk-stood, walk-unfit}
+use Rattle.types.specs.Unfit.{walk-misplaced, walk-asked, walk-next, walk-done}
 use borrow.Author.Needs.{needs}
 use Rattle.types.proofs.fits.first_unfit.Statement.{statement}
 use Rattle.types.proofs.fits.first_unfit.Tie as tie

@@ -38,7 +38,8 @@ returns-7 : tie.Need-returns-7
 returns-7 c sections nodes ts Γ k =
     let m = c .before .before .before .before in let n = m .n3 .given .1 in let g = ranged-as k n in
     fits-pair ts _ Γ n (pair-types (in-node (k .laid) (k .own) (m .before .before .of-node .ensures))
-    (in-node (k .laid) (g .0 .inside) (c .before .before .of-node4 .ensures)) (in-node (k .laid) (g .1 .0 .inside) (c .before .of-node5 .ensures)) (c .is-pair-of .ensures))
+    (in-node (k .laid) (g .0 .inside) (c .before .before .of-node4 .ensures)) (in-node (k .laid) (g .1 .0 .inside) (c .before .of-node5 .ensures))
+    (c .is-pair-of .ensures))
 
 returns-8 : tie.Need-returns-8
 returns-8 c = c .fits-list-case .ensures _ (ap (λ n. row n .kind) (c .before .enum-told5 .given .1))
@@ -50,7 +51,8 @@ returns-10 : tie.Need-returns-10
 returns-10 c sections nodes ts Γ k =
     let s = c .before .before in let m = s .before .before .before in let n = m .n4 .given .1 in let g = ranged-as k n in
     fits-split ts _ Γ n (kind-is (in-node (k .laid) (g .0 .inside) (s .before .of-node6 .ensures)) (s .kind-in5 .ensures))
-    (same-types (in-node (k .laid) (g .1 .0 .inside) (c .before .of-node7 .ensures)) (in-node (k .laid) (k .own) (m .before .before .of-node .ensures)) (c .is-same2 .ensures))
+    (same-types (in-node (k .laid) (g .1 .0 .inside) (c .before .of-node7 .ensures)) (in-node (k .laid) (k .own) (m .before .before .of-node .ensures))
+    (c .is-same2 .ensures))
 
 returns-11 : tie.Need-returns-11
 returns-11 c = c .fits-call .ensures (ap (λ n. row n .kind) (c .before .enum-told7 .given .1))
@@ -69,7 +71,8 @@ returns-14 c sections nodes ts Γ k = let t = c .before .before .before in
     fits-wide ts _ Γ (c .before .enum-told9 .given .1) (kind-is (in-node (k .laid) (k .own) (t .of-node .ensures)) (c .kind-in8 .ensures))
 
 pub fits-spec : {M : Type 1} → statement M
-fits-spec = tie.close (tie.spec (λ c κs. search needs) (λ c. search needs) (λ c. search needs) (λ c. search needs) (λ c κs. search needs) (λ c. search needs) (λ c κs.
+fits-spec = tie.close (tie.spec (λ c κs. search needs) (λ c. search needs) (λ c. search needs) (λ c. search needs) (λ c κs. search needs) (λ c. search needs)
+    (λ c κs.
     search needs) (λ c. search needs) (λ c κs. search needs) (λ c. search needs) (λ c κs. search needs) (λ c. search needs) (λ c κs. search
     needs) (λ c. search needs) (λ c κs. search needs) (λ c κs. search needs) (λ c κs. search needs) (λ c κs. search needs) (λ c. search needs)
     (λ c κs. search needs) (λ c κs. search needs) (λ c κs. search needs) (λ c. search needs) (λ c κs. search needs) (λ c. search needs) (λ c κs.

@@ -15,8 +15,10 @@ returns-2 c q sections nodes ts Γ k =
     let g = ranged-as k n .0 in
     fits-call ts _ Γ n (x .is-typed .ensures Γ _ (k .scoped) (in-first (k .laid) g (x .before .of-section .ensures)))
     (y .is-typed2 .ensures Γ _ (k .scoped) (in-second (k .laid) g (y .before .of-section2 .ensures)))
-    (same-types (in-node (k .laid) (k .own) (c .before .before .of-node .ensures)) (in-result (k .laid) g (c .before .of-section3 .ensures)) (c .is-same .ensures))
+    (same-types (in-node (k .laid) (k .own) (c .before .before .of-node .ensures)) (in-result (k .laid) g (c .before .of-section3 .ensures))
+    (c .is-same .ensures))
 
 pub fits-call-spec : {M : Type 1} → statement M
-fits-call-spec = tie.close (tie.spec (λ c. search needs) returns (λ c. search needs) (λ c. search needs) (λ c κs. search needs) (λ c κs. search needs) (λ c κs. search needs) (λ
+fits-call-spec = tie.close (tie.spec (λ c. search needs) returns (λ c. search needs) (λ c. search needs) (λ c κs. search needs) (λ c κs. search needs)
+    (λ c κs. search needs) (λ
     c κs. search needs) (λ c κs. search needs) (λ c κs. search needs) (λ c κs. search needs) returns-2)

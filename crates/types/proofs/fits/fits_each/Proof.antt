@@ -17,9 +17,11 @@ returns-2 c q sections nodes ts Γ k =
     fits-each ts _ Γ n (list-types (in-node (k .laid) (g .0 .inside) (l .before .of-node .ensures)) first (l .is-list-of .ensures))
     (same-types (in-node (k .laid) (g .1 .1 .1 .0 .inside) (d .before .of-node2 .ensures)) first (d .is-same .ensures))
     (v .is-typed .ensures Γ _ (k .scoped) (in-second (k .laid) (g .1 .0) (v .before .of-section2 .ensures)))
-    (list-types (in-node (k .laid) (k .own) (c .before .before .of-node3 .ensures)) (in-result (k .laid) (g .1 .0) (c .before .of-section3 .ensures)) (c .is-list-of2 .ensures))
+    (list-types (in-node (k .laid) (k .own) (c .before .before .of-node3 .ensures)) (in-result (k .laid) (g .1 .0) (c .before .of-section3 .ensures))
+    (c .is-list-of2 .ensures))
 
 pub fits-each-spec : {M : Type 1} → statement M
-fits-each-spec = tie.close (tie.spec (λ c. search needs) returns (λ c. search needs) (λ c. search needs) (λ c κs. search needs) (λ c κs. search needs) (λ c κs. search needs) (λ
+fits-each-spec = tie.close (tie.spec (λ c. search needs) returns (λ c. search needs) (λ c. search needs) (λ c κs. search needs) (λ c κs. search needs)
+    (λ c κs. search needs) (λ
     c κs. search needs) (λ c κs. search needs) (λ c κs. search needs) (λ c κs. search needs) (λ c κs. search needs) (λ c κs. search needs) (λ c
     κs. search needs) returns-2)

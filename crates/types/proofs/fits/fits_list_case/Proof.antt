@@ -21,5 +21,6 @@ returns-2 c stand q sections nodes ts Γ k =
     (same-types (in-node (k .laid) (g .1 .1 .1 .0 .inside) (c .before .of-node6 .ensures)) own (c .is-same3 .ensures))
 
 pub fits-list-case-spec : {M : Type 1} → statement M
-fits-list-case-spec = tie.close (tie.spec (λ c. search needs) returns (λ c κs. search needs) (λ c κs. search needs) (λ c κs. search needs) (λ c κs. search needs) (λ c κs. search
+fits-list-case-spec = tie.close (tie.spec (λ c. search needs) returns (λ c κs. search needs) (λ c κs. search needs) (λ c κs. search needs)
+    (λ c κs. search needs) (λ c κs. search
     needs) (λ c κs. search needs) (λ c κs. search needs) (λ c κs. search needs) (λ c κs. search needs) (λ c κs. search needs) returns-2)

@@ -19,5 +19,6 @@ returns-2 c stand q sections nodes ts Γ k =
     (same-types (in-node (k .laid) (g .1 .1 .1 .0 .inside) (c .before .of-node4 .ensures)) own (c .is-same2 .ensures))
 
 pub fits-truth-case-spec : {M : Type 1} → statement M
-fits-truth-case-spec = tie.close (tie.spec (λ c. search needs) returns (λ c κs. search needs) (λ c κs. search needs) (λ c κs. search needs) (λ c κs. search needs) (λ c κs. search
+fits-truth-case-spec = tie.close (tie.spec (λ c. search needs) returns (λ c κs. search needs) (λ c κs. search needs) (λ c κs. search needs)
+    (λ c κs. search needs) (λ c κs. search
     needs) (λ c κs. search needs) (λ c κs. search needs) returns-2)

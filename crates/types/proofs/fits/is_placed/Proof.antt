@@ -10,7 +10,8 @@ use Rattle.types.proofs.fits.is_placed.Statement.{statement}
 use Rattle.types.proofs.fits.is_placed.Tie as tie
 
 abbrev Inv-loop : tie.InvT-loop
-Inv-loop sheet root sections types starts i c₀ c = (c ≤ sections) × ((sh : Sheet) (ts : Lent) → Rooted sheet types starts root sections i sh ts → PlacedTo sh ts i c)
+Inv-loop sheet root sections types starts i c₀ c = (c ≤ sections) × ((sh : Sheet) (ts : Lent) → Rooted sheet types starts root sections i sh ts
+    → PlacedTo sh ts i c)
 
 abbrev μ-loop : tie.MeasureT-loop
 μ-loop sheet root sections types starts i c₀ c = sections - c
@@ -34,7 +35,8 @@ is-asked-requires-2 c κs = entry (c .before .before .before) .pre .0
 
 returns-2 : tie.Need-returns-2 Inv-loop μ-loop
 returns-2 c sh ts k = let a = c .before in
-    section-no k (turn a .loop-test .taken) (a .before .before .section-root .ensures) (a .before .of-section .ensures) (a .is-asked2 .ensures) (not-true _ (c .if2 .taken))
+    section-no k (turn a .loop-test .taken) (a .before .before .section-root .ensures) (a .before .of-section .ensures) (a .is-asked2 .ensures)
+    (not-true _ (c .if2 .taken))
 
 add-c : tie.Need-add-c Inv-loop μ-loop
 add-c c = let t = turn (c .before) in omega (arith, t .loop-test .taken, entry (t .before) .pre .1)

@@ -19,7 +19,8 @@ returns-3 c = let e = c .before .before .before in let t = e .before .before .be
 
 returns-4 : tie.Need-returns-4
 returns-4 c = let h = c .before .before .before in let e = h .before .before .before in let t = e .before .before .before in
-    c .same2 .ensures ∙ same-two (t .before .type-in .ensures) (t .type-in2 .ensures) _ (e .before .before .if1 .left) (e .if2 .left) (c .before .type-in3 .ensures)
+    c .same2 .ensures ∙ same-two (t .before .type-in .ensures) (t .type-in2 .ensures) _ (e .before .before .if1 .left) (e .if2 .left)
+    (c .before .type-in3 .ensures)
     (sym (h .before .same .ensures) ∙ not-false _ (h .if3 .left))
 
 pub is-pair-of-spec : {M : Type 1} → statement M

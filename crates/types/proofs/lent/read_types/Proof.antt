@@ -28,7 +28,8 @@ next : (c : tie.Else1 Inv-loop μ-loop) → let l = c .before in let t = turn l 
     Reading (a .types .now) (lentBelow (a .k) (a .sections) (a .nodes)) (set (t .loop .starts) (t .loop .slot + 1) (t .loop .at + l .len-if .result))
     (t .loop .at + l .len-if .result) (t .loop .slot + 1)
 next c = let l = c .before in let t = turn l in
-    reading-next _ _ (lent-up _ _ _) (t .before .loop .inv) (l .before .before .is-lent .result) (t .loop-test .taken) (l .before .before .is-lent .ensures) (l .len-if .ensures) (c .if1 .left)
+    reading-next _ _ (lent-up _ _ _) (t .before .loop .inv) (l .before .before .is-lent .result) (t .loop-test .taken) (l .before .before .is-lent .ensures)
+    (l .len-if .ensures) (c .if1 .left)
 
 -- NEEDS
 loop-holds : tie.Need-loop-holds Inv-loop μ-loop
@@ -45,7 +46,8 @@ part-len-if-start c = let r = c .before .before .loop .inv in omega (arith, r .i
 
 returns : tie.Need-returns Inv-loop μ-loop
 returns c = let l = c .before in let t = turn l in
-    reading-ends _ _ (lent-up _ _ _) (t .before .loop .inv) (l .before .before .is-lent .result) (t .loop-test .taken) (l .before .before .is-lent .ensures) (l .len-if .ensures) (c .if1 .taken) _
+    reading-ends _ _ (lent-up _ _ _) (t .before .loop .inv) (l .before .before .is-lent .result) (t .loop-test .taken) (l .before .before .is-lent .ensures)
+    (l .len-if .ensures) (c .if1 .taken) _
 
 add-at : tie.Need-add-at Inv-loop μ-loop
 add-at c = let r = next c in omega (arith, r .few, r .far)

@@ -59,7 +59,8 @@ add-type-in-2 c = omega (arith, around (wide (c .before)) .below)
 
 returns-3 : tie.Need-returns-3 Inv-loop μ-loop
 returns-3 c Γ r = let w = c .before .before .before in let e = wide w in let t = turn e in
-    climb-part (t .loop .inv Γ r) (e .before .how-of .ensures) (e .if2 .left) (w .width-of2 .ensures) (c .before .before .if3 .taken) (c .before .type-in2 .ensures)
+    climb-part (t .loop .inv Γ r) (e .before .how-of .ensures) (e .if2 .left) (w .width-of2 .ensures) (c .before .before .if3 .taken)
+    (c .before .type-in2 .ensures)
     (c .part-of .ensures)
 
 loop-less : tie.Need-loop-less Inv-loop μ-loop

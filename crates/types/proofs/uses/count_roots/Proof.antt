@@ -31,4 +31,5 @@ returns : tie.Need-returns Inv-loop μ-loop
 returns c rs w k = roots-done w (c .loop-test .left) (c .before .loop .inv rs w (c .before .before .count .ensures [] k))
 
 pub count-roots-spec : {M : Type 1} → statement M
-count-roots-spec = tie.close (tie.spec Inv-loop μ-loop (λ c κs. search needs) loop-holds (λ c κs. search needs) (λ c κs. search needs) add-c loop-less loop-again returns)
+count-roots-spec = tie.close (tie.spec Inv-loop μ-loop (λ c κs. search needs) loop-holds (λ c κs. search needs)
+    (λ c κs. search needs) add-c loop-less loop-again returns)
