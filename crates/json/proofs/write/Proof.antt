@@ -60,8 +60,8 @@ returns-4 c =
     let v = k .before in
     let i = v .before in
     let e = i .before .before .before in
-    write-done (is-whole (e .args .v .now) (v .read-view .ensures) (k .if2 .left)) (w .write-value .ensures) (e .args .out .now) (i .if1 .left) refl (n .n .given .1)
-    (c .before .before .copy .ensures)
+    write-done (is-whole (e .args .v .now) (v .read-view .ensures) (k .if2 .left)) (w .write-value .ensures) (e .args .out .now) (i .if1 .left) refl
+    (n .n .given .1) (c .before .before .copy .ensures)
 
 pub write-spec : {M : Type 1} → statement M
 write-spec =
