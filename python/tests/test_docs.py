@@ -1,4 +1,4 @@
-"""Every example of the package's documentation, and of docs/PYTHON.md: its files, its commands and its Python."""
+"""Every example of the package's documentation, of docs/PYTHON.md and of README.md: their files, commands and Python."""
 import doctest
 import os
 import re
@@ -13,6 +13,7 @@ from . import ROOT
 from .command import InFolder
 
 PAPER = (ROOT / 'docs/PYTHON.md').read_text()
+README = (ROOT / 'README.md').read_text()
 
 
 def blocks(paper):
@@ -43,26 +44,34 @@ def load_tests(loader, tests, pattern):
 
 
 class Paper(InFolder):
-    def setUp(self):
-        super().setUp()
-        for before, block in blocks(PAPER):
+    def files(self, paper):
+        """The files that a paper shows: each block below a line that ends in a file's name."""
+        for before, block in blocks(paper):
             named = re.search(r'`([\w.]+\.(?:txt|json))`:$', before)
             if named:
                 self.file(named.group(1), block)
 
-    def test_commands(self):
-        """Each line behind `$` prints what stands below it."""
+    def commands(self, paper):
+        """Each line behind `$` prints what stands below it; how many there are."""
+        self.files(paper)
         environment = dict(os.environ, PYTHONPATH=str(ROOT / 'python'), PATH=os.path.dirname(sys.executable) + os.pathsep + os.environ['PATH'])
         count = 0
-        for _, block in blocks(PAPER):
+        for _, block in blocks(paper):
             for part in re.split(r'^\$ ', block, flags=re.M)[1:]:
                 command, _, wanted = part.partition('\n')
                 ran = subprocess.run(command, shell=True, stdout=subprocess.PIPE, stderr=subprocess.STDOUT, env=environment)
                 self.assertEqual(ran.stdout.decode().strip('\n'), wanted.strip('\n'), command)
                 count += 1
-        self.assertEqual(count, 7)
+        return count
+
+    def test_commands(self):
+        self.assertEqual(self.commands(PAPER), 7)
+
+    def test_readme(self):
+        self.assertEqual(self.commands(README), 2)
 
     def test_python(self):
+        self.files(PAPER)
         text = '\n'.join(block for _, block in blocks(PAPER) if block.startswith('>>>'))
         test = doctest.DocTestParser().get_doctest(text, {}, 'docs/PYTHON.md', 'docs/PYTHON.md', 0)
         told = []

@@ -11,7 +11,7 @@ EMPTY = {'sheet': 90, 'list': 70}  # an empty file is a text that ends too early
 
 
 def manual(program):
-    """The jobs of a program in the manuals and README.md, each with its answer."""
+    """The jobs of a program in the manuals, each with its answer."""
     listed = subprocess.run([ROOT / 'bin/check-manual', '-x', '-n', program], stdout=subprocess.PIPE, check=True)
     for line in listed.stdout.decode().splitlines():
         data, _, answer = line.partition(' ')
