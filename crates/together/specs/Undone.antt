@@ -19,12 +19,12 @@ use Rattle.rules.specs.AnswerLaws.{put-shows}
 use Rattle.undo.specs.Straight.{Straight}
 use Rattle.undo.specs.Calls.{undo}
 use Rattle.calls.specs.Reply.{Reply, Done, Refused}
-use Rattle.trips.specs.declared.Trip.{Trip}
-use Rattle.trips.specs.declared.Trip.the-variants.{Kept, Stopped, Broken}
+use Rattle.together.specs.declared.Trip.{Trip}
+use Rattle.together.specs.declared.Trip.the-variants.{Kept, Stopped, Broken}
 use Rattle.calls.specs.Buffers.{zeroed}
 use Rattle.calls.specs.Calls.{reply, written, cleared, Answered}
 use Rattle.calls.specs.Trips.{success-of}
-use Rattle.trips.specs.RoundTrips.{secondWrites, ifBoth, refusal-of, cleared-zeroed}
+use Rattle.together.specs.RoundTrips.{secondWrites, ifBoth, refusal-of, cleared-zeroed}
 
 -- WHAT ALL THREE ANSWER
 

@@ -13,8 +13,8 @@ use Rattle.value.specs.PartsLaws.{same-refl}
 use Rattle.rules.specs.Numbers.{ALLOWANCE, FACTOR, SCRATCH, GET-OUTPUT, PUT-OUTPUT}
 use Rattle.rules.specs.Answer.{Answer, refusal, success, getAnswer, putAnswer}
 use Rattle.calls.specs.Reply.{Reply, Done, Refused}
-use Rattle.trips.specs.declared.Trip.{Trip}
-use Rattle.trips.specs.declared.Trip.the-variants.{Kept, Stopped, Broken}
+use Rattle.together.specs.declared.Trip.{Trip}
+use Rattle.together.specs.declared.Trip.the-variants.{Kept, Stopped, Broken}
 use Rattle.calls.specs.Buffers.{zeros, zeroed}
 use Rattle.calls.specs.Calls.{reply, written, cleared, afterRefusal, Answered}
 use Rattle.calls.specs.Trips.{success-of}
@@ -78,10 +78,6 @@ ifBoth false b n m = Broken
 unfoldable pub verdict : ℕ → Reply → ℕ → List ℕ → List ℕ → Trip
 verdict n (Refused c) most o bytes = Broken
 verdict n (Done len m) most o bytes = ifBoth (leb m most) (sameBytes (take len o) bytes) n m
-
--- a success lies within the output
-abbrev pub Inside : Reply → List ℕ → Type 0
-Inside r o = (len n : ℕ) → r ≡ Done len n → len ≤ length o
 
 module _ (n : ℕ) (r : Reply) (most : ℕ) (o bytes : List ℕ) where
   pub verdict-refused : {c : ℕ} → r ≡ Refused c → Broken ≡ verdict n r most o bytes
