@@ -2,10 +2,10 @@
 use borrow.Author.Needs.{needs}
 use native.Mathlib.Omega.{arith}
 use Rattle.calls.specs.CallLaws.{reply-within}
-use Rattle.tool.specs.Told.{said, ended-as, put-cut, put-whole, ended-put}
+use Rattle.walking.specs.PutLaws.{said, ended-as, put-cut, put-whole, ended-put}
 use Rattle.calls.specs.StartsLaws.{put-few}
-use Rattle.tool.proofs.puts.put_line.Statement.{statement}
-use Rattle.tool.proofs.puts.put_line.Tie as tie
+use Rattle.walking.proofs.puts.put_line.Statement.{statement}
+use Rattle.walking.proofs.puts.put_line.Tie as tie
 
 returns : tie.Need-returns
 returns c =

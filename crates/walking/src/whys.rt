@@ -2,8 +2,8 @@
 ghost use mathlib.Core.Path.{_≡_};
 ghost use lib.ListN.{drop};
 ghost use Rattle.report.specs.Writing.{Wrote};
-ghost use Rattle.tool.specs.Line.{scratchAfter, whys};
-ghost use Rattle.tool.specs.Why.{told};
+ghost use Rattle.walking.specs.Endings.{scratchAfter, whys};
+ghost use Rattle.walking.specs.Why.{told};
 use calls::Explanation;
 use words::Job;
 

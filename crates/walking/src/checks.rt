@@ -2,8 +2,8 @@
 ghost use mathlib.Core.Path.{_≡_};
 ghost use Rattle.words.specs.Format.{fieldsOf};
 ghost use Rattle.report.specs.Writing.{Wrote};
-ghost use Rattle.tool.specs.Line.{scratchAfter, checks};
-ghost use Rattle.tool.specs.CheckLaws.{verdictLine};
+ghost use Rattle.walking.specs.Endings.{scratchAfter, checks};
+ghost use Rattle.walking.specs.CheckLaws.{verdictLine};
 use accepts::Verdict;
 use words::Taken;
 

@@ -2,9 +2,9 @@
 use mathlib.Core.Path.{refl}
 use borrow.Author.Needs.{needs}
 use native.Mathlib.Omega.{arith}
-use Rattle.tool.specs.WhyLaws.{explained-none, explained-get, explained-put}
-use Rattle.tool.proofs.whys.why_line.Statement.{statement}
-use Rattle.tool.proofs.whys.why_line.Tie as tie
+use Rattle.walking.specs.WhyLaws.{explained-none, explained-get, explained-put}
+use Rattle.walking.proofs.whys.why_line.Statement.{statement}
+use Rattle.walking.proofs.whys.why_line.Tie as tie
 
 returns : tie.Need-returns
 returns c =

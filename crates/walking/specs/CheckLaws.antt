@@ -30,8 +30,8 @@ use Rattle.words.specs.declared.fields.Taken.{Taken}
 use Rattle.words.specs.declared.fields.Taken.the-variants.{Whole, Cut}
 use Rattle.words.specs.Format.{two, part, fieldsOf, sheetOf, planOf, viewOf}
 use Rattle.letters.specs.Small.{Small, no, small-number, small-unless, small-then, small-sheet, small-view, small-plan}
-use Rattle.tool.specs.Line.{Ending, says, yesLine, judges, checksBy, checks, outputAfter, scratchAfter}
-use Rattle.tool.specs.WhyLaws.{Explained}
+use Rattle.walking.specs.Endings.{Ending, says, yesLine, judges, checksBy, checks, outputAfter, scratchAfter}
+use Rattle.walking.specs.WhyLaws.{Explained}
 
 -- HOW LONG IT IS
 

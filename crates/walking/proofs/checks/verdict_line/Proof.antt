@@ -1,9 +1,9 @@
 -- `verdict_line` meets its contract, case by case. Assumes nothing.
 use Rattle.report.specs.Writing.{wrote-text}
-use Rattle.tool.specs.CheckLaws.{verdict-yes, verdict-no, verdict-refused}
+use Rattle.walking.specs.CheckLaws.{verdict-yes, verdict-no, verdict-refused}
 use borrow.Author.Needs.{needs}
-use Rattle.tool.proofs.checks.verdict_line.Statement.{statement}
-use Rattle.tool.proofs.checks.verdict_line.Tie as tie
+use Rattle.walking.proofs.checks.verdict_line.Statement.{statement}
+use Rattle.walking.proofs.checks.verdict_line.Tie as tie
 
 returns : tie.Need-returns
 returns c =

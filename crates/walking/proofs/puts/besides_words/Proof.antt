@@ -3,9 +3,9 @@ use borrow.Author.Needs.{needs}
 use mathlib.Core.Path.{ap}
 use Rattle.report.specs.Text.{words}
 use Rattle.report.specs.Writing.{wrote-text}
-use Rattle.tool.specs.Told.{besides-bits, besides-starts}
-use Rattle.tool.proofs.puts.besides_words.Statement.{statement}
-use Rattle.tool.proofs.puts.besides_words.Tie as tie
+use Rattle.walking.specs.PutLaws.{besides-bits, besides-starts}
+use Rattle.walking.proofs.puts.besides_words.Statement.{statement}
+use Rattle.walking.proofs.puts.besides_words.Tie as tie
 
 returns : tie.Need-returns
 returns c = let w = c .before .before in wrote-text (w .bits-word .ensures) (ap words (besides-bits (w .before .before .if1 .taken) _ _))

@@ -4,7 +4,7 @@ ghost use Rattle.calls.specs.CallLaws.{Within};
 ghost use Rattle.words.specs.Format.{fieldsOf};
 ghost use Rattle.report.specs.Text.{words};
 ghost use Rattle.report.specs.Writing.{Wrote};
-ghost use Rattle.tool.specs.Line.{besides, puts, replyLine, Ended};
+ghost use Rattle.walking.specs.Endings.{besides, puts, replyLine, Ended};
 use calls::Reply;
 use starts::Starts;
 use words::Taken;

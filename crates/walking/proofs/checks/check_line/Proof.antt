@@ -1,9 +1,9 @@
 -- `check_line` meets its contract: a field is cut, or the verdict. Assumes nothing.
 use native.Mathlib.Omega.{arith}
-use Rattle.tool.specs.CheckLaws.{check-cut, check-short, check-whole}
+use Rattle.walking.specs.CheckLaws.{check-cut, check-short, check-whole}
 use borrow.Author.Needs.{needs}
-use Rattle.tool.proofs.checks.check_line.Statement.{statement}
-use Rattle.tool.proofs.checks.check_line.Tie as tie
+use Rattle.walking.proofs.checks.check_line.Statement.{statement}
+use Rattle.walking.proofs.checks.check_line.Tie as tie
 
 returns : tie.Need-returns
 returns c =

@@ -8,10 +8,10 @@ use Rattle.report.specs.Text.{decimalOf, hexOf}
 use Rattle.report.specs.TextLaws.{wrote-words, wrote-ok}
 use Rattle.report.specs.Writing.{wrote-text}
 use Rattle.calls.specs.CallLaws.{within-done}
-use Rattle.tool.specs.Line.{besides}
-use Rattle.tool.specs.Told.{line-refused, line-done}
-use Rattle.tool.proofs.puts.reply_line.Statement.{statement}
-use Rattle.tool.proofs.puts.reply_line.Tie as tie
+use Rattle.walking.specs.Endings.{besides}
+use Rattle.walking.specs.PutLaws.{line-refused, line-done}
+use Rattle.walking.proofs.puts.reply_line.Statement.{statement}
+use Rattle.walking.proofs.puts.reply_line.Tie as tie
 
 -- PLACES: `ok` is written; the reply is a success; the entry
 abbrev worded : tie.After-decimal-word → tie.After-bytes

@@ -5,8 +5,8 @@ use Prim.Native.Nat.{ℕ}
 use borrow.Author.Needs.{needs}
 use Rattle.report.specs.Writing.{wrote-text}
 use Rattle.words.specs.Answers.{toldLine}
-use Rattle.tool.proofs.whys.told_line.Statement.{statement}
-use Rattle.tool.proofs.whys.told_line.Tie as tie
+use Rattle.walking.proofs.whys.told_line.Statement.{statement}
+use Rattle.walking.proofs.whys.told_line.Tie as tie
 
 returns : tie.Need-returns
 returns c =

@@ -22,8 +22,8 @@ use Rattle.words.specs.declared.Job.{Job}
 use Rattle.words.specs.declared.Job.the-variants.{Get, Put, Other}
 use Rattle.words.specs.Format.{sheetOf, planOf, viewOf, jobOf}
 use Rattle.words.specs.Answers.{noLine, byNumber, metWords, toldLine}
-use Rattle.tool.specs.Why.{byFirst, whyLine, told}
-use Rattle.tool.specs.Line.{Ending, explains, whyBy, whys, outputAfter, scratchAfter}
+use Rattle.walking.specs.Why.{byFirst, whyLine, told}
+use Rattle.walking.specs.Endings.{Ending, explains, whyBy, whys, outputAfter, scratchAfter}
 
 -- HOW LONG IT IS
 
