@@ -4,14 +4,25 @@ ghost use lib.ListN.{length};
 ghost use Rattle.rules.specs.Answer.{getAnswer, putAnswer};
 ghost use Rattle.rules.specs.Written.{putWritten};
 ghost use Rattle.calls.specs.Trips.{Stands, Unmoved};
-ghost use Rattle.lens.specs.Packing.{unpacked, Packed};
+ghost use Rattle.calls.specs.Small.{Small};
+ghost use Rattle.lens.specs.Packing.{unpacked, Packed, ReplyPacked};
 ghost use Rattle.lens.specs.HandedOut.{writtenOr, PackedPut};
-use crate::packing::hand_bits;
-use crate::packing::hand_out;
-use crate::packing::pack;
-use crate::packing::with_count;
+use calls::Reply;
 use calls::get;
 use calls::put;
+use packing::hand_bits;
+use packing::hand_out;
+
+// A reply, and how many starts are told with it.
+fn pack(reply: Reply, count: u8) -> u64
+    requires { ⌜ Small reply ⌝ }
+    ensures { λ r. ⌜ ReplyPacked reply count r ⌝ }
+{
+    match reply {
+        Reply::Refused(c) => packing::pack(c, 0, count, 0),
+        Reply::Done { len, steps } => packing::pack(0, len as u16, count, steps as u32),
+    }
+}
 
 /// `get` for C.
 #[no_mangle]
@@ -26,7 +37,7 @@ pub extern "C" fn lens_get(
         (now (out .entry)) (now (out .exit)) (now (scratch .entry)) (now (scratch .exit)) ⌝ }
     ensures { λ r. ⌜ Unmoved (now (sheet .entry)) (now (plan .entry)) (unpacked r) (now (out .exit)) ⌝ }
 {
-    pack(get(sheet, plan, allowance, out, scratch))
+    pack(get(sheet, plan, allowance, out, scratch), 0)
 }
 
 /// `put` for C.
@@ -45,7 +56,7 @@ pub extern "C" fn lens_put(
 {
     let answer = put(sheet, plan, view, allowance, out, scratch);
     let reply = answer.reply;
-    pack(reply)
+    pack(reply, 0)
 }
 
 /// `put` for C that also gives the starts of the new plan, at the front of `starts`, and how many there are in its answer.
@@ -68,7 +79,7 @@ pub extern "C" fn lens_put_starts(
     let reply = answer.reply;
     let given = answer.starts;
     hand_out(given, starts);
-    with_count(pack(reply), given.count)
+    pack(reply, given.count)
 }
 
 /// `put` for C that gives the starts of the new plan, as `lens_put_starts` does, and which plan variables took a view, in `written`.
@@ -95,7 +106,7 @@ pub extern "C" fn lens_put_written(
     let reply = answer.reply;
     let given = answer.starts;
     hand_out(given, starts);
-    let packed = pack(reply);
+    let packed = pack(reply, given.count);
     hand_bits(packed, answer.written, written);
-    with_count(packed, given.count)
+    packed
 }

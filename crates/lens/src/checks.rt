@@ -1,7 +1,7 @@
 //! The check of a sheet beside lent types, for C.
 ghost use Rattle.typing.specs.Check.{check};
 ghost use Rattle.lens.specs.Tools.{CheckPacked};
-use crate::packing::pack_told;
+use packing::pack_told;
 use types::Checked;
 
 /// `types::check` for C.

@@ -1,8 +1,8 @@
 //! How often a variable's length counts in the list's, for C.
 ghost use Rattle.growth.specs.Growth.{growthOf};
 ghost use Rattle.lens.specs.Tools.{GrowthPacked};
-use crate::packing::pack_told;
 use growth::Growing;
+use packing::pack_told;
 
 /// `growth::growth` for C.
 #[no_mangle]

@@ -4,7 +4,6 @@ mod answers;
 mod checks;
 mod growths;
 mod lookups;
-mod packing;
 mod plans;
 mod sheet_texts;
 mod sheets;

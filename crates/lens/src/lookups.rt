@@ -1,9 +1,10 @@
 //! The starts of a plan's values for C, and one value by its number.
-ghost use Rattle.lens.specs.HandedOut.{PackedLoad, Lookup};
+ghost use Rattle.lens.specs.HandedOut.{PackedLoad};
+ghost use Rattle.packing.specs.HandedOut.{Lookup};
 ghost use Rattle.starts.specs.Starts.{loadOf, findOf};
-use crate::packing::hand_out;
-use crate::packing::with_count;
-use starts::Found;
+use packing::hand_found;
+use packing::hand_out;
+use packing::pack;
 use starts::Starts;
 
 /// `starts::load` for C: the starts at the front of `starts`, and how many there are in the answer.
@@ -14,7 +15,7 @@ pub extern "C" fn lens_load(sheet: &[u8], plan: &[u8], starts: &mut [u16; 16]) -
     let loaded = starts::load(sheet, plan);
     let given = loaded.starts;
     hand_out(given, starts);
-    with_count(loaded.refusal as u64, given.count)
+    pack(loaded.refusal, 0, given.count, 0)
 }
 
 /// `starts::find` for C: 0, and where the value starts and ends; or a refusal's number, and both numbers stay what they were.
@@ -38,15 +39,5 @@ pub extern "C" fn lens_find(
         count: count as u8,
         at,
     };
-    match starts::find(kept, len, variable) {
-        Found::Refused(c) => c,
-        Found::At {
-            start: from,
-            end: to,
-        } => {
-            *start = from;
-            *end = to;
-            0
-        }
-    }
+    hand_found(starts::find(kept, len, variable), start, end)
 }

@@ -1,20 +1,8 @@
 //! A new plan that a house made, judged, for C.
 ghost use lib.ListN.{length};
 ghost use Rattle.venue.specs.Accepts.{acceptsOf};
-ghost use Rattle.lens.specs.Tools.{VerdictPacked, VerdictTold};
-use crate::packing::pack_told;
-use accepts::Verdict;
-
-// A verdict in one number.
-fn pack_verdict(verdict: Verdict) -> u64
-    ensures { λ r. ⌜ VerdictTold verdict r ⌝ }
-{
-    match verdict {
-        Verdict::Yes => pack_told(0, 1),
-        Verdict::No => pack_told(0, 0),
-        Verdict::Refused(c) => pack_told(c, 0),
-    }
-}
+ghost use Rattle.lens.specs.Tools.{VerdictPacked};
+use telling::pack_verdict;
 
 /// `accepts::accepts` for C.
 #[no_mangle]

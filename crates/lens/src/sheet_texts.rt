@@ -4,9 +4,8 @@ ghost use Rattle.parsing.specs.Answer.{readAnswer};
 ghost use Rattle.printing.specs.Answer.{printAnswer};
 ghost use Rattle.lens.specs.Tools.{NumberPacked};
 ghost use Rattle.lens.specs.Readings.{ReadPacked};
-use crate::packing::pack_numbered;
-use crate::packing::pack_told;
-use parsing::Reading;
+use telling::hand_reading;
+use telling::pack_numbered;
 
 /// `parsing::read` for C: the sheet at the front of `out`; of a fault in the text its detail in the answer, and in `place` how many bytes stand before
 /// it, which else stays what it was.
@@ -15,18 +14,7 @@ pub extern "C" fn lens_read_sheet(text: &[u8], out: &mut [u8], place: &mut usize
     ensures { λ r. ⌜ ReadPacked (readAnswer (now (text .entry)) (length (now (out .entry)))) r (now (out .entry)) (now (out .exit))
         (now (place .entry)) (now (place .exit)) ⌝ }
 {
-    match parsing::read(text, out) {
-        Reading::Done(n) => pack_told(0, n as u16),
-        Reading::Refused(c) => pack_told(c, 0),
-        Reading::At {
-            refusal,
-            place: at,
-            detail,
-        } => {
-            *place = at;
-            pack_told(refusal, detail as u16)
-        }
-    }
+    hand_reading(parsing::read(text, out), place)
 }
 
 /// `printing::print` for C: the text at the front of `out`.

@@ -3,8 +3,8 @@ ghost use lib.ListN.{length};
 ghost use Rattle.preorder.specs.NumberAnswer.{numberAnswer};
 ghost use Rattle.join.specs.JoinAnswer.{joinAnswer};
 ghost use Rattle.lens.specs.Tools.{NumberPacked, MadePacked};
-use crate::packing::pack_made;
-use crate::packing::pack_numbered;
+use telling::pack_made;
+use telling::pack_numbered;
 
 /// `numbering::number` for C: the sheet in the one numbering at the front of `out`.
 #[no_mangle]

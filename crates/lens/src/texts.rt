@@ -2,7 +2,7 @@
 ghost use lib.ListN.{length};
 ghost use Rattle.notation.specs.Calls.{toJson, fromJson};
 ghost use Rattle.lens.specs.Tools.{MadePacked};
-use crate::packing::pack_made;
+use telling::pack_made;
 
 /// `json::write` for C: the text at the front of `out`.
 #[no_mangle]

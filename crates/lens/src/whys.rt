@@ -1,26 +1,17 @@
 //! Why a get or a put is refused, for C.
 ghost use mathlib.Core.Path.{_≡_};
-ghost use Prim.Native.Nat.{_≤_};
 ghost use lib.ListN.{length};
-ghost use Rattle.rules.specs.Numbers.{CHAIN-MAX};
 ghost use Rattle.rules.specs.Explanation.{whyGet, whyPut};
-ghost use Rattle.lens.specs.Whys.{WhyPacked, nodesOver, WhyHanded};
-use crate::packing::hand_nodes;
+ghost use Rattle.packing.specs.Numbers.{WhyPacked};
+ghost use Rattle.lens.specs.Whys.{nodesOver, WhyHanded};
 use calls::Explanation;
 use calls::why_get;
 use calls::why_put;
-
-// Where a refusal was met, in one number: the refusal in the low 8 bits, the depth in the next 8, one more than the node that wrote first
-// in the next 16.
-fn pack_why(refusal: u8, depth: u8, first: u16) -> u64
-    ensures { λ r. ⌜ WhyPacked refusal depth first r ⌝ }
-{
-    (refusal as u64) + 256 * (depth as u64) + 65536 * (first as u64)
-}
+use packing::hand_nodes;
+use packing::pack_why;
 
 // An explanation: in one number, and its nodes at the front of the caller's bytes.
 fn hand_why(why: Explanation, chain: &mut [u8]) -> u64
-    requires { ⌜ (why .depth ≤ CHAIN-MAX) × (length (why .chain) ≡ CHAIN-MAX) × (length (now chain) ≡ CHAIN-MAX) ⌝ }
     ensures { λ r. ⌜ WhyPacked (why .refusal) (why .depth) (why .first) r × (now (chain .exit) ≡ nodesOver why (now (chain .entry))) ⌝ }
 {
     let nodes = why.chain;

@@ -1,14 +1,9 @@
 //! What the program `tools` is handed, taken apart and run: docs/TOOLS.md has the letters and their fields.
 ghost use Rattle.report.specs.Writing.{Front};
 ghost use Rattle.tool.specs.Line.{toolLine, Lent};
-
-mod checks;
-mod puts;
-mod whys;
-
-use crate::checks::check_line;
-use crate::puts::put_line;
-use crate::whys::why_line;
+use walking::check_line;
+use walking::put_line;
+use walking::why_line;
 
 /// The most bytes of a line: `ok`, a space, a text of 16,384 bytes in hexadecimal, a line feed.
 pub const LINE: usize = 32_772;

@@ -1,4 +1,2 @@
-pub mod RoundTrips
 pub mod TripCalls
-pub mod Undone
 pub mod UndoneCalls

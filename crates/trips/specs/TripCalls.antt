@@ -10,13 +10,13 @@ use Rattle.rules.specs.Answer.{success, getAnswer, putAnswer}
 use Rattle.rules.specs.AnswerLaws.{get-shows, put-shows, get-steps, put-steps}
 use Rattle.rules.specs.Trips.{consistency, acceptability}
 use Rattle.calls.specs.Reply.{Reply, Done, Refused}
-use Rattle.trips.specs.declared.Trip.{Trip}
-use Rattle.trips.specs.declared.Trip.the-variants.{Stopped}
+use Rattle.together.specs.declared.Trip.{Trip}
+use Rattle.together.specs.declared.Trip.the-variants.{Stopped}
 use Rattle.calls.specs.Calls.{Answered}
 use Rattle.arena.specs.Door.{shut, door-lent}
 use Rattle.calls.specs.Trips.{success-of}
 use Rattle.calls.specs.WalkCalls.{get-behind, put-behind, call-shut}
-use Rattle.trips.specs.RoundTrips.{Tripped, ListStands, PlanStays, backAndOut, outAndBack, verdict, refusal-of, first-refused, second-shut, second-judged}
+use Rattle.together.specs.RoundTrips.{Tripped, ListStands, PlanStays, backAndOut, outAndBack, verdict, refusal-of, first-refused, second-shut, second-judged}
 
 -- a front that is lent
 pub front-long : (n : ℕ) (xs : List ℕ) → n ≤ length xs → n ≡ length (take n xs)

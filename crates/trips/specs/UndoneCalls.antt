@@ -5,10 +5,10 @@ use Prim.Native.Nat.{ℕ}
 use lib.ListN.{length, take}
 use Rattle.rules.specs.Answer.{getAnswer, putAnswer}
 use Rattle.calls.specs.Reply.{Reply, Done, Refused}
-use Rattle.trips.specs.declared.Trip.{Trip}
-use Rattle.trips.specs.declared.Trip.the-variants.{Stopped}
+use Rattle.together.specs.declared.Trip.{Trip}
+use Rattle.together.specs.declared.Trip.the-variants.{Stopped}
 use Rattle.calls.specs.Calls.{Answered}
-use Rattle.trips.specs.Undone.{ThreeCalls, TakesBack, firstIntoNew, replied, get-refused, put-refused, all-made, relies}
+use Rattle.together.specs.Undone.{ThreeCalls, TakesBack, firstIntoNew, replied, get-refused, put-refused, all-made, relies}
 
 module _ (sheet plan edited : List ℕ) (reading allowance : ℕ) (list new out s : List ℕ) {list′ s₁ : List ℕ} {r₁ : Reply}
     (w₁ : Answered (getAnswer sheet plan reading (length list) (length s)) r₁ list list′ s s₁) where

@@ -1,44 +1,14 @@
 //! Calls one after the other: a list put back and read out again, a list read out and put back unedited, and an edit that is taken back.
-ghost use mathlib.Core.Path.{_≡_};
 ghost use lib.ListN.{length};
 ghost use Rattle.rules.specs.Answer.{getAnswer, putAnswer};
-ghost use Rattle.trips.specs.RoundTrips.{Tripped, ListStands, PlanStays, backAndOut, outAndBack, verdict, Inside};
+ghost use Rattle.together.specs.RoundTrips.{Tripped, ListStands, PlanStays, backAndOut, outAndBack};
 
 mod undone;
 
 use calls::Reply;
+pub use together::Trip;
+use together::judged;
 pub use undone::put_and_undo;
-
-/// What calls one after the other answer: the steps of two of them, or a refusal of one. The third case is there to be ruled
-/// out: a list that was taken back and does not stand, an unedited list that moved something, or an edit that was not taken
-/// back. Only the last can be met, with a sheet that chooses (`put_and_undo`).
-pub enum Trip {
-    Kept { first: usize, second: usize },
-    Stopped(u8),
-    Broken,
-}
-
-// What the second call makes of a first one of `first` steps: kept where it gives these very bytes in at most `most` steps.
-fn judged(first: usize, reply: Reply, most: usize, out: &[u8], bytes: &[u8]) -> Trip
-    requires { ⌜ Inside reply (now out) ⌝ }
-    ensures { λ r. ⌜ r ≡ verdict first reply most (now (out .entry)) (now (bytes .entry)) ⌝ }
-{
-    match reply {
-        Reply::Refused(_) => Trip::Broken,
-        Reply::Done { len, steps } => {
-            if most < steps {
-                return Trip::Broken;
-            }
-            if value::same(&out[..len], bytes) {
-                return Trip::Kept {
-                    first,
-                    second: steps,
-                };
-            }
-            Trip::Broken
-        }
-    }
-}
 
 /// Puts a list back and reads the new plan out again, under the same sheet and allowance. The new plan is at the front of
 /// `new`, the list read out at the front of `out`. A put that succeeds is kept where `out` takes a list: the list read out is the

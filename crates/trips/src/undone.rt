@@ -1,33 +1,10 @@
 //! Taking back an edit: a get, a put of the edited list, and a put of the first list into the new plan.
-ghost use mathlib.Core.Path.{_≡_};
 ghost use lib.ListN.{length};
 ghost use Rattle.rules.specs.Answer.{getAnswer, putAnswer};
-ghost use Rattle.trips.specs.RoundTrips.{Inside};
-ghost use Rattle.trips.specs.Undone.{ThreeCalls, TakesBack, firstIntoNew, replied};
-use crate::Trip;
+ghost use Rattle.together.specs.Undone.{ThreeCalls, TakesBack, firstIntoNew};
 use calls::Reply;
-
-// What the last call makes of an edit that took `first` steps: kept where it gives these very bytes in as many.
-fn returned(first: usize, reply: Reply, out: &[u8], plan: &[u8]) -> Trip
-    requires { ⌜ Inside reply (now out) ⌝ }
-    ensures { λ r. ⌜ r ≡ replied first reply (now (out .entry)) (now (plan .entry)) ⌝ }
-{
-    match reply {
-        Reply::Refused(c) => Trip::Stopped(c),
-        Reply::Done { len, steps } => {
-            if steps != first {
-                return Trip::Broken;
-            }
-            if value::same(&out[..len], plan) {
-                return Trip::Kept {
-                    first,
-                    second: steps,
-                };
-            }
-            Trip::Broken
-        }
-    }
-}
+use together::Trip;
+use together::returned;
 
 /// Reads a list out under the allowance `reading`, puts an edited one, and puts the first list into the new plan, both under
 /// `allowance`. The list is at the front of `list`, the new plan at the front of `new`, what the last put gives at the front of

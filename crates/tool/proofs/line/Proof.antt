@@ -4,10 +4,11 @@ use native.Mathlib.Omega.{arith}
 use lib.ListN.{drop}
 use Rattle.words.specs.Format.{fieldsOf}
 use Rattle.letters.specs.LookupLaws.{fits-refusal}
-use Rattle.tool.specs.LineLaws.{ending-over, fits-puts}
-use Rattle.tool.specs.WhyLaws.{whys-fit}
-use Rattle.tool.specs.CheckLaws.{checks-fit}
-use Rattle.tool.specs.Told.{said, printed, letter-S, letter-W, letter-Y, letter-C, letter-other, ended-why, ended-check}
+use Rattle.walking.specs.PutLaws.{fits-puts, said}
+use Rattle.walking.specs.WhyLaws.{whys-fit}
+use Rattle.walking.specs.CheckLaws.{checks-fit}
+use Rattle.tool.specs.LineLaws.{ending-over}
+use Rattle.tool.specs.Told.{printed, letter-S, letter-W, letter-Y, letter-C, letter-other, ended-why, ended-check}
 use Rattle.tool.proofs.line.Statement.{statement}
 use Rattle.tool.proofs.line.Tie as tie
 

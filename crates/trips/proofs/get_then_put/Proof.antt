@@ -31,9 +31,6 @@ slice-aggregate-put c = let a = asked (c .before .before) in front-long _ _ (don
 cast-put : tie.Need-cast-put
 cast-put c = let a = asked (c .before .before) in omega (arith, get-few _ _ _ _ _ (done a .get .ensures .0) (a .len .given .1))
 
-judged-requires : tie.Need-judged-requires
-judged-requires c κs = λ len n e. done-inside (back c .put .ensures .0 .call) e
-
 returns : tie.Need-returns
 returns c =
     let a = asked (c .before) in
@@ -56,5 +53,5 @@ pub get-then-put-spec : {M : Type 1} → statement M
 get-then-put-spec =
     tie.close
     (tie.spec (λ c κs. search needs) (λ c. search needs) (λ c. search needs) mul-most (λ c κs. search needs) (λ c. search needs) (λ c. search needs) returns
-    slice-reshare-prefix-put slice-aggregate-put cast-put (λ c κs. search needs) judged-requires (λ c. search needs) (λ c. search needs) returns-2
+    slice-reshare-prefix-put slice-aggregate-put cast-put (λ c κs. search needs) (λ c κs. search needs) (λ c. search needs) (λ c. search needs) returns-2
     (λ c. search needs) (λ c. search needs) (λ c. search needs) returns-3)

@@ -24,9 +24,6 @@ slice-reshare-prefix-get c = let a = asked (c .before) in done-inside (done a .p
 slice-aggregate-get : tie.Need-slice-aggregate-get
 slice-aggregate-get c = let a = asked (c .before .before) in front-long _ _ (done-inside (done a .put .ensures .0 .call) (a .reply2 .given .1))
 
-judged-requires : tie.Need-judged-requires
-judged-requires c κs = λ len n e. done-inside (read c .get .ensures .0) e
-
 returns : tie.Need-returns
 returns c =
     let a = asked (c .before) in
@@ -49,5 +46,5 @@ pub put-then-get-spec : {M : Type 1} → statement M
 put-then-get-spec =
     tie.close
     (tie.spec (λ c κs. search needs) (λ c. search needs) (λ c. search needs) (λ c κs. search needs) (λ c. search needs) (λ c. search needs) returns
-    slice-reshare-prefix-get slice-aggregate-get (λ c κs. search needs) judged-requires (λ c. search needs) (λ c. search needs) returns-2
+    slice-reshare-prefix-get slice-aggregate-get (λ c κs. search needs) (λ c κs. search needs) (λ c. search needs) (λ c. search needs) returns-2
     (λ c. search needs) (λ c. search needs) (λ c. search needs) returns-3)

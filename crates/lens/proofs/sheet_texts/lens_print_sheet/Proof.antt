@@ -12,15 +12,13 @@ abbrev entry : tie.After-print → tie.Start
 entry c = c .before .before .before .before
 
 -- NEEDS
-pack-numbered-requires : tie.Need-pack-numbered-requires
-pack-numbered-requires c κs =
-    let p = c .before .before in
-    let e = p .print .ensures .0 in
-    let bytes = bytes-known (entry p .args .sheet .now) (p .before .before .before .shared-slice-known .given) in
-    omega (arith, told-inside 16384 (λ n f. text-inside _ _ e bytes f) (λ n f. omega (arith, node-inside _ _ e f)))
-
 returns : tie.Need-returns
-returns c = number-packed (c .before .before .before .print .ensures) (c .pack-numbered .ensures)
+returns c =
+    let p = c .before .before .before in
+    let e = p .print .ensures in
+    let bytes = bytes-known (entry p .args .sheet .now) (p .before .before .before .shared-slice-known .given) in
+    let h = told-inside 16384 (λ n f. text-inside _ _ (e .0) bytes f) (λ n f. omega (arith, node-inside _ _ (e .0) f)) in
+    number-packed e (omega (arith, h)) (c .pack-numbered .ensures)
 
 pub lens-print-sheet-spec : {M : Type 1} → statement M
-lens-print-sheet-spec = tie.close (tie.spec (λ c κs. search needs) pack-numbered-requires (λ c. search needs) returns)
+lens-print-sheet-spec = tie.close (tie.spec (λ c κs. search needs) (λ c κs. search needs) (λ c. search needs) returns)

@@ -6,11 +6,10 @@ use borrow.Author.Needs.{needs}
 use Rattle.lens.proofs.texts.lens_from_json.Statement.{statement}
 use Rattle.lens.proofs.texts.lens_from_json.Tie as tie
 
-pack-made-requires : tie.Need-pack-made-requires
-pack-made-requires c κs = omega (arith, made-inside 256 (c .before .before .read .ensures) (λ u e. from-short _ _ e))
-
 returns : tie.Need-returns
-returns c = made-packed (c .before .before .before .read .ensures) (c .pack-made .ensures)
+returns c =
+    let m = c .before .before .before .read .ensures in
+    made-packed m (omega (arith, made-inside 256 m (λ u e. from-short _ _ e))) (c .pack-made .ensures)
 
 pub lens-from-json-spec : {M : Type 1} → statement M
-lens-from-json-spec = tie.close (tie.spec (λ c κs. search needs) pack-made-requires (λ c. search needs) returns)
+lens-from-json-spec = tie.close (tie.spec (λ c κs. search needs) (λ c κs. search needs) (λ c. search needs) returns)

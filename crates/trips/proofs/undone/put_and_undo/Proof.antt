@@ -36,9 +36,6 @@ slice-reshare-prefix-put-2 c = let e = edited (taken (c .before .before)) in don
 slice-aggregate-put-2 : tie.Need-slice-aggregate-put-2
 slice-aggregate-put-2 c = let e = edited (taken (c .before .before .before)) in front-long _ _ (done-inside (read e .get .ensures .0) (e .len .given .1))
 
-returned-requires : tie.Need-returned-requires
-returned-requires c κs = λ len n e. done-inside (judged c .put2 .ensures .0 .call) e
-
 returns : tie.Need-returns
 returns c = list-refused _ _ _ _ _ _ _ _ _ (c .before .before .before .before .before .before .before .get .ensures .0) (c .before .c .given .1)
 
@@ -72,6 +69,6 @@ pub put-and-undo-spec : {M : Type 1} → statement M
 put-and-undo-spec =
     tie.close
     (tie.spec (λ c κs. search needs) (λ c. search needs) (λ c. search needs) (λ c κs. search needs) (λ c. search needs) (λ c. search needs)
-    slice-reshare-prefix-put slice-aggregate-put slice-reshare-prefix-put-2 slice-aggregate-put-2 (λ c κs. search needs) returned-requires
+    slice-reshare-prefix-put slice-aggregate-put slice-reshare-prefix-put-2 slice-aggregate-put-2 (λ c κs. search needs) (λ c κs. search needs)
     (λ c. search needs) (λ c. search needs) returns (λ c. search needs) (λ c. search needs) (λ c. search needs) returns-2
     same-length-6 (λ c. search needs) (λ c. search needs) same-length-9 returns-3)
