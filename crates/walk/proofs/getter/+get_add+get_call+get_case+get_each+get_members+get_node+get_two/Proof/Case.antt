@@ -97,7 +97,7 @@ module _ (t : ℕ) where
   done c = sym (c .before .is-refused .ensures) ∙ c .if1 .left
 
   subject : (c : At lts.After-shape-at) → let g = got (there (beyond c)) in let e = entry g in
-      Subject (here (e .pre .1 .0)) (e .args .kind) (e .args .n) (g .get-node .result) (g .get-node .last .1 .1 .0) (c .shape-at .result)
+      Subject (here (e .pre .1 .0)) (e .args .own .kind) (e .args .own .n) (g .get-node .result) (g .get-node .last .1 .1 .0) (c .shape-at .result)
   subject c =
       let i = there (beyond c) in
       let g = got i in
@@ -110,7 +110,7 @@ module _ (t : ℕ) where
         shape = c .shape-at .ensures;
       }
 
-  told : (c : At lts.After-fits2) → let g = got (there (beyond (shaped c))) in c .fits2 .result ≡ fitOf (entry g .args .kind) (shaped c .shape-at .result)
+  told : (c : At lts.After-fits2) → let g = got (there (beyond (shaped c))) in c .fits2 .result ≡ fitOf (entry g .args .own .kind) (shaped c .shape-at .result)
   told c = c .fits2 .ensures
 
   -- NEEDS

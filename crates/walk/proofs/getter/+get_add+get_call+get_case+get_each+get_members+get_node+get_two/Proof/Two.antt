@@ -72,14 +72,14 @@ module _ (t : ℕ) where
   two c = c .before .before .before .before
 
   -- WHAT IS KNOWN THERE: the kind byte is written; the first value stands behind it; the second behind that
-  asked : (c : At lts.After-raised)
-      → let e = entry c in TwoAsked (here (e .pre .1 .0)) (e .args .kind) (e .args .n) (set (e .args .arena .now) (e .args .at .top) (c .before .made .result))
+  asked : (c : At lts.After-raised) → let e = entry c in let a = e .args in
+      TwoAsked (here (e .pre .1 .0)) (a .own .kind) (a .own .n) (set (a .arena .now) (a .at .top) (c .before .made .result))
   asked c =
       let e = entry c in
       record { asked = e .pre .1 .0; two = e .pre .1 .1; marked = marked-by (c .before .made .ensures) (omega (arith, e .pre .1 .0 .long, e .pre .1 .0 .room)) }
 
   value : (c : At lts.After-bring) → let r = up (one c) in let e = entry r in
-      AtTop (one-here (asked r)) (c .bring .last .0) (c .bring .result) (getD (e .args .sheet .now) (e .args .n + 1) 0)
+      AtTop (one-here (asked r)) (c .bring .last .0) (c .bring .result) (getD (e .args .sheet .now) (e .args .own .n + 1) 0)
   value c =
       let g = one c in
       let r = up g in
@@ -109,7 +109,8 @@ module _ (t : ℕ) where
       ∙ ap (λ (i : ℕ). record { levels = at .levels; left = at .left - stepsOf a; top = i; cells = at .cells }) e
 
   second : (c : At lts.After-bring2) → let b = first (there (two c)) in let r = up (one b) in let e = entry r in
-      AtTop (two-here (asked r) (b .bring .last .0) (b .bring .result)) (c .bring2 .last .0) (c .bring2 .result) (getD (e .args .sheet .now) (e .args .n + 2) 0)
+      AtTop (two-here (asked r) (b .bring .last .0) (b .bring .result)) (c .bring2 .last .0) (c .bring2 .result)
+      (getD (e .args .sheet .now) (e .args .own .n + 2) 0)
   second c =
       let g = two c in
       let i = there g in

@@ -59,8 +59,8 @@ module _ (t : ℕ) where
   scoped c = c .before
 
   -- WHAT IS KNOWN THERE
-  looked : (c : At lts.After-section-root) → let e = entry (in-scope c) in PutLooked (put-here (e .pre .1 .0)) (Shown (e .args .view .now)) (e .args .kind)
-      (e .args .n) (c .section-root .result)
+  looked : (c : At lts.After-section-root) → let e = entry (in-scope c) in PutLooked (put-here (e .pre .1 .0)) (Shown (e .args .view .now)) (e .args .own .node)
+      (e .args .own .kind) (e .args .own .n) (c .section-root .result)
   looked c =
       let i = in-scope c in
       let w = entry i .pre in
@@ -76,14 +76,14 @@ module _ (t : ℕ) where
   few c = let w = entry c .pre .1 .0 in (omega (arith, w .variables, c .before .if1 .left), omega (arith, w .variables, c .if2 .left))
 
   section-is : (c : At lts.After-section) → let i = in-scope (found c) in let e = entry i in
-      c .section .result ≡ picked (e .args .scope) (getD (e .args .sheet .now) (e .args .n + 2) 0) (getD (e .args .sheet .now) (e .args .n + 3) 0)
+      c .section .result ≡ picked (e .args .scope) (getD (e .args .sheet .now) (e .args .own .n + 2) 0) (getD (e .args .sheet .now) (e .args .own .n + 3) 0)
   section-is c =
       let i = in-scope (found c) in
       c .section .ensures ∙ ap₂ (picked (entry i .args .scope)) (in-room (few i .0) ∙ i .before .before .before .before .number-of .ensures)
       (in-room (few i .1) ∙ i .before .before .before .number-of2 .ensures)
 
-  cells-are : (c : At lts.After-pick-cells) → let i = in-scope (found (scoped c)) in let e = entry i in
-      c .pick-cells .result ≡ pickedTwo (e .args .cells .now) (getD (e .args .sheet .now) (e .args .n + 2) 0) (getD (e .args .sheet .now) (e .args .n + 3) 0)
+  cells-are : (c : At lts.After-pick-cells) → let a = entry (in-scope (found (scoped c))) .args in
+      c .pick-cells .result ≡ pickedTwo (a .cells .now) (getD (a .sheet .now) (a .own .n + 2) 0) (getD (a .sheet .now) (a .own .n + 3) 0)
   cells-are c =
       let i = in-scope (found (scoped c)) in
       c .pick-cells .ensures .inside (few i) ∙ ap₂ (pickedTwo (entry i .args .cells .now)) (i .before .before .before .before .number-of .ensures)

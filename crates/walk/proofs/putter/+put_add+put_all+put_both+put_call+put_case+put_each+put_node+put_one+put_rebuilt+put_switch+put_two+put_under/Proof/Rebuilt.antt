@@ -58,7 +58,7 @@ module _ (t : ℕ) where
   room c = c .pre .1 .0 .given .written .few
 
   places : (c : At lts.After-place-of2) → let e = entry c in let p = e .args .parts in
-      Rebuilding (put-there (e .pre .1 .0)) (e .args .kind) (e .args .node) (p .start) (p .first) (p .second) (c .before .before .place-of .result)
+      Rebuilding (put-there (e .pre .1 .0)) (p .kind) (p .subject) (p .start) (p .first) (p .second) (c .before .before .place-of .result)
       (c .place-of2 .result)
   places c =
       let e = entry c in
@@ -70,7 +70,8 @@ module _ (t : ℕ) where
         two = c .place-of2 .ensures .inside (omega arith);
       }
 
-  fits : (c : At lts.Else1) → let p = placed c in unfitRest (entry p .args .kind) (getD (entry p .args .arena .now) (p .place-of2 .result .start) 0) ≡ false
+  fits : (c : At lts.Else1) → let p = placed c in
+      unfitRest (entry p .args .parts .kind) (getD (entry p .args .arena .now) (p .place-of2 .result .start) 0) ≡ false
   fits c = sym (c .before .unfit .ensures) ∙ c .if1 .left
 
   -- NEEDS

@@ -72,15 +72,15 @@ module _ (t : ℕ) where
 
   -- WHAT IS KNOWN THERE
   apart : (c : At lts.After-second-part) → let e = entry c in
-      TakenApart (put-here (e .pre .1 .0)) (e .args .view .now) (e .args .kind) (e .args .n) (c .before .before .before .mid .given .0 .0)
-      (c .before .first-part .result .now) (c .second-part .result .now)
+      TakenApart (put-here (e .pre .1 .0)) (e .args .view .now) (e .args .own .node) (e .args .own .kind) (e .args .own .n)
+      (c .before .before .before .mid .given .0 .0) (c .before .first-part .result .now) (c .second-part .result .now)
   apart c =
       let e = entry c in
       record {
         asked = e .pre .1 .0;
         two = e .pre .1 .1;
         apart = sym (c .before .before .before .mid .given .1) ∙ c .before .before .before .before .before .take-apart .ensures
-            ∙ ap (apartOf (e .args .kind)) (c .before .before .before .before .before .before .shape-of .ensures);
+            ∙ ap (apartOf (e .args .own .kind)) (c .before .before .before .before .before .before .shape-of .ensures);
         first = c .before .first-part .ensures;
         second = c .second-part .ensures;
       }
@@ -91,7 +91,7 @@ module _ (t : ℕ) where
   told : (c : At lts.After-put-node) → let s = parts c in let e = entry s in
       PutTold (put-here (e .pre .1 .0)) (Shown (s .before .first-part .result .now)) (c .put-node .last .1 .1 .0) (c .put-node .last .1 .1 .1 .0)
       (c .put-node .result)
-      (enter (getD (e .args .sheet .now) (e .args .n + 1) 0))
+      (enter (getD (e .args .sheet .now) (e .args .own .n + 1) 0))
   told c = gives-as {at = entry (parts c) .args .at} refl refl refl (c .before .before .before .number-of .ensures) (c .put-node .ensures .0)
 
   -- NEEDS
@@ -100,7 +100,7 @@ module _ (t : ℕ) where
       let e = c .before .before .before .before .before .before .before .before in
       two-51 (e .pre .1 .0) (e .pre .1 .1)
       (sym (c .before .enum-told .given .1) ∙ c .before .before .before .take-apart .ensures
-      ∙ ap (apartOf (e .args .kind)) (c .before .before .before .before .shape-of .ensures)) (c .refused .ensures)
+      ∙ ap (apartOf (e .args .own .kind)) (c .before .before .before .before .shape-of .ensures)) (c .refused .ensures)
 
   put-node-requires : At lts.Need-put-node-requires
   put-node-requires c κs =

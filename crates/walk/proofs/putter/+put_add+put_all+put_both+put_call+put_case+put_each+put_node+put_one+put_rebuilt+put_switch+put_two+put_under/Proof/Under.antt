@@ -84,7 +84,7 @@ module _ (t : ℕ) where
 
   -- WHAT IS KNOWN THERE
   asked : (c : At lts.Start) → let a = c .args in
-      Under (put-there (c .pre .1 .0)) (Shown (a .view .now)) (a .kind) (a .branch) (a .subject) (a .parts .start) (a .parts .first) (a .parts .second)
+      Under (put-there (c .pre .1 .0)) (Shown (a .view .now)) (a .parts)
   asked c = record { asked = c .pre .1 .0; inner = c .pre .1 .1 .0; parts = c .pre .1 .1 .1 }
 
   room : (c : At lts.Start) → (c .args .at .cells + 2 ≤ VARIABLES) × (c .args .scope .count + 2 ≤ VARIABLES)
@@ -96,7 +96,7 @@ module _ (t : ℕ) where
 
   told : (c : At lts.After-put-node) → let e = entry (scoped (deeper (made c))) in
       PutTold (inner-here (asked e)) (Shown (e .args .view .now)) (c .put-node .last .1 .1 .0) (c .put-node .last .1 .1 .1 .0) (c .put-node .result)
-      (enter (e .args .branch))
+      (enter (e .args .parts .branch))
   told c =
       let w = made c in
       let s = scoped (deeper w) in
@@ -152,7 +152,8 @@ module _ (t : ℕ) where
       let s = entry (scoped (deeper (made p))) in
       let e = c .before .before .after .ensures in
       let l = levels-as e in
-      (omega (arith, s .pre .0), (rest-ready e (under-asks₂ (asked s) (told p) (done i)), some-at e refl (under-parts (asked s) (told p) (done i))))
+      let q = some-at {p = s .args .parts} e refl (under-parts (asked s) (told p) (done i)) in
+      (omega (arith, s .pre .0), (rest-ready e (under-asks₂ (asked s) (told p) (done i)), q))
 
   returns-2 : At lts.Need-returns-2
   returns-2 c =
