@@ -206,20 +206,18 @@ two-51 {h} {view} {x} {k} {n} {r} w two o is = go two
     own-51 : said (h .arena) (h .levels) r ≡ Own 51
     own-51 = ap (said _ _) is ∙ refused-said _ _ (omega arith) (omega arith)
 
+    whole : {j mid : ℕ} {v : Value} → k ≡ j → Shown view v → At mid ≡ apartOf j (shape v) → ⊥
+    whole {j} e m i =
+        false≢true (ap there (o ∙ ap (λ (y : ℕ). apartOf y (shapeOf view)) e ∙ ap (apartOf j) (shown-shape m refl) ∙ sym i))
+
     go : Two k → PutTells h (Shown view) (h .arena) (h .slots) r x k n
     go (aFront e) = rw e (record {
       frame = frame-refl _ _;
       long = refl;
-      told = λ {v = v} m. give-none 51 _ (no-front v (λ mid i.
-          let q : apartOf 0x15 (shapeOf view) ≡ At mid = ap (apartOf 0x15) (shown-shape (m .shown) refl ∙ sym i) in
-          let z = rw e at o in
-          false≢true (ap there (z ∙ q)))) own-51;
+      told = λ {v = v} m. give-none 51 _ (no-front v λ mid i. whole e (m .shown) (ap (apartOf 0x15) i)) own-51;
     })
     go (aTwo e) = rw e (record {
       frame = frame-refl _ _;
       long = refl;
-      told = λ {v = v} m. give-none 51 _ (no-pair v (λ mid i.
-          let q : apartOf 0x16 (shapeOf view) ≡ At mid = ap (apartOf 0x16) (shown-shape (m .shown) refl ∙ sym i) in
-          let z = rw e at o in
-          false≢true (ap there (z ∙ q)))) own-51;
+      told = λ {v = v} m. give-none 51 _ (no-pair v λ mid i. whole e (m .shown) (ap (apartOf 0x16) i)) own-51;
     })

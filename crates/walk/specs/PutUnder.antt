@@ -57,7 +57,7 @@ under-run : (p : Putter) (μ : Env) (σ : List ℕ) (W : Cells) (b : ℕ) (v : V
 unfolding Text.under rebuild
 under-run p μ σ W b v s mk f r n e = rw e
 
--- the parts of the subject that was got as the answer g, of which the second is `mid` bytes further
+-- the parts of the subject that was got as the answer g, the second `mid` bytes behind its start
 abbrev pub gotParts : (kind branch subject g mid : ℕ) → Parts
 gotParts k x y g mid = record { kind = k; branch = x; subject = y; start = startOf g + 1; first = mid - 1; second = lenOf g - mid }
 

@@ -1,5 +1,5 @@
 //! Put: a view put back into a node, with what was written in the arena's slots. A node's record starts at byte `n` of the sheet; lent are,
-//! beside what a get is lent, what is noted of each slot in `slots`, 0 where nothing was written, and the cell of each variable in `cells`.
+//! beside what a get is lent, the `slots` and the `cells`.
 ghost use mathlib.Core.Path.{_≡_};
 ghost use mathlib.Core.List.{[], _∷_};
 ghost use Prim.Native.Nat.{_+_, _*_, _≤_};
@@ -106,7 +106,7 @@ pub struct Turn {
     pub at: At,
 }
 
-// The parts of a subject that was got and whose second part is `mid` bytes further, for the branch of a node of that kind.
+// The parts of a subject that was got, the second `mid` bytes behind its start, for a branch of a node of that kind.
 fn parts_of(kind: u8, branch: usize, subject: usize, got: usize, mid: usize) -> Parts
     requires { ⌜ (1 ≤ mid) × (mid ≤ lenOf got) ⌝ }
     ensures { λ r. ⌜ r ≡ gotParts (madeOf kind) branch subject got mid ⌝ }
@@ -224,7 +224,7 @@ pub fn put_node(
     leave(arena, put, node, at.levels)
 }
 
-// `view` into node a, then `other` into node b.
+// The view into a branch that adds no variables, then the byte that the subject is into its node.
 fn put_both(
     sheet: &[u8],
     table: &Table,
@@ -286,8 +286,7 @@ fn put_two(
     later(two, steps_of(one))
 }
 
-// The view into a branch with two variables more, each in a new cell; then the subject, rebuilt of what they now stand for, into its
-// node. `kind` is 3 for a list and 5 for a pair.
+// The view into a branch with two variables more, each in a new cell; then the subject, rebuilt of what they now stand for, into its node.
 fn put_under(
     sheet: &[u8],
     table: &Table,

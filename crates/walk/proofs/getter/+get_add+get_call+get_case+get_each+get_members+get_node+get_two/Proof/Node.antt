@@ -17,55 +17,16 @@ use Rattle.walk.specs.GetLeaf.{wide-told}
 use Rattle.walk.specs.GetTwo.{Two, two-kind}
 use Rattle.walk.specs.GetCase.{Case, case-kind}
 use Rattle.walk.specs.GetEnter.{Entered, entry-code, enter-refused, node-few, its-kind, body-ready, body-told, own-as, told-as}
-use Rattle.walk.proofs.at.At.below.Reads as below
-use Rattle.sheet.proofs.byte_of.Reads as byte-of
-use Rattle.step.proofs.entry.Reads as entry
-use Rattle.walk.proofs.getter.get_add.Reads as get-add
-use Rattle.walk.proofs.getter.get_call.Reads as get-call
-use Rattle.walk.proofs.getter.get_case.Reads as get-case
-use Rattle.walk.proofs.getter.get_each.Reads as get-each
-use Rattle.walk.proofs.getter.get_leaf.Reads as get-leaf
 use Rattle.walk.proofs.getter.get_node.Reads as get-node
-use Rattle.walk.proofs.getter.get_two.Reads as get-two
-use Rattle.walk.proofs.getter.get_wide.Reads as get-wide
-use Rattle.answer.proofs.refused.Reads as refused
-use Rattle.arena.proofs.leave.Reads as leave
 use Rattle.walk.proofs.getter.+get_add+get_call+get_case+get_each+get_members+get_node+get_two as cycle
 use cycle.Lts-get_node as lts
 use cycle.Proof.Frame.{kind, node}
-use Rattle.walk.proofs.Member.{AtMeasure, BelowMeasure, PlacesOf}
-
-abbrev claims : ℕ → lts.Claims
-claims t = (
-  entry.Asked,
-  entry.Learnt,
-  refused.Asked,
-  refused.Learnt,
-  leave.Asked,
-  leave.Learnt,
-  below.Asked,
-  below.Learnt,
-  byte-of.Asked,
-  byte-of.Learnt,
-  get-leaf.Asked,
-  get-leaf.Learnt,
-  BelowMeasure (kind get-two.Pre) t,
-  get-two.Post,
-  BelowMeasure (kind get-case.Pre) t,
-  get-case.Post,
-  BelowMeasure (kind get-call.Pre) t,
-  get-call.Post,
-  BelowMeasure (kind get-add.Pre) t,
-  get-add.Post,
-  BelowMeasure (kind get-each.Pre) t,
-  get-each.Post,
-  get-wide.Asked,
-  get-wide.Learnt,
-)
+use cycle.Proof.Claims.{node-claims}
+use Rattle.walk.proofs.Member.{AtMeasure, PlacesOf}
 
 module _ (t : ℕ) where
   abbrev At : PlacesOf node lts.Claims → Type 0
-  At P = P (claims t) (AtMeasure node t) get-node.Post
+  At P = P (node-claims t) (AtMeasure node t) get-node.Post
 
   -- PLACES: the function's entry; the node may be entered; its kind is read
   abbrev start : At lts.Else1 → At lts.Start
@@ -197,8 +158,8 @@ module _ (t : ℕ) where
       let g = p .get-wide .ensures in
       told b (wide-told k (ready b) (g .0) (g .1)) (c .before .before .leave8 .ensures)
 
-pub get-node-met : {M : Type 1} (t : ℕ) → lts.Closed (claims t) (AtMeasure node t) get-node.Post M
-get-node-met t = lts.spec (claims t) (AtMeasure node t) get-node.Post (λ c κs. search needs) (λ c κs. search needs) (λ c κs. search needs)
+pub get-node-met : {M : Type 1} (t : ℕ) → lts.Closed (node-claims t) (AtMeasure node t) get-node.Post M
+get-node-met t = lts.spec (node-claims t) (AtMeasure node t) get-node.Post (λ c κs. search needs) (λ c κs. search needs) (λ c κs. search needs)
     (λ c. returns t c .0 .kept .long) (returns t) (λ c. let z = outside t (start t c) .0 in record { fits = omega arith }) (λ c. outside t (start t c) .0)
     (below-requires t) (λ c κs. search needs) (get-leaf-requires t) (λ c κs. search needs) (λ c. returns-2 t c .0 .kept .long) (returns-2 t)
     (get-two-requires t) (λ c κs. search needs) (λ c. returns-3 t c .0 .kept .long) (returns-3 t) (get-case-requires t) (λ c κs. search needs)

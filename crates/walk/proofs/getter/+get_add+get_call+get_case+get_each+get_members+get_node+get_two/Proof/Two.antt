@@ -14,43 +14,16 @@ use Rattle.walk.specs.Gets.{here, levels-as, ready-as, gives-as}
 use Rattle.walk.specs.GetReady.{sized-as}
 use Rattle.walk.specs.GetAt.{AtTop, movable, at-top, brought-as}
 use Rattle.walk.specs.GetTwo.{TwoAsked, one-here, two-here, one-asks, one-refused, two-asks, joinable, joined-as, two-told}
-use Rattle.walk.proofs.at.At.behind.Reads as behind
-use Rattle.walk.proofs.got.bring.Reads as bring
-use Rattle.walk.proofs.getter.get_node.Reads as get-node
 use Rattle.walk.proofs.getter.get_two.Reads as get-two
-use Rattle.answer.proofs.is_refused.Reads as is-refused
-use Rattle.walk.proofs.got.joined.Reads as joined
-use Rattle.step.proofs.made.Reads as made
-use Rattle.sheet.proofs.number_of.Reads as number-of
-use Rattle.walk.proofs.at.At.raised.Reads as raised
 use Rattle.walk.proofs.getter.+get_add+get_call+get_case+get_each+get_members+get_node+get_two as cycle
 use cycle.Lts-get_two as lts
 use cycle.Proof.Frame.{kind, node}
-use Rattle.walk.proofs.Member.{AtMeasure, BelowMeasure, PlacesOf}
-
-abbrev claims : ℕ → lts.Claims
-claims t = (
-  made.Asked,
-  made.Learnt,
-  raised.Asked,
-  raised.Learnt,
-  number-of.Asked,
-  number-of.Learnt,
-  BelowMeasure node t,
-  get-node.Post,
-  bring.Asked,
-  bring.Learnt,
-  is-refused.Asked,
-  is-refused.Learnt,
-  behind.Asked,
-  behind.Learnt,
-  joined.Asked,
-  joined.Learnt,
-)
+use cycle.Proof.Claims.{two-claims}
+use Rattle.walk.proofs.Member.{AtMeasure, PlacesOf}
 
 module _ (t : ℕ) where
   abbrev At : PlacesOf (kind get-two.Pre) lts.Claims → Type 0
-  At P = P (claims t) (AtMeasure (kind get-two.Pre) t) get-two.Post
+  At P = P (two-claims t) (AtMeasure (kind get-two.Pre) t) get-two.Post
 
   -- PLACES: the function's entry; the first node was got and brought up; it is there; the second was got and brought up
   abbrev entry : At lts.After-raised → At lts.Start
@@ -175,8 +148,8 @@ module _ (t : ℕ) where
       let r = up (one b) in
       two-told (asked r) (value b) (done i) (second s) (joined-as (r .before .made .ensures) (c .joined .ensures))
 
-pub get-two-met : {M : Type 1} (t : ℕ) → lts.Closed (claims t) (AtMeasure (kind get-two.Pre) t) get-two.Post M
-get-two-met t = lts.spec (claims t) (AtMeasure (kind get-two.Pre) t) get-two.Post
+pub get-two-met : {M : Type 1} (t : ℕ) → lts.Closed (two-claims t) (AtMeasure (kind get-two.Pre) t) get-two.Post M
+get-two-met t = lts.spec (two-claims t) (AtMeasure (kind get-two.Pre) t) get-two.Post
     (λ c κs. search needs) (slice-write-arena t) (raised-requires t) (λ c κs. search needs) (get-node-requires t) (bring-requires t) (λ c κs. search needs)
     (λ c. returns t c .kept .long) (returns t) (behind-requires t) (λ c κs. search needs) (get-node-requires-2 t) (bring-requires-2 t) (joined-requires t)
     (λ c. returns-2 t c .kept .long) (returns-2 t)

@@ -31,63 +31,18 @@ use Rattle.walk.specs.PutCase.{
   switch-told,
   none-told,
 }
-use Rattle.walk.proofs.at.At.behind.Reads as behind
-use Rattle.sheet.proofs.byte_of.Reads as byte-of
-use Rattle.walk.proofs.getter.get_node.Reads as get-node
-use Rattle.answer.proofs.is_refused.Reads as is-refused
-use Rattle.answer.proofs.later.Reads as later
-use Rattle.sheet.proofs.number_of.Reads as number-of
-use Rattle.walk.proofs.putter.parts_of.Reads as parts-of
-use Rattle.walk.proofs.putter.put_both.Reads as put-both
 use Rattle.walk.proofs.putter.put_case.Reads as put-case
-use Rattle.walk.proofs.putter.put_switch.Reads as put-switch
-use Rattle.walk.proofs.putter.put_under.Reads as put-under
-use Rattle.answer.proofs.refused.Reads as refused
-use Rattle.walk.proofs.got.shape_at.Reads as shape-at
-use Rattle.answer.proofs.steps_of.Reads as steps-of
-use Rattle.step.proofs.takes.Reads as takes
 use Rattle.walk.proofs.putter.+put_add+put_all+put_both+put_call+put_case+put_each+put_node+put_one+put_rebuilt+put_switch+put_two+put_under as cycle
 use cycle.Lts-put_case as lts
-use cycle.Proof.Frame.{both, kind, switch, under}
-use Rattle.walk.proofs.Member.{AtMeasure, BelowMeasure, PlacesOf}
-
-abbrev claims : ℕ → lts.Claims
-claims t = (
-  number-of.Asked,
-  number-of.Learnt,
-  get-node.Asked,
-  get-node.Learnt,
-  is-refused.Asked,
-  is-refused.Learnt,
-  behind.Asked,
-  behind.Learnt,
-  byte-of.Asked,
-  byte-of.Learnt,
-  shape-at.Asked,
-  shape-at.Learnt,
-  takes.Asked,
-  takes.Learnt,
-  BelowMeasure both t,
-  put-both.Post,
-  steps-of.Asked,
-  steps-of.Learnt,
-  later.Asked,
-  later.Learnt,
-  parts-of.Asked,
-  parts-of.Learnt,
-  BelowMeasure under t,
-  put-under.Post,
-  BelowMeasure switch t,
-  put-switch.Post,
-  refused.Asked,
-  refused.Learnt,
-)
+use cycle.Proof.Frame.{kind, switch}
+use cycle.Proof.Claims.{case-claims}
+use Rattle.walk.proofs.Member.{AtMeasure, PlacesOf}
 
 module _ (t : ℕ) where
   abbrev At : PlacesOf (kind put-case.Pre) lts.Claims → Type 0
-  At P = P (claims t) (AtMeasure (kind put-case.Pre) t) put-case.Post
+  At P = P (case-claims t) (AtMeasure (kind put-case.Pre) t) put-case.Post
 
-  -- PLACES: the function's entry; the old subject was got; it is there; the place behind it; its shape; the branch that the view takes
+  -- PLACES: the function's entry; the old subject was got; it is there; the place behind it; the branch that the view takes
   abbrev entry : At lts.After-get-node → At lts.Start
   entry c = c .before .before .before .before .before .before
 
@@ -97,11 +52,8 @@ module _ (t : ℕ) where
   abbrev there : At lts.After-behind → At lts.Else1
   there c = c .before
 
-  abbrev beyond : At lts.After-shape-at → At lts.After-behind
-  beyond c = c .before .before .before .before
-
-  abbrev shaped : At lts.After-takes → At lts.After-shape-at
-  shaped c = c .before
+  abbrev beyond : At lts.After-takes → At lts.After-behind
+  beyond c = c .before .before .before .before .before
 
   abbrev plain : At lts.After-number-of2 → At lts.After-takes
   plain c = c .before .before .before .before
@@ -116,12 +68,12 @@ module _ (t : ℕ) where
   done : (c : At lts.Else1) → isRefusal (got c .get-node .result) ≡ false
   done c = sym (c .before .is-refused .ensures) ∙ c .if1 .left
 
-  subject : (c : At lts.After-takes) {d : Branch} → c .takes .result ≡ d → let s = shaped c in let g = got (there (beyond s)) in let e = entry g in
+  subject : (c : At lts.After-takes) {d : Branch} → c .takes .result ≡ d → let s = c .before in let g = got (there (beyond c)) in let e = entry g in
       PutSubject (put-here (e .pre .1 .0)) (e .args .view .now) (e .args .own .node) (e .args .own .kind) (e .args .own .n) (g .get-node .result)
       (g .get-node .last .1 .1 .0) (s .shape-at .result) d
   subject c {d} is =
-      let s = shaped c in
-      let i = there (beyond s) in
+      let s = c .before in
+      let i = there (beyond c) in
       let g = got i in
       let e = entry g in
       let v = e .args .view .now in
@@ -167,7 +119,7 @@ module _ (t : ℕ) where
   put-both-requires c κs =
       let n = c .before .before in
       let p = plain n in
-      let b = beyond (shaped p) in
+      let b = beyond p in
       let g = got (there b) in
       let s = subject p (n .before .before .i .given .1) in
       let l = levels-as (b .behind .ensures) in (
@@ -179,7 +131,7 @@ module _ (t : ℕ) where
   returns-2 c =
       let n = c .before .before .before .before .before .before .before in
       let p = plain n in
-      let b = beyond (shaped p) in
+      let b = beyond p in
       plain-told (subject p (n .before .before .i .given .1))
       (pair-told (b .behind .ensures) (n .number-of2 .ensures) (got (there b) .before .before .number-of .ensures)
       (c .before .before .before .before .put-both .ensures))
@@ -189,13 +141,13 @@ module _ (t : ℕ) where
   parts-of-requires : At lts.Need-parts-of-requires
   parts-of-requires c κs = parts-inside (subject (parted c) (c .before .before .i2 .given .1))
 
-  parts-are : (c : At lts.After-parts-of) → let n = c .before in let g = got (there (beyond (shaped (parted n)))) in let a = entry g .args in
+  parts-are : (c : At lts.After-parts-of) → let n = c .before in let g = got (there (beyond (parted n))) in let a = entry g .args in
       let i = n .before .before .i2 .given .0 in
       c .parts-of .result ≡ gotParts (madeOf (a .own .kind)) (getD (a .sheet .now) (a .own .n + i .0) 0) (getD (a .sheet .now) (a .own .n + 1) 0)
       (g .get-node .result) (i .1 .0)
   parts-are c =
       let n = c .before in
-      let g = got (there (beyond (shaped (parted n)))) in
+      let g = got (there (beyond (parted n))) in
       c .parts-of .ensures
       ∙ ap₂ (λ (x y : ℕ). gotParts (madeOf (entry g .args .own .kind)) x y (g .get-node .result) (n .before .before .i2 .given .0 .1 .0))
       (n .number-of3 .ensures) (g .before .before .number-of .ensures)
@@ -204,7 +156,7 @@ module _ (t : ℕ) where
   put-under-requires c κs =
       let q = c .before .before in
       let p = parted (q .before) in
-      let b = beyond (shaped p) in
+      let b = beyond p in
       let u = parts-under (subject p (q .before .before .before .i2 .given .1)) in
       let e = b .behind .ensures in
       let l = levels-as e in
@@ -216,7 +168,7 @@ module _ (t : ℕ) where
       let q = c .before .before .before .before .before .before .before in
       let p = parted (q .before) in
       parts-told (subject p (q .before .before .before .i2 .given .1))
-      (under-as (beyond (shaped p) .behind .ensures) (parts-are q) (c .before .before .before .before .put-under .ensures))
+      (under-as (beyond p .behind .ensures) (parts-are q) (c .before .before .before .before .put-under .ensures))
       (later-as _ (c .before .steps-of2 .ensures) (c .later2 .ensures))
 
   -- a switch
@@ -224,7 +176,7 @@ module _ (t : ℕ) where
   put-switch-requires c κs =
       let m = c .before .before in
       let p = switching m in
-      let b = beyond (shaped p) in
+      let b = beyond p in
       let w = switch-asks (subject p (m .enum-told .given .1)) in
       let e = b .behind .ensures in
       let l = levels-as e in
@@ -234,7 +186,7 @@ module _ (t : ℕ) where
   returns-4 c =
       let m = c .before .before .before .before .before .before .before in
       let p = switching m in
-      let b = beyond (shaped p) in
+      let b = beyond p in
       switch-told (subject p (m .enum-told .given .1)) (gives-at (b .behind .ensures) (c .before .before .before .before .put-switch .ensures))
       (later-as _ (c .before .steps-of3 .ensures) (c .later3 .ensures))
 
@@ -242,8 +194,8 @@ module _ (t : ℕ) where
   returns-5 : At lts.Need-returns-5
   returns-5 c = none-told (subject (c .before .before .before .before) (c .before .before .code .given .1)) (c .refused .ensures)
 
-pub put-case-met : {M : Type 1} (t : ℕ) → lts.Closed (claims t) (AtMeasure (kind put-case.Pre) t) put-case.Post M
-put-case-met t = lts.spec (claims t) (AtMeasure (kind put-case.Pre) t) put-case.Post
+pub put-case-met : {M : Type 1} (t : ℕ) → lts.Closed (case-claims t) (AtMeasure (kind put-case.Pre) t) put-case.Post M
+put-case-met t = lts.spec (case-claims t) (AtMeasure (kind put-case.Pre) t) put-case.Post
     (λ c κs. search needs) (get-node-requires t) (λ c κs. search needs) (λ c. returns t c .frame .long) (returns t) (behind-requires t)
     (λ c κs. search needs) (λ c κs. search needs) (shape-at-requires t) (λ c κs. search needs) (λ c. search needs) (λ c κs. search needs)
     (put-both-requires t) (λ c κs. search needs) (λ c κs. search needs) (λ c. search needs) (λ c κs. search needs) (parts-of-requires t)

@@ -20,55 +20,16 @@ use Rattle.walk.specs.PutReady.{few, gives-at}
 use Rattle.walk.specs.PutEnter.{PutEntered, enter-refused, its-kind, body-ready, body-told, own-as}
 use Rattle.walk.specs.PutLeaf.{wide-told}
 use Rattle.walk.specs.Cells.{Shown}
-use Rattle.walk.proofs.at.At.below.Reads as below
-use Rattle.sheet.proofs.byte_of.Reads as byte-of
-use Rattle.step.proofs.entry.Reads as entry
-use Rattle.walk.proofs.putter.put_add.Reads as put-add
-use Rattle.walk.proofs.putter.put_call.Reads as put-call
-use Rattle.walk.proofs.putter.put_case.Reads as put-case
-use Rattle.walk.proofs.putter.put_each.Reads as put-each
-use Rattle.walk.proofs.putter.put_leaf.Reads as put-leaf
 use Rattle.walk.proofs.putter.put_node.Reads as put-node
-use Rattle.walk.proofs.putter.put_two.Reads as put-two
-use Rattle.walk.proofs.putter.put_wide.Reads as put-wide
-use Rattle.answer.proofs.refused.Reads as refused
-use Rattle.arena.proofs.leave.Reads as leave
 use Rattle.walk.proofs.putter.+put_add+put_all+put_both+put_call+put_case+put_each+put_node+put_one+put_rebuilt+put_switch+put_two+put_under as cycle
 use cycle.Lts-put_node as lts
 use cycle.Proof.Frame.{kind, node}
-use Rattle.walk.proofs.Member.{AtMeasure, BelowMeasure, PlacesOf}
-
-abbrev claims : ℕ → lts.Claims
-claims t = (
-  entry.Asked,
-  entry.Learnt,
-  refused.Asked,
-  refused.Learnt,
-  leave.Asked,
-  leave.Learnt,
-  below.Asked,
-  below.Learnt,
-  byte-of.Asked,
-  byte-of.Learnt,
-  put-leaf.Asked,
-  put-leaf.Learnt,
-  BelowMeasure (kind put-two.Pre) t,
-  put-two.Post,
-  BelowMeasure (kind put-case.Pre) t,
-  put-case.Post,
-  BelowMeasure (kind put-call.Pre) t,
-  put-call.Post,
-  BelowMeasure (kind put-add.Pre) t,
-  put-add.Post,
-  BelowMeasure (kind put-each.Pre) t,
-  put-each.Post,
-  put-wide.Asked,
-  put-wide.Learnt,
-)
+use cycle.Proof.Claims.{node-claims}
+use Rattle.walk.proofs.Member.{AtMeasure, PlacesOf}
 
 module _ (t : ℕ) where
   abbrev At : PlacesOf node lts.Claims → Type 0
-  At P = P (claims t) (AtMeasure node t) put-node.Post
+  At P = P (node-claims t) (AtMeasure node t) put-node.Post
 
   -- PLACES: the function's entry; the node may be entered; its kind is read
   abbrev start : At lts.Else1 → At lts.Start
@@ -195,8 +156,8 @@ module _ (t : ℕ) where
       let k : b .byte-of .result ≡ 0x1D = omega (arith, its-kind (entered b) .1, i .before .if5 .left, i .if7 .left) in
       told b (wide-told (ready b) k (p .put-wide .ensures)) (c .before .before .leave8 .ensures)
 
-pub put-node-met : {M : Type 1} (t : ℕ) → lts.Closed (claims t) (AtMeasure node t) put-node.Post M
-put-node-met t = lts.spec (claims t) (AtMeasure node t) put-node.Post (λ c κs. search needs) (λ c κs. search needs) (λ c κs. search needs)
+pub put-node-met : {M : Type 1} (t : ℕ) → lts.Closed (node-claims t) (AtMeasure node t) put-node.Post M
+put-node-met t = lts.spec (node-claims t) (AtMeasure node t) put-node.Post (λ c κs. search needs) (λ c κs. search needs) (λ c κs. search needs)
     (λ c. returns t c .0 .frame .long) (returns t) (λ c. let z = outside t (start t c) .0 in record { fits = omega arith }) (λ c. outside t (start t c) .0)
     (below-requires t) (λ c κs. search needs) (put-leaf-requires t) (λ c κs. search needs) (λ c. returns-2 t c .0 .frame .long) (returns-2 t)
     (put-two-requires t) (λ c κs. search needs) (λ c. returns-3 t c .0 .frame .long) (returns-3 t) (put-case-requires t) (λ c κs. search needs)

@@ -33,67 +33,16 @@ use Rattle.walk.specs.PutMember.{
   member-44,
   member-done,
 }
-use Rattle.value.proofs.middle.Reads as middle
-use Rattle.walk.proofs.putter.stood_for.Reads as stood-for
-use Rattle.answer.proofs.is_refused.Reads as is-refused
-use Rattle.answer.proofs.start_of.Reads as start-of
-use Rattle.answer.proofs.len_of.Reads as len-of
-use Rattle.walk.proofs.scope.member.Reads as member
-use Rattle.step.proofs.member_cells.Reads as member-cells
-use Rattle.walk.proofs.at.At.behind.Reads as behind
-use Rattle.walk.proofs.at.At.with_cell.Reads as with-cell
-use Rattle.walk.proofs.putter.put_node.Reads as put-node
-use Rattle.step.proofs.place_of.Reads as place-of
-use Rattle.answer.proofs.refused.Reads as refused
-use Rattle.step.proofs.overlong.Reads as overlong
-use Rattle.walk.proofs.bytes.fill.Reads as fill
-use Rattle.answer.proofs.steps_of.Reads as steps-of
-use Rattle.answer.proofs.done.Reads as done
 use Rattle.walk.proofs.putter.put_one.Reads as put-one
 use Rattle.walk.proofs.putter.+put_add+put_all+put_both+put_call+put_case+put_each+put_node+put_one+put_rebuilt+put_switch+put_two+put_under as cycle
 use cycle.Lts-put_one as lts
-use cycle.Proof.Frame.{node, one}
-use Rattle.walk.proofs.Member.{AtMeasure, BelowMeasure, PlacesOf}
-
-abbrev claims : ℕ → lts.Claims
-claims t = (
-  middle.Asked,
-  middle.Learnt,
-  stood-for.Asked,
-  stood-for.Learnt,
-  is-refused.Asked,
-  is-refused.Learnt,
-  start-of.Asked,
-  start-of.Learnt,
-  len-of.Asked,
-  len-of.Learnt,
-  member.Asked,
-  member.Learnt,
-  member-cells.Asked,
-  member-cells.Learnt,
-  behind.Asked,
-  behind.Learnt,
-  with-cell.Asked,
-  with-cell.Learnt,
-  BelowMeasure node t,
-  put-node.Post,
-  place-of.Asked,
-  place-of.Learnt,
-  overlong.Asked,
-  overlong.Learnt,
-  refused.Asked,
-  refused.Learnt,
-  fill.Asked,
-  fill.Learnt,
-  steps-of.Asked,
-  steps-of.Learnt,
-  done.Asked,
-  done.Learnt,
-)
+use cycle.Proof.Frame.{one}
+use cycle.Proof.Claims.{one-claims}
+use Rattle.walk.proofs.Member.{AtMeasure, PlacesOf}
 
 module _ (t : ℕ) where
   abbrev At : PlacesOf one lts.Claims → Type 0
-  At P = P (claims t) (AtMeasure one t) put-one.Post
+  At P = P (one-claims t) (AtMeasure one t) put-one.Post
 
   -- PLACES: the function's entry; what the member stands for was found; it is there; its scope is made, and its cells; the place behind it; the view was
   -- put; that is done; it is known where the member's value stands; the list is short enough; it has the value
@@ -313,8 +262,8 @@ module _ (t : ℕ) where
       (c .done .ensures ∙ ap₂ (λ (x y : ℕ). doneAs (begun (found i) .middle .result) (1 + n .place-of .result .len) (x + y))
       (c .before .before .steps-of .ensures) (c .before .steps-of2 .ensures))
 
-pub put-one-met : {M : Type 1} (t : ℕ) → lts.Closed (claims t) (AtMeasure one t) put-one.Post M
-put-one-met t = lts.spec (claims t) (AtMeasure one t) put-one.Post
+pub put-one-met : {M : Type 1} (t : ℕ) → lts.Closed (one-claims t) (AtMeasure one t) put-one.Post M
+put-one-met t = lts.spec (one-claims t) (AtMeasure one t) put-one.Post
     (sub-middle t) (part-middle-start t) (part-middle-end t) (λ c κs. search needs) (stood-for-requires t) (λ c κs. search needs)
     (λ c. returns t c .frame .long) (returns t) (λ c κs. search needs) (λ c κs. search needs) (mul-slots t) (element-write-slots t) (member-requires t)
     (λ c κs. search needs) (behind-requires t) (with-cell-requires t) (put-node-requires t) (λ c κs. search needs) (λ c. returns-2 t c .frame .long)

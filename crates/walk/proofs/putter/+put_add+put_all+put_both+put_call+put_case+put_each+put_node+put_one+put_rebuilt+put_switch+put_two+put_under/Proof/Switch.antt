@@ -14,51 +14,18 @@ use Rattle.walk.specs.Puts.{put-there}
 use Rattle.walk.specs.PutReady.{few, inner-at}
 use Rattle.walk.specs.PutUnder.{parts-as, some-at, under-ready, under-as}
 use Rattle.walk.specs.PutSwitch.{Switching, defaults-asked, switch-refused, switch-parts, switch-under, switch-told}
-use Rattle.walk.proofs.at.At.after.Reads as after
-use Rattle.walk.proofs.putter.defaults.Reads as defaults
-use Rattle.answer.proofs.is_refused.Reads as is-refused
-use Rattle.answer.proofs.later.Reads as later
-use Rattle.answer.proofs.len_of.Reads as len-of
-use Rattle.sheet.proofs.number_of.Reads as number-of
 use Rattle.walk.proofs.putter.put_switch.Reads as put-switch
-use Rattle.walk.proofs.putter.put_under.Reads as put-under
-use Rattle.walk.proofs.at.At.raised.Reads as raised
-use Rattle.answer.proofs.start_of.Reads as start-of
-use Rattle.answer.proofs.steps_of.Reads as steps-of
 use Rattle.walk.proofs.putter.+put_add+put_all+put_both+put_call+put_case+put_each+put_node+put_one+put_rebuilt+put_switch+put_two+put_under as cycle
 use cycle.Lts-put_switch as lts
-use cycle.Proof.Frame.{switch, under}
-use Rattle.walk.proofs.Member.{AtMeasure, BelowMeasure, PlacesOf}
-
-abbrev claims : ℕ → lts.Claims
-claims t = (
-  defaults.Asked,
-  defaults.Learnt,
-  is-refused.Asked,
-  is-refused.Learnt,
-  start-of.Asked,
-  start-of.Learnt,
-  len-of.Asked,
-  len-of.Learnt,
-  number-of.Asked,
-  number-of.Learnt,
-  after.Asked,
-  after.Learnt,
-  raised.Asked,
-  raised.Learnt,
-  BelowMeasure under t,
-  put-under.Post,
-  steps-of.Asked,
-  steps-of.Learnt,
-  later.Asked,
-  later.Learnt,
-)
+use cycle.Proof.Frame.{switch}
+use cycle.Proof.Claims.{switch-claims}
+use Rattle.walk.proofs.Member.{AtMeasure, PlacesOf}
 
 module _ (t : ℕ) where
   abbrev At : PlacesOf switch lts.Claims → Type 0
-  At P = P (claims t) (AtMeasure switch t) put-switch.Post
+  At P = P (switch-claims t) (AtMeasure switch t) put-switch.Post
 
-  -- PLACES: the function's entry; the defaults were got; they are there; how long they are; the nodes; the place behind them
+  -- PLACES: the function's entry; the defaults were got; they are there; how long they are; the nodes
   abbrev entry : At lts.After-defaults → At lts.Start
   entry c = c .before .before .before .before .before
 
@@ -71,11 +38,8 @@ module _ (t : ℕ) where
   abbrev sized : At lts.After-number-of2 → At lts.After-len-of
   sized c = c .before .before
 
-  abbrev named : At lts.After-after → At lts.After-number-of2
-  named c = c .before
-
-  abbrev beyond : At lts.After-raised → At lts.After-after
-  beyond c = c .before
+  abbrev named : At lts.After-raised → At lts.After-number-of2
+  named c = c .before .before
 
   -- WHAT IS KNOWN THERE
   switching : (c : At lts.Start) → Switching (put-there (c .pre .1 .0)) (c .args .view .now) (c .args .n)
@@ -85,14 +49,13 @@ module _ (t : ℕ) where
   done c = sym (c .before .is-refused .ensures) ∙ c .if1 .left
 
   -- the place of the branch
-  past : (c : At lts.After-raised) → let g = got (there (sized (named (beyond c)))) in let at = entry g .args .at in let r = g .defaults .result in
+  past : (c : At lts.After-raised) → let g = got (there (sized (named c))) in let at = entry g .args .at in let r = g .defaults .result in
       c .raised .result ≡ record { levels = at .levels; left = at .left - stepsOf r; top = at .top + (startOf r + lenOf r); cells = at .cells }
   past c =
-      let a = beyond c in
-      let s = sized (named a) in
+      let s = sized (named c) in
       let at = entry (got (there s)) .args .at in
       let r = got (there s) .defaults .result in
-      c .raised .ensures ∙ ap (λ (x : Where). raisedOf x (s .before .start-of .result + s .len-of .result)) (a .after .ensures)
+      c .raised .ensures ∙ ap (λ (x : Where). raisedOf x (s .before .start-of .result + s .len-of .result)) (c .before .after .ensures)
       ∙ ap₂ (λ (f l : ℕ). record { levels = at .levels; left = at .left - stepsOf r; top = at .top + (f + l); cells = at .cells })
       (s .before .start-of .ensures) (s .len-of .ensures)
 
@@ -126,13 +89,13 @@ module _ (t : ℕ) where
 
   add-raised : At lts.Need-add-raised
   add-raised c =
-      let s = sized (named c) in
+      let s = sized (c .before) in
       let z = got (there s) .defaults .ensures .sizes (done (there s)) in
       record { fits = omega (arith, s .before .start-of .ensures, s .len-of .ensures, z .0, z .1) }
 
   raised-requires : At lts.Need-raised-requires
   raised-requires c κs =
-      let s = sized (named c) in
+      let s = sized (c .before) in
       let i = there s in
       let z = got i .defaults .ensures .sizes (done i) in
       let e = ap (λ (x : Where). x .top) (c .after .ensures) in
@@ -141,7 +104,7 @@ module _ (t : ℕ) where
   put-under-requires : At lts.Need-put-under-requires
   put-under-requires c κs =
       let r = c .before .before in
-      let n = named (beyond r) in
+      let n = named r in
       let i = there (sized n) in
       let g = got i in
       let u = switch-under (switching (entry g)) (g .defaults .ensures) (done i) in
@@ -152,7 +115,7 @@ module _ (t : ℕ) where
   returns-2 : At lts.Need-returns-2
   returns-2 c =
       let r = c .before .before .before .before .before .before .before in
-      let n = named (beyond r) in
+      let n = named r in
       let i = there (sized n) in
       let g = got i in
       let w = switching (entry g) in
@@ -161,8 +124,8 @@ module _ (t : ℕ) where
       switch-told w (g .defaults .ensures) (done i) o (λ n. few (u .asked) (o _ _ (u .parts .parts)) .at n)
       (later-as _ (c .before .steps-of .ensures) (c .later .ensures))
 
-pub put-switch-met : {M : Type 1} (t : ℕ) → lts.Closed (claims t) (AtMeasure switch t) put-switch.Post M
-put-switch-met t = lts.spec (claims t) (AtMeasure switch t) put-switch.Post
+pub put-switch-met : {M : Type 1} (t : ℕ) → lts.Closed (switch-claims t) (AtMeasure switch t) put-switch.Post M
+put-switch-met t = lts.spec (switch-claims t) (AtMeasure switch t) put-switch.Post
     (defaults-requires t) (λ c κs. search needs) (λ c. returns t c .frame .long) (returns t) (λ c κs. search needs) (λ c κs. search needs)
     (λ c κs. search needs) (λ c κs. search needs) (after-requires t) (add-raised t) (raised-requires t) (put-under-requires t) (λ c κs. search needs)
     (λ c κs. search needs) (λ c. returns-2 t c .frame .long) (returns-2 t)
