@@ -21,7 +21,7 @@ use Rattle.step.specs.declared.Scope.{Scope}
 use Rattle.walk.specs.declared.at.At.{At}
 use Rattle.arena.specs.Chain.{chainAt}
 use Rattle.walk.specs.Said.{said, beneath, whyIn, bytesAt, length-bytes, Left, up, on, barred-said, left-said, said-refused}
-use Rattle.walk.specs.Answers.{Answers, answer-by, refuse, as-refused, step, no-step, not-had}
+use Rattle.walk.specs.Answers.{Answers, refuse, as-refused, step, no-step, not-had}
 use Rattle.walk.specs.Frames.{kept-frame, frame-then}
 use Rattle.walk.specs.GetEnter.{EntryCode, no-level-left, no-step-left, left-kept, same-sheet, kind-range, record-there, record-known}
 use Rattle.walk.specs.Puts.{enter, own, run, Ready, Wrote, Gives, Few}

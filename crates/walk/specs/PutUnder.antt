@@ -29,7 +29,6 @@ use Rattle.walk.specs.Wholes.{maker}
 use Rattle.walk.specs.Puts.{
   Task,
   enter,
-  inside,
   insideOf,
   rebuilt,
   rebuiltOf,
