@@ -15,6 +15,7 @@ use Rattle.rules.specs.Numbers.{ALLOWANCE, SCRATCH, STACK, CHAIN}
 use Rattle.step.specs.declared.Scope.{Scope}
 use Rattle.walk.specs.Said.{said}
 use Rattle.walk.specs.declared.at.At.{At}
+use Rattle.walk.specs.declared.at.Own.{Own}
 use Rattle.walk.specs.Parts.{Kept}
 use Rattle.walk.specs.Arena.{Held, Scoped}
 use Rattle.walk.specs.Members.{getFrom}
@@ -69,6 +70,13 @@ pub record Stands (a : List ℕ) (top start len : ℕ) (v : Value) : Type 0 wher
 pub record Gives (b a s : List ℕ) (sc : Scope) (from top left r l : ℕ) (t : Task) : Type 0 where
   pub kept : Kept top b a
   pub told : (sh : Sheet) → readSheet s ≡ ok sh → (μ : Env) → Scoped b sc from μ → Answers (Stands a top) (said a l r) left (run l sh t μ)
+
+-- THE CONTRACT of the functions of the kinds, for the node o at a place
+abbrev pub KindAsked : (s table a : List ℕ) → Scope → Own → At → Type 0
+KindAsked s table a sc o at = Ready s table a sc (at .top) (suc (at .levels)) (suc (at .left)) (own (o .kind) s (o .n))
+
+abbrev pub KindTells : (s b a : List ℕ) → Scope → Own → At → ℕ → Type 0
+KindTells s b a sc o at r = Gives b a s sc (at .top) (at .top) (at .left) r (at .levels) (own (o .kind) s (o .n))
 
 -- WHERE A FUNCTION OF A KIND IS: what it is lent, and its place
 

@@ -22,11 +22,11 @@ use Rattle.walk.specs.Puts.{enter, run, PutHere, PutAsked, PutAsks, PutT
 use Rattle.walk.specs.PutReady.{ready-for, given-shown}
 use Rattle.walk.specs.PutTwo.{shown-shape}
 
-module _ {h : PutHere} {view : List ℕ} {k n : ℕ} (w : PutAsked h (Shown view) k n) (add : k ≡ 0x1B) where
+module _ {h : PutHere} {view : List ℕ} {x k n : ℕ} (w : PutAsked h (Shown view) x k n) (add : k ≡ 0x1B) where
   the-number : {i : ℕ} {v : Value} → shapes.Number i ≡ shapeOf view → Shown view v → NumberOf v i
   the-number {v = v} e s = number-of v (shown-shape s e) (s .readable)
 
-  pub add-51 : {r : ℕ} → ((i : ℕ) → shapes.Number i ≡ shapeOf view → ⊥) → r ≡ 51 → PutTells h (Shown view) (h .arena) (h .slots) r k n
+  pub add-51 : {r : ℕ} → ((i : ℕ) → shapes.Number i ≡ shapeOf view → ⊥) → r ≡ 51 → PutTells h (Shown view) (h .arena) (h .slots) r x k n
   unfolding run Text.putNode
   add-51 other e = rw add (record {
     frame = frame-refl _ _;
@@ -36,7 +36,7 @@ module _ {h : PutHere} {view : List ℕ} {k n : ℕ} (w : PutAsked h (Shown view
   })
 
   module _ {i : ℕ} (num : shapes.Number i ≡ shapeOf view) where
-    pub add-52 : {r : ℕ} → i < amountAt (h .sheet) n → r ≡ 52 → PutTells h (Shown view) (h .arena) (h .slots) r k n
+    pub add-52 : {r : ℕ} → i < amountAt (h .sheet) n → r ≡ 52 → PutTells h (Shown view) (h .arena) (h .slots) r x k n
     unfolding run Text.putNode
     add-52 lt e = rw add (record {
       frame = frame-refl _ _;
@@ -56,10 +56,10 @@ module _ {h : PutHere} {view : List ℕ} {k n : ℕ} (w : PutAsked h (Shown view
     pub add-asks : PutAsks h (Shown lessView) (enter (getD (h .sheet) (n + 1) 0))
     add-asks =
         let z : h .top + 513 * suc (h .levels) ≤ CHAIN = w .room in
-        ready-for w (rw add at (w .known .1) .0 .inside) (given-shown (w .given) less) refl (omega arith) (omega arith) (le-refl _) (omega arith)
+        ready-for w (rw add at (w .known .1 .1) .0 .inside) (given-shown (w .given) less) refl (omega arith) (omega arith) (le-refl _) (omega arith)
 
     pub add-told : {a slots : List ℕ} {r : ℕ} → amountAt (h .sheet) n ≤ i → PutTold h (Shown lessView) a slots r (enter (getD (h .sheet) (n + 1) 0))
-        → PutTells h (Shown view) a slots r k n
+        → PutTells h (Shown view) a slots r x k n
     unfolding run Text.putNode
     add-told le g = rw add (record {
       frame = g .frame;

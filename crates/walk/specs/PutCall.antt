@@ -22,8 +22,8 @@ use Rattle.walk.specs.CellLaws.{named-pick}
 use Rattle.walk.specs.GetCall.{root-read, root-known, call-section}
 use Rattle.walk.specs.Puts.{enter, run, Given, PutHere, put-within, PutAsked, PutAsks, PutTold, PutTells}
 
-module _ {h : PutHere} {P : Value → Type 0} {k n : ℕ} (_ : PutAsked h P k n) (call : k ≡ 0x1A) where
-  pub call-42₁ : {r : ℕ} → h .scope .count ≤ getD (h .sheet) (n + 2) 0 → r ≡ 42 → PutTells h P (h .arena) (h .slots) r k n
+module _ {h : PutHere} {P : Value → Type 0} {x k n : ℕ} (_ : PutAsked h P x k n) (call : k ≡ 0x1A) where
+  pub call-42₁ : {r : ℕ} → h .scope .count ≤ getD (h .sheet) (n + 2) 0 → r ≡ 42 → PutTells h P (h .arena) (h .slots) r x k n
   unfolding run Text.putNode
   call-42₁ g e = rw call (record {
     frame = frame-refl _ _;
@@ -32,7 +32,7 @@ module _ {h : PutHere} {P : Value → Type 0} {k n : ℕ} (_ : PutAsked h P k n)
   })
 
   pub call-42₂ : {r : ℕ} → getD (h .sheet) (n + 2) 0 < h .scope .count → h .scope .count ≤ getD (h .sheet) (n + 3) 0 → r ≡ 42
-      → PutTells h P (h .arena) (h .slots) r k n
+      → PutTells h P (h .arena) (h .slots) r x k n
   unfolding run Text.putNode
   call-42₂ f g e = rw call (record {
     frame = frame-refl _ _;
@@ -43,14 +43,14 @@ module _ {h : PutHere} {P : Value → Type 0} {k n : ℕ} (_ : PutAsked h P k n)
   })
 
 -- AT A STAGE: both variables are in scope, and `root` is the section's
-pub record PutLooked (h : PutHere) (P : Value → Type 0) (k n root : ℕ) : Type 0 where
-  pub asked : PutAsked h P k n
+pub record PutLooked (h : PutHere) (P : Value → Type 0) (x k n root : ℕ) : Type 0 where
+  pub asked : PutAsked h P x k n
   pub call : k ≡ 0x1A
   pub first-in : getD (h .sheet) (n + 2) 0 < h .scope .count
   pub second-in : getD (h .sheet) (n + 3) 0 < h .scope .count
   pub root-is : root ≡ sectionAt (h .sheet) (getD (h .sheet) (n + 1) 0)
 
-module _ {h : PutHere} {P : Value → Type 0} {k n root : ℕ} (w : PutLooked h P k n root) where
+module _ {h : PutHere} {P : Value → Type 0} {x k n root : ℕ} (w : PutLooked h P x k n root) where
   -- the section's scope, and the caller's cells
   abbrev pub section-here : PutHere
   section-here = put-within h (picked (h .scope) (getD (h .sheet) (n + 2) 0) (getD (h .sheet) (n + 3) 0))
@@ -84,7 +84,7 @@ module _ {h : PutHere} {P : Value → Type 0} {k n root : ℕ} (w : PutLooked h 
         variables = omega (arith, w .first-in);
         more-cells = omega arith;
         sheet = a .sheet;
-        known = root-known (a .sheet) (call-section (a .sheet .sh) (h .sheet) n (w .call) (a .known)) (w .root-is);
+        known = root-known (a .sheet) (call-section (a .sheet .sh) (h .sheet) n (w .call) (a .known .1)) (w .root-is);
         env = _;
         names = _;
         value = _;
@@ -92,7 +92,7 @@ module _ {h : PutHere} {P : Value → Type 0} {k n root : ℕ} (w : PutLooked h 
         given = given-few (a .given);
       }
 
-  pub call-told : {a slots : List ℕ} {r : ℕ} → PutTold section-here P a slots r (enter root) → PutTells h P a slots r k n
+  pub call-told : {a slots : List ℕ} {r : ℕ} → PutTold section-here P a slots r (enter root) → PutTells h P a slots r x k n
   unfolding run Text.putNode
   call-told g = rw (w .call) (record {
     frame = g .frame;
@@ -102,6 +102,6 @@ module _ {h : PutHere} {P : Value → Type 0} {k n root : ℕ} (w : PutLooked h 
         (give-some 42 _ (elem-at σ _ 0 (omega (arith, m .as-many, m .scoped .count, w .first-in)))
         (give-some 42 _ (elem-at μ _ vfalse (omega (arith, m .scoped .count, w .second-in)))
         (give-some 42 _ (elem-at σ _ 0 (omega (arith, m .as-many, m .scoped .count, w .second-in)))
-        (rw (← root-read (w .asked .sheet) (call-section (w .asked .sheet .sh) (h .sheet) n (w .call) (w .asked .known)) (w .root-is) (m .read))
+        (rw (← root-read (w .asked .sheet) (call-section (w .asked .sheet .sh) (h .sheet) n (w .call) (w .asked .known .1)) (w .root-is) (m .read))
         (g .told (given-few m))))));
   })

@@ -79,7 +79,7 @@ use Rattle.walk.specs.Puts.{
   PutTells,
 }
 use Rattle.walk.specs.PutReady.{ready-for, get-ready, given-later, few}
-use Rattle.walk.specs.PutUnder.{Under}
+use Rattle.walk.specs.PutUnder.{Under, gotParts}
 use Rattle.walk.specs.PutSwitch.{Switching}
 
 -- THE RULE, by the branch that the view takes
@@ -176,26 +176,26 @@ module _ (l : ℕ) (sh : Sheet) (s : List ℕ) (n : ℕ) (μ : Env) (σ : List �
   split-rule (aPairOf a b) p q = refl
 
   -- once the subject is got
-  module _ {P : (start len : ℕ) → Cells → Type 0} {r : Said} {left k : ℕ} (case : Case k) (c : ℕ) where
+  module _ {P : (start len : ℕ) → Cells → Type 0} {r : Said} {left k : ℕ} (case : Case k) (x c : ℕ) where
     case-done : {o : Value} {i : ℕ} {q : Said} → within left (get l sh (getD s (n + 1) 0) μ) ≡ got o i
         → Answers P q (left - i) (putBranch l sh s n k μ σ v W o (takeOf k (shape o) (holds (getD s (n + 3) 0) v) (holds (getD s (n + 5) 0) v)))
-        → r ≡ after i q → Answers P r left (run l sh c (own k s n) μ σ v W)
+        → r ≡ after i q → Answers P r left (run l sh c (own x k s n) μ σ v W)
     unfolding run Text.putNode withDefaults
     case-done {o} e t d = go case
       where
-        go : Case k → Answers P r left (run l sh c (own k s n) μ σ v W)
-        go (lists x) = rw x (then-done _ _ e (answer-by (rw x at t) (list-rule o)) d)
-        go (truths x) = rw x (then-done _ _ e (answer-by (rw x at t) (truth-rule o)) d)
-        go (splits x) = rw x (then-done _ _ e (answer-by (rw x at t) (split-rule o _ _)) d)
+        go : Case k → Answers P r left (run l sh c (own x k s n) μ σ v W)
+        go (lists f) = rw f (then-done _ _ e (answer-by (rw f at t) (list-rule o)) d)
+        go (truths f) = rw f (then-done _ _ e (answer-by (rw f at t) (truth-rule o)) d)
+        go (splits f) = rw f (then-done _ _ e (answer-by (rw f at t) (split-rule o _ _)) d)
 
-    case-none : {e : Why} {i : ℕ} → within left (get l sh (getD s (n + 1) 0) μ) ≡ met e i → r ≡ Denied e → Answers P r left (run l sh c (own k s n) μ σ v W)
+    case-none : {e : Why} {i : ℕ} → within left (get l sh (getD s (n + 1) 0) μ) ≡ met e i → r ≡ Denied e → Answers P r left (run l sh c (own x k s n) μ σ v W)
     unfolding run Text.putNode
     case-none e d = go case
       where
-        go : Case k → Answers P r left (run l sh c (own k s n) μ σ v W)
-        go (lists x) = rw x (then-refused _ _ e d)
-        go (truths x) = rw x (then-refused _ _ e d)
-        go (splits x) = rw x (then-refused _ _ e d)
+        go : Case k → Answers P r left (run l sh c (own x k s n) μ σ v W)
+        go (lists f) = rw f (then-refused _ _ e d)
+        go (truths f) = rw f (then-refused _ _ e d)
+        go (splits f) = rw f (then-refused _ _ e d)
 
 -- THE SUBJECT
 
@@ -234,37 +234,37 @@ put-behind h a g = put-further h a (h .slots) (topAfter (h .top) (startOf g) (le
 
 -- the nodes of a case
 module _ (s : List ℕ) (sh : Sheet) (n : ℕ) where
-  subject-known : {k : ℕ} → Case k → Known sh (own k s n) → getD s (n + 1) 0 < length (sh .nodes)
+  subject-known : {k : ℕ} → Case k → gets.Known sh (gets.own k s n) → getD s (n + 1) 0 < length (sh .nodes)
   subject-known (lists e) r = rw e at (r .1) .0 .inside
   subject-known (truths e) r = rw e at (r .1) .0 .inside
   subject-known (splits e) r = rw e at (r .1) .0 .inside
 
-  plain-known : {k i byte : ℕ} {q : Shape} → Took k q (Plain i byte) → Known sh (own k s n) → getD s (n + i) 0 < length (sh .nodes)
+  plain-known : {k i byte : ℕ} {q : Shape} → Took k q (Plain i byte) → gets.Known sh (gets.own k s n) → getD s (n + i) 0 < length (sh .nodes)
   plain-known (emptied e) r = rw e at (r .1) .1 .0 .inside
   plain-known (denied e) r = rw e at (r .1) .1 .0 .inside
   plain-known (affirmed e) r = rw e at (r .1) .1 .1 .1 .0 .inside
 
-  switch-known : {k : ℕ} {q : Shape} → Took k q Switch → Known sh (own k s n) → Known sh (switchAt s n)
+  switch-known : {k : ℕ} {q : Shape} → Took k q Switch → gets.Known sh (gets.own k s n) → Known sh (switchAt s n)
   switch-known (switched e f) r =
       let z = rw e at (r .1) in
       ((z .1 .1 .1 .0 .inside, z .0 .inside), (z .1 .1 .1 .1 .1 .0 .inside, z .1 .1 .1 .1 .1 .1 .0 .inside))
 
-module _ {h : PutHere} {view : List ℕ} {k n : ℕ} (w : PutAsked h (Shown view) k n) (case : Case k) where
+module _ {h : PutHere} {view : List ℕ} {x k n : ℕ} (w : PutAsked h (Shown view) x k n) (case : Case k) where
   pub subject-asks : Asks (get-here h) (getD (h .sheet) (n + 1) 0)
-  subject-asks = get-ready w (subject-known (h .sheet) (w .sheet .sh) n case (w .known)) (omega arith) (omega arith)
+  subject-asks = get-ready w (subject-known (h .sheet) (w .sheet .sh) n case (w .known .1)) (omega arith) (omega arith)
 
   pub subject-refused : {a : List ℕ} {g : ℕ} → ToldOf (get-here h) a g (getD (h .sheet) (n + 1) 0) → isRefusal g ≡ true
-      → PutTells h (Shown view) a (h .slots) g k n
+      → PutTells h (Shown view) a (h .slots) g x k n
   unfolding gets.run
-  subject-refused {g = g} t e = let x = said-refused _ _ g e in record {
+  subject-refused {g = g} t e = let d = said-refused _ _ g e in record {
     frame = kept-frame (t .kept) (w .base);
     long = refl;
-    told = λ {sh} {μ} {σ} {v} {W} m. case-none (h .levels) sh (h .sheet) n μ σ v W case (h .count) (not-had (t .told sh (m .read) μ (m .scoped)) x .1) x;
+    told = λ {sh} {μ} {σ} {v} {W} m. case-none (h .levels) sh (h .sheet) n μ σ v W case x (h .count) (not-had (t .told sh (m .read) μ (m .scoped)) d .1) d;
   }
 
 -- AT A STAGE: the subject was got, as the answer g, is a value of the shape q, and the view takes the branch d
-pub record PutSubject (h : PutHere) (view : List ℕ) (k n g : ℕ) (a : List ℕ) (q : Shape) (d : Branch) : Type 0 where
-  pub asked : PutAsked h (Shown view) k n
+pub record PutSubject (h : PutHere) (view : List ℕ) (x k n g : ℕ) (a : List ℕ) (q : Shape) (d : Branch) : Type 0 where
+  pub asked : PutAsked h (Shown view) x k n
   pub case : Case k
   pub gives : ToldOf (get-here h) a g (getD (h .sheet) (n + 1) 0)
   pub sized : Sized (h .top) (h .left) (h .levels) g
@@ -273,7 +273,7 @@ pub record PutSubject (h : PutHere) (view : List ℕ) (k n g : ℕ) (a : List �
   pub takes : d ≡ takeOf k q (passesBytes (getD (h .sheet) (n + 3) 0) view) (passesBytes (getD (h .sheet) (n + 5) 0) view)
   pub took : Took k q d
 
-module _ {h : PutHere} {view : List ℕ} {k n g : ℕ} {a : List ℕ} {q : Shape} {d : Branch} (w : PutSubject h view k n g a q d) where
+module _ {h : PutHere} {view : List ℕ} {x k n g : ℕ} {a : List ℕ} {q : Shape} {d : Branch} (w : PutSubject h view x k n g a q d) where
   abbrev top′ : ℕ
   top′ = topAfter (h .top) (startOf g) (lenOf g)
 
@@ -307,27 +307,28 @@ module _ {h : PutHere} {view : List ℕ} {k n g : ℕ} {a : List ℕ} {q : Shape
       → ((sh : Sheet) (μ : Env) (σ : List ℕ) (v : Value) (W : Cells) (o : Value) → Held a (h .top + lenOf g) (startOf g) (lenOf g) o
       → Given a (h .slots) (h .sheet) (Shown view) (h .scope) (h .cells) (h .count) (h .count) top′ sh μ σ v W
       → Answers (Wrote a₂ slots (h .count)) (said a₂ (h .levels) p) (h .left - stepsOf g) (putBranch (h .levels) sh (h .sheet) n k μ σ v W o d))
-      → PutTells h (Shown view) a₂ slots r k n
+      → PutTells h (Shown view) a₂ slots r x k n
   unfolding gets.run
   told-by {a₂} {p = p} {r = r} asks t is rule =
       let s = w .sized .at (w .done) in
-      let x : said a₂ (h .levels) r ≡ after (stepsOf g) (said a₂ (h .levels) p) = ap (said _ _) is ∙ later-said _ _ p (stepsOf g)
+      let y : said a₂ (h .levels) r ≡ after (stepsOf g) (said a₂ (h .levels) p) = ap (said _ _) is ∙ later-said _ _ p (stepsOf g)
       (λ n. let z = few asks t .at n in omega (arith, w .asked .few)) in
       record {
         frame = frame-then (kept-frame (w .gives .kept) (w .asked .base)) (t .frame) (w .asked .base) (up .over);
         long = t .long;
         told = λ {sh} {μ} {σ} {v} {W} m.
             let o = had (w .gives .told sh (m .read) μ (m .scoped)) (said-done _ _ g (w .done)) in
-            case-done (h .levels) sh (h .sheet) n μ σ v W (w .case) (h .count) (o .is)
+            case-done (h .levels) sh (h .sheet) n μ σ v W (w .case) x (h .count) (o .is)
             (rw (← takes-of (o .that .held) (m .shown))
-            (rule sh μ σ v W (o .value) (o .that .held) (given-later m (w .gives .kept) (w .asked .base) top′ (up .over)))) x;
+            (rule sh μ σ v W (o .value) (o .that .held) (given-later m (w .gives .kept) (w .asked .base) top′ (up .over)))) y;
       }
 
 -- A BRANCH WITHOUT VARIABLES
-module _ {h : PutHere} {view : List ℕ} {k n g i byte : ℕ} {a : List ℕ} {q : Shape} (w : PutSubject h view k n g a q (Plain i byte)) where
-  pub plain-asks : PutAsks (put-behind h a g) (Shown view) (pair (getD (h .sheet) (n + i) 0) (getD (h .sheet) (n + 1) 0) vfalse)
-  plain-asks = behind-asks w
-      (plain-known (h .sheet) (w .asked .sheet .sh) n (w .took) (w .asked .known), subject-known (h .sheet) (w .asked .sheet .sh) n (w .case) (w .asked .known))
+module _ {h : PutHere} {view : List ℕ} {x k n g i byte : ℕ} {a : List ℕ} {q : Shape} (w : PutSubject h view x k n g a q (Plain i byte)) where
+  pub plain-asks : (u : Value) → PutAsks (put-behind h a g) (Shown view) (pair (getD (h .sheet) (n + i) 0) (getD (h .sheet) (n + 1) 0) u)
+  plain-asks u =
+      let r = w .asked .known .1 in
+      behind-asks w (plain-known (h .sheet) (w .asked .sheet .sh) n (w .took) r, subject-known (h .sheet) (w .asked .sheet .sh) n (w .case) r)
 
   pub plain-view : SomeView (byte ∷ [])
   plain-view = record { value = byteValue byte; shown = byte-shown (w .took) }
@@ -335,19 +336,14 @@ module _ {h : PutHere} {view : List ℕ} {k n g i byte : ℕ} {a : List ℕ} {q 
   pub plain-told : {a₂ slots : List ℕ} {p r : ℕ}
       → ((u : Value) → Shown (byte ∷ []) u
       → PutTold (put-behind h a g) (Shown view) a₂ slots p (pair (getD (h .sheet) (n + i) 0) (getD (h .sheet) (n + 1) 0) u))
-      → r ≡ laterAs p (stepsOf g) → PutTells h (Shown view) a₂ slots r k n
+      → r ≡ laterAs p (stepsOf g) → PutTells h (Shown view) a₂ slots r x k n
   unfolding run putBranch
   plain-told t is =
       let z = t _ (byte-shown (w .took)) in
-      told-by w (behind-asks w (
-        plain-known (h .sheet) (w .asked .sheet .sh) n (w .took) (w .asked .known),
-        subject-known (h .sheet) (w .asked .sheet .sh) n (w .case)
-            (w .asked .known),
-      )) z is
-      (λ sh μ σ v W o _ m. z .told m)
+      told-by w (plain-asks _) z is (λ sh μ σ v W o _ m. z .told m)
 
 -- A BRANCH WITH TWO VARIABLES, the subject's parts
-module _ {h : PutHere} {view : List ℕ} {k n g i mid : ℕ} {a : List ℕ} {q : Shape} (w : PutSubject h view k n g a q (Parts i mid)) where
+module _ {h : PutHere} {view : List ℕ} {x k n g i mid : ℕ} {a : List ℕ} {q : Shape} (w : PutSubject h view x k n g a q (Parts i mid)) where
   the-parts : {o : Value} → Held a (h .top + lenOf g) (startOf g) (lenOf g) o
       → PartsHeld a (topAfter (h .top) (startOf g) (lenOf g)) (startOf g) (lenOf g) mid o
   the-parts {o} e = parts-held o (took-fits (w .took)) (held-shape e (w .shape)) (held-above (up w) e)
@@ -371,26 +367,24 @@ module _ {h : PutHere} {view : List ℕ} {k n g i mid : ℕ} {a : List ℕ} {q :
 
   parts-task : Known (w .asked .sheet .sh) (inside (madeOf k) (getD (h .sheet) (n + i) 0) (getD (h .sheet) (n + 1) 0) vfalse vfalse)
   parts-task =
-      let f = took-fits (w .took) in (
-        (parts-known (h .sheet) (w .asked .sheet .sh) n f (w .asked .known), subject-known (h .sheet) (w .asked .sheet .sh) n (w .case) (w .asked .known)),
-        made-of f,
-      )
+      let f = took-fits (w .took) in
+      let r = w .asked .known .1 in
+      ((parts-known (h .sheet) (w .asked .sheet .sh) n f r, subject-known (h .sheet) (w .asked .sheet .sh) n (w .case) r), made-of f)
 
-  pub parts-under : Under (put-behind h a g) (Shown view) (madeOf k) (getD (h .sheet) (n + i) 0) (getD (h .sheet) (n + 1) 0) (startOf g + 1) (mid - 1)
-      (lenOf g - mid)
+  pub parts-under : Under (put-behind h a g) (Shown view) (gotParts (madeOf k) (getD (h .sheet) (n + i) 0) (getD (h .sheet) (n + 1) 0) g mid)
   parts-under = record { asked = behind-asks w parts-task; inner = inner w; parts = record { f = _; r = _; parts = parts-at old } }
 
   pub parts-told : {a₂ slots : List ℕ} {p r : ℕ}
       → ((f u : Value) → PartsAt a (topAfter (h .top) (startOf g) (lenOf g)) (startOf g + 1) (mid - 1) (lenOf g - mid) f u
       → PutTold (put-behind h a g) (Shown view) a₂ slots p (inside (madeOf k) (getD (h .sheet) (n + i) 0) (getD (h .sheet) (n + 1) 0) f u))
-      → r ≡ laterAs p (stepsOf g) → PutTells h (Shown view) a₂ slots r k n
+      → r ≡ laterAs p (stepsOf g) → PutTells h (Shown view) a₂ slots r x k n
   unfolding run putBranch onTwo
   parts-told t is =
       told-by w (behind-asks w parts-task) (t _ _ (parts-at old)) is
       (λ sh μ σ v W o e m. let p = the-parts e in rw (p .are) (t _ _ (parts-at p) .told m))
 
 -- A SWITCH to the branch with members
-module _ {h : PutHere} {view : List ℕ} {k n g : ℕ} {a : List ℕ} {q : Shape} (w : PutSubject h view k n g a q Switch) where
+module _ {h : PutHere} {view : List ℕ} {x k n g : ℕ} {a : List ℕ} {q : Shape} (w : PutSubject h view x k n g a q Switch) where
   pub switch-asks : Switching (put-behind h a g) view n
   unfolding size sizes
   switch-asks =
@@ -399,28 +393,27 @@ module _ {h : PutHere} {view : List ℕ} {k n g : ℕ} {a : List ℕ} {q : Shape
       let e = empty-of (d .value) (sym (was-empty (w .took)) ∙ held-shape (d .that .held) (w .shape)) in
       let one = rw e at (d .that .held .long) in
       record {
-        asked = behind-asks w (switch-known (h .sheet) (w .asked .sheet .sh) n (w .took) (w .asked .known));
+        asked = behind-asks w (switch-known (h .sheet) (w .asked .sheet .sh) n (w .took) (w .asked .known .1));
         inner = inner w;
         room = omega (arith, up w .near);
       }
 
   pub switch-told : {a₂ slots : List ℕ} {p r : ℕ} → PutTold (put-behind h a g) (Shown view) a₂ slots p (switchAt (h .sheet) n) → r ≡ laterAs p (stepsOf g)
-      → PutTells h (Shown view) a₂ slots r k n
+      → PutTells h (Shown view) a₂ slots r x k n
   unfolding run putBranch
-  switch-told t is = told-by w (behind-asks w (switch-known (h .sheet) (w .asked .sheet .sh) n (w .took) (w .asked .known))) t is
-      (λ sh μ σ v W o _ m. t .told m)
+  switch-told t is = told-by w (switch-asks .asked) t is (λ sh μ σ v W o _ m. t .told m)
 
 -- NO BRANCH
-module _ {h : PutHere} {view : List ℕ} {k n g c : ℕ} {a : List ℕ} {q : Shape} (w : PutSubject h view k n g a q (Refused c)) where
-  pub none-told : {r : ℕ} → r ≡ c → PutTells h (Shown view) a (h .slots) r k n
+module _ {h : PutHere} {view : List ℕ} {x k n g c : ℕ} {a : List ℕ} {q : Shape} (w : PutSubject h view x k n g a q (Refused c)) where
+  pub none-told : {r : ℕ} → r ≡ c → PutTells h (Shown view) a (h .slots) r x k n
   unfolding gets.run putBranch after
   none-told {r} is =
-      let x : said a (h .levels) r ≡ Own c = ap (said _ _) is ∙ code-said a (h .levels) (w .took) in
+      let y : said a (h .levels) r ≡ Own c = ap (said _ _) is ∙ code-said a (h .levels) (w .took) in
       record {
         frame = kept-frame (w .gives .kept) (w .asked .base);
         long = refl;
         told = λ {sh} {μ} {σ} {v} {W} m.
             let o = had (w .gives .told sh (m .read) μ (m .scoped)) (said-done _ _ g (w .done)) in
-            case-done (h .levels) sh (h .sheet) n μ σ v W (w .case) (h .count) {q = Own c} (o .is)
-            (rw (← takes-of w (o .that .held) (m .shown)) (refuse refl)) x;
+            case-done (h .levels) sh (h .sheet) n μ σ v W (w .case) x (h .count) {q = Own c} (o .is)
+            (rw (← takes-of w (o .that .held) (m .shown)) (refuse refl)) y;
       }

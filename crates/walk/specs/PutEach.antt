@@ -45,11 +45,11 @@ view-none {v = v} s e = no-list v (ap (λ (x : List ℕ). unfitRest 3 (getD x 0 
 view-list : {view : List ℕ} {v : Value} → Shown view v → unfitRest 3 (getD view 0 0) ≡ false → View asList v
 view-list {v = v} s e = a-list v (ap (λ (x : List ℕ). unfitRest 3 (getD x 0 0)) (sym (s .bytes)) ∙ e)
 
-module _ {h : PutHere} {view : List ℕ} {k n : ℕ} (w : PutAsked h (Shown view) k n) (each : k ≡ 0x1C) where
+module _ {h : PutHere} {view : List ℕ} {x k n : ℕ} (w : PutAsked h (Shown view) x k n) (each : k ≡ 0x1C) where
   pub view-some : 0 < length view
   view-some = let v = w .value in omega (arith, ap length (w .given .shown .bytes), size-encode v, size-pos v)
 
-  pub each-51 : {r : ℕ} → unfitRest 3 (getD view 0 0) ≡ true → r ≡ 51 → PutTells h (Shown view) (h .arena) (h .slots) r k n
+  pub each-51 : {r : ℕ} → unfitRest 3 (getD view 0 0) ≡ true → r ≡ 51 → PutTells h (Shown view) (h .arena) (h .slots) r x k n
   unfolding run Text.putNode
   each-51 bad e = rw each (record {
     frame = frame-refl _ _;
@@ -58,13 +58,13 @@ module _ {h : PutHere} {view : List ℕ} {k n : ℕ} (w : PutAsked h (Shown view
   })
 
   pub each-asks : Asks (get-here h) (getD (h .sheet) (n + 1) 0)
-  each-asks = get-ready w (rw each at (w .known .1) .0 .inside) (omega arith) (omega arith)
+  each-asks = get-ready w (rw each at (w .known .1 .1) .0 .inside) (omega arith) (omega arith)
 
   each-section : getD (h .sheet) (n + 2) 0 < length (w .sheet .sh .sections)
-  each-section = rw each at (w .known .1) .1 .0
+  each-section = rw each at (w .known .1 .1) .1 .0
 
   pub each-refused : {a : List ℕ} {g : ℕ} → unfitRest 3 (getD view 0 0) ≡ false → ToldOf (get-here h) a g (getD (h .sheet) (n + 1) 0) → isRefusal g ≡ true
-      → PutTells h (Shown view) a (h .slots) g k n
+      → PutTells h (Shown view) a (h .slots) g x k n
   unfolding run Text.putNode gets.run
   each-refused {g = g} fit t e = let x = said-refused _ _ g e in rw each (record {
     frame = kept-frame (t .kept) (w .base);
@@ -73,15 +73,15 @@ module _ {h : PutHere} {view : List ℕ} {k n : ℕ} (w : PutAsked h (Shown view
   })
 
 -- AT A STAGE: the view is a list, and the subject was got, as the answer g
-pub record EachPut (h : PutHere) (view : List ℕ) (k n g : ℕ) (a : List ℕ) : Type 0 where
-  pub asked : PutAsked h (Shown view) k n
+pub record EachPut (h : PutHere) (view : List ℕ) (x k n g : ℕ) (a : List ℕ) : Type 0 where
+  pub asked : PutAsked h (Shown view) x k n
   pub each : k ≡ 0x1C
   pub fit : unfitRest 3 (getD view 0 0) ≡ false
   pub gives : ToldOf (get-here h) a g (getD (h .sheet) (n + 1) 0)
   pub sized : Sized (h .top) (h .left) (h .levels) g
   pub done : isRefusal g ≡ false
 
-module _ {h : PutHere} {view : List ℕ} {k n g : ℕ} {a : List ℕ} (w : EachPut h view k n g a) where
+module _ {h : PutHere} {view : List ℕ} {x k n g : ℕ} {a : List ℕ} (w : EachPut h view x k n g a) where
   pub start-inside : startOf g < length a
   start-inside =
       let s = w .sized .at (w .done) in
@@ -89,7 +89,7 @@ module _ {h : PutHere} {view : List ℕ} {k n g : ℕ} {a : List ℕ} (w : EachP
       omega (arith, w .gives .kept .long, w .asked .long)
 
   -- it is no list
-  pub each-43 : {r : ℕ} → unfitRest 3 (getD a (startOf g) 0) ≡ true → r ≡ 43 → PutTells h (Shown view) a (h .slots) r k n
+  pub each-43 : {r : ℕ} → unfitRest 3 (getD a (startOf g) 0) ≡ true → r ≡ 43 → PutTells h (Shown view) a (h .slots) r x k n
   unfolding run Text.putNode gets.run after
   each-43 {r} bad is = rw (w .each) (record {
     frame = kept-frame (w .gives .kept) (w .asked .base);
@@ -103,7 +103,7 @@ module _ {h : PutHere} {view : List ℕ} {k n g : ℕ} {a : List ℕ} (w : EachP
 
   -- the variable is not in scope
   pub each-42 : {r : ℕ} → unfitRest 3 (getD a (startOf g) 0) ≡ false → h .scope .count ≤ getD (h .sheet) (n + 3) 0 → r ≡ 42
-      → PutTells h (Shown view) a (h .slots) r k n
+      → PutTells h (Shown view) a (h .slots) r x k n
   unfolding run Text.putNode gets.run after
   each-42 {r} fit out is = rw (w .each) (record {
     frame = kept-frame (w .gives .kept) (w .asked .base);
@@ -116,14 +116,14 @@ module _ {h : PutHere} {view : List ℕ} {k n g : ℕ} {a : List ℕ} (w : EachP
   })
 
 -- AT A STAGE: it is a list, the variable is in scope, and `root` is the section's
-pub record EachListed (h : PutHere) (view : List ℕ) (k n g : ℕ) (a : List ℕ) (root : ℕ) : Type 0 where
-  pub got : EachPut h view k n g a
+pub record EachListed (h : PutHere) (view : List ℕ) (x k n g : ℕ) (a : List ℕ) (root : ℕ) : Type 0 where
+  pub got : EachPut h view x k n g a
   pub fit : unfitRest 3 (getD a (startOf g) 0) ≡ false
   pub inside : getD (h .sheet) (n + 3) 0 < h .scope .count
   pub root-is : root ≡ sectionAt (h .sheet) (getD (h .sheet) (n + 2) 0)
 
-module _ {h : PutHere} {view : List ℕ} {k n g : ℕ} {a : List ℕ} {root : ℕ} (w : EachListed h view k n g a root) where
-  abbrev asked : PutAsked h (Shown view) k n
+module _ {h : PutHere} {view : List ℕ} {x k n g : ℕ} {a : List ℕ} {root : ℕ} (w : EachListed h view x k n g a root) where
+  abbrev asked : PutAsked h (Shown view) x k n
   asked = w .got .asked
 
   abbrev top′ : ℕ
@@ -158,7 +158,7 @@ module _ {h : PutHere} {view : List ℕ} {k n g : ℕ} {a : List ℕ} {root : �
       let z : h .top + 513 * suc (h .levels) ≤ CHAIN = asked .room in
       let s = w .got .sized .at (w .got .done) in
       let u = up in
-      let known = rw (w .got .each) at (asked .known .1) in
+      let known = rw (w .got .each) at (asked .known .1 .1) in
       let d = had (w .got .gives .told (asked .sheet .sh) (asked .sheet .read) (asked .env) (asked .given .scoped)) (said-done _ _ g (w .got .done)) in
       record {
         ready = ready-for asked (root-known (asked .sheet) (each-section asked (w .got .each)) (w .root-is), known .1 .1 .1 .0 .inside)
@@ -175,7 +175,7 @@ module _ {h : PutHere} {view : List ℕ} {k n g : ℕ} {a : List ℕ} {root : �
 
   pub each-told : {a₂ slots₂ : List ℕ} {q r : ℕ}
       → MembersTold (h .sheet) a a₂ (h .slots) slots₂ (h .scope) (h .cells) eachBy view (h .count) top′ (h .levels) (h .left - stepsOf g) q
-      → r ≡ laterAs q (stepsOf g) → PutTells h (Shown view) a₂ slots₂ r k n
+      → r ≡ laterAs q (stepsOf g) → PutTells h (Shown view) a₂ slots₂ r x k n
   unfolding run Text.putNode gets.run membersRun
   each-told {a₂} {q = q} {r = r} t is = rw (w .got .each) (record {
     frame = frame-then (kept-frame (w .got .gives .kept) (asked .base)) (t .frame) (asked .base) (up .over);

@@ -15,16 +15,16 @@ use Rattle.sheet.specs.Records.{recordAt}
 use Rattle.sheet.specs.Sheet.{Sheet, readSheet}
 use Rattle.rules.specs.Text
 use Rattle.rules.specs.Text.{Env}
-use Rattle.rules.specs.Explain.{Why, Told, met, Explained, below, entered, within, Cells, Getter, Putter, get, putNode, put}
+use Rattle.rules.specs.Explain.{Why, Told, met, Explained, below, entered, within, Cells, get, putNode, put}
 use Rattle.rules.specs.ExplainChain.{Chain, Meets, stop, put-chain}
 use Rattle.step.specs.declared.Scope.{Scope}
 use Rattle.walk.specs.declared.at.At.{At}
 use Rattle.arena.specs.Chain.{chainAt}
 use Rattle.walk.specs.Said.{said, beneath, whyIn, bytesAt, length-bytes, Left, up, on, barred-said, left-said, said-refused}
-use Rattle.walk.specs.Answers.{Answers, answer-by, refuse, as-refused, step, no-step, not-had}
+use Rattle.walk.specs.Answers.{Answers, refuse, as-refused, step, no-step, not-had}
 use Rattle.walk.specs.Frames.{kept-frame, frame-then}
 use Rattle.walk.specs.GetEnter.{EntryCode, no-level-left, no-step-left, left-kept, same-sheet, kind-range, record-there, record-known}
-use Rattle.walk.specs.Puts.{Task, enter, own, leaf, run, Known, Ready, Wrote, Gives, Few}
+use Rattle.walk.specs.Puts.{enter, own, run, Ready, Wrote, Gives, Few}
 use Rattle.walk.specs.PutReady.{ready-for, few}
 
 -- one node further up
@@ -56,20 +56,6 @@ enter-refused {levels = suc l} w (no-step-left n e) q = record {
   told = λ g. no-step _ _ e (barred-said (omega arith) (omega arith) (w .long) (omega (arith, w .room)) q);
 }
 
--- a kind other than a variable's writes nothing itself
-same-mark : (x k : ℕ) (s : List ℕ) (n i : ℕ) → k ≡ 0x15 + i → i ≤ 7 → (g : Getter) (p : Putter) (sh : Sheet) (μ : Env) (σ : List ℕ) (v : Value) (W : Cells)
-    → putNode x g p sh (recordAt k s n) μ σ v W ≡ putNode 0 g p sh (recordAt k s n) μ σ v W
-unfolding Text.putNode
-same-mark x k s n zero e h g p sh μ σ v W = rw e refl
-same-mark x k s n (suc zero) e h g p sh μ σ v W = rw e refl
-same-mark x k s n (suc (suc zero)) e h g p sh μ σ v W = rw e refl
-same-mark x k s n (suc (suc (suc zero))) e h g p sh μ σ v W = rw e refl
-same-mark x k s n (suc (suc (suc (suc zero)))) e h g p sh μ σ v W = rw e refl
-same-mark x k s n (suc (suc (suc (suc (suc zero))))) e h g p sh μ σ v W = rw e refl
-same-mark x k s n (suc (suc (suc (suc (suc (suc zero)))))) e h g p sh μ σ v W = rw e refl
-same-mark x k s n (suc (suc (suc (suc (suc (suc (suc zero))))))) e h g p sh μ σ v W = rw e refl
-same-mark x k s n (suc (suc (suc (suc (suc (suc (suc (suc i)))))))) e h g p sh μ σ v W = absurd (omega arith)
-
 -- AT A STAGE: a node is entered, a level and a step are there for it, and its record's kind byte is k
 pub record PutEntered (s table b slots : List ℕ) (P : Value → Type 0) (sc : Scope) (cells : List ℕ) (count top levels left x k : ℕ) : Type 0 where
   pub asked : Ready s table b slots P sc cells count count top levels left (enter x)
@@ -86,21 +72,15 @@ module _ {s table b slots : List ℕ} {P : Value → Type 0} {sc : Scope} {cells
   its-kind = kind-range (e .asked .sheet) (e .asked .known) (e .kind)
 
   -- what the function of its kind is asked
-  ready-as-entered : {y : Task} → Known (e .asked .sheet .sh) y → Ready s table b slots P sc cells count count top (suc (levels - 1)) (suc (left - 1)) y
-  ready-as-entered known =
+  pub body-ready : Ready s table b slots P sc cells count count top (suc (levels - 1)) (suc (left - 1)) (own x k s (getD table x 0))
+  body-ready =
       let w = e .asked in
       let p : suc (levels - 1) ≡ levels = omega (arith, e .deep) in
       let q : suc (left - 1) ≡ left = omega (arith, e .paid) in
-      rw (p, q) (ready-for w known (w .given) refl (le-refl _) (le-refl _) (le-refl _) (w .room))
-
-  pub body-ready : Ready s table b slots P sc cells count count top (suc (levels - 1)) (suc (left - 1)) (own k s (getD table x 0))
-  body-ready = ready-as-entered (x, record-known (e .asked .sheet) (e .asked .known) its-node)
-
-  pub leaf-ready : Ready s table b slots P sc cells count count top (suc (levels - 1)) (suc (left - 1)) (leaf x k s (getD table x 0))
-  leaf-ready = ready-as-entered (e .asked .known, (x, record-known (e .asked .sheet) (e .asked .known) its-node))
+      rw (p, q) (ready-for w (w .known, (x, record-known (w .sheet) (w .known) its-node)) (w .given) refl (le-refl _) (le-refl _) (le-refl _) (w .room))
 
   -- no chain has more nodes than there are levels
-  few-nodes : {a slots′ : List ℕ} {q : ℕ} → Gives b a slots slots′ s P sc cells count count top (left - 1) q (levels - 1) (leaf x k s (getD table x 0))
+  few-nodes : {a slots′ : List ℕ} {q : ℕ} → Gives b a slots slots′ s P sc cells count count top (left - 1) q (levels - 1) (own x k s (getD table x 0))
       → isRefusal q ≡ true → lenOf q ≤ levels
   unfolding run whyIn
   few-nodes {a} {q = q} g n =
@@ -111,17 +91,17 @@ module _ {s table b slots : List ℕ} {P : Value → Type 0} {sc : Scope} {cells
       omega (arith, length-bytes a (chainAt (levels - 1)) (lenOf q), e .deep)
 
   -- what is told, of the answer q that its function gave
-  pub leaf-told : {m a slots′ : List ℕ} {q r : ℕ} → Gives b m slots slots′ s P sc cells count count top (left - 1) q (levels - 1) (leaf x k s (getD table x 0))
+  pub body-told : {m a slots′ : List ℕ} {q r : ℕ} → Gives b m slots slots′ s P sc cells count count top (left - 1) q (levels - 1) (own x k s (getD table x 0))
       → Left x levels q m a r
       → Gives b a slots slots′ s P sc cells count count top left r levels (enter x) × Few left r
   unfolding run Text.put
-  leaf-told {m} {a} {slots′} {q} {r} g v = let h = told in (h, few w h)
+  body-told {m} {a} {slots′} {q} {r} g v = let h = told in (h, few w h)
     where
       w : Ready s table b slots P sc cells count count top levels left (enter x)
       w = e .asked
 
       short : isRefusal q ≡ false → 1 + stepsOf q < 16777216
-      short n = let z = few leaf-ready g .at n in omega (arith, w .few)
+      short n = let z = few body-ready g .at n in omega (arith, w .few)
 
       -- a success leaves the arena as it was
       same : (o : Explained Cells) → Answers (Wrote m slots′ count) (said m (levels - 1) q) (left - 1) o
@@ -133,7 +113,7 @@ module _ {s table b slots : List ℕ} {P : Value → Type 0} {sc : Scope} {cells
           by (on n f d) = rw f t
 
       entered-told : (l : ℕ) (sh : Sheet) (μ : Env) (σ : List ℕ) (u : Value) (W : Cells) → readSheet s ≡ ok sh → suc l ≡ levels
-          → Answers (Wrote a slots′ count) (said m l q) (left - 1) (run l sh count (leaf x k s (getD table x 0)) μ σ u W)
+          → Answers (Wrote a slots′ count) (said m l q) (left - 1) (run l sh count (own x k s (getD table x 0)) μ σ u W)
           → Answers (Wrote a slots′ count) (said a levels r) left (run levels sh count (enter x) μ σ u W)
       entered-told l sh μ σ u W es z t =
           let n : getD (sh .nodes) x False ≡ recordAt k s (getD table x 0) = ap (λ (y : Sheet). getD (y .nodes) x False)
@@ -149,36 +129,8 @@ module _ {s table b slots : List ℕ} {P : Value → Type 0} {sc : Scope} {cells
         told = λ {sh} {μ} {σ} {v = u} {W} z. entered-told (levels - 1) sh μ σ u W (z .read) (omega (arith, e .deep)) (same _ (g .told z));
       }
 
-  -- of a kind with children
-  pub body-told : {m a slots′ : List ℕ} {q r : ℕ} → 0x15 ≤ k → k ≤ 0x1C
-      → Gives b m slots slots′ s P sc cells count count top (left - 1) q (levels - 1) (own k s (getD table x 0)) → Left x levels q m a r
-      → Gives b a slots slots′ s P sc cells count count top left r levels (enter x) × Few left r
-  unfolding run
-  body-told lo hi g v = leaf-told (record {
-    frame = g .frame;
-    long = g .long;
-    told = λ {sh} {μ} {σ} {v = u} {W} z. answer-by (g .told z)
-        (same-mark x k s (getD table x 0) (k - 0x15) (omega arith) (omega arith) (get (levels - 1) sh) (put (levels - 1) sh) sh μ σ u W);
-  }) v
-
--- AT THE PLACE that the code makes
-module _ {at at′ : At} {sc : Scope} {cells : List ℕ} {P : Value → Type 0} (e : at ≡ at′) where
-  pub own-as : {s table a slots : List ℕ} {k n : ℕ}
-      → Ready s table a slots P sc cells (at′ .cells) (at′ .cells) (at′ .top) (suc (at′ .levels)) (suc (at′ .left)) (own k s n)
-      → Ready s table a slots P sc cells (at .cells) (at .cells) (at .top) (suc (at .levels)) (suc (at .left)) (own k s n)
-  own-as w = rw e w
-
-  pub leaf-as : {s table a slots : List ℕ} {x k n : ℕ}
-      → Ready s table a slots P sc cells (at′ .cells) (at′ .cells) (at′ .top) (suc (at′ .levels)) (suc (at′ .left)) (leaf x k s n)
-      → Ready s table a slots P sc cells (at .cells) (at .cells) (at .top) (suc (at .levels)) (suc (at .left)) (leaf x k s n)
-  leaf-as w = rw e w
-
-  pub leaf-told-as : {b a slots slots′ s : List ℕ} {r x k n : ℕ}
-      → Gives b a slots slots′ s P sc cells (at .cells) (at .cells) (at .top) (at .left) r (at .levels) (leaf x k s n)
-      → Gives b a slots slots′ s P sc cells (at′ .cells) (at′ .cells) (at′ .top) (at′ .left) r (at′ .levels) (leaf x k s n)
-  leaf-told-as g = rw e at g
-
-  pub told-as : {b a slots slots′ s : List ℕ} {r k n : ℕ}
-      → Gives b a slots slots′ s P sc cells (at .cells) (at .cells) (at .top) (at .left) r (at .levels) (own k s n)
-      → Gives b a slots slots′ s P sc cells (at′ .cells) (at′ .cells) (at′ .top) (at′ .left) r (at′ .levels) (own k s n)
-  told-as g = rw e at g
+-- at the place that the code makes
+pub own-as : {at at′ : At} {sc : Scope} {s table a slots cells : List ℕ} {P : Value → Type 0} {x k n : ℕ} → at ≡ at′
+    → Ready s table a slots P sc cells (at′ .cells) (at′ .cells) (at′ .top) (suc (at′ .levels)) (suc (at′ .left)) (own x k s n)
+    → Ready s table a slots P sc cells (at .cells) (at .cells) (at .top) (suc (at .levels)) (suc (at .left)) (own x k s n)
+own-as e w = rw e w

@@ -31,7 +31,7 @@ use Rattle.walk.specs.Frames.{frame-refl}
 use Rattle.walk.specs.CellLaws.{filled, filled-frame, written-set}
 use Rattle.sheet.specs.Wide.{wideBytes}
 use Rattle.walk.specs.GetLeaf.{Childless}
-use Rattle.walk.specs.Puts.{leaf, run, Given, Wrote, PutHere, LeafAsked, LeafTells}
+use Rattle.walk.specs.Puts.{own, run, Given, Wrote, PutHere, PutAsked, PutTells}
 
 -- the bytes of the constant number whose record starts at byte n of the sheet s
 abbrev pub numberBytes : List ℕ → ℕ → List ℕ
@@ -47,7 +47,7 @@ nothing a l = done-said a l 0 0 0 (omega arith) (omega arith) (omega arith)
 record Constant (x kind : ℕ) (s : List ℕ) (n : ℕ) (bytes : List ℕ) : Type 0 where
   value : Value
   are : bytes ≡ encode value
-  rule : (l : ℕ) (sh : Sheet) (c : ℕ) (μ : Env) (σ : List ℕ) (v : Value) (W : Cells) → run l sh c (leaf x kind s n) μ σ v W ≡ constant v value W
+  rule : (l : ℕ) (sh : Sheet) (c : ℕ) (μ : Env) (σ : List ℕ) (v : Value) (W : Cells) → run l sh c (own x kind s n) μ σ v W ≡ constant v value W
 
 same-constant : (u v : Value) (l : ℕ) {b slots view : List ℕ} {left n : ℕ} {W : Cells} {q : Bool} → Shown view v → q ≡ sameBytes view (encode u)
     → Written b slots n W
@@ -56,9 +56,9 @@ unfolding judged Text.constant
 same-constant u v l {q = true} h e w = give-yes 50 _ _ (same-values v u (rw (h .bytes) at (sym e))) λ _. finish (nothing _ _) (record { written = w })
 same-constant u v l {q = false} h e w = give-no 50 _ _ (other-values v u (rw (h .bytes) at (sym e))) (refused-said _ _ (omega arith) (omega arith))
 
-constant-gives : {h : PutHere} {view bytes : List ℕ} {x kind n r : ℕ} → LeafAsked h (Shown view) x kind n → Constant x kind (h .sheet) n bytes
+constant-gives : {h : PutHere} {view bytes : List ℕ} {x kind n r : ℕ} → PutAsked h (Shown view) x kind n → Constant x kind (h .sheet) n bytes
     → r ≡ judged 50 (sameBytes view bytes)
-    → LeafTells h (Shown view) (h .arena) (h .slots) r x kind n
+    → PutTells h (Shown view) (h .arena) (h .slots) r x kind n
 constant-gives {h} {view} {bytes} _ k is = record {
   frame = frame-refl (h .top) (h .arena);
   long = refl;
@@ -74,16 +74,16 @@ constants x kind s n (suc zero) e h = rw e (record { value = vtrue; are = refl; 
 constants x kind s n (suc (suc zero)) e h = rw e (record { value = list nil; are = refl; rule = λ _ _ _ _ _ _ _. refl })
 constants x kind s n (suc (suc (suc i))) e h = absurd (omega arith)
 
-module _ {h : PutHere} {view : List ℕ} {x kind n r : ℕ} (w : LeafAsked h (Shown view) x kind n) where
+module _ {h : PutHere} {view : List ℕ} {x kind n r : ℕ} (w : PutAsked h (Shown view) x kind n) where
   pub constant-told : Childless kind → (kind ≡ 0x10 → ⊥) → (kind ≡ 0x14 → ⊥) → r ≡ judged 50 (sameBytes view ((kind - 0x11) ∷ []))
-      → LeafTells h (Shown view) (h .arena) (h .slots) r x kind n
+      → PutTells h (Shown view) (h .arena) (h .slots) r x kind n
   constant-told c v m is = constant-gives w (constants x kind (h .sheet) n (kind - 0x11) (omega (arith, c .low)) (omega (arith, c .high))) is
 
-  pub number-told : kind ≡ 0x14 → r ≡ judged 50 (sameBytes view (numberBytes (h .sheet) n)) → LeafTells h (Shown view) (h .arena) (h .slots) r x kind n
+  pub number-told : kind ≡ 0x14 → r ≡ judged 50 (sameBytes view (numberBytes (h .sheet) n)) → PutTells h (Shown view) (h .arena) (h .slots) r x kind n
   unfolding run Text.putNode encode
   number-told e is = constant-gives w (rw e (record { value = number _; are = refl; rule = λ _ _ _ _ _ _ _. refl })) is
 
-  pub wide-told : kind ≡ 0x1D → r ≡ judged 50 (sameBytes view (wideBytes (h .sheet) n)) → LeafTells h (Shown view) (h .arena) (h .slots) r x kind n
+  pub wide-told : kind ≡ 0x1D → r ≡ judged 50 (sameBytes view (wideBytes (h .sheet) n)) → PutTells h (Shown view) (h .arena) (h .slots) r x kind n
   unfolding run Text.putNode
   wide-told e is = constant-gives w (rw e (record { value = wide _; are = refl; rule = λ _ _ _ _ _ _ _. refl })) is
 
@@ -172,11 +172,11 @@ shown-short {view} {v} h = let z : length view ≡ size v = rw (h .bytes) (size-
 pub shown-some : {view : List ℕ} {v : Value} → Shown view v → 1 ≤ length view
 shown-some {view} {v} h = let z : length view ≡ size v = rw (h .bytes) (size-encode v) in omega (arith, size-pos v)
 
-module _ {h : PutHere} {view : List ℕ} {by kind n : ℕ} (w : LeafAsked h (Shown view) by kind n) (var : kind ≡ 0x10) where
+module _ {h : PutHere} {view : List ℕ} {by kind n : ℕ} (w : PutAsked h (Shown view) by kind n) (var : kind ≡ 0x10) where
   abbrev x : ℕ
   x = getD (h .sheet) (n + 1) 0
 
-  pub var-42 : {r : ℕ} → h .scope .count ≤ x → r ≡ 42 → LeafTells h (Shown view) (h .arena) (h .slots) r by kind n
+  pub var-42 : {r : ℕ} → h .scope .count ≤ x → r ≡ 42 → PutTells h (Shown view) (h .arena) (h .slots) r by kind n
   unfolding run Text.putNode
   var-42 le e = rw var (record {
     frame = frame-refl _ _;
@@ -206,7 +206,7 @@ module _ {h : PutHere} {view : List ℕ} {by kind n : ℕ} (w : LeafAsked h (Sho
               (w .given .shown);
         }
 
-    pub var-told : {a slots : List ℕ} {r : ℕ} → Write c by view (h .arena) a (h .slots) slots r → LeafTells h (Shown view) a slots r by kind n
+    pub var-told : {a slots : List ℕ} {r : ℕ} → Write c by view (h .arena) a (h .slots) slots r → PutTells h (Shown view) a slots r by kind n
     unfolding run Text.putNode Text.write
     var-told (first z e f is) =
         let u = var-writable in
@@ -232,7 +232,7 @@ module _ {h : PutHere} {view : List ℕ} {by kind n : ℕ} (w : LeafAsked h (Sho
         compared u v p i q s = rw (q, s .bytes) at i
 
         by-test : (p : Bool) → sameBytes (part (h .arena) (slotOf c) (notedLen note)) view ≡ p
-            → LeafTells h (Shown view) (h .arena) (h .slots) r by 0x10 n
+            → PutTells h (Shown view) (h .arena) (h .slots) r by 0x10 n
         by-test true i = record {
           frame = frame-refl _ _;
           long = refl;

@@ -22,7 +22,7 @@ use Rattle.walk.specs.Steps.{Frugal, frugal-next, frugal-given, get-frug
 use Rattle.walk.specs.Gets as gets
 use Rattle.walk.specs.Cells.{Frame, Written, Shown}
 use Rattle.walk.specs.Frames.{env-framed, written-kept}
-use Rattle.walk.specs.Puts.{Task, enter, own, leaf, pair, inside, rebuilt, switch, rebuild, withDefaults, run, Known, Given, Ready, Gives, Few, Inner}
+use Rattle.walk.specs.Puts.{Task, enter, own, pair, inside, rebuilt, switch, rebuild, withDefaults, run, Known, Given, Ready, Gives, Few, Inner}
 
 module _ {A : Type 0} {P : (start len : ℕ) → A → Type 0} {r : Said} {left : ℕ} {X Y : Type 0} where
   pub choose-first : (p : Dec X) (q : Dec Y) (x y : Explained A) → X → Answers P r left x → Answers P r left (choose p q x y)
@@ -109,8 +109,7 @@ under-frugal l sh μ σ W b v s mk f r = frugal-next (put-frugal l sh b _ _ v _)
 run-frugal : (l : ℕ) (sh : Sheet) (n : ℕ) (t : Task) (μ : Env) (σ : List ℕ) (v : Value) (W : Cells) → Frugal (run l sh n t μ σ v W)
 unfolding run rebuild withDefaults Text.both
 run-frugal l sh n (enter x) μ σ v W = put-frugal l sh x μ σ v W
-run-frugal l sh n (own k s i) μ σ v W = put-node-frugal l sh 0 _ μ σ v W
-run-frugal l sh n (leaf x k s i) μ σ v W = put-node-frugal l sh x _ μ σ v W
+run-frugal l sh n (own x k s i) μ σ v W = put-node-frugal l sh x _ μ σ v W
 run-frugal l sh n (pair a b u) μ σ v W = frugal-next (put-frugal l sh a μ σ v W) λ X. put-frugal l sh b μ σ u X
 run-frugal l sh n (inside k b s f r) μ σ v W = under-frugal l sh μ σ W b v s _ f r
 run-frugal l sh n (rebuilt k s f r) μ σ v X = frugal-given _ _ λ x. frugal-given _ _ λ y. frugal-given _ _ λ u. frugal-given _ _ λ _. put-frugal l sh s μ σ u _

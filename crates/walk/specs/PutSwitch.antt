@@ -18,6 +18,7 @@ use Rattle.step.specs.declared.Scope.{Scope}
 use Rattle.step.specs.Step.{unfitRest}
 use Rattle.walk.specs.Said.{after-twice, Done, Own, Said, after, done-said, later-said, refused-said, said, said-done, said-refused}
 use Rattle.walk.specs.declared.at.At.{At}
+use Rattle.walk.specs.declared.putter.Parts.{Parts}
 use Rattle.walk.specs.Parts.{Kept, kept-then, Copied, part-join, part-split}
 use Rattle.walk.specs.Scope.{noVariable, pushed}
 use Rattle.walk.specs.Arena.{onStack, Scoped, Held, held-later, env-later, env-push}
@@ -354,7 +355,18 @@ module _ {h : PutHere} {view : List ℕ} {n : ℕ} (w : Switching h view n) wher
           → PartsAt a₁ (h .top + (startOf g + lenOf g)) (h .top) (startOf g) (lenOf g) (t .f) (t .u)
       parts-of es t = let z : h .top + startOf g + lenOf g ≡ h .top + (startOf g + lenOf g) = omega arith in rw z at (t .parts)
 
-      pub switch-under : Under switch-here (Shown view) 3 (getD (h .sheet) (n + 4) 0) (getD (h .sheet) (n + 1) 0) (h .top) (startOf g) (lenOf g)
+      -- the defaults, as the parts of the subject
+      abbrev pub switch-parts : Parts
+      switch-parts = record {
+        kind = 3;
+        branch = getD (h .sheet) (n + 4) 0;
+        subject = getD (h .sheet) (n + 1) 0;
+        start = h .top;
+        first = startOf g;
+        second = lenOf g;
+      }
+
+      pub switch-under : Under switch-here (Shown view) switch-parts
       switch-under =
           let a = w .asked in
           let z = d .sizes e in

@@ -118,17 +118,17 @@ pair-apart Wide e = absurd (false≢true (sym (ap there e)))
 pair-apart Malformed e = absurd (false≢true (sym (ap there e)))
 
 -- the two parts of a view of v, and the rule for them
-record ViewParts (k : ℕ) (s : List ℕ) (n : ℕ) (left right : List ℕ) (v : Value) : Type 0 where
+record ViewParts (x k : ℕ) (s : List ℕ) (n : ℕ) (left right : List ℕ) (v : Value) : Type 0 where
   f : Value
   r : Value
   one : Shown left f
   two : Shown right r
   rule : (l : ℕ) (sh : Sheet) (c : ℕ) (μ : Env) (σ : List ℕ) (W : Cells)
-      → run l sh c (own k s n) μ σ v W ≡ both (put l sh) μ σ W (getD s (n + 1) 0) f (getD s (n + 2) 0) r
+      → run l sh c (own x k s n) μ σ v W ≡ both (put l sh) μ σ W (getD s (n + 1) 0) f (getD s (n + 2) 0) r
 
-module _ {n mid : ℕ} {s view left right : List ℕ} {q : Shape} {v : Value} (e : q ≡ shapeOf view) (e₁ : left ≡ firstPart view mid)
+module _ {x n mid : ℕ} {s view left right : List ℕ} {q : Shape} {v : Value} (e : q ≡ shapeOf view) (e₁ : left ≡ firstPart view mid)
     (e₂ : right ≡ secondPart view mid) (h : Shown view v) where
-  front-parts : Front mid ≡ q → ViewParts 0x15 s n left right v
+  front-parts : Front mid ≡ q → ViewParts x 0x15 s n left right v
   unfolding run Text.putNode wanted
   front-parts i =
       let o = front-of v (i ∙ shown-shape h e) in
@@ -142,7 +142,7 @@ module _ {n mid : ℕ} {s view left right : List ℕ} {q : Shape} {v : Value} (e
         rule = λ l sh c μ σ W. rw (o .seen);
       }
 
-  pair-parts : Pair mid ≡ q → ViewParts 0x16 s n left right v
+  pair-parts : Pair mid ≡ q → ViewParts x 0x16 s n left right v
   unfolding run Text.putNode wanted
   pair-parts i =
       let o = pair-of v (i ∙ shown-shape h e) in
@@ -157,18 +157,18 @@ module _ {n mid : ℕ} {s view left right : List ℕ} {q : Shape} {v : Value} (e
       }
 
 -- AT A STAGE: the view was taken apart
-pub record TakenApart (h : PutHere) (view : List ℕ) (k n mid : ℕ) (left right : List ℕ) : Type 0 where
-  pub asked : PutAsked h (Shown view) k n
+pub record TakenApart (h : PutHere) (view : List ℕ) (x k n mid : ℕ) (left right : List ℕ) : Type 0 where
+  pub asked : PutAsked h (Shown view) x k n
   pub two : Two k
   pub apart : At mid ≡ apartOf k (shapeOf view)
   pub first : left ≡ firstPart view mid
   pub second : right ≡ secondPart view mid
 
-module _ {h : PutHere} {view left right : List ℕ} {k n mid : ℕ} (w : TakenApart h view k n mid left right) where
-  parts : {v : Value} → Shown view v → ViewParts k (h .sheet) n left right v
+module _ {h : PutHere} {view left right : List ℕ} {x k n mid : ℕ} (w : TakenApart h view x k n mid left right) where
+  parts : {v : Value} → Shown view v → ViewParts x k (h .sheet) n left right v
   parts {v} s = go (w .two)
     where
-      go : Two k → ViewParts k (h .sheet) n left right v
+      go : Two k → ViewParts x k (h .sheet) n left right v
       go (aFront e) = rw e (front-parts refl (w .first) (w .second) s (front-apart _ (rw e at (w .apart))))
       go (aTwo e) = rw e (pair-parts refl (w .first) (w .second) s (pair-apart _ (rw e at (w .apart))))
 
@@ -176,7 +176,7 @@ module _ {h : PutHere} {view left right : List ℕ} {k n mid : ℕ} (w : TakenAp
   pub two-asks : PutAsks h (Shown left) (pair (getD (h .sheet) (n + 1) 0) (getD (h .sheet) (n + 2) 0) vfalse)
   two-asks =
       let z : h .top + 513 * suc (h .levels) ≤ CHAIN = w .asked .room in
-      ready-for (w .asked) (two-known (h .sheet) (w .asked .sheet .sh) n (w .two) (w .asked .known))
+      ready-for (w .asked) (two-known (h .sheet) (w .asked .sheet .sh) n (w .two) (w .asked .known .1))
       (given-shown (w .asked .given) (parts (w .asked .given .shown) .one)) refl (omega arith) (omega arith) (le-refl _)
       (omega arith)
 
@@ -185,7 +185,7 @@ module _ {h : PutHere} {view left right : List ℕ} {k n mid : ℕ} (w : TakenAp
 
   pub two-told : {a slots : List ℕ} {r : ℕ}
       → ((u : Value) → Shown right u → PutTold h (Shown left) a slots r (pair (getD (h .sheet) (n + 1) 0) (getD (h .sheet) (n + 2) 0) u))
-      → PutTells h (Shown view) a slots r k n
+      → PutTells h (Shown view) a slots r x k n
   unfolding run
   two-told g =
       let g₀ = g _ (parts (w .asked .given .shown) .two) in
@@ -198,28 +198,26 @@ module _ {h : PutHere} {view left right : List ℕ} {k n mid : ℕ} (w : TakenAp
       }
 
 -- it could not be
-pub two-51 : {h : PutHere} {view : List ℕ} {k n r : ℕ} → PutAsked h (Shown view) k n → Two k → Other ≡ apartOf k (shapeOf view) → r ≡ 51
-    → PutTells h (Shown view) (h .arena) (h .slots) r k n
+pub two-51 : {h : PutHere} {view : List ℕ} {x k n r : ℕ} → PutAsked h (Shown view) x k n → Two k → Other ≡ apartOf k (shapeOf view) → r ≡ 51
+    → PutTells h (Shown view) (h .arena) (h .slots) r x k n
 unfolding run Text.putNode apartOf where-so there
-two-51 {h} {view} {k} {n} {r} w two o is = go two
+two-51 {h} {view} {x} {k} {n} {r} w two o is = go two
   where
-    x : said (h .arena) (h .levels) r ≡ Own 51
-    x = ap (said _ _) is ∙ refused-said _ _ (omega arith) (omega arith)
+    own-51 : said (h .arena) (h .levels) r ≡ Own 51
+    own-51 = ap (said _ _) is ∙ refused-said _ _ (omega arith) (omega arith)
 
-    go : Two k → PutTells h (Shown view) (h .arena) (h .slots) r k n
+    whole : {j mid : ℕ} {v : Value} → k ≡ j → Shown view v → At mid ≡ apartOf j (shape v) → ⊥
+    whole {j} e m i =
+        false≢true (ap there (o ∙ ap (λ (y : ℕ). apartOf y (shapeOf view)) e ∙ ap (apartOf j) (shown-shape m refl) ∙ sym i))
+
+    go : Two k → PutTells h (Shown view) (h .arena) (h .slots) r x k n
     go (aFront e) = rw e (record {
       frame = frame-refl _ _;
       long = refl;
-      told = λ {v = v} m. give-none 51 _ (no-front v (λ mid i.
-          let q : apartOf 0x15 (shapeOf view) ≡ At mid = ap (apartOf 0x15) (shown-shape (m .shown) refl ∙ sym i) in
-          let z = rw e at o in
-          false≢true (ap there (z ∙ q)))) x;
+      told = λ {v = v} m. give-none 51 _ (no-front v λ mid i. whole e (m .shown) (ap (apartOf 0x15) i)) own-51;
     })
     go (aTwo e) = rw e (record {
       frame = frame-refl _ _;
       long = refl;
-      told = λ {v = v} m. give-none 51 _ (no-pair v (λ mid i.
-          let q : apartOf 0x16 (shapeOf view) ≡ At mid = ap (apartOf 0x16) (shown-shape (m .shown) refl ∙ sym i) in
-          let z = rw e at o in
-          false≢true (ap there (z ∙ q)))) x;
+      told = λ {v = v} m. give-none 51 _ (no-pair v λ mid i. whole e (m .shown) (ap (apartOf 0x16) i)) own-51;
     })

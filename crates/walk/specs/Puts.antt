@@ -19,20 +19,21 @@ use Rattle.rules.specs.Explain.{Cells, Explained, Putter, _>>=_, both, get, giv
 use Rattle.rules.specs.Numbers.{ALLOWANCE, SCRATCH, STACK, CHAIN, VARIABLES}
 use Rattle.step.specs.declared.Scope.{Scope}
 use Rattle.walk.specs.Said.{said}
+use Rattle.walk.specs.declared.at.At.{At}
+use Rattle.walk.specs.declared.at.Own.{Own}
+use Rattle.walk.specs.declared.putter.Parts.{Parts}
 use Rattle.walk.specs.Arena.{Scoped, Held}
 use Rattle.walk.specs.Answers.{Answers}
 use Rattle.walk.specs.Wholes.{maker, Made}
 use Rattle.walk.specs.Gets.{Tabled}
 use Rattle.walk.specs.Cells.{Frame, Written, Named, Shown}
 
--- what a function of put does: enter a node by its number; put the view into the node whose record of that kind starts at byte n of the sheet s,
--- and which writes nothing itself, so that 0 stands for its number; or into one that may be a variable, and has the number x; put it into a and then
--- u into b; put it into branch b, whose two variables stand for f and r, and then the rebuilt subject into s; only rebuild and put the subject; or
--- get the two defaults first and go on as with a branch
+-- what a function of put does: enter a node by its number; put the view into the node x, whose record of that kind starts at byte n of the sheet s,
+-- and which is noted of what it writes; put it into a and then u into b; put it into branch b, whose two variables stand for f and r, and then the
+-- rebuilt subject into s; only rebuild and put the subject; or get the two defaults first and go on as with a branch
 pub data Task : Type 0 where
   enter : ℕ → Task
-  own : (kind : ℕ) (s : List ℕ) (n : ℕ) → Task
-  leaf : (x kind : ℕ) (s : List ℕ) (n : ℕ) → Task
+  own : (x kind : ℕ) (s : List ℕ) (n : ℕ) → Task
   pair : (a b : ℕ) (u : Value) → Task
   inside : (k b s : ℕ) (f r : Value) → Task
   rebuilt : (k s : ℕ) (f r : Value) → Task
@@ -50,8 +51,7 @@ withDefaults l sh df dr v k = get l sh df (v ∷ []) >>= λ f. get l sh dr (v �
 
 unfoldable pub run : ℕ → Sheet → ℕ → Task → Env → List ℕ → Value → Cells → Explained Cells
 run l sh n (enter x) μ σ v W = put l sh x μ σ v W
-run l sh n (own k s i) μ σ v W = putNode 0 (get l sh) (put l sh) sh (recordAt k s i) μ σ v W
-run l sh n (leaf x k s i) μ σ v W = putNode x (get l sh) (put l sh) sh (recordAt k s i) μ σ v W
+run l sh n (own x k s i) μ σ v W = putNode x (get l sh) (put l sh) sh (recordAt k s i) μ σ v W
 run l sh n (pair a b u) μ σ v W = both (put l sh) μ σ W a v b u
 run l sh n (inside k b s f r) μ σ v W = under (put l sh) μ σ W b v s (maker k) f r
 run l sh n (rebuilt k s f r) μ σ v X = rebuild (put l sh) μ σ n X s (maker k) f r
@@ -60,8 +60,7 @@ run l sh n (switch b s df dr) μ σ v W = withDefaults l sh df dr v λ f r. unde
 -- the node numbers of a task are in range
 abbrev pub Known : Sheet → Task → Type 0
 Known sh (enter n) = n < length (sh .nodes)
-Known sh (own k s n) = (i : ℕ) × Ranged (length (sh .nodes)) (length (sh .sections)) i (recordAt k s n)
-Known sh (leaf x k s n) = (x < length (sh .nodes)) × ((i : ℕ) × Ranged (length (sh .nodes)) (length (sh .sections)) i (recordAt k s n))
+Known sh (own x k s n) = (x < length (sh .nodes)) × ((i : ℕ) × Ranged (length (sh .nodes)) (length (sh .sections)) i (recordAt k s n))
 Known sh (pair a b u) = (a < length (sh .nodes)) × (b < length (sh .nodes))
 Known sh (inside k b s f r) = ((b < length (sh .nodes)) × (s < length (sh .nodes))) × Made k
 Known sh (rebuilt k s f r) = (s < length (sh .nodes)) × Made k
@@ -138,6 +137,28 @@ pub record Inner (sc : Scope) (count levels : ℕ) : Type 0 where
 abbrev pub switchAt : List ℕ → ℕ → Task
 switchAt s n = switch (getD s (n + 4) 0) (getD s (n + 1) 0) (getD s (n + 6) 0) (getD s (n + 7) 0)
 
+-- the branch and the subject of the parts p
+abbrev pub insideOf : Parts → (f r : Value) → Task
+insideOf p f r = inside (p .kind) (p .branch) (p .subject) f r
+
+abbrev pub rebuiltOf : Parts → (f r : Value) → Task
+rebuiltOf p f r = rebuilt (p .kind) (p .subject) f r
+
+-- THE CONTRACT of the functions of put, for a task at a place, and of the functions of the kinds, for the node o
+abbrev pub TaskAsked : (s table a slots : List ℕ) → Scope → (cells view : List ℕ) → At → Task → Type 0
+TaskAsked s table a slots sc cells view at t = Ready s table a slots (Shown view) sc cells (at .cells) (at .cells) (at .top) (at .levels) (at .left) t
+
+abbrev pub TaskTells : (s b a slots slots′ : List ℕ) → Scope → (cells view : List ℕ) → At → ℕ → Task → Type 0
+TaskTells s b a slots slots′ sc cells view at r t =
+    Gives b a slots slots′ s (Shown view) sc cells (at .cells) (at .cells) (at .top) (at .left) r (at .levels) t
+
+abbrev pub KindAsked : (s table a slots : List ℕ) → Scope → List ℕ → Own → List ℕ → At → Type 0
+KindAsked s table a slots sc cells o view at = Ready s table a slots (Shown view) sc cells (at .cells) (at .cells) (at .top) (suc (at .levels))
+    (suc (at .left)) (own (o .node) (o .kind) s (o .n))
+
+abbrev pub KindTells : (s b a slots slots′ : List ℕ) → Scope → List ℕ → Own → List ℕ → At → ℕ → Type 0
+KindTells s b a slots slots′ sc cells o view at r = TaskTells s b a slots slots′ sc cells view at r (own (o .node) (o .kind) s (o .n))
+
 -- WHERE A FUNCTION OF PUT IS: what it is lent, and its place
 
 pub record PutHere : Type 0 where
@@ -153,8 +174,8 @@ pub record PutHere : Type 0 where
   pub levels : ℕ
 
 -- where the function of a kind is that was asked so
-abbrev pub put-here : {s table a slots cells : List ℕ} {P : Value → Type 0} {sc : Scope} {count top l left k n : ℕ}
-    → Ready s table a slots P sc cells count count top (suc l) (suc left) (own k s n) → PutHere
+abbrev pub put-here : {s table a slots cells : List ℕ} {P : Value → Type 0} {sc : Scope} {count top l left x k n : ℕ}
+    → Ready s table a slots P sc cells count count top (suc l) (suc left) (own x k s n) → PutHere
 put-here {s} {table} {a} {slots} {cells} {P} {sc} {count} {top} {l} {left} w =
     record { sheet = s; table = table; arena = a; slots = slots; scope = sc; cells = cells; count = count; top = top; left = left; levels = l }
 
@@ -197,9 +218,9 @@ put-within h sc cells slots count =
     }
 
 -- what the function of a kind is asked, and what a task asks there
-abbrev pub PutAsked : PutHere → (Value → Type 0) → (kind n : ℕ) → Type 0
-PutAsked h P k n = Ready (h .sheet) (h .table) (h .arena) (h .slots) P (h .scope) (h .cells) (h .count) (h .count) (h .top) (suc (h .levels)) (suc (h .left))
-    (own k (h .sheet) n)
+abbrev pub PutAsked : PutHere → (Value → Type 0) → (x kind n : ℕ) → Type 0
+PutAsked h P x k n = Ready (h .sheet) (h .table) (h .arena) (h .slots) P (h .scope) (h .cells) (h .count) (h .count) (h .top) (suc (h .levels)) (suc (h .left))
+    (own x k (h .sheet) n)
 
 abbrev pub PutAsks : PutHere → (Value → Type 0) → Task → Type 0
 PutAsks h P t = Ready (h .sheet) (h .table) (h .arena) (h .slots) P (h .scope) (h .cells) (h .count) (h .count) (h .top) (h .levels) (h .left) t
@@ -208,13 +229,5 @@ PutAsks h P t = Ready (h .sheet) (h .table) (h .arena) (h .slots) P (h .scope) (
 abbrev pub PutTold : PutHere → (Value → Type 0) → (a slots : List ℕ) → ℕ → Task → Type 0
 PutTold h P a slots r t = Gives (h .arena) a (h .slots) slots (h .sheet) P (h .scope) (h .cells) (h .count) (h .count) (h .top) (h .left) r (h .levels) t
 
-abbrev pub PutTells : PutHere → (Value → Type 0) → (a slots : List ℕ) → (r k n : ℕ) → Type 0
-PutTells h P a slots r k n = PutTold h P a slots r (own k (h .sheet) n)
-
--- the same of a leaf, which has the number x
-abbrev pub LeafAsked : PutHere → (Value → Type 0) → (x kind n : ℕ) → Type 0
-LeafAsked h P x k n = Ready (h .sheet) (h .table) (h .arena) (h .slots) P (h .scope) (h .cells) (h .count) (h .count) (h .top) (suc (h .levels)) (suc (h .left))
-    (leaf x k (h .sheet) n)
-
-abbrev pub LeafTells : PutHere → (Value → Type 0) → (a slots : List ℕ) → (r x k n : ℕ) → Type 0
-LeafTells h P a slots r x k n = PutTold h P a slots r (leaf x k (h .sheet) n)
+abbrev pub PutTells : PutHere → (Value → Type 0) → (a slots : List ℕ) → (r x k n : ℕ) → Type 0
+PutTells h P a slots r x k n = PutTold h P a slots r (own x k (h .sheet) n)

@@ -1,4 +1,4 @@
-//! Where a walk is: how deep, how many steps it has left, where the stack goes on, and how many cells there are.
+//! Where a walk is: how deep, how many steps it has left, where the stack goes on, and how many cells there are; and the node that it is in.
 ghost use mathlib.Core.Path.{_≡_};
 ghost use Prim.Native.Nat.{_+_, _≤_};
 ghost use Rattle.answer.specs.Answer.{lenOf, startOf, stepsOf};
@@ -7,6 +7,16 @@ ghost use Rattle.walk.specs.Places.{belowOf, raisedOf, afterOf, behindOf
 use answer::len_of;
 use answer::start_of;
 use answer::steps_of;
+
+/// Where the record of each node starts in the sheet.
+pub type Table = [u16; 200];
+
+/// The node that a walk is in: its number, the byte of the sheet at which its record starts, and its kind byte.
+pub struct Own {
+    pub node: usize,
+    pub n: u16,
+    pub kind: u8,
+}
 
 /// Where a walk is: the levels and the steps that are left, the top of the stack, and the number of cells (a get has no use for them).
 pub struct At {

@@ -1,19 +1,21 @@
 //! Get: the value of a node. It stands in the plan, or on the stack from the top on, or below the top where it was already. A node's record
 //! starts at byte `n` of the sheet; lent are the sheet, the `table` of where its records start, and the arena.
 ghost use mathlib.Core.Path.{_≡_};
-ghost use Prim.Native.Nat.{suc, _+_, _*_, _≤_, _<_};
+ghost use Prim.Native.Nat.{_+_, _*_, _≤_, _<_};
 ghost use lib.ListN.{length, getD};
 ghost use lib.Seq.{paste};
 ghost use Rattle.answer.specs.Answer.{doneAs};
 ghost use Rattle.sheet.specs.Wide.{wideBytes};
 ghost use Rattle.rules.specs.Numbers.{SCRATCH};
-ghost use Rattle.walk.specs.Gets.{Ready, Gives, enter, own};
+ghost use Rattle.walk.specs.Gets.{Ready, Gives, KindAsked, KindTells, enter};
 ghost use Rattle.walk.specs.GetReady.{Sized};
 ghost use Rattle.walk.specs.GetTwo.{Two};
 ghost use Rattle.walk.specs.GetCase.{Case, testOf};
 ghost use Rattle.walk.specs.GetLeaf.{Childless, numbered};
 ghost use Rattle.walk.specs.GetMembers.{MembersAsked, MembersTold};
 use crate::at::At;
+use crate::at::Own;
+use crate::at::Table;
 use crate::got::added;
 use crate::got::bring;
 use crate::got::joined;
@@ -56,26 +58,18 @@ fn get_wide(sheet: &[u8], arena: &mut [u8], n: u16, top: usize) -> usize
 }
 
 // A variable (10), False, True or the empty list (11 to 13), which are one byte each, or a number (14).
-fn get_leaf(
-    sheet: &[u8],
-    table: &[u16; 200],
-    arena: &mut [u8],
-    scope: Scope,
-    n: u16,
-    kind: u8,
-    at: At,
-) -> usize
-    requires { ⌜ Ready (now sheet) (now table) (now arena) scope (at .top) (suc (at .levels)) (suc (at .left)) (own kind (now sheet) n) ⌝ }
-    requires { ⌜ Childless kind ⌝ }
-    ensures { λ r. ⌜ Gives (now (arena .entry)) (now (arena .exit)) (now (sheet .entry)) scope (at .top) (at .top) (at .left) r (at .levels)
-        (own kind (now (sheet .entry)) n) ⌝ }
+fn get_leaf(sheet: &[u8], table: &Table, arena: &mut [u8], scope: Scope, own: Own, at: At) -> usize
+    requires { ⌜ KindAsked (now sheet) (now table) (now arena) scope own at ⌝ }
+    requires { ⌜ Childless (own .kind) ⌝ }
+    ensures { λ r. ⌜ KindTells (now (sheet .entry)) (now (arena .entry)) (now (arena .exit)) scope own at r ⌝ }
 {
+    let kind = own.kind;
     let top = at.top;
     if kind == 0x10 {
-        return step::variable(scope, sheet::number_of(sheet, n, 1));
+        return step::variable(scope, sheet::number_of(sheet, own.n, 1));
     }
     if kind == 0x14 {
-        return get_number(sheet, arena, n, top);
+        return get_number(sheet, arena, own.n, top);
     }
     arena[top] = kind - 0x11;
     done(top, 1, 0)
@@ -84,7 +78,7 @@ fn get_leaf(
 /// The value of a node: its depth is judged, then the allowance. The sheet's reader lets no kind over 1D through.
 pub fn get_node(
     sheet: &[u8],
-    table: &[u16; 200],
+    table: &Table,
     arena: &mut [u8],
     scope: Scope,
     node: usize,
@@ -101,28 +95,29 @@ pub fn get_node(
     let n = table[node];
     let below = at.below();
     let kind = sheet::byte_of(sheet, n, 0);
+    let own = Own { node, n, kind };
     if kind < 0x15 {
-        let got = get_leaf(sheet, table, arena, scope, n, kind, below);
+        let got = get_leaf(sheet, table, arena, scope, own, below);
         return leave(arena, got, node, at.levels);
     }
     if kind < 0x1A {
         if kind < 0x17 {
-            let got = get_two(sheet, table, arena, scope, n, kind, below);
+            let got = get_two(sheet, table, arena, scope, own, below);
             return leave(arena, got, node, at.levels);
         }
-        let got = get_case(sheet, table, arena, scope, n, kind, below);
+        let got = get_case(sheet, table, arena, scope, own, below);
         return leave(arena, got, node, at.levels);
     }
     if kind < 0x1C {
         if kind == 0x1A {
-            let got = get_call(sheet, table, arena, scope, n, kind, below);
+            let got = get_call(sheet, table, arena, scope, own, below);
             return leave(arena, got, node, at.levels);
         }
-        let got = get_add(sheet, table, arena, scope, n, kind, below);
+        let got = get_add(sheet, table, arena, scope, own, below);
         return leave(arena, got, node, at.levels);
     }
     if kind == 0x1C {
-        let got = get_each(sheet, table, arena, scope, n, kind, below);
+        let got = get_each(sheet, table, arena, scope, own, below);
         return leave(arena, got, node, at.levels);
     }
     // 1D: no other kind is left
@@ -132,32 +127,23 @@ pub fn get_node(
 }
 
 // A front (15) or a pair (16).
-fn get_two(
-    sheet: &[u8],
-    table: &[u16; 200],
-    arena: &mut [u8],
-    scope: Scope,
-    n: u16,
-    kind: u8,
-    at: At,
-) -> usize
-    requires { ⌜ Ready (now sheet) (now table) (now arena) scope (at .top) (suc (at .levels)) (suc (at .left)) (own kind (now sheet) n) ⌝ }
-    requires { ⌜ Two kind ⌝ }
-    ensures { λ r. ⌜ Gives (now (arena .entry)) (now (arena .exit)) (now (sheet .entry)) scope (at .top) (at .top) (at .left) r (at .levels)
-        (own kind (now (sheet .entry)) n) ⌝ }
+fn get_two(sheet: &[u8], table: &Table, arena: &mut [u8], scope: Scope, own: Own, at: At) -> usize
+    requires { ⌜ KindAsked (now sheet) (now table) (now arena) scope own at ⌝ }
+    requires { ⌜ Two (own .kind) ⌝ }
+    ensures { λ r. ⌜ KindTells (now (sheet .entry)) (now (arena .entry)) (now (arena .exit)) scope own at r ⌝ }
 {
     let top = at.top;
-    let made = step::made(kind);
+    let made = step::made(own.kind);
     arena[top] = made;
     let one = at.raised(1);
-    let first = sheet::number_of(sheet, n, 1);
+    let first = sheet::number_of(sheet, own.n, 1);
     let got = get_node(sheet, table, arena, scope, first, one);
     let a = bring(arena, got, one.top);
     if is_refused(a) {
         return a;
     }
     let two = one.behind(a);
-    let second = sheet::number_of(sheet, n, 2);
+    let second = sheet::number_of(sheet, own.n, 2);
     let got = get_node(sheet, table, arena, scope, second, two);
     let b = bring(arena, got, two.top);
     joined(arena, made, top, a, b)
@@ -175,37 +161,28 @@ fn test_of(sheet: &[u8], n: u16, kind: u8, i: u16) -> u8
 }
 
 // A list case (17), a truth case (18) or a split (19): the subject, and then the branch that it fits.
-fn get_case(
-    sheet: &[u8],
-    table: &[u16; 200],
-    arena: &mut [u8],
-    scope: Scope,
-    n: u16,
-    kind: u8,
-    at: At,
-) -> usize
-    requires { ⌜ Ready (now sheet) (now table) (now arena) scope (at .top) (suc (at .levels)) (suc (at .left)) (own kind (now sheet) n) ⌝ }
-    requires { ⌜ Case kind ⌝ }
-    ensures { λ r. ⌜ Gives (now (arena .entry)) (now (arena .exit)) (now (sheet .entry)) scope (at .top) (at .top) (at .left) r (at .levels)
-        (own kind (now (sheet .entry)) n) ⌝ }
+fn get_case(sheet: &[u8], table: &Table, arena: &mut [u8], scope: Scope, own: Own, at: At) -> usize
+    requires { ⌜ KindAsked (now sheet) (now table) (now arena) scope own at ⌝ }
+    requires { ⌜ Case (own .kind) ⌝ }
+    ensures { λ r. ⌜ KindTells (now (sheet .entry)) (now (arena .entry)) (now (arena .exit)) scope own at r ⌝ }
 {
-    let subject = sheet::number_of(sheet, n, 1);
+    let subject = sheet::number_of(sheet, own.n, 1);
     let got = get_node(sheet, table, arena, scope, subject, at);
     if is_refused(got) {
         return got;
     }
     let to = at.behind(got);
     let top = at.top;
-    match step::fits(kind, shape_at(arena, got)) {
+    match step::fits(own.kind, shape_at(arena, got)) {
         Branch::Plain(i, _) => {
-            let node = sheet::number_of(sheet, n, i);
-            let test = test_of(sheet, n, kind, i);
+            let node = sheet::number_of(sheet, own.n, i);
+            let test = test_of(sheet, own.n, own.kind, i);
             let branch = get_node(sheet, table, arena, scope, node, to);
             later(judge(arena, branch, test, top), steps_of(got))
         }
         Branch::Parts(i, mid) => {
-            let node = sheet::number_of(sheet, n, i);
-            let test = test_of(sheet, n, kind, i);
+            let node = sheet::number_of(sheet, own.n, i);
+            let test = test_of(sheet, own.n, own.kind, i);
             let inner = with_two(scope, start_of(got) + 1, mid - 1, len_of(got) - mid);
             let branch = get_node(sheet, table, arena, inner, node, to);
             later(judge(arena, branch, test, top), steps_of(got))
@@ -215,22 +192,13 @@ fn get_case(
 }
 
 // A call (1A): the section's root, with the caller's two variables alone.
-fn get_call(
-    sheet: &[u8],
-    table: &[u16; 200],
-    arena: &mut [u8],
-    scope: Scope,
-    n: u16,
-    kind: u8,
-    at: At,
-) -> usize
-    requires { ⌜ Ready (now sheet) (now table) (now arena) scope (at .top) (suc (at .levels)) (suc (at .left)) (own kind (now sheet) n) ⌝ }
-    requires { ⌜ kind ≡ 0x1A ⌝ }
-    ensures { λ r. ⌜ Gives (now (arena .entry)) (now (arena .exit)) (now (sheet .entry)) scope (at .top) (at .top) (at .left) r (at .levels)
-        (own kind (now (sheet .entry)) n) ⌝ }
+fn get_call(sheet: &[u8], table: &Table, arena: &mut [u8], scope: Scope, own: Own, at: At) -> usize
+    requires { ⌜ KindAsked (now sheet) (now table) (now arena) scope own at ⌝ }
+    requires { ⌜ own .kind ≡ 0x1A ⌝ }
+    ensures { λ r. ⌜ KindTells (now (sheet .entry)) (now (arena .entry)) (now (arena .exit)) scope own at r ⌝ }
 {
-    let x = sheet::number_of(sheet, n, 2);
-    let y = sheet::number_of(sheet, n, 3);
+    let x = sheet::number_of(sheet, own.n, 2);
+    let y = sheet::number_of(sheet, own.n, 3);
     let count = scope.count as usize;
     if count <= x {
         return refused(42);
@@ -238,31 +206,25 @@ fn get_call(
     if count <= y {
         return refused(42);
     }
-    let root = sheet::section_root(sheet, sheet::number_of(sheet, n, 1));
+    let root = sheet::section_root(sheet, sheet::number_of(sheet, own.n, 1));
     let inner = step::section(scope, x, y);
     get_node(sheet, table, arena, inner, root, at)
 }
 
 // An amount added (1B).
-fn get_add(
-    sheet: &[u8],
-    table: &[u16; 200],
-    arena: &mut [u8],
-    scope: Scope,
-    n: u16,
-    kind: u8,
-    at: At,
-) -> usize
-    requires { ⌜ Ready (now sheet) (now table) (now arena) scope (at .top) (suc (at .levels)) (suc (at .left)) (own kind (now sheet) n) ⌝ }
-    requires { ⌜ kind ≡ 0x1B ⌝ }
-    ensures { λ r. ⌜ Gives (now (arena .entry)) (now (arena .exit)) (now (sheet .entry)) scope (at .top) (at .top) (at .left) r (at .levels)
-        (own kind (now (sheet .entry)) n) ⌝ }
+fn get_add(sheet: &[u8], table: &Table, arena: &mut [u8], scope: Scope, own: Own, at: At) -> usize
+    requires { ⌜ KindAsked (now sheet) (now table) (now arena) scope own at ⌝ }
+    requires { ⌜ own .kind ≡ 0x1B ⌝ }
+    ensures { λ r. ⌜ KindTells (now (sheet .entry)) (now (arena .entry)) (now (arena .exit)) scope own at r ⌝ }
 {
     let top = at.top;
-    let node = sheet::number_of(sheet, n, 1);
+    let node = sheet::number_of(sheet, own.n, 1);
     let got = get_node(sheet, table, arena, scope, node, at);
     let a = bring(arena, got, top);
-    let amount = value::number(sheet::byte_of(sheet, n, 2), sheet::byte_of(sheet, n, 3));
+    let amount = value::number(
+        sheet::byte_of(sheet, own.n, 2),
+        sheet::byte_of(sheet, own.n, 3),
+    );
     added(arena, a, amount, top)
 }
 
@@ -270,7 +232,7 @@ fn get_add(
 // list, built from the top on, each member behind its 03.
 fn get_members(
     sheet: &[u8],
-    table: &[u16; 200],
+    table: &Table,
     arena: &mut [u8],
     scope: Scope,
     x: usize,
@@ -311,21 +273,12 @@ fn get_members(
 }
 
 // Each (1C): the subject, a list, and then the list of what the section gives for its members.
-fn get_each(
-    sheet: &[u8],
-    table: &[u16; 200],
-    arena: &mut [u8],
-    scope: Scope,
-    n: u16,
-    kind: u8,
-    at: At,
-) -> usize
-    requires { ⌜ Ready (now sheet) (now table) (now arena) scope (at .top) (suc (at .levels)) (suc (at .left)) (own kind (now sheet) n) ⌝ }
-    requires { ⌜ kind ≡ 0x1C ⌝ }
-    ensures { λ r. ⌜ Gives (now (arena .entry)) (now (arena .exit)) (now (sheet .entry)) scope (at .top) (at .top) (at .left) r (at .levels)
-        (own kind (now (sheet .entry)) n) ⌝ }
+fn get_each(sheet: &[u8], table: &Table, arena: &mut [u8], scope: Scope, own: Own, at: At) -> usize
+    requires { ⌜ KindAsked (now sheet) (now table) (now arena) scope own at ⌝ }
+    requires { ⌜ own .kind ≡ 0x1C ⌝ }
+    ensures { λ r. ⌜ KindTells (now (sheet .entry)) (now (arena .entry)) (now (arena .exit)) scope own at r ⌝ }
 {
-    let subject = sheet::number_of(sheet, n, 1);
+    let subject = sheet::number_of(sheet, own.n, 1);
     let got = get_node(sheet, table, arena, scope, subject, at);
     if is_refused(got) {
         return got;
@@ -334,11 +287,11 @@ fn get_each(
     if step::unfit(3, arena[start]) {
         return refused(43);
     }
-    let x = sheet::number_of(sheet, n, 3);
+    let x = sheet::number_of(sheet, own.n, 3);
     if scope.count as usize <= x {
         return refused(42);
     }
-    let root = sheet::section_root(sheet, sheet::number_of(sheet, n, 2));
+    let root = sheet::section_root(sheet, sheet::number_of(sheet, own.n, 2));
     let end = start + len_of(got);
     let to = at.behind(got);
     let list = get_members(sheet, table, arena, scope, x, root, start, end, to);

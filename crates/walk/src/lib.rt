@@ -221,14 +221,12 @@ fn put_plan(
         at,
     );
     if is_refused(put) {
-        let met = met_at(put);
-        return refused(code_of(put), met);
+        return refused(code_of(put), met_at(put));
     }
     let new = gather(arena, &slots, scope);
-    let walked = Reply::Done {
-        len: new.len,
-        steps: steps_of(put),
-    };
+    let len = new.len;
+    let steps = steps_of(put);
+    let walked = Reply::Done { len, steps };
     let starts = new.starts;
     let written = bits_of(&slots, k);
     let met = nowhere();

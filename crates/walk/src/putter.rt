@@ -1,23 +1,46 @@
 //! Put: a view put back into a node, with what was written in the arena's slots. A node's record starts at byte `n` of the sheet; lent are,
-//! beside what a get is lent, what is noted of each slot in `slots`, 0 where nothing was written, and the cell of each variable in `cells`.
+//! beside what a get is lent, the `slots` and the `cells`.
 ghost use mathlib.Core.Path.{_≡_};
-ghost use Prim.Native.Nat.{ℕ, suc, _+_, _*_, _≤_, _<_};
-ghost use lib.ListN.{length, getD};
+ghost use mathlib.Core.List.{[], _∷_};
+ghost use Prim.Native.Nat.{_+_, _*_, _≤_};
+ghost use lib.ListN.{length};
 ghost use Rattle.value.specs.Value.{Value, vfalse};
 ghost use Rattle.value.specs.Parts.{sameBytes};
 ghost use Rattle.sheet.specs.Wide.{wideBytes};
-ghost use Rattle.rules.specs.Numbers.{SCRATCH, CHAIN};
-ghost use Rattle.step.specs.Step.{judged};
+ghost use Rattle.rules.specs.Numbers.{CHAIN};
+ghost use Rattle.answer.specs.Answer.{lenOf};
+ghost use Rattle.step.specs.Step.{judged, madeOf};
 ghost use Rattle.walk.specs.Cells.{Shown};
 ghost use Rattle.walk.specs.GetTwo.{Two};
 ghost use Rattle.walk.specs.GetCase.{Case};
 ghost use Rattle.walk.specs.GetLeaf.{Childless};
-ghost use Rattle.walk.specs.Puts.{Ready, Inner, Gives, Few, Any, PartsAt, SomeParts, SomeView, enter, own, leaf, pair, inside, rebuilt, switchAt};
+ghost use Rattle.walk.specs.Puts.{
+  Ready,
+  Inner,
+  Gives,
+  Few,
+  Any,
+  PartsAt,
+  SomeParts,
+  SomeView,
+  TaskAsked,
+  TaskTells,
+  KindAsked,
+  KindTells,
+  enter,
+  pair,
+  insideOf,
+  rebuiltOf,
+  switchAt,
+};
 ghost use Rattle.walk.specs.PutLeaf.{numberBytes};
+ghost use Rattle.walk.specs.PutUnder.{gotParts};
 ghost use Rattle.walk.specs.PutSwitch.{BothAsked, Sees, DefaultsAsked, Defaults};
 ghost use Rattle.walk.specs.PutMember.{StoodAsked, Stood, MembersAsked, MemberTold};
 ghost use Rattle.walk.specs.PutMembers.{SomeList, MembersTold};
 use crate::at::At;
+use crate::at::Own;
+use crate::at::Table;
 use crate::bytes::copy;
 use crate::bytes::fill;
 use crate::bytes::rebuild;
@@ -42,8 +65,25 @@ use step::Branch;
 use step::Scope;
 use value::Shape;
 
-/// Two values that stand one after the other: where the first starts, and how long each is.
+/// What is noted of each slot, 0 where nothing was written.
+type Slots = [u16; rules::VARIABLES];
+
+/// The cell of each variable.
+type Cells = [u8; rules::VARIABLES];
+
+/// A branch that adds no variables: its node, the subject's, and the byte that the subject then is.
+pub struct Plain {
+    pub branch: usize,
+    pub subject: usize,
+    pub byte: u8,
+}
+
+/// A branch that adds two variables: its node and the subject's, the byte that the subject begins with, 3 for a list and 5 for a pair; and its two
+/// parts, which stand one after the other: where the first starts, and how long each is.
 pub struct Parts {
+    pub kind: u8,
+    pub branch: usize,
+    pub subject: usize,
     pub start: usize,
     pub first: usize,
     pub second: usize,
@@ -57,6 +97,28 @@ pub struct Members {
     pub root: usize,
     pub default: usize,
     pub old: usize,
+}
+
+/// The next member of an each: by what it goes, how many bytes of the new list are built, and where the walk is.
+pub struct Turn {
+    pub by: Members,
+    pub built: usize,
+    pub at: At,
+}
+
+// The parts of a subject that was got, the second `mid` bytes behind its start, for a branch of a node of that kind.
+fn parts_of(kind: u8, branch: usize, subject: usize, got: usize, mid: usize) -> Parts
+    requires { ⌜ (1 ≤ mid) × (mid ≤ lenOf got) ⌝ }
+    ensures { λ r. ⌜ r ≡ gotParts (madeOf kind) branch subject got mid ⌝ }
+{
+    Parts {
+        kind: step::made(kind),
+        branch,
+        subject,
+        start: start_of(got) + 1,
+        first: mid - 1,
+        second: len_of(got) - mid,
+    }
 }
 
 // A constant number (14) must equal the view.
@@ -78,55 +140,51 @@ fn put_wide(sheet: &[u8], n: u16, view: &[u8]) -> usize
 // A constant (11 to 14) must equal the view; a variable (10) takes it.
 fn put_leaf(
     sheet: &[u8],
-    table: &[u16; 200],
+    table: &Table,
     arena: &mut [u8],
-    slots: &mut [u16; rules::VARIABLES],
+    slots: &mut Slots,
     scope: Scope,
-    cells: &[u8; rules::VARIABLES],
-    node: usize,
-    n: u16,
-    kind: u8,
+    cells: &Cells,
+    own: Own,
     view: &[u8],
     at: At,
 ) -> usize
-    requires { ⌜ Ready (now sheet) (now table) (now arena) (now slots) (Shown (now view)) scope (now cells) (at .cells) (at .cells) (at .top)
-        (suc (at .levels)) (suc (at .left)) (leaf node kind (now sheet) n) ⌝ }
-    requires { ⌜ Childless kind ⌝ }
-    ensures { λ r. ⌜ Gives (now (arena .entry)) (now (arena .exit)) (now (slots .entry)) (now (slots .exit)) (now (sheet .entry))
-        (Shown (now (view .entry))) scope (now (cells .entry)) (at .cells) (at .cells) (at .top) (at .left) r (at .levels)
-        (leaf node kind (now (sheet .entry)) n) ⌝ }
+    requires { ⌜ KindAsked (now sheet) (now table) (now arena) (now slots) scope (now cells) own (now view) at ⌝ }
+    requires { ⌜ Childless (own .kind) ⌝ }
+    ensures { λ r. ⌜ KindTells (now (sheet .entry)) (now (arena .entry)) (now (arena .exit)) (now (slots .entry)) (now (slots .exit)) scope (now (cells .entry))
+        own (now (view .entry)) at r ⌝ }
 {
+    let kind = own.kind;
     if kind == 0x14 {
-        return put_number(sheet, n, view);
+        return put_number(sheet, own.n, view);
     }
     if kind != 0x10 {
         return step::put_constant(kind - 0x11, view);
     }
-    let x = sheet::number_of(sheet, n, 1);
+    let x = sheet::number_of(sheet, own.n, 1);
     let count = scope.count as usize;
     if count <= x {
         return refused(42);
     }
     let c = cells[x] as usize;
-    write(arena, slots, c, node, view)
+    write(arena, slots, c, own.node, view)
 }
 
 /// A view put back into a node: its depth is judged, then the allowance. The sheet's reader lets no kind over 1D through.
 pub fn put_node(
     sheet: &[u8],
-    table: &[u16; 200],
+    table: &Table,
     arena: &mut [u8],
-    slots: &mut [u16; rules::VARIABLES],
+    slots: &mut Slots,
     scope: Scope,
-    cells: &[u8; rules::VARIABLES],
+    cells: &Cells,
     node: usize,
     view: &[u8],
     at: At,
 ) -> usize
-    requires { ⌜ Ready (now sheet) (now table) (now arena) (now slots) (Shown (now view)) scope (now cells) (at .cells) (at .cells) (at .top) (at .levels)
-        (at .left) (enter node) ⌝ }
-    ensures { λ r. ⌜ Gives (now (arena .entry)) (now (arena .exit)) (now (slots .entry)) (now (slots .exit)) (now (sheet .entry))
-        (Shown (now (view .entry))) scope (now (cells .entry)) (at .cells) (at .cells) (at .top) (at .left) r (at .levels) (enter node) ⌝ }
+    requires { ⌜ TaskAsked (now sheet) (now table) (now arena) (now slots) scope (now cells) (now view) at (enter node) ⌝ }
+    ensures { λ r. ⌜ TaskTells (now (sheet .entry)) (now (arena .entry)) (now (arena .exit)) (now (slots .entry)) (now (slots .exit)) scope (now (cells .entry))
+        (now (view .entry)) at r (enter node) ⌝ }
     ensures { λ r. ⌜ Few (at .left) r ⌝ }
 {
     let code = step::entry(at.levels, at.left);
@@ -136,40 +194,29 @@ pub fn put_node(
     let n = table[node];
     let to = at.below();
     let kind = sheet::byte_of(sheet, n, 0);
+    let own = Own { node, n, kind };
     if kind < 0x15 {
-        let put = put_leaf(
-            sheet,
-            table,
-            arena,
-            slots,
-            scope,
-            cells,
-            node,
-            n,
-            kind,
-            view,
-            to,
-        );
+        let put = put_leaf(sheet, table, arena, slots, scope, cells, own, view, to);
         return leave(arena, put, node, at.levels);
     }
     if kind < 0x1A {
         if kind < 0x17 {
-            let put = put_two(sheet, table, arena, slots, scope, cells, n, kind, view, to);
+            let put = put_two(sheet, table, arena, slots, scope, cells, own, view, to);
             return leave(arena, put, node, at.levels);
         }
-        let put = put_case(sheet, table, arena, slots, scope, cells, n, kind, view, to);
+        let put = put_case(sheet, table, arena, slots, scope, cells, own, view, to);
         return leave(arena, put, node, at.levels);
     }
     if kind < 0x1C {
         if kind == 0x1A {
-            let put = put_call(sheet, table, arena, slots, scope, cells, n, kind, view, to);
+            let put = put_call(sheet, table, arena, slots, scope, cells, own, view, to);
             return leave(arena, put, node, at.levels);
         }
-        let put = put_add(sheet, table, arena, slots, scope, cells, n, kind, view, to);
+        let put = put_add(sheet, table, arena, slots, scope, cells, own, view, to);
         return leave(arena, put, node, at.levels);
     }
     if kind == 0x1C {
-        let put = put_each(sheet, table, arena, slots, scope, cells, n, kind, view, to);
+        let put = put_each(sheet, table, arena, slots, scope, cells, own, view, to);
         return leave(arena, put, node, at.levels);
     }
     // 1D: no other kind is left
@@ -177,95 +224,86 @@ pub fn put_node(
     leave(arena, put, node, at.levels)
 }
 
-// `view` into node a, then `other` into node b.
+// The view into a branch that adds no variables, then the byte that the subject is into its node.
 fn put_both(
     sheet: &[u8],
-    table: &[u16; 200],
+    table: &Table,
     arena: &mut [u8],
-    slots: &mut [u16; rules::VARIABLES],
+    slots: &mut Slots,
     scope: Scope,
-    cells: &[u8; rules::VARIABLES],
-    a: usize,
+    cells: &Cells,
+    by: Plain,
     view: &[u8],
-    b: usize,
-    other: &[u8],
     at: At,
 ) -> usize
-    requires { ⌜ Ready (now sheet) (now table) (now arena) (now slots) (Shown (now view)) scope (now cells) (at .cells) (at .cells) (at .top) (at .levels)
-        (at .left) (pair a b vfalse) ⌝ }
-    requires { ⌜ SomeView (now other) ⌝ }
-    ensures { λ r. ⌜ ((u : Value) → Shown (now (other .entry)) u → Gives (now (arena .entry)) (now (arena .exit)) (now (slots .entry)) (now (slots .exit))
-        (now (sheet .entry)) (Shown (now (view .entry))) scope (now (cells .entry)) (at .cells) (at .cells) (at .top) (at .left) r (at .levels)
-        (pair a b u)) ⌝ }
+    requires { ⌜ TaskAsked (now sheet) (now table) (now arena) (now slots) scope (now cells) (now view) at (pair (by .branch) (by .subject) vfalse) ⌝ }
+    requires { ⌜ SomeView (by .byte ∷ []) ⌝ }
+    ensures { λ r. ⌜ ((u : Value) → Shown (by .byte ∷ []) u → TaskTells (now (sheet .entry)) (now (arena .entry)) (now (arena .exit)) (now (slots .entry))
+        (now (slots .exit)) scope (now (cells .entry)) (now (view .entry)) at r (pair (by .branch) (by .subject) u)) ⌝ }
 {
+    let a = by.branch;
     let one = put_node(sheet, table, arena, slots, scope, cells, a, view, at);
     if is_refused(one) {
         return one;
     }
     let then = at.after(one);
-    let two = put_node(sheet, table, arena, slots, scope, cells, b, other, then);
+    let whole = [by.byte];
+    let b = by.subject;
+    let two = put_node(sheet, table, arena, slots, scope, cells, b, &whole, then);
     later(two, steps_of(one))
 }
 
 // A front (15) or a pair (16): the view is taken apart, left first.
 fn put_two(
     sheet: &[u8],
-    table: &[u16; 200],
+    table: &Table,
     arena: &mut [u8],
-    slots: &mut [u16; rules::VARIABLES],
+    slots: &mut Slots,
     scope: Scope,
-    cells: &[u8; rules::VARIABLES],
-    n: u16,
-    kind: u8,
+    cells: &Cells,
+    own: Own,
     view: &[u8],
     at: At,
 ) -> usize
-    requires { ⌜ Ready (now sheet) (now table) (now arena) (now slots) (Shown (now view)) scope (now cells) (at .cells) (at .cells) (at .top)
-        (suc (at .levels)) (suc (at .left)) (own kind (now sheet) n) ⌝ }
-    requires { ⌜ Two kind ⌝ }
-    ensures { λ r. ⌜ Gives (now (arena .entry)) (now (arena .exit)) (now (slots .entry)) (now (slots .exit)) (now (sheet .entry))
-        (Shown (now (view .entry))) scope (now (cells .entry)) (at .cells) (at .cells) (at .top) (at .left) r (at .levels)
-        (own kind (now (sheet .entry)) n) ⌝ }
+    requires { ⌜ KindAsked (now sheet) (now table) (now arena) (now slots) scope (now cells) own (now view) at ⌝ }
+    requires { ⌜ Two (own .kind) ⌝ }
+    ensures { λ r. ⌜ KindTells (now (sheet .entry)) (now (arena .entry)) (now (arena .exit)) (now (slots .entry)) (now (slots .exit)) scope (now (cells .entry))
+        own (now (view .entry)) at r ⌝ }
 {
-    let Apart::At(mid) = step::take_apart(kind, value::shape_of(view)) else {
+    let Apart::At(mid) = step::take_apart(own.kind, value::shape_of(view)) else {
         return refused(51);
     };
     let left = value::first_part(view, mid);
     let right = value::second_part(view, mid);
-    let a = sheet::number_of(sheet, n, 1);
+    let a = sheet::number_of(sheet, own.n, 1);
     let one = put_node(sheet, table, arena, slots, scope, cells, a, left, at);
     if is_refused(one) {
         return one;
     }
     let then = at.after(one);
-    let b = sheet::number_of(sheet, n, 2);
+    let b = sheet::number_of(sheet, own.n, 2);
     let two = put_node(sheet, table, arena, slots, scope, cells, b, right, then);
     later(two, steps_of(one))
 }
 
-// The view into a branch with two variables more, each in a new cell; then the subject, rebuilt of what they now stand for, into its
-// node. `kind` is 3 for a list and 5 for a pair.
+// The view into a branch with two variables more, each in a new cell; then the subject, rebuilt of what they now stand for, into its node.
 fn put_under(
     sheet: &[u8],
-    table: &[u16; 200],
+    table: &Table,
     arena: &mut [u8],
-    slots: &mut [u16; rules::VARIABLES],
+    slots: &mut Slots,
     scope: Scope,
-    cells: &[u8; rules::VARIABLES],
-    branch: usize,
-    subject: usize,
-    kind: u8,
+    cells: &Cells,
     parts: Parts,
     view: &[u8],
     at: At,
 ) -> usize
-    requires { ⌜ Ready (now sheet) (now table) (now arena) (now slots) (Shown (now view)) scope (now cells) (at .cells) (at .cells) (at .top) (at .levels)
-        (at .left) (inside kind branch subject vfalse vfalse) ⌝ }
+    requires { ⌜ TaskAsked (now sheet) (now table) (now arena) (now slots) scope (now cells) (now view) at (insideOf parts vfalse vfalse) ⌝ }
     requires { ⌜ Inner scope (at .cells) (at .levels) ⌝ }
     requires { ⌜ SomeParts (now arena) (at .top) (parts .start) (parts .first) (parts .second) ⌝ }
-    ensures { λ r. ⌜ ((f u : Value) → PartsAt (now (arena .entry)) (at .top) (parts .start) (parts .first) (parts .second) f u → Gives (now (arena .entry))
-        (now (arena .exit)) (now (slots .entry)) (now (slots .exit)) (now (sheet .entry)) (Shown (now (view .entry))) scope (now (cells .entry)) (at .cells)
-        (at .cells) (at .top) (at .left) r (at .levels) (inside kind branch subject f u)) ⌝ }
+    ensures { λ r. ⌜ ((f u : Value) → PartsAt (now (arena .entry)) (at .top) (parts .start) (parts .first) (parts .second) f u
+        → TaskTells (now (sheet .entry)) (now (arena .entry)) (now (arena .exit)) (now (slots .entry)) (now (slots .exit)) scope (now (cells .entry))
+        (now (view .entry)) at r (insideOf parts f u)) ⌝ }
 {
     let c = at.cells;
     slots[c] = 0;
@@ -273,56 +311,34 @@ fn put_under(
     let inner = with_two(scope, parts.start, parts.first, parts.second);
     let mut more = *cells;
     step::add_cells(&mut more, scope.count as usize, c);
-    let wider = at.wider();
-    let one = put_node(
-        sheet,
-        table,
-        arena,
-        slots,
-        inner,
-        &more,
-        branch,
-        view,
-        wider,
-    );
+    let to = at.wider();
+    let branch = parts.branch;
+    let one = put_node(sheet, table, arena, slots, inner, &more, branch, view, to);
     if is_refused(one) {
         return one;
     }
     let then = at.after(one);
-    let two = put_rebuilt(
-        sheet,
-        table,
-        arena,
-        slots,
-        scope,
-        cells,
-        subject,
-        kind,
-        parts,
-        then,
-    );
+    let two = put_rebuilt(sheet, table, arena, slots, scope, cells, parts, then);
     later(two, steps_of(one))
 }
 
 // The subject, rebuilt of what the two variables of its branch stand for, into its node. Their cells are the next two.
 fn put_rebuilt(
     sheet: &[u8],
-    table: &[u16; 200],
+    table: &Table,
     arena: &mut [u8],
-    slots: &mut [u16; rules::VARIABLES],
+    slots: &mut Slots,
     scope: Scope,
-    cells: &[u8; rules::VARIABLES],
-    node: usize,
-    kind: u8,
+    cells: &Cells,
     parts: Parts,
     at: At,
 ) -> usize
     requires { ⌜ Ready (now sheet) (now table) (now arena) (now slots) Any scope (now cells) (at .cells) (at .cells + 2) (at .top) (at .levels) (at .left)
-        (rebuilt kind node vfalse vfalse) ⌝ }
+        (rebuiltOf parts vfalse vfalse) ⌝ }
     requires { ⌜ SomeParts (now arena) (at .top) (parts .start) (parts .first) (parts .second) ⌝ }
     ensures { λ r. ⌜ ((f u : Value) → PartsAt (now (arena .entry)) (at .top) (parts .start) (parts .first) (parts .second) f u → Gives (now (arena .entry))
         (now (arena .exit)) (now (slots .entry)) (now (slots .exit)) (now (sheet .entry)) Any scope (now (cells .entry)) (at .cells) (at .cells + 2)
-        (at .top) (at .left) r (at .levels) (rebuilt kind node f u)) ⌝ }
+        (at .top) (at .left) r (at .levels) (rebuiltOf parts f u)) ⌝ }
     ensures { λ r. ⌜ Few (at .left) r ⌝ }
 {
     let c = at.cells;
@@ -331,7 +347,7 @@ fn put_rebuilt(
     let f = step::place_of(slots[c], c, start, first);
     let r = step::place_of(slots[c + 1], c + 1, start + first, parts.second);
     let rest = r.start;
-    if step::unfit(kind, arena[rest]) {
+    if step::unfit(parts.kind, arena[rest]) {
         return refused(43);
     }
     let size = 1 + f.len + r.len;
@@ -339,84 +355,64 @@ fn put_rebuilt(
         return refused(44);
     }
     let mut whole = [0u8; 256];
-    rebuild(&mut whole, arena, kind, f.start, f.len, r.start, r.len);
+    rebuild(
+        &mut whole,
+        arena,
+        parts.kind,
+        f.start,
+        f.len,
+        r.start,
+        r.len,
+    );
     let v = &whole[..size];
+    let node = parts.subject;
     put_node(sheet, table, arena, slots, scope, cells, node, v, at)
 }
 
 // A list case (17), a truth case (18) or a split (19): the old subject, and then the branch that the view takes.
 fn put_case(
     sheet: &[u8],
-    table: &[u16; 200],
+    table: &Table,
     arena: &mut [u8],
-    slots: &mut [u16; rules::VARIABLES],
+    slots: &mut Slots,
     scope: Scope,
-    cells: &[u8; rules::VARIABLES],
-    n: u16,
-    kind: u8,
+    cells: &Cells,
+    own: Own,
     view: &[u8],
     at: At,
 ) -> usize
-    requires { ⌜ Ready (now sheet) (now table) (now arena) (now slots) (Shown (now view)) scope (now cells) (at .cells) (at .cells) (at .top)
-        (suc (at .levels)) (suc (at .left)) (own kind (now sheet) n) ⌝ }
-    requires { ⌜ Case kind ⌝ }
-    ensures { λ r. ⌜ Gives (now (arena .entry)) (now (arena .exit)) (now (slots .entry)) (now (slots .exit)) (now (sheet .entry))
-        (Shown (now (view .entry))) scope (now (cells .entry)) (at .cells) (at .cells) (at .top) (at .left) r (at .levels)
-        (own kind (now (sheet .entry)) n) ⌝ }
+    requires { ⌜ KindAsked (now sheet) (now table) (now arena) (now slots) scope (now cells) own (now view) at ⌝ }
+    requires { ⌜ Case (own .kind) ⌝ }
+    ensures { λ r. ⌜ KindTells (now (sheet .entry)) (now (arena .entry)) (now (arena .exit)) (now (slots .entry)) (now (slots .exit)) scope (now (cells .entry))
+        own (now (view .entry)) at r ⌝ }
 {
-    let subject = sheet::number_of(sheet, n, 1);
+    let subject = sheet::number_of(sheet, own.n, 1);
     let got = get_node(sheet, table, arena, scope, subject, at);
     if is_refused(got) {
         return got;
     }
     let to = at.behind(got);
-    let first = sheet::byte_of(sheet, n, 3);
-    let second = sheet::byte_of(sheet, n, 5);
-    match step::takes(kind, shape_at(arena, got), first, second, view) {
+    let first = sheet::byte_of(sheet, own.n, 3);
+    let second = sheet::byte_of(sheet, own.n, 5);
+    match step::takes(own.kind, shape_at(arena, got), first, second, view) {
         Branch::Plain(i, byte) => {
-            let node = sheet::number_of(sheet, n, i);
-            let whole = [byte];
-            let put = put_both(
-                sheet,
-                table,
-                arena,
-                slots,
-                scope,
-                cells,
-                node,
-                view,
+            let branch = sheet::number_of(sheet, own.n, i);
+            let by = Plain {
+                branch,
                 subject,
-                &whole,
-                to,
-            );
+                byte,
+            };
+            let put = put_both(sheet, table, arena, slots, scope, cells, by, view, to);
             later(put, steps_of(got))
         }
         Branch::Parts(i, mid) => {
-            let node = sheet::number_of(sheet, n, i);
-            let made = step::made(kind);
-            let parts = Parts {
-                start: start_of(got) + 1,
-                first: mid - 1,
-                second: len_of(got) - mid,
-            };
-            let put = put_under(
-                sheet,
-                table,
-                arena,
-                slots,
-                scope,
-                cells,
-                node,
-                subject,
-                made,
-                parts,
-                view,
-                to,
-            );
+            let branch = sheet::number_of(sheet, own.n, i);
+            let parts = parts_of(own.kind, branch, subject, got, mid);
+            let put = put_under(sheet, table, arena, slots, scope, cells, parts, view, to);
             later(put, steps_of(got))
         }
         Branch::Switch => {
-            let put = put_switch(sheet, table, arena, slots, scope, cells, n, view, to);
+            let put = put_switch(sheet, table, arena, slots, scope, cells, own.n, view, to);
             later(put, steps_of(got))
         }
         Branch::Refused(code) => refused(code),
@@ -425,14 +421,7 @@ fn put_case(
 
 // The default first and the default rest of a list case, got in the scope `seen`, one after the other from the top on. The answer has the
 // length of the first for its start.
-fn two_defaults(
-    sheet: &[u8],
-    table: &[u16; 200],
-    arena: &mut [u8],
-    seen: Scope,
-    n: u16,
-    at: At,
-) -> usize
+fn two_defaults(sheet: &[u8], table: &Table, arena: &mut [u8], seen: Scope, n: u16, at: At) -> usize
     requires { ⌜ BothAsked (now sheet) (now table) (now arena) seen n (at .top) (at .levels) (at .left) ⌝ }
     ensures { λ r. ⌜ Defaults (now (sheet .entry)) n (Sees (now (arena .entry)) seen (at .top)) (now (arena .entry)) (now (arena .exit)) (at .top)
         (at .levels) (at .left) r ⌝ }
@@ -459,14 +448,7 @@ fn two_defaults(
 
 // The defaults of a list case, got in a scope of one variable, the view: it stands at the top while they are got behind it, and then they are
 // brought down to where it stood.
-fn defaults(
-    sheet: &[u8],
-    table: &[u16; 200],
-    arena: &mut [u8],
-    n: u16,
-    view: &[u8],
-    at: At,
-) -> usize
+fn defaults(sheet: &[u8], table: &Table, arena: &mut [u8], n: u16, view: &[u8], at: At) -> usize
     requires { ⌜ DefaultsAsked (now sheet) (now table) (now arena) (now view) n (at .top) (at .levels) (at .left) ⌝ }
     ensures { λ r. ⌜ Defaults (now (sheet .entry)) n (Shown (now (view .entry))) (now (arena .entry)) (now (arena .exit)) (at .top) (at .levels) (at .left)
         r ⌝ }
@@ -488,22 +470,20 @@ fn defaults(
 // A switch to the non-empty branch of a list case: the defaults stand for its variables.
 fn put_switch(
     sheet: &[u8],
-    table: &[u16; 200],
+    table: &Table,
     arena: &mut [u8],
-    slots: &mut [u16; rules::VARIABLES],
+    slots: &mut Slots,
     scope: Scope,
-    cells: &[u8; rules::VARIABLES],
+    cells: &Cells,
     n: u16,
     view: &[u8],
     at: At,
 ) -> usize
-    requires { ⌜ Ready (now sheet) (now table) (now arena) (now slots) (Shown (now view)) scope (now cells) (at .cells) (at .cells) (at .top) (at .levels)
-        (at .left) (switchAt (now sheet) n) ⌝ }
+    requires { ⌜ TaskAsked (now sheet) (now table) (now arena) (now slots) scope (now cells) (now view) at (switchAt (now sheet) n) ⌝ }
     requires { ⌜ Inner scope (at .cells) (at .levels) ⌝ }
     requires { ⌜ at .top + 512 + 513 * at .levels ≤ CHAIN ⌝ }
-    ensures { λ r. ⌜ Gives (now (arena .entry)) (now (arena .exit)) (now (slots .entry)) (now (slots .exit)) (now (sheet .entry))
-        (Shown (now (view .entry))) scope (now (cells .entry)) (at .cells) (at .cells) (at .top) (at .left) r (at .levels)
-        (switchAt (now (sheet .entry)) n) ⌝ }
+    ensures { λ r. ⌜ TaskTells (now (sheet .entry)) (now (arena .entry)) (now (arena .exit)) (now (slots .entry)) (now (slots .exit)) scope (now (cells .entry))
+        (now (view .entry)) at r (switchAt (now (sheet .entry)) n) ⌝ }
 {
     let got = defaults(sheet, table, arena, n, view, at);
     if is_refused(got) {
@@ -511,54 +491,41 @@ fn put_switch(
     }
     let first = start_of(got);
     let second = len_of(got);
+    let branch = sheet::number_of(sheet, n, 4);
+    let subject = sheet::number_of(sheet, n, 1);
     let parts = Parts {
+        kind: 3,
+        branch,
+        subject,
         start: at.top,
         first,
         second,
     };
-    let branch = sheet::number_of(sheet, n, 4);
-    let subject = sheet::number_of(sheet, n, 1);
     let then = at.after(got);
     let to = then.raised(first + second);
-    let put = put_under(
-        sheet,
-        table,
-        arena,
-        slots,
-        scope,
-        cells,
-        branch,
-        subject,
-        3,
-        parts,
-        view,
-        to,
-    );
+    let put = put_under(sheet, table, arena, slots, scope, cells, parts, view, to);
     later(put, steps_of(got))
 }
 
 // A call (1A): the section's root, whose two variables are the caller's under other names.
 fn put_call(
     sheet: &[u8],
-    table: &[u16; 200],
+    table: &Table,
     arena: &mut [u8],
-    slots: &mut [u16; rules::VARIABLES],
+    slots: &mut Slots,
     scope: Scope,
-    cells: &[u8; rules::VARIABLES],
-    n: u16,
-    kind: u8,
+    cells: &Cells,
+    own: Own,
     view: &[u8],
     at: At,
 ) -> usize
-    requires { ⌜ Ready (now sheet) (now table) (now arena) (now slots) (Shown (now view)) scope (now cells) (at .cells) (at .cells) (at .top)
-        (suc (at .levels)) (suc (at .left)) (own kind (now sheet) n) ⌝ }
-    requires { ⌜ kind ≡ 0x1A ⌝ }
-    ensures { λ r. ⌜ Gives (now (arena .entry)) (now (arena .exit)) (now (slots .entry)) (now (slots .exit)) (now (sheet .entry))
-        (Shown (now (view .entry))) scope (now (cells .entry)) (at .cells) (at .cells) (at .top) (at .left) r (at .levels)
-        (own kind (now (sheet .entry)) n) ⌝ }
+    requires { ⌜ KindAsked (now sheet) (now table) (now arena) (now slots) scope (now cells) own (now view) at ⌝ }
+    requires { ⌜ own .kind ≡ 0x1A ⌝ }
+    ensures { λ r. ⌜ KindTells (now (sheet .entry)) (now (arena .entry)) (now (arena .exit)) (now (slots .entry)) (now (slots .exit)) scope (now (cells .entry))
+        own (now (view .entry)) at r ⌝ }
 {
-    let x = sheet::number_of(sheet, n, 2);
-    let y = sheet::number_of(sheet, n, 3);
+    let x = sheet::number_of(sheet, own.n, 2);
+    let y = sheet::number_of(sheet, own.n, 3);
     let count = scope.count as usize;
     if count <= x {
         return refused(42);
@@ -566,7 +533,7 @@ fn put_call(
     if count <= y {
         return refused(42);
     }
-    let root = sheet::section_root(sheet, sheet::number_of(sheet, n, 1));
+    let root = sheet::section_root(sheet, sheet::number_of(sheet, own.n, 1));
     let inner = step::section(scope, x, y);
     let two = step::pick_cells(cells, x, y);
     put_node(sheet, table, arena, slots, inner, &two, root, view, at)
@@ -575,33 +542,33 @@ fn put_call(
 // An amount added (1B) is subtracted.
 fn put_add(
     sheet: &[u8],
-    table: &[u16; 200],
+    table: &Table,
     arena: &mut [u8],
-    slots: &mut [u16; rules::VARIABLES],
+    slots: &mut Slots,
     scope: Scope,
-    cells: &[u8; rules::VARIABLES],
-    n: u16,
-    kind: u8,
+    cells: &Cells,
+    own: Own,
     view: &[u8],
     at: At,
 ) -> usize
-    requires { ⌜ Ready (now sheet) (now table) (now arena) (now slots) (Shown (now view)) scope (now cells) (at .cells) (at .cells) (at .top)
-        (suc (at .levels)) (suc (at .left)) (own kind (now sheet) n) ⌝ }
-    requires { ⌜ kind ≡ 0x1B ⌝ }
-    ensures { λ r. ⌜ Gives (now (arena .entry)) (now (arena .exit)) (now (slots .entry)) (now (slots .exit)) (now (sheet .entry))
-        (Shown (now (view .entry))) scope (now (cells .entry)) (at .cells) (at .cells) (at .top) (at .left) r (at .levels)
-        (own kind (now (sheet .entry)) n) ⌝ }
+    requires { ⌜ KindAsked (now sheet) (now table) (now arena) (now slots) scope (now cells) own (now view) at ⌝ }
+    requires { ⌜ own .kind ≡ 0x1B ⌝ }
+    ensures { λ r. ⌜ KindTells (now (sheet .entry)) (now (arena .entry)) (now (arena .exit)) (now (slots .entry)) (now (slots .exit)) scope (now (cells .entry))
+        own (now (view .entry)) at r ⌝ }
 {
     let Shape::Number(m) = value::shape_of(view) else {
         return refused(51);
     };
-    let amount = value::number(sheet::byte_of(sheet, n, 2), sheet::byte_of(sheet, n, 3));
+    let amount = value::number(
+        sheet::byte_of(sheet, own.n, 2),
+        sheet::byte_of(sheet, own.n, 3),
+    );
     if m < amount {
         return refused(52);
     }
     let rest = m - amount;
     let less = [4, value::high(rest), value::low(rest)];
-    let node = sheet::number_of(sheet, n, 1);
+    let node = sheet::number_of(sheet, own.n, 1);
     put_node(sheet, table, arena, slots, scope, cells, node, &less, at)
 }
 
@@ -609,7 +576,7 @@ fn put_add(
 // the default, got anew in an empty scope.
 fn stood_for(
     sheet: &[u8],
-    table: &[u16; 200],
+    table: &Table,
     arena: &mut [u8],
     by: Members,
     mid: usize,
@@ -629,23 +596,26 @@ fn stood_for(
 // the old list the member took, and for its length how many `whole` has more.
 fn put_one(
     sheet: &[u8],
-    table: &[u16; 200],
+    table: &Table,
     arena: &mut [u8],
-    slots: &mut [u16; rules::VARIABLES],
+    slots: &mut Slots,
     scope: Scope,
-    cells: &[u8; rules::VARIABLES],
-    by: Members,
+    cells: &Cells,
+    turn: Turn,
     view: &[u8],
     whole: &mut [u8; 256],
-    built: usize,
-    at: At,
 ) -> usize
-    requires { ⌜ MembersAsked (now sheet) (now table) (now arena) (now slots) scope (now cells) by (at .cells) (at .top) (at .levels) (at .left) ⌝ }
+    requires { ⌜ MembersAsked (now sheet) (now table) (now arena) (now slots) scope (now cells) (turn .by) (turn .at .cells) (turn .at .top)
+        (turn .at .levels) (turn .at .left) ⌝ }
     requires { ⌜ SomeView (now view) ⌝ }
-    requires { ⌜ (length (now whole) ≡ 256) × (built + 1 ≤ 256) ⌝ }
+    requires { ⌜ (length (now whole) ≡ 256) × (turn .built + 1 ≤ 256) ⌝ }
     ensures { λ r. ⌜ MemberTold (now (sheet .entry)) (now (arena .entry)) (now (arena .exit)) (now (slots .entry)) (now (slots .exit)) (now (whole .entry))
-        (now (whole .exit)) scope (now (cells .entry)) by (now (view .entry)) built (at .cells) (at .top) (at .levels) (at .left) r ⌝ }
+        (now (whole .exit)) scope (now (cells .entry)) (turn .by) (now (view .entry)) (turn .built) (turn .at .cells) (turn .at .top) (turn .at .levels)
+        (turn .at .left) r ⌝ }
 {
+    let by = turn.by;
+    let at = turn.at;
+    let built = turn.built;
     let old = by.old;
     let mid = value::middle(&arena[old..]);
     let stood = stood_for(sheet, table, arena, by, mid, at);
@@ -676,11 +646,11 @@ fn put_one(
 // The members of the view, from the left, and then the list of what they are into the subject.
 fn put_all(
     sheet: &[u8],
-    table: &[u16; 200],
+    table: &Table,
     arena: &mut [u8],
-    slots: &mut [u16; rules::VARIABLES],
+    slots: &mut Slots,
     scope: Scope,
-    cells: &[u8; rules::VARIABLES],
+    cells: &Cells,
     by: Members,
     view: &[u8],
     at: At,
@@ -699,6 +669,11 @@ fn put_all(
         let rest = &view[from..];
         let mid = value::middle(rest);
         let first = value::first_part(rest, mid);
+        let turn = Turn {
+            by: next,
+            built,
+            at: to,
+        };
         let put = put_one(
             sheet,
             table,
@@ -706,11 +681,9 @@ fn put_all(
             slots,
             scope,
             cells,
-            next,
+            turn,
             first,
             &mut whole,
-            built,
-            to,
         );
         if is_refused(put) {
             return put;
@@ -730,27 +703,24 @@ fn put_all(
 // Each (1C): the members of the view, each into the section's root, and then the list of what they are into the subject.
 fn put_each(
     sheet: &[u8],
-    table: &[u16; 200],
+    table: &Table,
     arena: &mut [u8],
-    slots: &mut [u16; rules::VARIABLES],
+    slots: &mut Slots,
     scope: Scope,
-    cells: &[u8; rules::VARIABLES],
-    n: u16,
-    kind: u8,
+    cells: &Cells,
+    own: Own,
     view: &[u8],
     at: At,
 ) -> usize
-    requires { ⌜ Ready (now sheet) (now table) (now arena) (now slots) (Shown (now view)) scope (now cells) (at .cells) (at .cells) (at .top)
-        (suc (at .levels)) (suc (at .left)) (own kind (now sheet) n) ⌝ }
-    requires { ⌜ kind ≡ 0x1C ⌝ }
-    ensures { λ r. ⌜ Gives (now (arena .entry)) (now (arena .exit)) (now (slots .entry)) (now (slots .exit)) (now (sheet .entry))
-        (Shown (now (view .entry))) scope (now (cells .entry)) (at .cells) (at .cells) (at .top) (at .left) r (at .levels)
-        (own kind (now (sheet .entry)) n) ⌝ }
+    requires { ⌜ KindAsked (now sheet) (now table) (now arena) (now slots) scope (now cells) own (now view) at ⌝ }
+    requires { ⌜ own .kind ≡ 0x1C ⌝ }
+    ensures { λ r. ⌜ KindTells (now (sheet .entry)) (now (arena .entry)) (now (arena .exit)) (now (slots .entry)) (now (slots .exit)) scope (now (cells .entry))
+        own (now (view .entry)) at r ⌝ }
 {
     if step::unfit(3, view[0]) {
         return refused(51);
     }
-    let subject = sheet::number_of(sheet, n, 1);
+    let subject = sheet::number_of(sheet, own.n, 1);
     let got = get_node(sheet, table, arena, scope, subject, at);
     if is_refused(got) {
         return got;
@@ -759,13 +729,13 @@ fn put_each(
     if step::unfit(3, arena[old]) {
         return refused(43);
     }
-    let x = sheet::number_of(sheet, n, 3);
+    let x = sheet::number_of(sheet, own.n, 3);
     let count = scope.count as usize;
     if count <= x {
         return refused(42);
     }
-    let root = sheet::section_root(sheet, sheet::number_of(sheet, n, 2));
-    let default = sheet::number_of(sheet, n, 4);
+    let root = sheet::section_root(sheet, sheet::number_of(sheet, own.n, 2));
+    let default = sheet::number_of(sheet, own.n, 4);
     let by = Members {
         subject,
         x,

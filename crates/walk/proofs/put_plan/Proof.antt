@@ -42,11 +42,12 @@ put-node-requires c κs =
 
 met-at-requires : tie.Need-met-at-requires
 met-at-requires c κs =
-    let q = c .before .before .before .before in
+    let f = c .before in
+    let q = f .before .before .before .before in
     let n = made q in
     let p = copied n in
     few-met (entry p .pre .0) (entry p .pre .1) (p .copy-in .ensures) (n .first-cells .ensures) (q .put-node .ensures .0)
-    (sym (c .before .is-refused .ensures) ∙ c .if1 .taken)
+    (sym (f .before .is-refused .ensures) ∙ f .if1 .taken)
 
 returns : tie.Need-returns
 returns c =
@@ -56,13 +57,13 @@ returns c =
     let p = copied n in
     let e = c .refused .ensures in (
       rw (walked-is _ _ e) (put-refused (entry p .pre .0) (entry p .pre .1) (p .copy-in .ensures) (n .first-cells .ensures) (q .put-node .ensures .0)
-          (sym (f .before .is-refused .ensures) ∙ f .if1 .taken) (c .before .code-of .ensures)),
+          (sym (f .before .is-refused .ensures) ∙ f .if1 .taken) (c .before .before .code-of .ensures)),
       (
         none-with _ _ e _ _,
         (
           none-set _ _ e _ _ _ _,
           rw (walked-is _ _ e) (put-met (entry p .pre .0) (entry p .pre .1) (p .copy-in .ensures) (n .first-cells .ensures) (q .put-node .ensures .0)
-              (sym (f .before .is-refused .ensures) ∙ f .if1 .taken) (c .before .code-of .ensures) (met-is _ _ e ∙ c .before .before .met-at .ensures)),
+              (sym (f .before .is-refused .ensures) ∙ f .if1 .taken) (c .before .before .code-of .ensures) (met-is _ _ e ∙ c .before .met-at .ensures)),
         ),
       ),
     )
@@ -97,5 +98,5 @@ returns-2 c =
 
 pub put-plan-spec : {M : Type 1} → statement M
 put-plan-spec = tie.close (tie.spec copy-in-requires (λ c. search needs) first-cells-requires put-node-requires (λ c κs. search needs)
-    met-at-requires (λ c κs. search needs) (λ c κs. search needs) (λ c. returns c .0 .long) returns gather-requires (λ c κs. search needs)
+    (λ c κs. search needs) met-at-requires (λ c κs. search needs) (λ c. returns c .0 .long) returns gather-requires (λ c κs. search needs)
     (λ c κs. search needs) (λ c κs. search needs) (λ c. returns-2 c .0 .long) returns-2)

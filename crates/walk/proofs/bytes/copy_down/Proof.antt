@@ -16,24 +16,6 @@ abbrev μ-loop : tie.MeasureT-loop
 loop-holds : tie.Need-loop-holds Inv-loop μ-loop
 loop-holds c = (search needs, copying-none _ _ _)
 
-add-arena : tie.Need-add-arena Inv-loop μ-loop
-add-arena c = omega arith
-
-slice-read-arena : tie.Need-slice-read-arena Inv-loop μ-loop
-slice-read-arena c = omega arith
-
-add-arena-2 : tie.Need-add-arena-2 Inv-loop μ-loop
-add-arena-2 c = omega arith
-
-slice-write-arena : tie.Need-slice-write-arena Inv-loop μ-loop
-slice-write-arena c = omega arith
-
-add-i : tie.Need-add-i Inv-loop μ-loop
-add-i c = omega arith
-
-loop-less : tie.Need-loop-less Inv-loop μ-loop
-loop-less c = omega arith
-
 loop-again : tie.Need-loop-again Inv-loop μ-loop
 loop-again c =
     let s = c .before .before in
@@ -49,18 +31,5 @@ returns c =
     copying-all (c .before .loop .inv .1) _ (p .0 .0) (p .0 .1) (omega arith)
 
 pub copy-down-spec : {M : Type 1} → statement M
-copy-down-spec =
-    tie.close
-    (tie.spec
-    Inv-loop
-    μ-loop
-    loop-holds
-    add-arena
-    slice-read-arena
-    add-arena-2
-    slice-write-arena
-    add-i
-    loop-less
-    loop-again
-    same-length
-    returns)
+copy-down-spec = tie.close (tie.spec Inv-loop μ-loop loop-holds (λ c. omega arith) (λ c. omega arith) (λ c. omega arith) (λ c. omega arith) (λ c. omega arith)
+    (λ c. omega arith) loop-again same-length returns)

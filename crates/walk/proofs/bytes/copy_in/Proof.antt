@@ -17,17 +17,8 @@ abbrev μ-loop : tie.MeasureT-loop
 loop-holds : tie.Need-loop-holds Inv-loop μ-loop
 loop-holds c = (search needs, copying-in-none _ _)
 
-shared-slice-read-arena : tie.Need-shared-slice-read-arena Inv-loop μ-loop
-shared-slice-read-arena c = search needs
-
 slice-write-arena : tie.Need-slice-write-arena Inv-loop μ-loop
 slice-write-arena c = omega (arith, c .before .before .loop .inv .1 .long, c .before .before .before .pre, c .before .loop-test .taken)
-
-add-i : tie.Need-add-i Inv-loop μ-loop
-add-i c = search needs
-
-loop-less : tie.Need-loop-less Inv-loop μ-loop
-loop-less c = search needs
 
 loop-again : tie.Need-loop-again Inv-loop μ-loop
 loop-again c = (
@@ -43,16 +34,5 @@ returns : tie.Need-returns Inv-loop μ-loop
 returns c = copying-in-all (c .before .loop .inv .1) (omega (arith, c .loop-test .left)) (c .before .before .pre)
 
 pub copy-in-spec : {M : Type 1} → statement M
-copy-in-spec =
-    tie.close
-    (tie.spec
-    Inv-loop
-    μ-loop
-    loop-holds
-    shared-slice-read-arena
-    slice-write-arena
-    add-i
-    loop-less
-    loop-again
-    same-length
-    returns)
+copy-in-spec = tie.close (tie.spec Inv-loop μ-loop loop-holds (λ c. search needs) slice-write-arena (λ c. search needs) (λ c. search needs) loop-again
+    same-length returns)

@@ -15,24 +15,6 @@ abbrev μ-loop : tie.MeasureT-loop
 loop-holds : tie.Need-loop-holds Inv-loop μ-loop
 loop-holds c = (omega arith, copying-up-none _ _ _ _)
 
-sub-i : tie.Need-sub-i Inv-loop μ-loop
-sub-i c = omega arith
-
-add-arena : tie.Need-add-arena Inv-loop μ-loop
-add-arena c = omega arith
-
-slice-read-arena : tie.Need-slice-read-arena Inv-loop μ-loop
-slice-read-arena c = omega arith
-
-add-arena-2 : tie.Need-add-arena-2 Inv-loop μ-loop
-add-arena-2 c = omega arith
-
-slice-write-arena : tie.Need-slice-write-arena Inv-loop μ-loop
-slice-write-arena c = omega arith
-
-loop-less : tie.Need-loop-less Inv-loop μ-loop
-loop-less c = omega arith
-
 loop-again : tie.Need-loop-again Inv-loop μ-loop
 loop-again c =
     let s = c .before .before in
@@ -48,18 +30,5 @@ returns c =
     copying-up-all (c .before .loop .inv .1) (p .0 .0) (p .0 .1) (omega arith)
 
 pub copy-up-spec : {M : Type 1} → statement M
-copy-up-spec =
-    tie.close
-    (tie.spec
-    Inv-loop
-    μ-loop
-    loop-holds
-    sub-i
-    add-arena
-    slice-read-arena
-    add-arena-2
-    slice-write-arena
-    loop-less
-    loop-again
-    same-length
-    returns)
+copy-up-spec = tie.close (tie.spec Inv-loop μ-loop loop-holds (λ c. omega arith) (λ c. omega arith) (λ c. omega arith) (λ c. omega arith) (λ c. omega arith)
+    (λ c. omega arith) loop-again same-length returns)

@@ -11,6 +11,7 @@ use Members.{get-members-met}
 use Node.{get-node-met}
 use Two.{get-two-met}
 mod Frame
+mod Claims
 mod Add
 mod Call
 mod Case

@@ -16,6 +16,7 @@ use Switch.{put-switch-met}
 use Two.{put-two-met}
 use Under.{put-under-met}
 mod Frame
+mod Claims
 mod Add
 mod All
 mod Both

@@ -25,7 +25,7 @@ start c = c .before .before .before .before .before .before
 abbrev variable : tie.Else3 → tie.After-number-of
 variable c = c .before .before
 
-is-variable : (c : tie.After-number-of) → start c .args .kind ≡ 0x10
+is-variable : (c : tie.After-number-of) → start c .args .own .kind ≡ 0x10
 is-variable c = omega (arith, c .before .if2 .left)
 
 returns-3 : tie.Need-returns-3

@@ -8,37 +8,16 @@ use Rattle.walk.specs.Gets.{here, ready-node, as-node}
 use Rattle.walk.specs.GetAt.{AtTop, movable, at-top}
 use Rattle.walk.specs.GetLeaf.{sum-as}
 use Rattle.walk.specs.GetAdd.{add-asks, addable, add-told}
-use Rattle.walk.proofs.got.added.Reads as added
-use Rattle.walk.proofs.got.bring.Reads as bring
-use Rattle.sheet.proofs.byte_of.Reads as byte-of
 use Rattle.walk.proofs.getter.get_add.Reads as get-add
-use Rattle.walk.proofs.getter.get_node.Reads as get-node
-use Rattle.value.proofs.number.Reads as number
-use Rattle.sheet.proofs.number_of.Reads as number-of
 use Rattle.walk.proofs.getter.+get_add+get_call+get_case+get_each+get_members+get_node+get_two as cycle
 use cycle.Lts-get_add as lts
 use cycle.Proof.Frame.{kind, node}
-use Rattle.walk.proofs.Member.{AtMeasure, BelowMeasure, PlacesOf}
-
-abbrev claims : ℕ → lts.Claims
-claims t = (
-  number-of.Asked,
-  number-of.Learnt,
-  BelowMeasure node t,
-  get-node.Post,
-  bring.Asked,
-  bring.Learnt,
-  byte-of.Asked,
-  byte-of.Learnt,
-  number.Asked,
-  number.Learnt,
-  added.Asked,
-  added.Learnt,
-)
+use cycle.Proof.Claims.{add-claims}
+use Rattle.walk.proofs.Member.{AtMeasure, PlacesOf}
 
 module _ (t : ℕ) where
   abbrev At : PlacesOf (kind get-add.Pre) lts.Claims → Type 0
-  At P = P (claims t) (AtMeasure (kind get-add.Pre) t) get-add.Post
+  At P = P (add-claims t) (AtMeasure (kind get-add.Pre) t) get-add.Post
 
   -- PLACES: the function's entry; the node was got, and brought to the top
   abbrev entry : At lts.After-get-node → At lts.Start
@@ -49,7 +28,7 @@ module _ (t : ℕ) where
 
   -- WHAT IS KNOWN THERE: the value stands at the top
   value : (c : At lts.After-bring)
-      → let e = entry (got c) in AtTop (here (e .pre .1 .0)) (c .bring .last .0) (c .bring .result) (getD (e .args .sheet .now) (e .args .n + 1) 0)
+      → let e = entry (got c) in AtTop (here (e .pre .1 .0)) (c .bring .last .0) (c .bring .result) (getD (e .args .sheet .now) (e .args .own .n + 1) 0)
   value c =
       let g = got c in
       let w = entry g .pre in
@@ -78,7 +57,7 @@ module _ (t : ℕ) where
       (rw (sum-as (c .before .before .before .before .number .ensures) (c .before .before .before .before .before .before .byte-of .ensures)
       (c .before .before .before .before .before .byte-of2 .ensures)) at (c .before .before .added .ensures))
 
-pub get-add-met : {M : Type 1} (t : ℕ) → lts.Closed (claims t) (AtMeasure (kind get-add.Pre) t) get-add.Post M
-get-add-met t = lts.spec (claims t) (AtMeasure (kind get-add.Pre) t) get-add.Post
+pub get-add-met : {M : Type 1} (t : ℕ) → lts.Closed (add-claims t) (AtMeasure (kind get-add.Pre) t) get-add.Post M
+get-add-met t = lts.spec (add-claims t) (AtMeasure (kind get-add.Pre) t) get-add.Post
     (λ c κs. search needs) (get-node-requires t) (bring-requires t) (λ c κs. search needs) (λ c κs. search needs) (λ c κs. search needs) (added-requires t)
     (λ c. returns t c .kept .long) (returns t)

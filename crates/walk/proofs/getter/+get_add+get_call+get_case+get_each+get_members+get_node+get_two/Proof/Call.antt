@@ -12,33 +12,15 @@ use Rattle.step.specs.Step.{picked}
 use Rattle.step.specs.StepLaws.{in-room}
 use Rattle.walk.specs.GetCall.{Looked, call-42₁, call-42₂, call-asks, call-told}
 use Rattle.walk.proofs.getter.get_call.Reads as get-call
-use Rattle.walk.proofs.getter.get_node.Reads as get-node
-use Rattle.sheet.proofs.number_of.Reads as number-of
-use Rattle.answer.proofs.refused.Reads as refused
-use Rattle.step.proofs.section.Reads as section
-use Rattle.sheet.proofs.section_root.Reads as section-root
 use Rattle.walk.proofs.getter.+get_add+get_call+get_case+get_each+get_members+get_node+get_two as cycle
 use cycle.Lts-get_call as lts
-use cycle.Proof.Frame.{kind, node}
-use Rattle.walk.proofs.Member.{AtMeasure, BelowMeasure, PlacesOf}
-
-abbrev claims : ℕ → lts.Claims
-claims t = (
-  number-of.Asked,
-  number-of.Learnt,
-  refused.Asked,
-  refused.Learnt,
-  section-root.Asked,
-  section-root.Learnt,
-  section.Asked,
-  section.Learnt,
-  BelowMeasure node t,
-  get-node.Post,
-)
+use cycle.Proof.Frame.{kind}
+use cycle.Proof.Claims.{call-claims}
+use Rattle.walk.proofs.Member.{AtMeasure, PlacesOf}
 
 module _ (t : ℕ) where
   abbrev At : PlacesOf (kind get-call.Pre) lts.Claims → Type 0
-  At P = P (claims t) (AtMeasure (kind get-call.Pre) t) get-call.Post
+  At P = P (call-claims t) (AtMeasure (kind get-call.Pre) t) get-call.Post
 
   -- PLACES: the function's entry; both variables are in scope; the section's root is known; its scope is made
   abbrev entry : At lts.Else2 → At lts.Start
@@ -51,7 +33,8 @@ module _ (t : ℕ) where
   found c = c .before
 
   -- WHAT IS KNOWN THERE
-  looked : (c : At lts.After-section-root) → let e = entry (in-scope c) in Looked (here (e .pre .1 .0)) (e .args .kind) (e .args .n) (c .section-root .result)
+  looked : (c : At lts.After-section-root) → let e = entry (in-scope c) in
+      Looked (here (e .pre .1 .0)) (e .args .own .kind) (e .args .own .n) (c .section-root .result)
   looked c =
       let i = in-scope c in
       let w = entry i .pre in
@@ -79,7 +62,7 @@ module _ (t : ℕ) where
   few c = let w = entry c .pre .1 .0 in (omega (arith, w .variables, c .before .if1 .left), omega (arith, w .variables, c .if2 .left))
 
   section-is : (c : At lts.After-section) → let i = in-scope (found c) in let e = entry i in
-      c .section .result ≡ picked (e .args .scope) (getD (e .args .sheet .now) (e .args .n + 2) 0) (getD (e .args .sheet .now) (e .args .n + 3) 0)
+      c .section .result ≡ picked (e .args .scope) (getD (e .args .sheet .now) (e .args .own .n + 2) 0) (getD (e .args .sheet .now) (e .args .own .n + 3) 0)
   section-is c =
       let i = in-scope (found c) in
       c .section .ensures ∙ ap₂ (picked (entry i .args .scope)) (in-room (few i .0) ∙ i .before .before .before .before .number-of .ensures)
@@ -91,7 +74,7 @@ module _ (t : ℕ) where
   returns-3 : At lts.Need-returns-3
   returns-3 c = let s = c .before .before .before .before in call-told (looked (found s)) (as-scope (section-is s) (c .before .before .get-node .ensures .0))
 
-pub get-call-met : {M : Type 1} (t : ℕ) → lts.Closed (claims t) (AtMeasure (kind get-call.Pre) t) get-call.Post M
-get-call-met t = lts.spec (claims t) (AtMeasure (kind get-call.Pre) t) get-call.Post
+pub get-call-met : {M : Type 1} (t : ℕ) → lts.Closed (call-claims t) (AtMeasure (kind get-call.Pre) t) get-call.Post M
+get-call-met t = lts.spec (call-claims t) (AtMeasure (kind get-call.Pre) t) get-call.Post
     (λ c κs. search needs) (λ c κs. search needs) (λ c. search needs) (λ c κs. search needs) (returns t) (λ c κs. search needs) (returns-2 t)
     (λ c κs. search needs) (λ c κs. search needs) (λ c κs. search needs) (get-node-requires t) (λ c. returns-3 t c .kept .long) (returns-3 t)

@@ -14,61 +14,16 @@ use Rattle.walk.specs.Scope.{withTwo, Stored, stored-as}
 use Rattle.walk.specs.GetBranch.{judgeable, judged-as}
 use Rattle.walk.specs.GetCase.{Subject, subject-asks, subject-refused, plain-asks, plain-told, parts-stored, parts-asks, parts-told, none-told}
 use Rattle.walk.proofs.Tags.{is-unfitting}
-use Rattle.walk.proofs.at.At.behind.Reads as behind
-use Rattle.step.proofs.fits.Reads as fits
 use Rattle.walk.proofs.getter.get_case.Reads as get-case
-use Rattle.walk.proofs.getter.get_node.Reads as get-node
-use Rattle.answer.proofs.is_refused.Reads as is-refused
-use Rattle.walk.proofs.got.judge.Reads as judge
-use Rattle.answer.proofs.later.Reads as later
-use Rattle.answer.proofs.len_of.Reads as len-of
-use Rattle.sheet.proofs.number_of.Reads as number-of
-use Rattle.answer.proofs.refused.Reads as refused
-use Rattle.walk.proofs.got.shape_at.Reads as shape-at
-use Rattle.answer.proofs.start_of.Reads as start-of
-use Rattle.answer.proofs.steps_of.Reads as steps-of
-use Rattle.walk.proofs.getter.test_of.Reads as test-of
-use Rattle.walk.proofs.scope.with_two.Reads as with-two
 use Rattle.walk.proofs.getter.+get_add+get_call+get_case+get_each+get_members+get_node+get_two as cycle
 use cycle.Lts-get_case as lts
-use cycle.Proof.Frame.{kind, node}
-use Rattle.walk.proofs.Member.{AtMeasure, BelowMeasure, PlacesOf}
-
-abbrev claims : ℕ → lts.Claims
-claims t = (
-  number-of.Asked,
-  number-of.Learnt,
-  BelowMeasure node t,
-  get-node.Post,
-  is-refused.Asked,
-  is-refused.Learnt,
-  behind.Asked,
-  behind.Learnt,
-  shape-at.Asked,
-  shape-at.Learnt,
-  fits.Asked,
-  fits.Learnt,
-  test-of.Asked,
-  test-of.Learnt,
-  judge.Asked,
-  judge.Learnt,
-  steps-of.Asked,
-  steps-of.Learnt,
-  later.Asked,
-  later.Learnt,
-  start-of.Asked,
-  start-of.Learnt,
-  len-of.Asked,
-  len-of.Learnt,
-  with-two.Asked,
-  with-two.Learnt,
-  refused.Asked,
-  refused.Learnt,
-)
+use cycle.Proof.Frame.{kind}
+use cycle.Proof.Claims.{case-claims}
+use Rattle.walk.proofs.Member.{AtMeasure, PlacesOf}
 
 module _ (t : ℕ) where
   abbrev At : PlacesOf (kind get-case.Pre) lts.Claims → Type 0
-  At P = P (claims t) (AtMeasure (kind get-case.Pre) t) get-case.Post
+  At P = P (case-claims t) (AtMeasure (kind get-case.Pre) t) get-case.Post
 
   -- PLACES: the function's entry; the subject was got; it is there; the place behind it; the branch that it fits is told, and it has no variables, or two
   abbrev entry : At lts.After-get-node → At lts.Start
@@ -97,7 +52,7 @@ module _ (t : ℕ) where
   done c = sym (c .before .is-refused .ensures) ∙ c .if1 .left
 
   subject : (c : At lts.After-shape-at) → let g = got (there (beyond c)) in let e = entry g in
-      Subject (here (e .pre .1 .0)) (e .args .kind) (e .args .n) (g .get-node .result) (g .get-node .last .1 .1 .0) (c .shape-at .result)
+      Subject (here (e .pre .1 .0)) (e .args .own .kind) (e .args .own .n) (g .get-node .result) (g .get-node .last .1 .1 .0) (c .shape-at .result)
   subject c =
       let i = there (beyond c) in
       let g = got i in
@@ -110,7 +65,7 @@ module _ (t : ℕ) where
         shape = c .shape-at .ensures;
       }
 
-  told : (c : At lts.After-fits2) → let g = got (there (beyond (shaped c))) in c .fits2 .result ≡ fitOf (entry g .args .kind) (shaped c .shape-at .result)
+  told : (c : At lts.After-fits2) → let g = got (there (beyond (shaped c))) in c .fits2 .result ≡ fitOf (entry g .args .own .kind) (shaped c .shape-at .result)
   told c = c .fits2 .ensures
 
   -- NEEDS
@@ -237,8 +192,8 @@ module _ (t : ℕ) where
       let e = fits-refused _ _ (told f) (is-unfitting _ (c .before .match .keys3)) in
       none-told (subject (shaped f)) (fits-as e refl) e (c .refused .ensures)
 
-pub get-case-met : {M : Type 1} (t : ℕ) → lts.Closed (claims t) (AtMeasure (kind get-case.Pre) t) get-case.Post M
-get-case-met t = lts.spec (claims t) (AtMeasure (kind get-case.Pre) t) get-case.Post
+pub get-case-met : {M : Type 1} (t : ℕ) → lts.Closed (case-claims t) (AtMeasure (kind get-case.Pre) t) get-case.Post M
+get-case-met t = lts.spec (case-claims t) (AtMeasure (kind get-case.Pre) t) get-case.Post
     (λ c κs. search needs) (get-node-requires t) (λ c κs. search needs) (λ c. returns t c .kept .long) (returns t) (behind-requires t)
     (shape-at-requires t) (λ c κs. search needs) (λ c. search needs) (λ c κs. search needs) (test-of-requires t) (get-node-requires-2 t) (judge-requires t)
     (λ c κs. search needs) (λ c κs. search needs) (λ c. search needs) (λ c κs. search needs) (test-of-requires-2 t) (λ c κs. search needs) (add-with-two t)

@@ -26,58 +26,16 @@ use Rattle.walk.specs.GetEach.{
   members-as,
   told-members-as,
 }
-use Rattle.walk.proofs.at.At.behind.Reads as behind
-use Rattle.walk.proofs.got.bring.Reads as bring
 use Rattle.walk.proofs.getter.get_each.Reads as get-each
-use Rattle.walk.proofs.getter.get_members.Reads as get-members
-use Rattle.walk.proofs.getter.get_node.Reads as get-node
-use Rattle.answer.proofs.is_refused.Reads as is-refused
-use Rattle.answer.proofs.later.Reads as later
-use Rattle.answer.proofs.len_of.Reads as len-of
-use Rattle.sheet.proofs.number_of.Reads as number-of
-use Rattle.answer.proofs.refused.Reads as refused
-use Rattle.sheet.proofs.section_root.Reads as section-root
-use Rattle.answer.proofs.start_of.Reads as start-of
-use Rattle.answer.proofs.steps_of.Reads as steps-of
-use Rattle.step.proofs.unfit.Reads as unfit
 use Rattle.walk.proofs.getter.+get_add+get_call+get_case+get_each+get_members+get_node+get_two as cycle
 use cycle.Lts-get_each as lts
-use cycle.Proof.Frame.{kind, members, node}
-use Rattle.walk.proofs.Member.{AtMeasure, BelowMeasure, PlacesOf}
-
-abbrev claims : ℕ → lts.Claims
-claims t = (
-  number-of.Asked,
-  number-of.Learnt,
-  BelowMeasure node t,
-  get-node.Post,
-  is-refused.Asked,
-  is-refused.Learnt,
-  start-of.Asked,
-  start-of.Learnt,
-  unfit.Asked,
-  unfit.Learnt,
-  refused.Asked,
-  refused.Learnt,
-  section-root.Asked,
-  section-root.Learnt,
-  len-of.Asked,
-  len-of.Learnt,
-  behind.Asked,
-  behind.Learnt,
-  BelowMeasure members t,
-  get-members.Post,
-  bring.Asked,
-  bring.Learnt,
-  steps-of.Asked,
-  steps-of.Learnt,
-  later.Asked,
-  later.Learnt,
-)
+use cycle.Proof.Frame.{kind, members}
+use cycle.Proof.Claims.{each-claims}
+use Rattle.walk.proofs.Member.{AtMeasure, PlacesOf}
 
 module _ (t : ℕ) where
   abbrev At : PlacesOf (kind get-each.Pre) lts.Claims → Type 0
-  At P = P (claims t) (AtMeasure (kind get-each.Pre) t) get-each.Post
+  At P = P (each-claims t) (AtMeasure (kind get-each.Pre) t) get-each.Post
 
   -- PLACES: the function's entry; the subject was got; it is there; its kind byte is judged; the variable is read, and in scope; the section's root is
   -- known; the place behind the subject; the members' list was got, and brought to the top
@@ -113,7 +71,7 @@ module _ (t : ℕ) where
   done c = sym (c .before .is-refused .ensures) ∙ c .if1 .left
 
   subject : (c : At lts.Else1) → let g = got c in let e = entry g in
-      EachGot (here (e .pre .1 .0)) (e .args .kind) (e .args .n) (g .get-node .result) (g .get-node .last .1 .1 .0)
+      EachGot (here (e .pre .1 .0)) (e .args .own .kind) (e .args .own .n) (g .get-node .result) (g .get-node .last .1 .1 .0)
   subject c =
       let g = got c in
       record {
@@ -132,7 +90,7 @@ module _ (t : ℕ) where
       ap (λ (i : ℕ). unfitRest 3 (getD (g .last .1 .1 .0) i 0)) (sym (c .before .before .start-of .ensures)) ∙ sym (c .unfit .ensures) ∙ e
 
   listed : (c : At lts.After-section-root) → let g = got (there (fit (in-scope (found c)))) in let e = entry g in
-      Listed (here (e .pre .1 .0)) (e .args .kind) (e .args .n) (g .get-node .result) (g .get-node .last .1 .1 .0) (c .section-root .result)
+      Listed (here (e .pre .1 .0)) (e .args .own .kind) (e .args .own .n) (g .get-node .result) (g .get-node .last .1 .1 .0) (c .section-root .result)
   listed c =
       let i = found c in
       let f = in-scope i in
@@ -153,7 +111,7 @@ module _ (t : ℕ) where
   told : (c : At lts.After-get-members) → let s = beyond (made c) in let g = got (there (fit (in-scope (found s)))) in let e = entry g in
       let r = g .get-node .result in
       TellsMembers (behind-here (here (e .pre .1 .0)) (g .get-node .last .1 .1 .0) r) (c .get-members .last .1 .1 .0) (c .get-members .result)
-      (getD (e .args .sheet .now) (e .args .n + 3) 0) (s .section-root .result) (startOf r) (startOf r + lenOf r)
+      (getD (e .args .sheet .now) (e .args .own .n + 3) 0) (s .section-root .result) (startOf r) (startOf r + lenOf r)
   told c =
       let b = made c in
       let i = found (beyond b) in
@@ -217,8 +175,8 @@ module _ (t : ℕ) where
       let g = down b in
       each-told (listed (beyond (made g))) (told g) (b .bring .ensures) (later-as _ (c .before .steps-of .ensures) (c .later .ensures))
 
-pub get-each-met : {M : Type 1} (t : ℕ) → lts.Closed (claims t) (AtMeasure (kind get-each.Pre) t) get-each.Post M
-get-each-met t = lts.spec (claims t) (AtMeasure (kind get-each.Pre) t) get-each.Post
+pub get-each-met : {M : Type 1} (t : ℕ) → lts.Closed (each-claims t) (AtMeasure (kind get-each.Pre) t) get-each.Post M
+get-each-met t = lts.spec (each-claims t) (AtMeasure (kind get-each.Pre) t) get-each.Post
     (λ c κs. search needs) (get-node-requires t) (λ c κs. search needs) (λ c. returns t c .kept .long) (returns t) (λ c κs. search needs) (slice-read-unfit t)
     (λ c κs. search needs) (λ c κs. search needs) (λ c. returns-2 t c .kept .long) (returns-2 t) (λ c κs. search needs) (λ c. search needs)
     (λ c κs. search needs) (λ c. returns-3 t c .kept .long) (returns-3 t) (λ c κs. search needs) (λ c κs. search needs) (λ c κs. search needs) (add-end t)

@@ -6,27 +6,27 @@ use borrow.Fn.Kinds.{In}
 use borrow.Fn.PlainCycle.{Measures}
 use Rattle.walk.proofs.Member.{Member}
 use Rattle.walk.proofs.getter.get_members.Reads as get-members
-use Rattle.walk.proofs.getter.get_members.Kinds as members-kinds
+use Rattle.walk.proofs.getter.get_members.Kinds as of-members
 use Rattle.walk.proofs.getter.get_node.Reads as get-node
-use Rattle.walk.proofs.getter.get_node.Kinds as node-kinds
-use Rattle.walk.proofs.getter.get_call.Kinds as kind-kinds
+use Rattle.walk.proofs.getter.get_node.Kinds as of-node
+use Rattle.walk.proofs.getter.get_call.Kinds as of-kind
 
 abbrev pub node : Member
-node = record { lifetimes = 3; takes = node-kinds.ps; gives = node-kinds.r; measure = λ κs a. 3 * (a .1 .1 .1 .1 .1 .0 .levels); pre = get-node.Pre }
+node = record { lifetimes = 3; takes = of-node.ps; gives = of-node.r; measure = λ κs a. 3 * (a .1 .1 .1 .1 .1 .0 .levels); pre = get-node.Pre }
 
 abbrev pub members : Member
 members =
     record {
       lifetimes = 3;
-      takes = members-kinds.ps;
-      gives = members-kinds.r;
+      takes = of-members.ps;
+      gives = of-members.r;
       measure = λ κs a. 3 * (a .1 .1 .1 .1 .1 .1 .1 .1 .0 .levels) + 1;
       pre = get-members.Pre;
     }
 
 -- the functions of the kinds all take the same
-abbrev pub kind-measure : Measures 3 kind-kinds.ps ℕ
-kind-measure κs a = 3 * (a .1 .1 .1 .1 .1 .1 .0 .levels) + 2
+abbrev pub kind-measure : Measures 3 of-kind.ps ℕ
+kind-measure κs a = 3 * (a .1 .1 .1 .1 .1 .0 .levels) + 2
 
-abbrev pub kind : In 3 kind-kinds.ps → Member
-kind pre = record { lifetimes = 3; takes = kind-kinds.ps; gives = kind-kinds.r; measure = kind-measure; pre = pre }
+abbrev pub kind : In 3 of-kind.ps → Member
+kind pre = record { lifetimes = 3; takes = of-kind.ps; gives = of-kind.r; measure = kind-measure; pre = pre }

@@ -16,40 +16,13 @@ use Rattle.walk.specs.GetReady.{sized-as}
 use Rattle.walk.specs.GetAt.{AtTop, movable, at-top, brought-as}
 use Rattle.walk.specs.GetMembers.{Building, members-here, building-none, rest-inside, members-end}
 use Rattle.walk.specs.GetTurn.{Turning, Fronted, fronted-by, member-there, turn-here, turn-asks, turn-refused, turn-steps, turn-done}
-use Rattle.walk.proofs.at.At.behind.Reads as behind
-use Rattle.walk.proofs.got.bring.Reads as bring
-use Rattle.answer.proofs.done.Reads as done
-use Rattle.step.proofs.fronted.Reads as fronted
 use Rattle.walk.proofs.getter.get_members.Reads as get-members
 use Rattle.walk.proofs.getter.get_members.Kinds as kinds
-use Rattle.walk.proofs.getter.get_node.Reads as get-node
-use Rattle.answer.proofs.is_refused.Reads as is-refused
-use Rattle.walk.proofs.got.middle_at.Reads as middle-at
-use Rattle.walk.proofs.at.At.raised.Reads as raised
 use Rattle.walk.proofs.getter.+get_add+get_call+get_case+get_each+get_members+get_node+get_two as cycle
 use cycle.Lts-get_members as lts
-use cycle.Proof.Frame.{members, node}
-use Rattle.walk.proofs.Member.{AtMeasure, BelowMeasure}
-
-abbrev claims : ℕ → lts.Claims
-claims t = (
-  middle-at.Asked,
-  middle-at.Learnt,
-  raised.Asked,
-  raised.Learnt,
-  BelowMeasure node t,
-  get-node.Post,
-  bring.Asked,
-  bring.Learnt,
-  fronted.Asked,
-  fronted.Learnt,
-  is-refused.Asked,
-  is-refused.Learnt,
-  behind.Asked,
-  behind.Learnt,
-  done.Asked,
-  done.Learnt,
-)
+use cycle.Proof.Frame.{members}
+use cycle.Proof.Claims.{members-claims}
+use Rattle.walk.proofs.Member.{AtMeasure}
 
 abbrev Inv-loop : lts.InvT-loop
 Inv-loop sheet table arena₀ x root start end at scope base to₀ next₀ inner₀ arena to next inner =
@@ -61,7 +34,7 @@ abbrev μ-loop : lts.MeasureT-loop
 
 module _ (t : ℕ) where
   abbrev At : (lts.Claims → In 3 kinds.ps → Out 3 kinds.ps kinds.r → lts.InvT-loop → lts.MeasureT-loop → Type 0) → Type 0
-  At P = P (claims t) (AtMeasure members t) get-members.Post Inv-loop μ-loop
+  At P = P (members-claims t) (AtMeasure members t) get-members.Post Inv-loop μ-loop
 
   -- PLACES: the function's entry; the loop; a turn of it; the member's length is known; its scope is made; the top is raised; the root was got; it was
   -- brought to the top, and judged; it is there
@@ -236,8 +209,8 @@ module _ (t : ℕ) where
       let l = s .before .before in
       members-end (entry l .pre .1) (l .loop .inv .0) (s .if1 .left) (mark 2 l) (c .done .ensures)
 
-pub get-members-met : {M : Type 1} (t : ℕ) → lts.Closed (claims t) (AtMeasure members t) get-members.Post M
-get-members-met t = lts.spec (claims t) (AtMeasure members t) get-members.Post Inv-loop μ-loop
+pub get-members-met : {M : Type 1} (t : ℕ) → lts.Closed (members-claims t) (AtMeasure members t) get-members.Post M
+get-members-met t = lts.spec (members-claims t) (AtMeasure members t) get-members.Post Inv-loop μ-loop
     (loop-holds t) (slice-read-if1 t) (middle-at-requires t) (add-inner t) (cast-inner t) (λ c. search needs) (mul-inner t)
     (element-copy-out-inner t) (λ c. search needs) (sub-inner t) (cast-inner-2 t) (λ c. search needs) (element-copy-out-inner-2 t)
     (λ c. search needs) (slice-write-arena t) (raised-requires t)

@@ -13,43 +13,16 @@ use Rattle.walk.specs.GetAdd.{amountAt}
 use Rattle.walk.specs.PutReady.{ready-as, gives-as, ready-view, gives-view}
 use Rattle.walk.specs.PutAdd.{add-51, add-52, lessView, add-asks, add-told}
 use Rattle.walk.proofs.Tags.{not-number}
-use Rattle.sheet.proofs.byte_of.Reads as byte-of
-use Rattle.value.proofs.high.Reads as high
-use Rattle.value.proofs.low.Reads as low
-use Rattle.value.proofs.number.Reads as number
-use Rattle.sheet.proofs.number_of.Reads as number-of
 use Rattle.walk.proofs.putter.put_add.Reads as put-add
-use Rattle.walk.proofs.putter.put_node.Reads as put-node
-use Rattle.answer.proofs.refused.Reads as refused
-use Rattle.value.proofs.shape_of.Reads as shape-of
 use Rattle.walk.proofs.putter.+put_add+put_all+put_both+put_call+put_case+put_each+put_node+put_one+put_rebuilt+put_switch+put_two+put_under as cycle
 use cycle.Lts-put_add as lts
-use cycle.Proof.Frame.{kind, node}
-use Rattle.walk.proofs.Member.{AtMeasure, BelowMeasure, PlacesOf}
-
-abbrev claims : ℕ → lts.Claims
-claims t = (
-  shape-of.Asked,
-  shape-of.Learnt,
-  refused.Asked,
-  refused.Learnt,
-  byte-of.Asked,
-  byte-of.Learnt,
-  number.Asked,
-  number.Learnt,
-  high.Asked,
-  high.Learnt,
-  low.Asked,
-  low.Learnt,
-  number-of.Asked,
-  number-of.Learnt,
-  BelowMeasure node t,
-  put-node.Post,
-)
+use cycle.Proof.Frame.{kind}
+use cycle.Proof.Claims.{add-claims}
+use Rattle.walk.proofs.Member.{AtMeasure, PlacesOf}
 
 module _ (t : ℕ) where
   abbrev At : PlacesOf (kind put-add.Pre) lts.Claims → Type 0
-  At P = P (claims t) (AtMeasure (kind put-add.Pre) t) put-add.Post
+  At P = P (add-claims t) (AtMeasure (kind put-add.Pre) t) put-add.Post
 
   -- PLACES: the function's entry; the view is a number; the amount is read; it is no more than the number; the difference is written
   abbrev entry : At lts.After-known-told → At lts.Start
@@ -68,7 +41,7 @@ module _ (t : ℕ) where
   numbered : (c : At lts.After-known-told) → Number (c .before .m .given .0 .0) ≡ shapeOf (entry c .args .view .now)
   numbered c = sym (c .before .m .given .1) ∙ c .before .before .before .shape-of .ensures
 
-  amount : (c : At lts.After-number) → let e = entry (number-is c) in c .number .result ≡ amountAt (e .args .sheet .now) (e .args .n)
+  amount : (c : At lts.After-number) → let e = entry (number-is c) in c .number .result ≡ amountAt (e .args .sheet .now) (e .args .own .n)
   amount c = sum-as (c .number .ensures) (c .before .before .byte-of .ensures) (c .before .byte-of2 .ensures)
 
   less : (c : At lts.After-low) → let r = read (enough c) in let n = number-is r in
@@ -114,8 +87,8 @@ module _ (t : ℕ) where
       (gives-view (less l) (gives-as {at = e .args .at} refl refl refl (c .before .before .before .before .before .before .number-of .ensures)
       (c .before .before .put-node .ensures .0)))
 
-pub put-add-met : {M : Type 1} (t : ℕ) → lts.Closed (claims t) (AtMeasure (kind put-add.Pre) t) put-add.Post M
-put-add-met t = lts.spec (claims t) (AtMeasure (kind put-add.Pre) t) put-add.Post
+pub put-add-met : {M : Type 1} (t : ℕ) → lts.Closed (add-claims t) (AtMeasure (kind put-add.Pre) t) put-add.Post M
+put-add-met t = lts.spec (add-claims t) (AtMeasure (kind put-add.Pre) t) put-add.Post
     (λ c κs. search needs) (λ c. search needs) (λ c κs. search needs) (returns t) (λ c κs. search needs) (λ c κs. search needs) (λ c κs. search needs)
     (λ c κs. search needs) (returns-2 t) (λ c κs. search needs) (λ c κs. search needs) (λ c κs. search needs) (λ c. search needs) (put-node-requires t)
     (λ c. returns-3 t c .frame .long) (returns-3 t)

@@ -35,42 +35,12 @@ use Rattle.walk.specs.PutMembers.{
   end-asks,
   end-told,
 }
-use Rattle.value.proofs.middle.Reads as middle
-use Rattle.value.proofs.first_part.Reads as first-part
-use Rattle.walk.proofs.putter.put_one.Reads as put-one
-use Rattle.answer.proofs.is_refused.Reads as is-refused
-use Rattle.walk.proofs.at.At.after.Reads as after
-use Rattle.answer.proofs.start_of.Reads as start-of
-use Rattle.answer.proofs.len_of.Reads as len-of
-use Rattle.walk.proofs.putter.put_node.Reads as put-node
-use Rattle.answer.proofs.later.Reads as later
 use Rattle.walk.proofs.putter.put_all.Reads as put-all
 use Rattle.walk.proofs.putter.+put_add+put_all+put_both+put_call+put_case+put_each+put_node+put_one+put_rebuilt+put_switch+put_two+put_under as cycle
 use cycle.Lts-put_all as lts
-use cycle.Proof.Frame.{all, node, one}
-use Rattle.walk.proofs.Member.{AtMeasure, BelowMeasure, LoopPlacesOf}
-
-abbrev claims : ℕ → lts.Claims
-claims t = (
-  middle.Asked,
-  middle.Learnt,
-  first-part.Asked,
-  first-part.Learnt,
-  BelowMeasure one t,
-  put-one.Post,
-  is-refused.Asked,
-  is-refused.Learnt,
-  after.Asked,
-  after.Learnt,
-  start-of.Asked,
-  start-of.Learnt,
-  len-of.Asked,
-  len-of.Learnt,
-  BelowMeasure node t,
-  put-node.Post,
-  later.Asked,
-  later.Learnt,
-)
+use cycle.Proof.Frame.{all}
+use cycle.Proof.Claims.{all-claims}
+use Rattle.walk.proofs.Member.{AtMeasure, LoopPlacesOf}
 
 abbrev Inv-loop : lts.InvT-loop
 Inv-loop sheet table arena₀ slots₀ scope cells by view at whole₀ to₀ next₀ from₀ built₀ arena slots whole to next from built =
@@ -81,7 +51,7 @@ abbrev μ-loop : lts.MeasureT-loop
 
 module _ (t : ℕ) where
   abbrev At : LoopPlacesOf all lts.Claims lts.InvT-loop lts.MeasureT-loop → Type 0
-  At P = P (claims t) (AtMeasure all t) put-all.Post Inv-loop μ-loop
+  At P = P (all-claims t) (AtMeasure all t) put-all.Post Inv-loop μ-loop
 
   -- PLACES: the function's entry; the loop; another member is there; it is taken apart; it was put; that is done; what it tells is read; no other member
   -- is there; the list was put
@@ -261,8 +231,8 @@ module _ (t : ℕ) where
       let k = ended e .loop .inv in
       end-told (looping (ended e)) (e .if1 .left) refl (gives-at (k .place) (p .put-node .ensures .0)) (p .put-node .ensures .1) (c .later .ensures)
 
-pub put-all-met : {M : Type 1} (t : ℕ) → lts.Closed (claims t) (AtMeasure all t) put-all.Post M
-put-all-met t = lts.spec (claims t) (AtMeasure all t) put-all.Post Inv-loop μ-loop
+pub put-all-met : {M : Type 1} (t : ℕ) → lts.Closed (all-claims t) (AtMeasure all t) put-all.Post M
+put-all-met t = lts.spec (all-claims t) (AtMeasure all t) put-all.Post Inv-loop μ-loop
     (loop-holds t) (shared-slice-read-if1 t) (sub-rest t) (part-rest-start t) (part-rest-end t) (λ c κs. search needs) (λ c κs. search needs)
     (put-one-requires t) (λ c κs. search needs) (λ c. returns t c .frame .long) (returns t) (after-requires t) (λ c κs. search needs) (add-next t)
     (add-from t) (λ c κs. search needs) (add-built t) (loop-less t) (loop-again t) (array-write-whole t) (add-size t) (array-share-prefix-whole t)

@@ -9,38 +9,20 @@ use Rattle.answer.specs.Answer.{isRefusal, later-as}
 use Rattle.walk.specs.Gets.{levels-as}
 use Rattle.walk.specs.PutReady.{ready-at, gives-at, few-at}
 use Rattle.walk.specs.PutTwo.{both-asks₁, both-refused, both-asks₂, both-told}
-use Rattle.walk.proofs.at.At.after.Reads as after
-use Rattle.answer.proofs.is_refused.Reads as is-refused
-use Rattle.answer.proofs.later.Reads as later
 use Rattle.walk.proofs.putter.put_both.Reads as put-both
-use Rattle.walk.proofs.putter.put_node.Reads as put-node
-use Rattle.answer.proofs.steps_of.Reads as steps-of
 use Rattle.walk.proofs.putter.+put_add+put_all+put_both+put_call+put_case+put_each+put_node+put_one+put_rebuilt+put_switch+put_two+put_under as cycle
 use cycle.Lts-put_both as lts
-use cycle.Proof.Frame.{both, node}
-use Rattle.walk.proofs.Member.{AtMeasure, BelowMeasure, PlacesOf}
-
-abbrev claims : ℕ → lts.Claims
-claims t = (
-  BelowMeasure node t,
-  put-node.Post,
-  is-refused.Asked,
-  is-refused.Learnt,
-  after.Asked,
-  after.Learnt,
-  steps-of.Asked,
-  steps-of.Learnt,
-  later.Asked,
-  later.Learnt,
-)
+use cycle.Proof.Frame.{both}
+use cycle.Proof.Claims.{both-claims}
+use Rattle.walk.proofs.Member.{AtMeasure, PlacesOf}
 
 module _ (t : ℕ) where
   abbrev At : PlacesOf both lts.Claims → Type 0
-  At P = P (claims t) (AtMeasure both t) put-both.Post
+  At P = P (both-claims t) (AtMeasure both t) put-both.Post
 
   -- PLACES: the function's entry; the first put was made; it is done
   abbrev entry : At lts.After-put-node → At lts.Start
-  entry c = c .before .before .before .before .before .before .before
+  entry c = c .before .before .before .before .before .before
 
   abbrev one : At lts.Else1 → At lts.After-put-node
   one c = c .before .before .before .before
@@ -51,7 +33,7 @@ module _ (t : ℕ) where
 
   -- NEEDS
   put-node-requires : At lts.Need-put-node-requires
-  put-node-requires c κs = let w = c .before .before .before .before .before .before .pre in (omega (arith, w .0), both-asks₁ (w .1 .0))
+  put-node-requires c κs = let w = c .before .before .before .before .before .pre in (omega (arith, w .0), both-asks₁ (w .1 .0))
 
   returns : At lts.Need-returns
   returns c =
@@ -63,25 +45,25 @@ module _ (t : ℕ) where
 
   put-node-requires-2 : At lts.Need-put-node-requires-2
   put-node-requires-2 c κs =
-      let i = c .before .before .before in
+      let i = c .before .before .before .before in
       let p = one i in
       let w = entry p .pre in
-      let e = c .before .before .after .ensures in
+      let e = c .before .before .before .after .ensures in
       let l = levels-as e in
       (omega (arith, w .0), ready-at e (both-asks₂ (w .1 .0) (p .put-node .ensures .0) (done i) (w .1 .1)))
 
   returns-2 : At lts.Need-returns-2
   returns-2 c =
-      let i = c .before .before .before .before .before .before .before .before in
+      let i = c .before .before .before .before .before .before .before .before .before in
       let p = one i in
-      let e = c .before .before .before .before .before .before .before .after .ensures in
+      let e = c .before .before .before .before .before .before .before .before .after .ensures in
       let o = c .before .before .before .before .put-node2 .ensures in
       both-told (entry p .pre .1 .0) (p .put-node .ensures .0) (done i) (p .put-node .ensures .1) (few-at e (o .1)) (gives-at e (o .0))
       (later-as _ (c .before .steps-of .ensures) (c .later .ensures))
 
-pub put-both-met : {M : Type 1} (t : ℕ) → lts.Closed (claims t) (AtMeasure both t) put-both.Post M
-put-both-met t = lts.spec (claims t) (AtMeasure both t) put-both.Post
+pub put-both-met : {M : Type 1} (t : ℕ) → lts.Closed (both-claims t) (AtMeasure both t) put-both.Post M
+put-both-met t = lts.spec (both-claims t) (AtMeasure both t) put-both.Post
     (put-node-requires t) (λ c κs. search needs) (λ c. returns t c _ (entry t (c .before .before .before .before) .pre .1 .1 .shown) .frame .long)
-    (returns t) (after-requires t) (put-node-requires-2 t) (λ c κs. search needs) (λ c κs. search needs)
-    (λ c. returns-2 t c _ (entry t (one t (c .before .before .before .before .before .before .before .before)) .pre .1 .1 .shown) .frame .long)
+    (returns t) (after-requires t) (λ c. search needs) (put-node-requires-2 t) (λ c κs. search needs) (λ c κs. search needs)
+    (λ c. returns-2 t c _ (entry t (one t (c .before .before .before .before .before .before .before .before .before)) .pre .1 .1 .shown) .frame .long)
     (returns-2 t)

@@ -13,39 +13,18 @@ use Rattle.step.specs.StepLaws.{in-room}
 use Rattle.walk.specs.Puts.{put-here}
 use Rattle.walk.specs.PutReady.{ready-as, gives-as}
 use Rattle.walk.specs.PutCall.{PutLooked, call-42₁, call-42₂, call-asks, call-told}
-use Rattle.sheet.proofs.number_of.Reads as number-of
-use Rattle.step.proofs.pick_cells.Reads as pick-cells
 use Rattle.walk.proofs.putter.put_call.Reads as put-call
-use Rattle.walk.proofs.putter.put_node.Reads as put-node
-use Rattle.answer.proofs.refused.Reads as refused
-use Rattle.step.proofs.section.Reads as section
-use Rattle.sheet.proofs.section_root.Reads as section-root
 use Rattle.walk.proofs.putter.+put_add+put_all+put_both+put_call+put_case+put_each+put_node+put_one+put_rebuilt+put_switch+put_two+put_under as cycle
 use cycle.Lts-put_call as lts
-use cycle.Proof.Frame.{kind, node}
-use Rattle.walk.proofs.Member.{AtMeasure, BelowMeasure, PlacesOf}
-
-abbrev claims : ℕ → lts.Claims
-claims t = (
-  number-of.Asked,
-  number-of.Learnt,
-  refused.Asked,
-  refused.Learnt,
-  section-root.Asked,
-  section-root.Learnt,
-  section.Asked,
-  section.Learnt,
-  pick-cells.Asked,
-  pick-cells.Learnt,
-  BelowMeasure node t,
-  put-node.Post,
-)
+use cycle.Proof.Frame.{kind}
+use cycle.Proof.Claims.{call-claims}
+use Rattle.walk.proofs.Member.{AtMeasure, PlacesOf}
 
 module _ (t : ℕ) where
   abbrev At : PlacesOf (kind put-call.Pre) lts.Claims → Type 0
-  At P = P (claims t) (AtMeasure (kind put-call.Pre) t) put-call.Post
+  At P = P (call-claims t) (AtMeasure (kind put-call.Pre) t) put-call.Post
 
-  -- PLACES: the function's entry; both variables are in scope; the section's root is known; its scope is made, and its cells
+  -- PLACES: the function's entry; both variables are in scope; the section's root is known; its scope is made
   abbrev entry : At lts.Else2 → At lts.Start
   entry c = c .before .before .before .before .before .before .before .before
 
@@ -55,12 +34,9 @@ module _ (t : ℕ) where
   abbrev found : At lts.After-section → At lts.After-section-root
   found c = c .before
 
-  abbrev scoped : At lts.After-pick-cells → At lts.After-section
-  scoped c = c .before
-
   -- WHAT IS KNOWN THERE
-  looked : (c : At lts.After-section-root) → let e = entry (in-scope c) in PutLooked (put-here (e .pre .1 .0)) (Shown (e .args .view .now)) (e .args .kind)
-      (e .args .n) (c .section-root .result)
+  looked : (c : At lts.After-section-root) → let e = entry (in-scope c) in PutLooked (put-here (e .pre .1 .0)) (Shown (e .args .view .now)) (e .args .own .node)
+      (e .args .own .kind) (e .args .own .n) (c .section-root .result)
   looked c =
       let i = in-scope c in
       let w = entry i .pre in
@@ -76,16 +52,16 @@ module _ (t : ℕ) where
   few c = let w = entry c .pre .1 .0 in (omega (arith, w .variables, c .before .if1 .left), omega (arith, w .variables, c .if2 .left))
 
   section-is : (c : At lts.After-section) → let i = in-scope (found c) in let e = entry i in
-      c .section .result ≡ picked (e .args .scope) (getD (e .args .sheet .now) (e .args .n + 2) 0) (getD (e .args .sheet .now) (e .args .n + 3) 0)
+      c .section .result ≡ picked (e .args .scope) (getD (e .args .sheet .now) (e .args .own .n + 2) 0) (getD (e .args .sheet .now) (e .args .own .n + 3) 0)
   section-is c =
       let i = in-scope (found c) in
       c .section .ensures ∙ ap₂ (picked (entry i .args .scope)) (in-room (few i .0) ∙ i .before .before .before .before .number-of .ensures)
       (in-room (few i .1) ∙ i .before .before .before .number-of2 .ensures)
 
-  cells-are : (c : At lts.After-pick-cells) → let i = in-scope (found (scoped c)) in let e = entry i in
-      c .pick-cells .result ≡ pickedTwo (e .args .cells .now) (getD (e .args .sheet .now) (e .args .n + 2) 0) (getD (e .args .sheet .now) (e .args .n + 3) 0)
+  cells-are : (c : At lts.After-pick-cells) → let a = entry (in-scope (found (c .before))) .args in
+      c .pick-cells .result ≡ pickedTwo (a .cells .now) (getD (a .sheet .now) (a .own .n + 2) 0) (getD (a .sheet .now) (a .own .n + 3) 0)
   cells-are c =
-      let i = in-scope (found (scoped c)) in
+      let i = in-scope (found (c .before)) in
       c .pick-cells .ensures .inside (few i) ∙ ap₂ (pickedTwo (entry i .args .cells .now)) (i .before .before .before .before .number-of .ensures)
       (i .before .before .before .number-of2 .ensures)
 
@@ -104,19 +80,19 @@ module _ (t : ℕ) where
   put-node-requires : At lts.Need-put-node-requires
   put-node-requires c κs =
       let p = c .before .before .before in
-      let s = scoped p in
+      let s = p .before in
       let e = entry (in-scope (found s)) in
       (omega (arith, e .pre .0), ready-as {at = e .args .at} refl (section-is s) (cells-are p) refl (call-asks (looked (found s))))
 
   returns-3 : At lts.Need-returns-3
   returns-3 c =
       let p = c .before .before .before .before .before .before in
-      let s = scoped p in
+      let s = p .before in
       call-told (looked (found s))
       (gives-as {at = entry (in-scope (found s)) .args .at} refl (section-is s) (cells-are p) refl (c .before .before .put-node .ensures .0))
 
-pub put-call-met : {M : Type 1} (t : ℕ) → lts.Closed (claims t) (AtMeasure (kind put-call.Pre) t) put-call.Post M
-put-call-met t = lts.spec (claims t) (AtMeasure (kind put-call.Pre) t) put-call.Post
+pub put-call-met : {M : Type 1} (t : ℕ) → lts.Closed (call-claims t) (AtMeasure (kind put-call.Pre) t) put-call.Post M
+put-call-met t = lts.spec (call-claims t) (AtMeasure (kind put-call.Pre) t) put-call.Post
     (λ c κs. search needs) (λ c κs. search needs) (λ c. search needs) (λ c κs. search needs) (returns t) (λ c κs. search needs) (returns-2 t)
     (λ c κs. search needs) (λ c κs. search needs) (λ c κs. search needs) (λ c κs. search needs) (put-node-requires t) (λ c. returns-3 t c .frame .long)
     (returns-3 t)

@@ -29,52 +29,16 @@ use Rattle.walk.specs.PutEach.{
   each-told,
   by-as,
 }
-use Rattle.step.proofs.unfit.Reads as unfit
-use Rattle.answer.proofs.refused.Reads as refused
-use Rattle.sheet.proofs.number_of.Reads as number-of
-use Rattle.walk.proofs.getter.get_node.Reads as get-node
-use Rattle.answer.proofs.is_refused.Reads as is-refused
-use Rattle.answer.proofs.start_of.Reads as start-of
-use Rattle.sheet.proofs.section_root.Reads as section-root
-use Rattle.walk.proofs.at.At.behind.Reads as behind
-use Rattle.walk.proofs.putter.put_all.Reads as put-all
-use Rattle.answer.proofs.steps_of.Reads as steps-of
-use Rattle.answer.proofs.later.Reads as later
 use Rattle.walk.proofs.putter.put_each.Reads as put-each
 use Rattle.walk.proofs.putter.+put_add+put_all+put_both+put_call+put_case+put_each+put_node+put_one+put_rebuilt+put_switch+put_two+put_under as cycle
 use cycle.Lts-put_each as lts
-use cycle.Proof.Frame.{all, kind}
-use Rattle.walk.proofs.Member.{AtMeasure, BelowMeasure, PlacesOf}
-
-abbrev claims : ℕ → lts.Claims
-claims t = (
-  unfit.Asked,
-  unfit.Learnt,
-  refused.Asked,
-  refused.Learnt,
-  number-of.Asked,
-  number-of.Learnt,
-  get-node.Asked,
-  get-node.Learnt,
-  is-refused.Asked,
-  is-refused.Learnt,
-  start-of.Asked,
-  start-of.Learnt,
-  section-root.Asked,
-  section-root.Learnt,
-  behind.Asked,
-  behind.Learnt,
-  BelowMeasure all t,
-  put-all.Post,
-  steps-of.Asked,
-  steps-of.Learnt,
-  later.Asked,
-  later.Learnt,
-)
+use cycle.Proof.Frame.{kind}
+use cycle.Proof.Claims.{each-claims}
+use Rattle.walk.proofs.Member.{AtMeasure, PlacesOf}
 
 module _ (t : ℕ) where
   abbrev At : PlacesOf (kind put-each.Pre) lts.Claims → Type 0
-  At P = P (claims t) (AtMeasure (kind put-each.Pre) t) put-each.Post
+  At P = P (each-claims t) (AtMeasure (kind put-each.Pre) t) put-each.Post
 
   -- PLACES: the function's entry; the view is a list; the subject was got; it is there; it is a list; the variable is in scope; the section's root and the
   -- default are known; the place behind the subject; the members were put
@@ -110,7 +74,8 @@ module _ (t : ℕ) where
   view-list c = sym (c .before .unfit .ensures) ∙ c .if1 .left
 
   subject : (c : At lts.Else2) → let g = got c in let e = entry (listed g) in
-      EachPut (put-here (e .pre .1 .0)) (e .args .view .now) (e .args .kind) (e .args .n) (g .get-node .result) (g .get-node .last .1 .1 .0)
+      EachPut (put-here (e .pre .1 .0)) (e .args .view .now) (e .args .own .node) (e .args .own .kind) (e .args .own .n) (g .get-node .result)
+      (g .get-node .last .1 .1 .0)
   subject c =
       let g = got c in
       let w = entry (listed g) .pre .1 in
@@ -129,8 +94,8 @@ module _ (t : ℕ) where
       ap (λ (i : ℕ). unfitRest 3 (getD a i 0)) (sym (c .before .before .before .start-of .ensures)) ∙ sym (c .before .unfit2 .ensures) ∙ c .if3 .left
 
   ready : (c : At lts.After-section-root) → let g = got (there (fitting (inside c))) in let e = entry (listed g) in
-      EachListed (put-here (e .pre .1 .0)) (e .args .view .now) (e .args .kind) (e .args .n) (g .get-node .result) (g .get-node .last .1 .1 .0)
-      (c .section-root .result)
+      EachListed (put-here (e .pre .1 .0)) (e .args .view .now) (e .args .own .node) (e .args .own .kind) (e .args .own .n) (g .get-node .result)
+      (g .get-node .last .1 .1 .0) (c .section-root .result)
   ready c =
       let i = inside c in
       record {
@@ -214,8 +179,8 @@ module _ (t : ℕ) where
       each-told (ready (found (beyond b))) (told-as (b .behind .ensures) (by-is (beyond b)) (p .put-all .ensures))
       (later-as _ (c .before .steps-of .ensures) (c .later .ensures))
 
-pub put-each-met : {M : Type 1} (t : ℕ) → lts.Closed (claims t) (AtMeasure (kind put-each.Pre) t) put-each.Post M
-put-each-met t = lts.spec (claims t) (AtMeasure (kind put-each.Pre) t) put-each.Post
+pub put-each-met : {M : Type 1} (t : ℕ) → lts.Closed (each-claims t) (AtMeasure (kind put-each.Pre) t) put-each.Post M
+put-each-met t = lts.spec (each-claims t) (AtMeasure (kind put-each.Pre) t) put-each.Post
     (shared-slice-read-unfit t) (λ c κs. search needs) (λ c κs. search needs) (returns t) (λ c κs. search needs) (get-node-requires t)
     (λ c κs. search needs) (λ c. returns-2 t c .frame .long) (returns-2 t) (λ c κs. search needs) (slice-read-unfit t) (λ c κs. search needs)
     (λ c κs. search needs) (λ c. returns-3 t c .frame .long) (returns-3 t) (λ c κs. search needs) (λ c. search needs) (λ c κs. search needs)

@@ -33,72 +33,21 @@ use Rattle.walk.specs.PutMember.{
   member-44,
   member-done,
 }
-use Rattle.value.proofs.middle.Reads as middle
-use Rattle.walk.proofs.putter.stood_for.Reads as stood-for
-use Rattle.answer.proofs.is_refused.Reads as is-refused
-use Rattle.answer.proofs.start_of.Reads as start-of
-use Rattle.answer.proofs.len_of.Reads as len-of
-use Rattle.walk.proofs.scope.member.Reads as member
-use Rattle.step.proofs.member_cells.Reads as member-cells
-use Rattle.walk.proofs.at.At.behind.Reads as behind
-use Rattle.walk.proofs.at.At.with_cell.Reads as with-cell
-use Rattle.walk.proofs.putter.put_node.Reads as put-node
-use Rattle.step.proofs.place_of.Reads as place-of
-use Rattle.answer.proofs.refused.Reads as refused
-use Rattle.step.proofs.overlong.Reads as overlong
-use Rattle.walk.proofs.bytes.fill.Reads as fill
-use Rattle.answer.proofs.steps_of.Reads as steps-of
-use Rattle.answer.proofs.done.Reads as done
 use Rattle.walk.proofs.putter.put_one.Reads as put-one
 use Rattle.walk.proofs.putter.+put_add+put_all+put_both+put_call+put_case+put_each+put_node+put_one+put_rebuilt+put_switch+put_two+put_under as cycle
 use cycle.Lts-put_one as lts
-use cycle.Proof.Frame.{node, one}
-use Rattle.walk.proofs.Member.{AtMeasure, BelowMeasure, PlacesOf}
-
-abbrev claims : ℕ → lts.Claims
-claims t = (
-  middle.Asked,
-  middle.Learnt,
-  stood-for.Asked,
-  stood-for.Learnt,
-  is-refused.Asked,
-  is-refused.Learnt,
-  start-of.Asked,
-  start-of.Learnt,
-  len-of.Asked,
-  len-of.Learnt,
-  member.Asked,
-  member.Learnt,
-  member-cells.Asked,
-  member-cells.Learnt,
-  behind.Asked,
-  behind.Learnt,
-  with-cell.Asked,
-  with-cell.Learnt,
-  BelowMeasure node t,
-  put-node.Post,
-  place-of.Asked,
-  place-of.Learnt,
-  overlong.Asked,
-  overlong.Learnt,
-  refused.Asked,
-  refused.Learnt,
-  fill.Asked,
-  fill.Learnt,
-  steps-of.Asked,
-  steps-of.Learnt,
-  done.Asked,
-  done.Learnt,
-)
+use cycle.Proof.Frame.{one}
+use cycle.Proof.Claims.{one-claims}
+use Rattle.walk.proofs.Member.{AtMeasure, PlacesOf}
 
 module _ (t : ℕ) where
   abbrev At : PlacesOf one lts.Claims → Type 0
-  At P = P (claims t) (AtMeasure one t) put-one.Post
+  At P = P (one-claims t) (AtMeasure one t) put-one.Post
 
   -- PLACES: the function's entry; what the member stands for was found; it is there; its scope is made, and its cells; the place behind it; the view was
   -- put; that is done; it is known where the member's value stands; the list is short enough; it has the value
   abbrev entry : At lts.After-middle → At lts.Start
-  entry c = c .before .before .before .before .before .before
+  entry c = c .before .before .before .before .before .before .before .before
 
   abbrev begun : At lts.After-stood-for → At lts.After-middle
   begun c = c .before .before
@@ -131,41 +80,41 @@ module _ (t : ℕ) where
   start : (c : At lts.After-stood-for) → At lts.Start
   start c = entry (begun c)
 
-  middle-is : (c : At lts.After-middle) → let a = entry c .args in c .middle .result ≡ middleOf (shapeOf (drop (a .by .old) (a .arena .now)))
+  middle-is : (c : At lts.After-middle) → let a = entry c .args in c .middle .result ≡ middleOf (shapeOf (drop (a .turn .by .old) (a .arena .now)))
   middle-is c =
       let a = entry c .args in
-      let l = length-drop (a .by .old) (a .arena .now) in
+      let l = length-drop (a .turn .by .old) (a .arena .now) in
       c .middle .ensures ∙ ap (λ (x : List ℕ). middleOf (shapeOf x))
-      (take-all (length (a .arena .now) - a .by .old) (drop (a .by .old) (a .arena .now)) (omega arith))
+      (take-all (length (a .arena .now) - a .turn .by .old) (drop (a .turn .by .old) (a .arena .now)) (omega arith))
 
   stood : (c : At lts.After-stood-for) → let e = entry (begun c) in
-      MemberStood (put-there (e .pre .1 .0 .ready)) (e .args .by) (c .stood-for .last .1 .1 .0) (c .stood-for .result)
+      MemberStood (put-there (e .pre .1 .0 .ready)) (e .args .turn .by) (c .stood-for .last .1 .1 .0) (c .stood-for .result)
   stood c = record { asked = entry (begun c) .pre .1 .0; stood = c .stood-for .ensures }
 
   is-there : (c : At lts.Else1) → isRefusal (found c .stood-for .result) ≡ false
   is-there c = sym (c .before .is-refused .ensures) ∙ c .if1 .left
 
   member-is : (c : At lts.After-member) → let f = found (there (c .before)) in let a = entry (begun f) .args in
-      c .member .result ≡ withMember (a .scope) (a .by .x) (startOf (f .stood-for .result)) (lenOf (f .stood-for .result))
+      c .member .result ≡ withMember (a .scope) (a .turn .by .x) (startOf (f .stood-for .result)) (lenOf (f .stood-for .result))
   member-is c =
       let l = c .before in
       let a = entry (begun (found (there l))) .args in
-      c .member .ensures ∙ ap₂ (withMember (a .scope) (a .by .x)) (l .before .start-of .ensures) (l .len-of .ensures)
+      c .member .ensures ∙ ap₂ (withMember (a .scope) (a .turn .by .x)) (l .before .start-of .ensures) (l .len-of .ensures)
 
-  room : (c : At lts.Start) → (c .args .at .cells + 1 ≤ 109) × (c .args .by .x < VARIABLES)
+  room : (c : At lts.Start) → (c .args .turn .at .cells + 1 ≤ 109) × (c .args .turn .by .x < VARIABLES)
   room c = let w = c .pre .1 .0 in let i = w .inner in (omega (arith, i .more-cells, i .some), omega (arith, i .variables, i .some, w .variable))
 
   cells-are : (c : At lts.After-member-cells) → let a = entry (begun (found (there (scoped c .before)))) .args in
-      c .member-cells .result ≡ frontTwo (a .cells .now) (a .at .cells) (getD (a .cells .now) (a .by .x) 0)
+      c .member-cells .result ≡ frontTwo (a .cells .now) (a .turn .at .cells) (getD (a .cells .now) (a .turn .by .x) 0)
   cells-are c = let r = room (entry (begun (found (there (scoped c .before))))) in c .member-cells .ensures .inside (omega arith, r .1)
 
   place-is : (c : At lts.After-with-cell) → let f = found (there (scoped (deeper c) .before)) in
-      c .with-cell .result ≡ withCellOf (behindOf (entry (begun f) .args .at) (f .stood-for .result))
+      c .with-cell .result ≡ withCellOf (behindOf (entry (begun f) .args .turn .at) (f .stood-for .result))
   place-is c = c .with-cell .ensures ∙ ap withCellOf (c .before .behind .ensures)
 
   told : (c : At lts.After-put-node) → let i = there (scoped (deeper (tried c)) .before) in let a = entry (begun (found i)) .args in
       PutTold (member-here (stood (found i)) (is-there i)) (Shown (a .view .now)) (c .put-node .last .1 .1 .0) (c .put-node .last .1 .1 .1 .0)
-      (c .put-node .result) (enter (a .by .root))
+      (c .put-node .result) (enter (a .turn .by .root))
   told c =
       let w = tried c in
       gives-as (place-is w) (member-is (scoped (deeper w))) (cells-are (deeper w)) refl (c .put-node .ensures .0)
@@ -174,17 +123,17 @@ module _ (t : ℕ) where
   put-done c = sym (c .before .is-refused2 .ensures) ∙ c .if2 .left
 
   few : (c : At lts.After-put-node) → let f = found (there (scoped (deeper (tried c)) .before)) in
-      Few (entry (begun f) .args .at .left - stepsOf (f .stood-for .result)) (c .put-node .result)
+      Few (entry (begun f) .args .turn .at .left - stepsOf (f .stood-for .result)) (c .put-node .result)
   few c = few-at (place-is (tried c)) (c .put-node .ensures .1)
 
   now-is : (c : At lts.After-place-of) → let p = was-put (kept c) in let f = found (there (scoped (deeper (tried p)) .before)) in
-      let n = entry (begun f) .args .at .cells in
+      let n = entry (begun f) .args .turn .at .cells in
       c .place-of .result ≡ placeOf (getD (p .put-node .last .1 .1 .1 .0) n 0) n (startOf (f .stood-for .result)) (lenOf (f .stood-for .result))
   now-is c =
       let p = was-put (kept c) in
       let l = scoped (deeper (tried p)) .before in
       let r = room (entry (begun (found (there l)))) in
-      let n = entry (begun (found (there l))) .args .at .cells in
+      let n = entry (begun (found (there l))) .args .turn .at .cells in
       c .place-of .ensures .inside (omega arith)
       ∙ ap₂ (placeOf (getD (p .put-node .last .1 .1 .1 .0) n 0) n) (l .before .start-of .ensures) (l .len-of .ensures)
 
@@ -197,10 +146,11 @@ module _ (t : ℕ) where
 
   -- NEEDS
   sub-middle : At lts.Need-sub-middle
-  sub-middle c = let w = c .before .before .before .pre .1 .0 in omega (arith, below-ends (w .old .held .place) (w .ready .base), w .room, w .ready .long)
+  sub-middle c = let w = c .before .before .before .before .before .pre .1 .0 in
+      omega (arith, below-ends (w .old .held .place) (w .ready .base), w .room, w .ready .long)
 
   part-middle-start : At lts.Need-part-middle-start
-  part-middle-start c = let w = c .before .before .before .before .pre .1 .0 in
+  part-middle-start c = let w = c .before .before .before .before .before .before .pre .1 .0 in
       omega (arith, below-ends (w .old .held .place) (w .ready .base), w .room, w .ready .long)
 
   part-middle-end : At lts.Need-part-middle-end
@@ -267,16 +217,16 @@ module _ (t : ℕ) where
       let n = o .before .before in
       let p = was-put (kept n) in
       let i = there (scoped (deeper (tried p)) .before) in
-      let b = entry (begun (found i)) .args .built in
+      let b = entry (begun (found i)) .args .turn .built in
       let l = ltb-true 256 (b + (1 + n .place-of .result .len) + 1) (sym (o .overlong .ensures) ∙ c .before .if3 .taken) in
       member-44 (stood (found i)) (is-there i) (told p) (put-done (kept n)) (few p) (now-is n) (omega (arith, l)) (c .refused .ensures)
 
   -- the list has room for it
   fits : (c : At lts.Else3) → let n = short c in let e = entry (begun (found (there (scoped (deeper (tried (was-put (kept n)))) .before)))) in
-      e .args .built + (1 + n .place-of .result .len) + 1 ≤ 256
+      e .args .turn .built + (1 + n .place-of .result .len) + 1 ≤ 256
   fits c =
       let n = short c in
-      let b = entry (begun (found (there (scoped (deeper (tried (was-put (kept n)))) .before)))) .args .built in
+      let b = entry (begun (found (there (scoped (deeper (tried (was-put (kept n)))) .before)))) .args .turn .built in
       ltb-false 256 (b + (1 + n .place-of .result .len) + 1) (sym (c .before .overlong .ensures) ∙ c .if3 .left)
 
   element-write-whole : At lts.Need-element-write-whole
@@ -312,8 +262,8 @@ module _ (t : ℕ) where
       (c .done .ensures ∙ ap₂ (λ (x y : ℕ). doneAs (begun (found i) .middle .result) (1 + n .place-of .result .len) (x + y))
       (c .before .before .steps-of .ensures) (c .before .steps-of2 .ensures))
 
-pub put-one-met : {M : Type 1} (t : ℕ) → lts.Closed (claims t) (AtMeasure one t) put-one.Post M
-put-one-met t = lts.spec (claims t) (AtMeasure one t) put-one.Post
+pub put-one-met : {M : Type 1} (t : ℕ) → lts.Closed (one-claims t) (AtMeasure one t) put-one.Post M
+put-one-met t = lts.spec (one-claims t) (AtMeasure one t) put-one.Post
     (sub-middle t) (part-middle-start t) (part-middle-end t) (λ c κs. search needs) (stood-for-requires t) (λ c κs. search needs)
     (λ c. returns t c .frame .long) (returns t) (λ c κs. search needs) (λ c κs. search needs) (mul-slots t) (element-write-slots t) (member-requires t)
     (λ c κs. search needs) (behind-requires t) (with-cell-requires t) (put-node-requires t) (λ c κs. search needs) (λ c. returns-2 t c .frame .long)

@@ -11,34 +11,16 @@ use Rattle.rules.specs.Numbers.{VARIABLES}
 use Rattle.walk.specs.Puts.{put-there}
 use Rattle.walk.specs.PutReady.{few}
 use Rattle.walk.specs.PutRebuilt.{Rebuilding, parts-end, rebuilt-places, rebuilt-43, rebuilt-44, rebuilt-long, rebuilt-asks, rebuilt-told}
-use Rattle.step.proofs.place_of.Reads as place-of
-use Rattle.walk.proofs.putter.put_node.Reads as put-node
 use Rattle.walk.proofs.putter.put_rebuilt.Reads as put-rebuilt
-use Rattle.walk.proofs.bytes.rebuild.Reads as rebuild
-use Rattle.answer.proofs.refused.Reads as refused
-use Rattle.step.proofs.unfit.Reads as unfit
 use Rattle.walk.proofs.putter.+put_add+put_all+put_both+put_call+put_case+put_each+put_node+put_one+put_rebuilt+put_switch+put_two+put_under as cycle
 use cycle.Lts-put_rebuilt as lts
-use cycle.Proof.Frame.{node, rebuilt}
-use Rattle.walk.proofs.Member.{AtMeasure, BelowMeasure, PlacesOf}
-
-abbrev claims : ℕ → lts.Claims
-claims t = (
-  place-of.Asked,
-  place-of.Learnt,
-  unfit.Asked,
-  unfit.Learnt,
-  refused.Asked,
-  refused.Learnt,
-  rebuild.Asked,
-  rebuild.Learnt,
-  BelowMeasure node t,
-  put-node.Post,
-)
+use cycle.Proof.Frame.{rebuilt}
+use cycle.Proof.Claims.{rebuilt-claims}
+use Rattle.walk.proofs.Member.{AtMeasure, PlacesOf}
 
 module _ (t : ℕ) where
   abbrev At : PlacesOf rebuilt lts.Claims → Type 0
-  At P = P (claims t) (AtMeasure rebuilt t) put-rebuilt.Post
+  At P = P (rebuilt-claims t) (AtMeasure rebuilt t) put-rebuilt.Post
 
   -- PLACES: the function's entry; it is known where the values stand; the rest fits; the whole is short enough; it is rebuilt
   abbrev entry : At lts.After-place-of2 → At lts.Start
@@ -58,7 +40,7 @@ module _ (t : ℕ) where
   room c = c .pre .1 .0 .given .written .few
 
   places : (c : At lts.After-place-of2) → let e = entry c in let p = e .args .parts in
-      Rebuilding (put-there (e .pre .1 .0)) (e .args .kind) (e .args .node) (p .start) (p .first) (p .second) (c .before .before .place-of .result)
+      Rebuilding (put-there (e .pre .1 .0)) (p .kind) (p .subject) (p .start) (p .first) (p .second) (c .before .before .place-of .result)
       (c .place-of2 .result)
   places c =
       let e = entry c in
@@ -70,7 +52,8 @@ module _ (t : ℕ) where
         two = c .place-of2 .ensures .inside (omega arith);
       }
 
-  fits : (c : At lts.Else1) → let p = placed c in unfitRest (entry p .args .kind) (getD (entry p .args .arena .now) (p .place-of2 .result .start) 0) ≡ false
+  fits : (c : At lts.Else1) → let p = placed c in
+      unfitRest (entry p .args .parts .kind) (getD (entry p .args .arena .now) (p .place-of2 .result .start) 0) ≡ false
   fits c = sym (c .before .unfit .ensures) ∙ c .if1 .left
 
   -- NEEDS
@@ -155,8 +138,8 @@ module _ (t : ℕ) where
       let o = c .before .before .put-node .ensures in
       (rebuilt-told (places (placed i)) (fits i) (omega (arith, s .if2 .left)) (b .rebuild .ensures .0) (o .0), o .1)
 
-pub put-rebuilt-met : {M : Type 1} (t : ℕ) → lts.Closed (claims t) (AtMeasure rebuilt t) put-rebuilt.Post M
-put-rebuilt-met t = lts.spec (claims t) (AtMeasure rebuilt t) put-rebuilt.Post
+pub put-rebuilt-met : {M : Type 1} (t : ℕ) → lts.Closed (rebuilt-claims t) (AtMeasure rebuilt t) put-rebuilt.Post M
+put-rebuilt-met t = lts.spec (rebuilt-claims t) (AtMeasure rebuilt t) put-rebuilt.Post
     (mul-place-of t) (element-copy-out-place-of t) (λ c κs. search needs) (add-place-of t) (mul-place-of-2 t) (element-copy-out-place-of-2 t)
     (add-place-of-2 t) (add-place-of-3 t) (λ c κs. search needs) (slice-read-unfit t) (λ c κs. search needs) (λ c κs. search needs) (returns t)
     (add-size t) (add-size-2 t) (λ c κs. search needs) (returns-2 t) (rebuild-requires t) (array-share-prefix-whole t) (slice-aggregate-v t)

@@ -13,52 +13,16 @@ use Rattle.walk.specs.Gets.{levels-as}
 use Rattle.walk.specs.Puts.{enter, put-here, PutTold}
 use Rattle.walk.specs.PutReady.{ready-as, gives-as, few-at}
 use Rattle.walk.specs.PutTwo.{TakenApart, two-51, two-asks, right-view, two-told, both-asks₁, both-refused, both-asks₂, both-told}
-use Rattle.walk.proofs.at.At.after.Reads as after
-use Rattle.value.proofs.first_part.Reads as first-part
-use Rattle.answer.proofs.is_refused.Reads as is-refused
-use Rattle.answer.proofs.later.Reads as later
-use Rattle.sheet.proofs.number_of.Reads as number-of
-use Rattle.walk.proofs.putter.put_node.Reads as put-node
 use Rattle.walk.proofs.putter.put_two.Reads as put-two
-use Rattle.answer.proofs.refused.Reads as refused
-use Rattle.value.proofs.second_part.Reads as second-part
-use Rattle.value.proofs.shape_of.Reads as shape-of
-use Rattle.answer.proofs.steps_of.Reads as steps-of
-use Rattle.step.proofs.take_apart.Reads as take-apart
 use Rattle.walk.proofs.putter.+put_add+put_all+put_both+put_call+put_case+put_each+put_node+put_one+put_rebuilt+put_switch+put_two+put_under as cycle
 use cycle.Lts-put_two as lts
-use cycle.Proof.Frame.{kind, node}
-use Rattle.walk.proofs.Member.{AtMeasure, BelowMeasure, PlacesOf}
-
-abbrev claims : ℕ → lts.Claims
-claims t = (
-  shape-of.Asked,
-  shape-of.Learnt,
-  take-apart.Asked,
-  take-apart.Learnt,
-  refused.Asked,
-  refused.Learnt,
-  first-part.Asked,
-  first-part.Learnt,
-  second-part.Asked,
-  second-part.Learnt,
-  number-of.Asked,
-  number-of.Learnt,
-  BelowMeasure node t,
-  put-node.Post,
-  is-refused.Asked,
-  is-refused.Learnt,
-  after.Asked,
-  after.Learnt,
-  steps-of.Asked,
-  steps-of.Learnt,
-  later.Asked,
-  later.Learnt,
-)
+use cycle.Proof.Frame.{kind}
+use cycle.Proof.Claims.{two-claims}
+use Rattle.walk.proofs.Member.{AtMeasure, PlacesOf}
 
 module _ (t : ℕ) where
   abbrev At : PlacesOf (kind put-two.Pre) lts.Claims → Type 0
-  At P = P (claims t) (AtMeasure (kind put-two.Pre) t) put-two.Post
+  At P = P (two-claims t) (AtMeasure (kind put-two.Pre) t) put-two.Post
 
   -- PLACES: the function's entry; the view is taken apart; the first part was put; that is done
   abbrev entry : At lts.After-second-part → At lts.Start
@@ -72,15 +36,15 @@ module _ (t : ℕ) where
 
   -- WHAT IS KNOWN THERE
   apart : (c : At lts.After-second-part) → let e = entry c in
-      TakenApart (put-here (e .pre .1 .0)) (e .args .view .now) (e .args .kind) (e .args .n) (c .before .before .before .mid .given .0 .0)
-      (c .before .first-part .result .now) (c .second-part .result .now)
+      TakenApart (put-here (e .pre .1 .0)) (e .args .view .now) (e .args .own .node) (e .args .own .kind) (e .args .own .n)
+      (c .before .before .before .mid .given .0 .0) (c .before .first-part .result .now) (c .second-part .result .now)
   apart c =
       let e = entry c in
       record {
         asked = e .pre .1 .0;
         two = e .pre .1 .1;
         apart = sym (c .before .before .before .mid .given .1) ∙ c .before .before .before .before .before .take-apart .ensures
-            ∙ ap (apartOf (e .args .kind)) (c .before .before .before .before .before .before .shape-of .ensures);
+            ∙ ap (apartOf (e .args .own .kind)) (c .before .before .before .before .before .before .shape-of .ensures);
         first = c .before .first-part .ensures;
         second = c .second-part .ensures;
       }
@@ -91,7 +55,7 @@ module _ (t : ℕ) where
   told : (c : At lts.After-put-node) → let s = parts c in let e = entry s in
       PutTold (put-here (e .pre .1 .0)) (Shown (s .before .first-part .result .now)) (c .put-node .last .1 .1 .0) (c .put-node .last .1 .1 .1 .0)
       (c .put-node .result)
-      (enter (getD (e .args .sheet .now) (e .args .n + 1) 0))
+      (enter (getD (e .args .sheet .now) (e .args .own .n + 1) 0))
   told c = gives-as {at = entry (parts c) .args .at} refl refl refl (c .before .before .before .number-of .ensures) (c .put-node .ensures .0)
 
   -- NEEDS
@@ -100,7 +64,7 @@ module _ (t : ℕ) where
       let e = c .before .before .before .before .before .before .before .before in
       two-51 (e .pre .1 .0) (e .pre .1 .1)
       (sym (c .before .enum-told .given .1) ∙ c .before .before .before .take-apart .ensures
-      ∙ ap (apartOf (e .args .kind)) (c .before .before .before .before .shape-of .ensures)) (c .refused .ensures)
+      ∙ ap (apartOf (e .args .own .kind)) (c .before .before .before .before .shape-of .ensures)) (c .refused .ensures)
 
   put-node-requires : At lts.Need-put-node-requires
   put-node-requires c κs =
@@ -142,8 +106,8 @@ module _ (t : ℕ) where
       two-told s (both-told (two-asks s) (told p) (done i) (p .put-node .ensures .1) (few-at e (o .1)) g
       (later-as _ (c .before .steps-of .ensures) (c .later .ensures)))
 
-pub put-two-met : {M : Type 1} (t : ℕ) → lts.Closed (claims t) (AtMeasure (kind put-two.Pre) t) put-two.Post M
-put-two-met t = lts.spec (claims t) (AtMeasure (kind put-two.Pre) t) put-two.Post
+pub put-two-met : {M : Type 1} (t : ℕ) → lts.Closed (two-claims t) (AtMeasure (kind put-two.Pre) t) put-two.Post M
+put-two-met t = lts.spec (two-claims t) (AtMeasure (kind put-two.Pre) t) put-two.Post
     (λ c κs. search needs) (λ c κs. search needs) (λ c. search needs) (λ c. search needs) (λ c κs. search needs) (returns t) (λ c κs. search needs)
     (λ c κs. search needs) (λ c κs. search needs) (put-node-requires t) (λ c κs. search needs) (λ c. returns-2 t c .frame .long) (returns-2 t)
     (after-requires t) (λ c κs. search needs) (put-node-requires-2 t) (λ c κs. search needs) (λ c κs. search needs) (λ c. returns-3 t c .frame .long)

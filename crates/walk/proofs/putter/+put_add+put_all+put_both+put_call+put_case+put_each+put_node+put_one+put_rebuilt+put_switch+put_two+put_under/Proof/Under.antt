@@ -25,46 +25,16 @@ use Rattle.walk.specs.PutUnder.{
   rest-ready,
   rest-as,
 }
-use Rattle.step.proofs.add_cells.Reads as add-cells
-use Rattle.walk.proofs.at.At.after.Reads as after
-use Rattle.answer.proofs.is_refused.Reads as is-refused
-use Rattle.answer.proofs.later.Reads as later
-use Rattle.walk.proofs.putter.put_node.Reads as put-node
-use Rattle.walk.proofs.putter.put_rebuilt.Reads as put-rebuilt
 use Rattle.walk.proofs.putter.put_under.Reads as put-under
-use Rattle.answer.proofs.steps_of.Reads as steps-of
-use Rattle.walk.proofs.at.At.wider.Reads as wider
-use Rattle.walk.proofs.scope.with_two.Reads as with-two
 use Rattle.walk.proofs.putter.+put_add+put_all+put_both+put_call+put_case+put_each+put_node+put_one+put_rebuilt+put_switch+put_two+put_under as cycle
 use cycle.Lts-put_under as lts
-use cycle.Proof.Frame.{node, rebuilt, under}
-use Rattle.walk.proofs.Member.{AtMeasure, BelowMeasure, PlacesOf}
-
-abbrev claims : ℕ → lts.Claims
-claims t = (
-  with-two.Asked,
-  with-two.Learnt,
-  add-cells.Asked,
-  add-cells.Learnt,
-  wider.Asked,
-  wider.Learnt,
-  BelowMeasure node t,
-  put-node.Post,
-  is-refused.Asked,
-  is-refused.Learnt,
-  after.Asked,
-  after.Learnt,
-  BelowMeasure rebuilt t,
-  put-rebuilt.Post,
-  steps-of.Asked,
-  steps-of.Learnt,
-  later.Asked,
-  later.Learnt,
-)
+use cycle.Proof.Frame.{under}
+use cycle.Proof.Claims.{under-claims}
+use Rattle.walk.proofs.Member.{AtMeasure, PlacesOf}
 
 module _ (t : ℕ) where
   abbrev At : PlacesOf under lts.Claims → Type 0
-  At P = P (claims t) (AtMeasure under t) put-under.Post
+  At P = P (under-claims t) (AtMeasure under t) put-under.Post
 
   -- PLACES: the function's entry; the branch's scope is made, and its cells; the view was put there; that is done
   abbrev entry : At lts.After-with-two → At lts.Start
@@ -84,7 +54,7 @@ module _ (t : ℕ) where
 
   -- WHAT IS KNOWN THERE
   asked : (c : At lts.Start) → let a = c .args in
-      Under (put-there (c .pre .1 .0)) (Shown (a .view .now)) (a .kind) (a .branch) (a .subject) (a .parts .start) (a .parts .first) (a .parts .second)
+      Under (put-there (c .pre .1 .0)) (Shown (a .view .now)) (a .parts)
   asked c = record { asked = c .pre .1 .0; inner = c .pre .1 .1 .0; parts = c .pre .1 .1 .1 }
 
   room : (c : At lts.Start) → (c .args .at .cells + 2 ≤ VARIABLES) × (c .args .scope .count + 2 ≤ VARIABLES)
@@ -96,7 +66,7 @@ module _ (t : ℕ) where
 
   told : (c : At lts.After-put-node) → let e = entry (scoped (deeper (made c))) in
       PutTold (inner-here (asked e)) (Shown (e .args .view .now)) (c .put-node .last .1 .1 .0) (c .put-node .last .1 .1 .1 .0) (c .put-node .result)
-      (enter (e .args .branch))
+      (enter (e .args .parts .branch))
   told c =
       let w = made c in
       let s = scoped (deeper w) in
@@ -152,7 +122,8 @@ module _ (t : ℕ) where
       let s = entry (scoped (deeper (made p))) in
       let e = c .before .before .after .ensures in
       let l = levels-as e in
-      (omega (arith, s .pre .0), (rest-ready e (under-asks₂ (asked s) (told p) (done i)), some-at e refl (under-parts (asked s) (told p) (done i))))
+      let q = some-at {p = s .args .parts} e refl (under-parts (asked s) (told p) (done i)) in
+      (omega (arith, s .pre .0), (rest-ready e (under-asks₂ (asked s) (told p) (done i)), q))
 
   returns-2 : At lts.Need-returns-2
   returns-2 c =
@@ -162,8 +133,8 @@ module _ (t : ℕ) where
       under-told (asked (entry (scoped (deeper (made p))))) (told p) (done (c .before .before .before .before .before .before .before .before)) (few p)
       (few-at e (o .1)) (rest-as e (o .0)) (later-as _ (c .before .steps-of .ensures) (c .later .ensures))
 
-pub put-under-met : {M : Type 1} (t : ℕ) → lts.Closed (claims t) (AtMeasure under t) put-under.Post M
-put-under-met t = lts.spec (claims t) (AtMeasure under t) put-under.Post
+pub put-under-met : {M : Type 1} (t : ℕ) → lts.Closed (under-claims t) (AtMeasure under t) put-under.Post M
+put-under-met t = lts.spec (under-claims t) (AtMeasure under t) put-under.Post
     (mul-slots t) (element-write-slots t) (add-slots t) (mul-slots-2 t) (element-write-slots-2 t) (with-two-requires t) (λ c. search needs)
     (λ c κs. search needs) (wider-requires t) (put-node-requires t) (λ c κs. search needs)
     (λ c. let p = entry t (scoped t (deeper t (made t (c .before .before .before .before)))) .pre .1 .1 .1 in returns t c _ _ (p .parts) .frame .long)
