@@ -20,10 +20,10 @@ use Rattle.rules.specs.OutcomeLaws.{given-not}
 use Rattle.rules.specs.Text
 use Rattle.rules.specs.Answer.{answer, refusal, success, door, getWalk, getAnswer}
 use Rattle.rules.specs.AnswerLaws.{Lent, door-open, get-shows, get-answers}
-use Rattle.join.specs.Joined.{joined, get-walk-joined, get-walk-pair}
-use Rattle.join.specs.Levels.{NoDeeper, done-deep, get-more, get-fewer}
-use Rattle.join.specs.JoinedPut.{bind-done, plus-done, given-done}
-use Rattle.join.specs.JoinedCalls.{Joins, joined-read, joined-get}
+use Rattle.joined.specs.Joined.{joined, get-walk-joined, get-walk-pair}
+use Rattle.joined.specs.Levels.{NoDeeper, done-deep, get-more, get-fewer}
+use Rattle.joined.specs.JoinedPut.{bind-done, plus-done, given-done}
+use Rattle.joined.specs.JoinedCalls.{Joins, joined-read, joined-get}
 
 -- reading the plan out enters no node deeper than l: with l levels it is not refused with 40
 pub record GetsWithin (l : ℕ) (sheet plan : List ℕ) : Type 0 where

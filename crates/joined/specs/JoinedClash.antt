@@ -16,9 +16,9 @@ use Rattle.rules.specs.AllowanceLaws.{within-yes}
 use Rattle.rules.specs.Rules.{Env, Cells, put}
 use Rattle.rules.specs.Answer.{count, putWalk}
 use Rattle.published.specs.Published.{Merge1, neither, left, right, same, Merge, mEnds, mMore}
-use Rattle.join.specs.Joined.{joined, put-walk-joined}
-use Rattle.join.specs.Beside.{Meets, alike, refuses, clashes, merge-none, puts-beside}
-use Rattle.join.specs.Levels.{putFrom}
+use Rattle.joined.specs.Joined.{joined, put-walk-joined}
+use Rattle.joined.specs.Beside.{Meets, alike, refuses, clashes, merge-none, puts-beside}
+use Rattle.joined.specs.Levels.{putFrom}
 
 -- some variable takes two values: X and Y are what two puts wrote
 pub record Clash (X Y : Cells) : Type 0 where

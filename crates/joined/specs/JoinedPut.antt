@@ -22,8 +22,8 @@ use Rattle.published.specs.PublishedCells.{Laid, Joined, seen-later, laid-later
 use Rattle.published.specs.PublishedPut.{put-over, put-exact}
 use Rattle.published.specs.PublishedWalks.{blank-later, blank-laid, seen-self, seen-below, plan-counted}
 use Rattle.published.specs.UpTo.{Costs, Exactly, exactly, too-long}
-use Rattle.join.specs.Joined.{joined, put-walk-joined, put-walk-pair}
-use Rattle.join.specs.Beside.{Meets, alike, refuses, clashes, merge-none, puts-beside}
+use Rattle.joined.specs.Joined.{joined, put-walk-joined, put-walk-pair}
+use Rattle.joined.specs.Beside.{Meets, alike, refuses, clashes, merge-none, puts-beside}
 
 -- CELLS MERGED: the least that have what both have
 

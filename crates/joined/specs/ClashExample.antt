@@ -20,10 +20,10 @@ use Rattle.rules.specs.Text
 use Rattle.rules.specs.Answer.{refusal, answer, door, count, newPlan, putWalk, putBytes, putAnswer}
 use Rattle.rules.specs.Written.{bitsOf, bit, took, tookIn, putWritten}
 use Rattle.rules.specs.Examples.{P, T}
-use Rattle.join.specs.Joined.{joined}
-use Rattle.join.specs.Levels.{putFrom}
-use Rattle.join.specs.JoinedCalls.{Joins}
-use Rattle.join.specs.JoinedPuts.{puts-within, joined-put-clash}
+use Rattle.joined.specs.Joined.{joined}
+use Rattle.joined.specs.Levels.{putFrom}
+use Rattle.joined.specs.JoinedCalls.{Joins}
+use Rattle.joined.specs.JoinedPuts.{puts-within, joined-put-clash}
 
 -- P: one variable
 abbrev only : Sheet

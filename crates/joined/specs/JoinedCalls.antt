@@ -19,9 +19,9 @@ use Rattle.rules.specs.Outcome.{plus, mapOut, _>>=_, given, reading}
 use Rattle.rules.specs.Allowance.{within}
 use Rattle.rules.specs.Rules.{bounded, get, put}
 use Rattle.rules.specs.Answer.{count, newPlan, getBytes, putBytes}
-use Rattle.join.specs.Joined.{joined, get-walk-joined, put-walk-joined}
+use Rattle.joined.specs.Joined.{joined, get-walk-joined, put-walk-joined}
 use Rattle.sheet.specs.Ranging.{read-back, written-short}
-use Rattle.join.specs.JoinedRanges.{joined-ranges}
+use Rattle.joined.specs.JoinedRanges.{joined-ranges}
 use Rattle.embedding.specs.EmbeddingAnswers.{reading-same}
 
 -- 83 k differs; 84 over 200 nodes or 8 sections; after both sheets' own refusals, the first sheet's first

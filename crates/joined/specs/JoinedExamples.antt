@@ -7,8 +7,8 @@ use Rattle.sheet.specs.Sheet.{readNodes, oneSection, ifSection, readRecords, wi
 use Rattle.sheet.specs.Kinds.{formOf, bodyWidth, make, nodeInRange, ofKind, renumber, written}
 use Rattle.sheet.specs.Rows.{sheetWritten}
 use Rattle.rules.specs.Examples.{P, T}
-use Rattle.join.specs.Joined.{joined}
-use Rattle.join.specs.JoinedCalls.{joinedBytes}
+use Rattle.joined.specs.Joined.{joined}
+use Rattle.joined.specs.JoinedCalls.{joinedBytes}
 
 -- a list of one member
 abbrev single : List ℕ

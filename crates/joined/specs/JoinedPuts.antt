@@ -27,11 +27,11 @@ use Rattle.rules.specs.Trips.{written}
 use Rattle.rules.specs.Written.{bit, took, putWritten}
 use Rattle.rules.specs.WrittenLaws.{bit-cell}
 use Rattle.published.specs.Published.{Merge1, neither, left, right, same}
-use Rattle.join.specs.Joined.{joined, put-walk-joined}
-use Rattle.join.specs.Levels.{NoDeeper, done-deep, putFrom, put-more, put-fewer}
-use Rattle.join.specs.JoinedPut.{plus-done, given-done, Parts, put-walk-both, put-walk-parts}
-use Rattle.join.specs.JoinedClash.{Clash, merge-at, merge-of, put-walk-clash}
-use Rattle.join.specs.JoinedCalls.{Joins, joined-read, joined-put}
+use Rattle.joined.specs.Joined.{joined, put-walk-joined}
+use Rattle.joined.specs.Levels.{NoDeeper, done-deep, putFrom, put-more, put-fewer}
+use Rattle.joined.specs.JoinedPut.{plus-done, given-done, Parts, put-walk-both, put-walk-parts}
+use Rattle.joined.specs.JoinedClash.{Clash, merge-at, merge-of, put-walk-clash}
+use Rattle.joined.specs.JoinedCalls.{Joins, joined-read, joined-put}
 
 -- putting the view enters no node deeper than l: with l levels it is not refused with 40
 pub record PutsWithin (l : ℕ) (sheet plan view : List ℕ) : Type 0 where
