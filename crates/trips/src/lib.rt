@@ -29,7 +29,7 @@ fn judged(first: usize, reply: Reply, most: usize, out: &[u8], bytes: &[u8]) -> 
             if most < steps {
                 return Trip::Broken;
             }
-            if value::same(&out[..len], bytes) {
+            if shapes::same(&out[..len], bytes) {
                 return Trip::Kept {
                     first,
                     second: steps,

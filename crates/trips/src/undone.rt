@@ -18,7 +18,7 @@ fn returned(first: usize, reply: Reply, out: &[u8], plan: &[u8]) -> Trip
             if steps != first {
                 return Trip::Broken;
             }
-            if value::same(&out[..len], plan) {
+            if shapes::same(&out[..len], plan) {
                 return Trip::Kept {
                     first,
                     second: steps,

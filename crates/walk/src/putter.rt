@@ -4,7 +4,7 @@ ghost use mathlib.Core.Path.{_≡_};
 ghost use Prim.Native.Nat.{ℕ, suc, _+_, _*_, _≤_, _<_};
 ghost use lib.ListN.{length, getD};
 ghost use Rattle.value.specs.Value.{Value, vfalse};
-ghost use Rattle.value.specs.Parts.{sameBytes};
+ghost use Rattle.shapes.specs.Parts.{sameBytes};
 ghost use Rattle.sheet.specs.Wide.{wideBytes};
 ghost use Rattle.rules.specs.Numbers.{SCRATCH, CHAIN};
 ghost use Rattle.step.specs.Step.{judged};
@@ -37,10 +37,10 @@ use answer::start_of;
 use answer::steps_of;
 use arena::leave;
 use arena::write;
+use scopes::Scope;
+use shapes::Shape;
 use step::Apart;
 use step::Branch;
-use step::Scope;
-use value::Shape;
 
 /// Two values that stand one after the other: where the first starts, and how long each is.
 pub struct Parts {
@@ -227,11 +227,11 @@ fn put_two(
         (Shown (now (view .entry))) scope (now (cells .entry)) (at .cells) (at .cells) (at .top) (at .left) r (at .levels)
         (own kind (now (sheet .entry)) n) ⌝ }
 {
-    let Apart::At(mid) = step::take_apart(kind, value::shape_of(view)) else {
+    let Apart::At(mid) = step::take_apart(kind, shapes::shape_of(view)) else {
         return refused(51);
     };
-    let left = value::first_part(view, mid);
-    let right = value::second_part(view, mid);
+    let left = shapes::first_part(view, mid);
+    let right = shapes::second_part(view, mid);
     let a = sheet::number_of(sheet, n, 1);
     let one = put_node(sheet, table, arena, slots, scope, cells, a, left, at);
     if is_refused(one) {
@@ -272,7 +272,7 @@ fn put_under(
     slots[c + 1] = 0;
     let inner = with_two(scope, parts.start, parts.first, parts.second);
     let mut more = *cells;
-    step::add_cells(&mut more, scope.count as usize, c);
+    scopes::add_cells(&mut more, scope.count as usize, c);
     let wider = at.wider();
     let one = put_node(
         sheet,
@@ -328,8 +328,8 @@ fn put_rebuilt(
     let c = at.cells;
     let start = parts.start;
     let first = parts.first;
-    let f = step::place_of(slots[c], c, start, first);
-    let r = step::place_of(slots[c + 1], c + 1, start + first, parts.second);
+    let f = scopes::place_of(slots[c], c, start, first);
+    let r = scopes::place_of(slots[c + 1], c + 1, start + first, parts.second);
     let rest = r.start;
     if step::unfit(kind, arena[rest]) {
         return refused(43);
@@ -473,7 +473,7 @@ fn defaults(
 {
     let top = at.top;
     let len = view.len();
-    step::store(arena, top, view);
+    scopes::store(arena, top, view);
     let seen = single(top, len);
     let to = at.raised(len);
     let got = two_defaults(sheet, table, arena, seen, n, to);
@@ -567,8 +567,8 @@ fn put_call(
         return refused(42);
     }
     let root = sheet::section_root(sheet, sheet::number_of(sheet, n, 1));
-    let inner = step::section(scope, x, y);
-    let two = step::pick_cells(cells, x, y);
+    let inner = scopes::section(scope, x, y);
+    let two = scopes::pick_cells(cells, x, y);
     put_node(sheet, table, arena, slots, inner, &two, root, view, at)
 }
 
@@ -592,7 +592,7 @@ fn put_add(
         (Shown (now (view .entry))) scope (now (cells .entry)) (at .cells) (at .cells) (at .top) (at .left) r (at .levels)
         (own kind (now (sheet .entry)) n) ⌝ }
 {
-    let Shape::Number(m) = value::shape_of(view) else {
+    let Shape::Number(m) = shapes::shape_of(view) else {
         return refused(51);
     };
     let amount = value::number(sheet::byte_of(sheet, n, 2), sheet::byte_of(sheet, n, 3));
@@ -647,7 +647,7 @@ fn put_one(
         (now (whole .exit)) scope (now (cells .entry)) by (now (view .entry)) built (at .cells) (at .top) (at .levels) (at .left) r ⌝ }
 {
     let old = by.old;
-    let mid = value::middle(&arena[old..]);
+    let mid = shapes::middle(&arena[old..]);
     let stood = stood_for(sheet, table, arena, by, mid, at);
     if is_refused(stood) {
         return stood;
@@ -657,13 +657,13 @@ fn put_one(
     let cell = at.cells;
     slots[cell] = 0;
     let inner = member(scope, by.x, start, len);
-    let two = step::member_cells(cells, cell, by.x);
+    let two = scopes::member_cells(cells, cell, by.x);
     let to = at.behind(stood).with_cell();
     let put = put_node(sheet, table, arena, slots, inner, &two, by.root, view, to);
     if is_refused(put) {
         return put;
     }
-    let now = step::place_of(slots[cell], cell, start, len);
+    let now = scopes::place_of(slots[cell], cell, start, len);
     let size = 1 + now.len;
     if step::overlong(built, size) {
         return refused(44);
@@ -697,8 +697,8 @@ fn put_all(
     let mut built = 0;
     while view[from] == 3 {
         let rest = &view[from..];
-        let mid = value::middle(rest);
-        let first = value::first_part(rest, mid);
+        let mid = shapes::middle(rest);
+        let first = shapes::first_part(rest, mid);
         let put = put_one(
             sheet,
             table,

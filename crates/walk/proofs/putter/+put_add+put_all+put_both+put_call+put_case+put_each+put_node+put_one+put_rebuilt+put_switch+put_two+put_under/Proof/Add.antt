@@ -6,8 +6,8 @@ use Prim.Native.Nat.{ℕ, _-_}
 use native.Mathlib.Omega.{arith}
 use mathlib.Core.List.{[], _∷_}
 use Prim.Native.Nat.{_/_, _%_}
-use Rattle.value.specs.Parts.{shapeOf}
-use Rattle.value.specs.declared.Shape.the-variants.{Number}
+use Rattle.shapes.specs.Parts.{shapeOf}
+use Rattle.shapes.specs.declared.Shape.the-variants.{Number}
 use Rattle.walk.specs.GetLeaf.{sum-as}
 use Rattle.walk.specs.GetAdd.{amountAt}
 use Rattle.walk.specs.PutReady.{ready-as, gives-as, ready-view, gives-view}
@@ -21,7 +21,7 @@ use Rattle.sheet.proofs.number_of.Reads as number-of
 use Rattle.walk.proofs.putter.put_add.Reads as put-add
 use Rattle.walk.proofs.putter.put_node.Reads as put-node
 use Rattle.answer.proofs.refused.Reads as refused
-use Rattle.value.proofs.shape_of.Reads as shape-of
+use Rattle.shapes.proofs.shape_of.Reads as shape-of
 use Rattle.walk.proofs.putter.+put_add+put_all+put_both+put_call+put_case+put_each+put_node+put_one+put_rebuilt+put_switch+put_two+put_under as cycle
 use cycle.Lts-put_add as lts
 use cycle.Proof.Frame.{kind, node}

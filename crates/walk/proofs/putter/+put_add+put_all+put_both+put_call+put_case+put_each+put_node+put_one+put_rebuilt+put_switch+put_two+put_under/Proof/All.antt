@@ -9,7 +9,7 @@ use native.Mathlib.Omega.{arith}
 use lib.ListN.{take, drop, length, length-drop, length-set}
 use lib.Seq.{take-all}
 use Rattle.answer.specs.Answer.{isRefusal, startOf, start-small, len-small}
-use Rattle.value.specs.Parts.{shapeOf, middleOf, firstPart}
+use Rattle.shapes.specs.Parts.{shapeOf, middleOf, firstPart}
 use Rattle.walk.specs.declared.putter.Members.{Members}
 use Rattle.walk.specs.Gets.{levels-as}
 use Rattle.walk.specs.PutReady.{ready-at, gives-at}
@@ -35,8 +35,8 @@ use Rattle.walk.specs.PutMembers.{
   end-asks,
   end-told,
 }
-use Rattle.value.proofs.middle.Reads as middle
-use Rattle.value.proofs.first_part.Reads as first-part
+use Rattle.shapes.proofs.middle.Reads as middle
+use Rattle.shapes.proofs.first_part.Reads as first-part
 use Rattle.walk.proofs.putter.put_one.Reads as put-one
 use Rattle.answer.proofs.is_refused.Reads as is-refused
 use Rattle.walk.proofs.at.At.after.Reads as after

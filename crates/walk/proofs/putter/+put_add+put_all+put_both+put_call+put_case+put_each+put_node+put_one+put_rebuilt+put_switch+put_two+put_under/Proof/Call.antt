@@ -6,19 +6,19 @@ use Prim.Native.Nat.{ℕ, _+_, _-_, _<_}
 use native.Mathlib.Omega.{arith}
 use lib.ListN.{getD}
 use Rattle.sheet.specs.Table.{sectionAt}
-use Rattle.step.specs.Step.{picked, pickedTwo}
+use Rattle.scopes.specs.Scopes.{picked, pickedTwo}
 use Rattle.rules.specs.Numbers.{VARIABLES}
 use Rattle.walk.specs.Cells.{Shown}
-use Rattle.step.specs.StepLaws.{in-room}
+use Rattle.scopes.specs.ScopesLaws.{in-room}
 use Rattle.walk.specs.Puts.{put-here}
 use Rattle.walk.specs.PutReady.{ready-as, gives-as}
 use Rattle.walk.specs.PutCall.{PutLooked, call-42₁, call-42₂, call-asks, call-told}
 use Rattle.sheet.proofs.number_of.Reads as number-of
-use Rattle.step.proofs.pick_cells.Reads as pick-cells
+use Rattle.scopes.proofs.pick_cells.Reads as pick-cells
 use Rattle.walk.proofs.putter.put_call.Reads as put-call
 use Rattle.walk.proofs.putter.put_node.Reads as put-node
 use Rattle.answer.proofs.refused.Reads as refused
-use Rattle.step.proofs.section.Reads as section
+use Rattle.scopes.proofs.section.Reads as section
 use Rattle.sheet.proofs.section_root.Reads as section-root
 use Rattle.walk.proofs.putter.+put_add+put_all+put_both+put_call+put_case+put_each+put_node+put_one+put_rebuilt+put_switch+put_two+put_under as cycle
 use cycle.Lts-put_call as lts

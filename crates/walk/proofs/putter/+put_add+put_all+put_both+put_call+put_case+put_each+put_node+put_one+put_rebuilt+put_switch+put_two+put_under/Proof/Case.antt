@@ -6,7 +6,7 @@ use Prim.Native.Nat.{ℕ, _+_, _-_, _≤_}
 use native.Mathlib.Omega.{arith}
 use mathlib.Core.Bool.{false}
 use Rattle.answer.specs.Answer.{isRefusal, startOf, lenOf, start-small, later-as}
-use Rattle.value.specs.Parts.{passesBytes}
+use Rattle.shapes.specs.Parts.{passesBytes}
 use Rattle.step.specs.Step.{takeOf}
 use Rattle.step.specs.StepLaws.{took}
 use Rattle.step.specs.declared.Branch.{Branch}

@@ -10,8 +10,8 @@ use lib.ListN.{getD, drop, length, length-drop, length-set}
 use lib.Seq.{take-all}
 use borrow.Author.Tests.{ltb-true, ltb-false}
 use Rattle.answer.specs.Answer.{isRefusal, doneAs, startOf, lenOf, stepsOf, steps-small}
-use Rattle.value.specs.Parts.{shapeOf, middleOf}
-use Rattle.step.specs.Step.{frontTwo, placeOf}
+use Rattle.shapes.specs.Parts.{shapeOf, middleOf}
+use Rattle.scopes.specs.Scopes.{frontTwo, placeOf}
 use Rattle.rules.specs.Numbers.{VARIABLES}
 use Rattle.walk.specs.declared.at.At.{At as Where}
 use Rattle.walk.specs.Places.{behindOf, withCellOf}
@@ -33,17 +33,17 @@ use Rattle.walk.specs.PutMember.{
   member-44,
   member-done,
 }
-use Rattle.value.proofs.middle.Reads as middle
+use Rattle.shapes.proofs.middle.Reads as middle
 use Rattle.walk.proofs.putter.stood_for.Reads as stood-for
 use Rattle.answer.proofs.is_refused.Reads as is-refused
 use Rattle.answer.proofs.start_of.Reads as start-of
 use Rattle.answer.proofs.len_of.Reads as len-of
 use Rattle.walk.proofs.scope.member.Reads as member
-use Rattle.step.proofs.member_cells.Reads as member-cells
+use Rattle.scopes.proofs.member_cells.Reads as member-cells
 use Rattle.walk.proofs.at.At.behind.Reads as behind
 use Rattle.walk.proofs.at.At.with_cell.Reads as with-cell
 use Rattle.walk.proofs.putter.put_node.Reads as put-node
-use Rattle.step.proofs.place_of.Reads as place-of
+use Rattle.scopes.proofs.place_of.Reads as place-of
 use Rattle.answer.proofs.refused.Reads as refused
 use Rattle.step.proofs.overlong.Reads as overlong
 use Rattle.walk.proofs.bytes.fill.Reads as fill

@@ -11,7 +11,7 @@ use Rattle.rules.specs.Numbers.{VARIABLES}
 use Rattle.walk.specs.Puts.{put-there}
 use Rattle.walk.specs.PutReady.{few}
 use Rattle.walk.specs.PutRebuilt.{Rebuilding, parts-end, rebuilt-places, rebuilt-43, rebuilt-44, rebuilt-long, rebuilt-asks, rebuilt-told}
-use Rattle.step.proofs.place_of.Reads as place-of
+use Rattle.scopes.proofs.place_of.Reads as place-of
 use Rattle.walk.proofs.putter.put_node.Reads as put-node
 use Rattle.walk.proofs.putter.put_rebuilt.Reads as put-rebuilt
 use Rattle.walk.proofs.bytes.rebuild.Reads as rebuild

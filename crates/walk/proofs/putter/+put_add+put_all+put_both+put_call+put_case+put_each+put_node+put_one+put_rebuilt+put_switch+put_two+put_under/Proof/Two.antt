@@ -14,15 +14,15 @@ use Rattle.walk.specs.Puts.{enter, put-here, PutTold}
 use Rattle.walk.specs.PutReady.{ready-as, gives-as, few-at}
 use Rattle.walk.specs.PutTwo.{TakenApart, two-51, two-asks, right-view, two-told, both-asks₁, both-refused, both-asks₂, both-told}
 use Rattle.walk.proofs.at.At.after.Reads as after
-use Rattle.value.proofs.first_part.Reads as first-part
+use Rattle.shapes.proofs.first_part.Reads as first-part
 use Rattle.answer.proofs.is_refused.Reads as is-refused
 use Rattle.answer.proofs.later.Reads as later
 use Rattle.sheet.proofs.number_of.Reads as number-of
 use Rattle.walk.proofs.putter.put_node.Reads as put-node
 use Rattle.walk.proofs.putter.put_two.Reads as put-two
 use Rattle.answer.proofs.refused.Reads as refused
-use Rattle.value.proofs.second_part.Reads as second-part
-use Rattle.value.proofs.shape_of.Reads as shape-of
+use Rattle.shapes.proofs.second_part.Reads as second-part
+use Rattle.shapes.proofs.shape_of.Reads as shape-of
 use Rattle.answer.proofs.steps_of.Reads as steps-of
 use Rattle.step.proofs.take_apart.Reads as take-apart
 use Rattle.walk.proofs.putter.+put_add+put_all+put_both+put_call+put_case+put_each+put_node+put_one+put_rebuilt+put_switch+put_two+put_under as cycle

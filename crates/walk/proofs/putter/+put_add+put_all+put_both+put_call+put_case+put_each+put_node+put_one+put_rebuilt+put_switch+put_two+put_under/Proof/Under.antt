@@ -6,7 +6,7 @@ use Prim.Native.Nat.{ℕ, _+_, _-_, _≤_}
 use native.Mathlib.Omega.{arith}
 use mathlib.Core.Bool.{false}
 use Rattle.answer.specs.Answer.{isRefusal, later-as}
-use Rattle.step.specs.Step.{addedTwo}
+use Rattle.scopes.specs.Scopes.{addedTwo}
 use Rattle.rules.specs.Numbers.{VARIABLES}
 use Rattle.walk.specs.Cells.{Shown}
 use Rattle.walk.specs.Gets.{levels-as}
@@ -25,7 +25,7 @@ use Rattle.walk.specs.PutUnder.{
   rest-ready,
   rest-as,
 }
-use Rattle.step.proofs.add_cells.Reads as add-cells
+use Rattle.scopes.proofs.add_cells.Reads as add-cells
 use Rattle.walk.proofs.at.At.after.Reads as after
 use Rattle.answer.proofs.is_refused.Reads as is-refused
 use Rattle.answer.proofs.later.Reads as later
