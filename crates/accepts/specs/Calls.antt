@@ -10,7 +10,7 @@ use lib.Dec.{leb}
 use lib.ListN.{length, take, drop}
 use Rattle.value.specs.Result.{Result, ok, refusal, andThen, unless}
 use Rattle.value.specs.Value.{Value, encode}
-use Rattle.value.specs.Parts.{sameBytes}
+use Rattle.shapes.specs.Parts.{sameBytes}
 use Rattle.value.specs.Reading.{readPlan, readView}
 use Rattle.value.specs.Spans.{spans, spansOf}
 use Rattle.value.specs.SpansLaws.{plan-read, plan-refused}

@@ -10,7 +10,7 @@ use lib.ListN.{length, getD, take, drop, drop-of-length-le}
 use lib.Seq.{drop-cons}
 use Rattle.value.specs.Result.{ok}
 use Rattle.value.specs.Value.{Value, vfalse, encode}
-use Rattle.value.specs.Parts.{sameBytes}
+use Rattle.shapes.specs.Parts.{sameBytes}
 use Rattle.value.specs.Reading.{readPlan}
 use Rattle.value.specs.Laws.{readValues-sound}
 use Rattle.value.specs.Spans.{spans}

@@ -2,7 +2,7 @@
 ghost use mathlib.Core.Path.{_≡_};
 ghost use lib.ListN.{length};
 ghost use Rattle.sheet.specs.Kinds.{variables};
-ghost use Rattle.value.specs.Parts.{sameBytes};
+ghost use Rattle.shapes.specs.Parts.{sameBytes};
 ghost use Rattle.rules.specs.AnswerLaws.{Lent};
 ghost use Rattle.walk.specs.Entry.{Free};
 ghost use Rattle.rules.specs.Numbers.{SCRATCH};
@@ -81,7 +81,7 @@ fn is_same(old: &[u8], before: Spans, new: &[u8], after: Spans, x: usize) -> boo
     requires { ⌜ Within (now old) before x × Within (now new) after x ⌝ }
     ensures { λ r. ⌜ r ≡ sameBytes (spanOf (now (old .entry)) before x) (spanOf (now (new .entry)) after x) ⌝ }
 {
-    value::same(part(old, before, x), part(new, after, x))
+    shapes::same(part(old, before, x), part(new, after, x))
 }
 
 // Whether every variable that no record names has the same bytes in both plans.
@@ -119,7 +119,7 @@ fn listed(walked: Reply, view: &[u8], scratch: &[u8]) -> Verdict
         Reply::Done { len, steps: _ } => {
             let start = rules::STACK;
             let end = start + len;
-            yes_no(value::same(&scratch[start..end], view))
+            yes_no(shapes::same(&scratch[start..end], view))
         }
     }
 }

@@ -5,7 +5,7 @@ ghost use mathlib.Core.Bool.{cond};
 ghost use mathlib.Core.Path.{_≡_};
 ghost use Prim.Native.Nat.{min};
 ghost use Rattle.rules.specs.Written.{bitsOf};
-ghost use Rattle.step.specs.Step.{When};
+ghost use Rattle.scopes.specs.Scopes.{When};
 ghost use Rattle.arena.specs.Writing.{Takes, writeAnswer, writtenBytes, writtenNotes};
 ghost use Rattle.arena.specs.Chain.{inChain, chained, leftAs};
 ghost use Rattle.arena.specs.Bits.{filled, filledFrom};
@@ -51,7 +51,7 @@ pub fn write(
     if rules::VARIABLES <= c {
         return refused(42);
     }
-    let slot = step::slot_of(c);
+    let slot = scopes::slot_of(c);
     if arena.len() < slot + rules::SLOT {
         return refused(42);
     }
@@ -67,11 +67,11 @@ pub fn write(
     }
     let note = slots[c];
     if note == 0 {
-        step::store(arena, slot, view);
-        slots[c] = step::note_of(node as u8, len);
+        scopes::store(arena, slot, view);
+        slots[c] = scopes::note_of(node as u8, len);
         return done(0, 0, 0);
     }
-    let end = slot + step::noted_len(note);
+    let end = slot + scopes::noted_len(note);
     step::put_again(note, &arena[slot..end], view)
 }
 

@@ -6,7 +6,7 @@ ghost use Rattle.io.specs.Counts.{Counts};
 fn said(text: &mut [u8], at: usize, test: u8, bytes: &[u8]) -> usize
     ensures { λ r. ⌜ Counts r (now (text .exit)) ⌝ }
 {
-    if value::passes(test, bytes) {
+    if shapes::passes(test, bytes) {
         return report::byte(text, at, b'1');
     }
     report::byte(text, at, b'0')

@@ -8,8 +8,8 @@ use borrow.Author.Tests.{le-leb, lt-leb, eq-eqb, ne-eqb}
 use Rattle.value.specs.Result.{Result, ok, refusal, andThen, unless}
 use Rattle.sheet.specs.Sheet.{Sheet, readSheet}
 use Rattle.sheet.specs.Rows.{sheetWritten}
-use Rattle.join.specs.Joined.{joined}
-use Rattle.join.specs.JoinedCalls.{joinedBytes, Joins, unless-ok, joined-told, joined-short}
+use Rattle.joined.specs.Joined.{joined}
+use Rattle.joined.specs.JoinedCalls.{joinedBytes, Joins, unless-ok, joined-told, joined-short}
 
 -- 1 an output under 2,048 bytes, judged first
 unfoldable pub joinAnswer : (s t : List ℕ) (output : ℕ) → Result (List ℕ)

@@ -14,8 +14,8 @@ use Rattle.sheet.specs.Rows.{sheetWritten}
 use Rattle.sheet.specs.Written.{Bytes}
 use Rattle.made.specs.declared.Made.the-variants.{Done, Refused}
 use Rattle.made.specs.Made.{Makes, makes-no, makes-text}
-use Rattle.join.specs.Joined.{joined}
-use Rattle.join.specs.JoinedCalls.{joinedBytes}
+use Rattle.joined.specs.Joined.{joined}
+use Rattle.joined.specs.JoinedCalls.{joinedBytes}
 use Rattle.join.specs.JoinAnswer.{joinAnswer, textOf, join-1, join-bytes, join-first, join-second, join-83, join-nodes, join-sections, join-ok}
 use Rattle.join.specs.JoinWritten.{Joinable, joined-fits}
 

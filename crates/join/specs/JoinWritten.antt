@@ -22,8 +22,8 @@ use Rattle.records.specs.declared.Anew.{Anew}
 use Rattle.records.specs.Anew.{shiftedBy, within, newNode, newSection, recordsOf, named, rootsOf, sectionsOf}
 use Rattle.records.specs.AnewLaws.{listing-same, listing-map, every-listing, within-in, shift-at, Renumbers, records-are, roots-append, roots-written}
 use Rattle.rules.specs.Embedding.{itself}
-use Rattle.join.specs.Joined.{nodeBehind, sectionBehind, joined}
-use Rattle.join.specs.JoinedCalls.{joinedBytes, Joins, joined-told, joined-short}
+use Rattle.joined.specs.Joined.{nodeBehind, sectionBehind, joined}
+use Rattle.joined.specs.JoinedCalls.{joinedBytes, Joins, joined-told, joined-short}
 use Rattle.join.specs.JoinAnswer.{textOf}
 
 -- all nodes in their order, their numbers raised and those of the sections

@@ -1,14 +1,3 @@
-pub mod Joined
-pub mod JoinedRanges
-pub mod Beside
-pub mod Levels
-pub mod JoinedPut
-pub mod JoinedClash
-pub mod JoinedCalls
-pub mod JoinedGets
-pub mod JoinedPuts
 pub mod JoinAnswer
 pub mod JoinWritten
 pub mod JoinStages
-pub mod JoinedExamples
-pub mod ClashExample

@@ -4,7 +4,7 @@ use records::Anew;
 use sheet::Table;
 ghost use mathlib.Core.Path.{_≡_};
 ghost use lib.ListN.{length};
-ghost use Rattle.join.specs.JoinedCalls.{joinedBytes};
+ghost use Rattle.joined.specs.JoinedCalls.{joinedBytes};
 ghost use Rattle.made.specs.Made.{Makes};
 ghost use Rattle.join.specs.JoinAnswer.{joinAnswer, textOf};
 ghost use Rattle.join.specs.JoinWritten.{anewOf, Joinable};

@@ -26,7 +26,7 @@ use Rattle.numbering.specs.declared.Numbered.{Numbered}
 use Rattle.numbering.specs.declared.Numbered.the-variants.{Done, Refused, Twice}
 use Rattle.numbering.specs.Replies.{replyOf, outputOf}
 use Rattle.join.specs.JoinAnswer.{joinAnswer, join-short}
-use Rattle.join.specs.JoinedCalls.{joinedBytes}
+use Rattle.joined.specs.JoinedCalls.{joinedBytes}
 use Rattle.letters.specs.Small.{Small, small-number, small-unless, small-then, small-sheet}
 use Rattle.letters.specs.Making.{madeLine, fits-made}
 use Rattle.letters.specs.Sheets.{numberedLine, numberLine, joinLine}

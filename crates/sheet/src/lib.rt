@@ -6,6 +6,7 @@ ghost use mathlib.Core.Bool.{_&&_};
 ghost use lib.Dec.{ltb, leb};
 ghost use lib.ListN.{length, getD, drop};
 ghost use Rattle.sheet.specs.Sheet.{readBody, readHeader, readSheet};
+ghost use Rattle.sheet.specs.declared.Node.the-variants.{ListCase, TruthCase, Each};
 ghost use Rattle.sheet.specs.Kinds.{nodeInRange};
 ghost use Rattle.sheet.specs.Parts.{partAt, withNode, childrenAt};
 ghost use Rattle.sheet.specs.Wide.{wideBytes};
@@ -145,6 +146,48 @@ fn four_at(r: &[u8], i: usize) -> u32
     65536 * (pair_at(r, i) as u32) + (pair_at(r, i + 2) as u32)
 }
 
+// The list case (17) whose record these bytes begin with.
+fn list_case(r: &[u8]) -> Node
+    ensures { λ n. ⌜ n ≡ ListCase (getD (now (r .entry)) 1 0) (getD (now (r .entry)) 2 0) (getD (now (r .entry)) 3 0)
+        (getD (now (r .entry)) 4 0) (getD (now (r .entry)) 5 0) (getD (now (r .entry)) 6 0) (getD (now (r .entry)) 7 0) ⌝ }
+{
+    Node::ListCase {
+        subject: at(r, 1),
+        empty: at(r, 2),
+        empty_test: byte_at(r, 3),
+        front: at(r, 4),
+        front_test: byte_at(r, 5),
+        first: at(r, 6),
+        rest: at(r, 7),
+    }
+}
+
+// The truth case (18).
+fn truth_case(r: &[u8]) -> Node
+    ensures { λ n. ⌜ n ≡ TruthCase (getD (now (r .entry)) 1 0) (getD (now (r .entry)) 2 0) (getD (now (r .entry)) 3 0)
+        (getD (now (r .entry)) 4 0) (getD (now (r .entry)) 5 0) ⌝ }
+{
+    Node::TruthCase {
+        subject: at(r, 1),
+        no: at(r, 2),
+        no_test: byte_at(r, 3),
+        yes: at(r, 4),
+        yes_test: byte_at(r, 5),
+    }
+}
+
+// The each (1C).
+fn each(r: &[u8]) -> Node
+    ensures { λ n. ⌜ n ≡ Each (getD (now (r .entry)) 1 0) (getD (now (r .entry)) 2 0) (getD (now (r .entry)) 3 0) (getD (now (r .entry)) 4 0) ⌝ }
+{
+    Node::Each {
+        subject: at(r, 1),
+        section: at(r, 2),
+        variable: at(r, 3),
+        default: at(r, 4),
+    }
+}
+
 // The node whose whole record these bytes begin with; `False` where no node has the kind.
 fn decode(r: &[u8]) -> Node
     requires { ⌜ (1 ≤ length (now r)) × (kindWidth (getD (now r) 0 0) ≤ length (now r)) ⌝ }
@@ -165,22 +208,8 @@ fn decode(r: &[u8]) -> Node
             left: at(r, 1),
             right: at(r, 2),
         },
-        0x17 => Node::ListCase {
-            subject: at(r, 1),
-            empty: at(r, 2),
-            empty_test: byte_at(r, 3),
-            front: at(r, 4),
-            front_test: byte_at(r, 5),
-            first: at(r, 6),
-            rest: at(r, 7),
-        },
-        0x18 => Node::TruthCase {
-            subject: at(r, 1),
-            no: at(r, 2),
-            no_test: byte_at(r, 3),
-            yes: at(r, 4),
-            yes_test: byte_at(r, 5),
-        },
+        0x17 => list_case(r),
+        0x18 => truth_case(r),
         0x19 => Node::Split {
             subject: at(r, 1),
             inner: at(r, 2),
@@ -194,12 +223,7 @@ fn decode(r: &[u8]) -> Node
             node: at(r, 1),
             amount: pair_at(r, 2),
         },
-        0x1C => Node::Each {
-            subject: at(r, 1),
-            section: at(r, 2),
-            variable: at(r, 3),
-            default: at(r, 4),
-        },
+        0x1C => each(r),
         0x1D => Node::Wide(four_at(r, 1)),
         _ => Node::False,
     }
@@ -332,25 +356,29 @@ pub fn children_at(s: &[u8], at: u16) -> Children
     c
 }
 
-// Whether `n` is the number of a node behind node `own`.
-fn is_below(own: usize, n: usize, nodes: usize) -> bool
-    ensures { λ r. ⌜ r ≡ ltb own n && ltb n nodes ⌝ }
+// Whether byte i of a record is the number of a node behind node `own`.
+fn is_below(r: &[u8], i: usize, own: usize, nodes: usize) -> bool
+    ensures { λ b. ⌜ b ≡ ltb own (getD (now (r .entry)) i 0) && ltb (getD (now (r .entry)) i 0) nodes ⌝ }
 {
+    let n = at(r, i);
     if own < n { n < nodes } else { false }
 }
 
-// Whether both are.
-fn both_below(own: usize, a: usize, b: usize, nodes: usize) -> bool
-    ensures { λ r. ⌜ r ≡ (ltb own a && ltb a nodes) && (ltb own b && ltb b nodes) ⌝ }
+// Whether bytes i and i + 1 are.
+fn both_below(r: &[u8], i: usize, own: usize, nodes: usize) -> bool
+    requires { ⌜ i ≤ 10 ⌝ }
+    ensures { λ b. ⌜ b ≡ (ltb own (getD (now (r .entry)) i 0) && ltb (getD (now (r .entry)) i 0) nodes) &&
+        (ltb own (getD (now (r .entry)) (i + 1) 0) && ltb (getD (now (r .entry)) (i + 1) 0) nodes) ⌝ }
 {
-    is_below(own, a, nodes) & is_below(own, b, nodes)
+    is_below(r, i, own, nodes) & is_below(r, i + 1, own, nodes)
 }
 
-// Whether a branch is a node behind node `own` with a test.
-fn is_branch(own: usize, n: usize, test: u8, nodes: usize) -> bool
-    ensures { λ r. ⌜ r ≡ (ltb own n && ltb n nodes) && leb test 6 ⌝ }
+// Whether byte i is, and byte i + 1 is a test: a branch.
+fn is_branch(r: &[u8], i: usize, own: usize, nodes: usize) -> bool
+    requires { ⌜ i ≤ 10 ⌝ }
+    ensures { λ b. ⌜ b ≡ (ltb own (getD (now (r .entry)) i 0) && ltb (getD (now (r .entry)) i 0) nodes) && leb (getD (now (r .entry)) (i + 1) 0) 6 ⌝ }
 {
-    is_below(own, n, nodes) & (test <= 6)
+    is_below(r, i, own, nodes) & (byte_at(r, i + 1) <= 6)
 }
 
 // Whether each number in the record of node `own`, which these bytes begin with, is in its range. The node is not decoded for it: every call reads
@@ -366,21 +394,19 @@ fn body_in_range(r: &[u8], own: usize, nodes: usize, sections: usize) -> bool
         0x12 => true,
         0x13 => true,
         0x14 => pair_at(r, 1) <= 65535,
-        0x15 => both_below(own, at(r, 1), at(r, 2), nodes),
-        0x16 => both_below(own, at(r, 1), at(r, 2), nodes),
-        0x17 => is_below(own, at(r, 1), nodes)
-            & is_branch(own, at(r, 2), byte_at(r, 3), nodes)
-            & is_branch(own, at(r, 4), byte_at(r, 5), nodes)
-            & both_below(own, at(r, 6), at(r, 7), nodes),
-        0x18 => is_below(own, at(r, 1), nodes)
-            & is_branch(own, at(r, 2), byte_at(r, 3), nodes)
-            & is_branch(own, at(r, 4), byte_at(r, 5), nodes),
-        0x19 => both_below(own, at(r, 1), at(r, 2), nodes),
+        0x15 => both_below(r, 1, own, nodes),
+        0x16 => both_below(r, 1, own, nodes),
+        0x17 => is_below(r, 1, own, nodes)
+            & is_branch(r, 2, own, nodes)
+            & is_branch(r, 4, own, nodes)
+            & both_below(r, 6, own, nodes),
+        0x18 => is_below(r, 1, own, nodes)
+            & is_branch(r, 2, own, nodes)
+            & is_branch(r, 4, own, nodes),
+        0x19 => both_below(r, 1, own, nodes),
         0x1A => at(r, 1) < sections,
-        0x1B => is_below(own, at(r, 1), nodes) & (pair_at(r, 2) <= 65535),
-        0x1C => is_below(own, at(r, 1), nodes)
-            & (at(r, 2) < sections)
-            & is_below(own, at(r, 4), nodes),
+        0x1B => is_below(r, 1, own, nodes) & (pair_at(r, 2) <= 65535),
+        0x1C => is_below(r, 1, own, nodes) & (at(r, 2) < sections) & is_below(r, 4, own, nodes),
         0x1D => is_wide(four_at(r, 1)),
         _ => true,
     }

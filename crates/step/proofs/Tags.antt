@@ -4,9 +4,9 @@ use mathlib.Core.Bool.{true}
 use mathlib.Core.List.{[], _∷_}
 use types.Run.{OneOf, miss}
 use denote.Enum.Declared.{tagOf}
-use Rattle.value.proofs.Shape as shape
-use Rattle.value.specs.declared.Shape.{Shape}
-use Rattle.value.specs.declared.Shape.the-variants.{False, True, Empty, Front, Number, Pair, Wide, Malformed}
+use Rattle.shapes.proofs.Shape as shape
+use Rattle.shapes.specs.declared.Shape.{Shape}
+use Rattle.shapes.specs.declared.Shape.the-variants.{False, True, Empty, Front, Number, Pair, Wide, Malformed}
 use Rattle.step.proofs.Branch as branch
 use Rattle.step.specs.declared.Branch.{Branch}
 use Rattle.step.specs.declared.Branch.the-variants.{Plain, Parts, Switch, Refused}

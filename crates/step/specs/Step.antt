@@ -1,78 +1,26 @@
 -- What the functions of this crate give, for every input.
 use mathlib.Core.Path.{_≡_}
-use mathlib.Core.Bool.{Bool, true, false, cond, _&&_, _||_}
+use mathlib.Core.Bool.{Bool, true, false, _&&_, _||_}
 use mathlib.Core.List.{List}
-use Prim.Native.Nat.{ℕ, zero, suc, _+_, _-_, _*_, _/_, _%_}
+use Prim.Native.Nat.{ℕ, zero, suc, _+_}
 use lib.Dec.{eqb, ltb}
-use lib.ListN.{getD, set}
-use Rattle.step.specs.declared.Scope.{Scope}
-use Rattle.step.specs.declared.Span.{Span}
 use Rattle.step.specs.declared.Branch.{Branch}
 use Rattle.step.specs.declared.Branch.the-variants.{Plain, Parts, Switch, Refused}
 use Rattle.step.specs.declared.Apart.{Apart}
 use Rattle.step.specs.declared.Apart.the-variants.{At, Other}
 use Rattle.answer.specs.Answer.{doneAs, isRefusal, lenOf, stepsOf}
-use Rattle.rules.specs.Numbers.{SLOTS, SLOT, VARIABLES}
 use Rattle.value.specs.Value.{Value}
 use Rattle.value.specs.Laws.{Readable}
-use Rattle.value.specs.Tests.{holds, Agrees}
-use Rattle.value.specs.declared.Shape.{Shape}
-use Rattle.value.specs.declared.Shape.the-variants.{False, True, Empty, Front, Number, Pair, Wide, Malformed}
-
--- r is x where P holds, and y elsewhere
-pub record When {A : Type 0} (P : Type 0) (r x y : A) : Type 0 where
-  pub inside : P → r ≡ x
-  pub outside : (P → ⊥) → r ≡ y
+use Rattle.value.specs.Tests.{holds}
+use Rattle.shapes.specs.Needs.{Agrees}
+use Rattle.shapes.specs.declared.Shape.{Shape}
+use Rattle.shapes.specs.declared.Shape.the-variants.{False, True, Empty, Front, Number, Pair, Wide, Malformed}
 
 -- refusals 40 and 41, in this order; 0 where neither is met
 unfoldable pub entryRefusal : (levels left : ℕ) → ℕ
 entryRefusal zero left = 40
 entryRefusal (suc l) zero = 41
 entryRefusal (suc l) (suc n) = 0
-
--- two entries at the front of a list
-abbrev pub frontTwo : List ℕ → ℕ → ℕ → List ℕ
-frontTwo l a b = set (set l 0 a) 1 b
-
--- entries x and y of a list, at its front
-abbrev pub pickedTwo : List ℕ → ℕ → ℕ → List ℕ
-pickedTwo l x y = frontTwo l (getD l x 0) (getD l y 0)
-
--- two entries from n on
-abbrev pub addedTwo : List ℕ → ℕ → ℕ → ℕ → List ℕ
-addedTwo l n a b = set (set l n a) (n + 1) b
-
--- the two variables x and y alone
-abbrev pub picked : Scope → ℕ → ℕ → Scope
-picked s x y = record { count = 2; starts = pickedTwo (s .starts) x y; lens = pickedTwo (s .lens) x y }
-
--- a variable's number where a scope has room for it; elsewhere 0
-unfoldable pub inRoom : ℕ → ℕ
-inRoom x = cond (ltb x VARIABLES) x 0
-
--- what is noted of a slot that a node wrote so many bytes to; of one that nothing was written to, 0
-unfoldable pub noteOf : (by len : ℕ) → ℕ
-noteOf by len = 256 * suc by + (len - 1)
-
--- the length and the node that a note has
-unfoldable pub notedLen : ℕ → ℕ
-notedLen note = suc (note % 256)
-
-unfoldable pub notedBy : ℕ → ℕ
-notedBy note = note / 256 - 1
-
--- where the slot of a cell starts in the arena
-abbrev pub slotOf : ℕ → ℕ
-slotOf cell = SLOTS + SLOT * cell
-
--- where a variable's value stands: in the slot of its cell where it was written, or else where it stood
-unfoldable pub placeOf : (note cell start len : ℕ) → Span
-placeOf zero cell start len = record { start = start; len = len }
-placeOf (suc w) cell start len = record { start = slotOf cell; len = notedLen (suc w) }
-
--- no place
-abbrev pub nowhere : Span
-nowhere = record { start = 0; len = 0 }
 
 -- one thing where a test says yes, another where it says no
 unfoldable pub where-so : {A : Type 0} → Bool → A → A → A

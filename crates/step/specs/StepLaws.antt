@@ -2,28 +2,20 @@
 use mathlib.Core.Path.{_≡_, refl, sym, ap, ap₂, _∙_}
 use mathlib.Core.List.{List}
 use mathlib.Core.Bool.{Bool, true, false, false≢true}
-use Prim.Native.Nat.{ℕ, zero, suc, _+_, _*_, _≤_, _<_}
+use Prim.Native.Nat.{ℕ, zero, suc, _+_, _≤_, _<_}
 use native.Mathlib.Omega.{arith}
 use lib.Dec.{eqb, ltb}
 use borrow.Author.Tests.{eqb-true, ne-eqb, eq-eqb, lt-ltb, le-ltb}
-use Rattle.value.specs.Parts.{passesBytes}
-use Rattle.value.specs.TestsLaws.{passes-enough}
-use Rattle.value.specs.declared.Shape.{Shape}
-use Rattle.value.specs.declared.Shape.the-variants.{False, True, Empty, Front, Number, Pair, Wide, Malformed}
+use Rattle.shapes.specs.Parts.{passesBytes}
+use Rattle.shapes.specs.TestsLaws.{passes-enough}
+use Rattle.shapes.specs.declared.Shape.{Shape}
+use Rattle.shapes.specs.declared.Shape.the-variants.{False, True, Empty, Front, Number, Pair, Wide, Malformed}
 use Rattle.step.specs.declared.Branch.{Branch}
 use Rattle.step.specs.declared.Branch.the-variants.{Plain, Parts, Switch, Refused}
 use Rattle.step.specs.declared.Apart.the-variants.{At, Other}
-use Rattle.rules.specs.Numbers.{VARIABLES}
 use Rattle.answer.specs.Answer.{doneAs, isRefusal, lenOf, stepsOf}
 use Rattle.step.specs.Step.{
-  When,
   where-so,
-  inRoom,
-  noteOf,
-  notedLen,
-  notedBy,
-  slotOf,
-  placeOf,
   entryRefusal,
   fitsKind,
   fitOf,
@@ -38,20 +30,6 @@ use Rattle.step.specs.Step.{
   unfitRest,
   frontedAs,
 }
-
-pub when-in : {A P : Type 0} {r x y : A} → P → r ≡ x → When P r x y
-when-in p e = record { inside = λ _. e; outside = λ n. absurd (n p) }
-
-pub when-out : {A P : Type 0} {r x y : A} → (P → ⊥) → r ≡ y → When P r x y
-when-out n e = record { inside = λ p. absurd (n p); outside = λ _. e }
-
-pub in-room : {x : ℕ} → x < VARIABLES → inRoom x ≡ x
-unfolding inRoom
-in-room {x} h = rw (lt-ltb x VARIABLES h)
-
-pub out-of-room : {x : ℕ} → VARIABLES ≤ x → inRoom x ≡ 0
-unfolding inRoom
-out-of-room {x} h = rw (le-ltb x VARIABLES h)
 
 pub no-level : (levels left : ℕ) → levels ≡ 0 → 40 ≡ entryRefusal levels left
 unfolding entryRefusal
@@ -82,20 +60,6 @@ judged-yes c e t = rw (← e, t)
 pub judged-no : (c : ℕ) {p q : Bool} → p ≡ q → p ≡ false → c ≡ judged c q
 unfolding judged
 judged-no c e t = rw (← e, t)
-
-pub not-written : (note cell start len : ℕ) → note ≡ 0 → record { start = start; len = len } ≡ placeOf note cell start len
-unfolding placeOf
-not-written note cell start len e = rw e
-
-pub was-written : (note cell start len : ℕ) → (note ≡ 0 → ⊥) → record { start = slotOf cell; len = notedLen note } ≡ placeOf note cell start len
-unfolding placeOf
-was-written zero cell start len n = absurd (n refl)
-was-written (suc w) cell start len n = refl
-
--- a note has what was noted
-pub noted : (by len : ℕ) → 1 ≤ len → len ≤ 256 → (noteOf by len ≡ 0 → ⊥) × (notedLen (noteOf by len) ≡ len) × (notedBy (noteOf by len) ≡ by)
-unfolding noteOf notedLen notedBy
-noted by len some few = ((λ e. omega arith), omega arith, omega arith)
 
 pub other-kind : (kind rest : ℕ) → (kind ≡ 3 → ⊥) → false ≡ unfitRest kind rest
 unfolding unfitRest

@@ -8,8 +8,8 @@ use borrow.Author.Tests.{le-leb, lt-leb}
 use lib.Dec.{leb}
 use lib.ListN.{length, take, drop, replicate, length-replicate}
 use lib.Seq.{take-at, drop-at}
-use Rattle.value.specs.Parts.{sameBytes}
-use Rattle.value.specs.PartsLaws.{same-refl}
+use Rattle.shapes.specs.Parts.{sameBytes}
+use Rattle.shapes.specs.PartsLaws.{same-refl}
 use Rattle.rules.specs.Numbers.{ALLOWANCE, FACTOR, SCRATCH, GET-OUTPUT, PUT-OUTPUT}
 use Rattle.rules.specs.Answer.{Answer, refusal, success, getAnswer, putAnswer}
 use Rattle.calls.specs.Reply.{Reply, Done, Refused}

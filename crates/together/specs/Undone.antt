@@ -10,8 +10,8 @@ use lib.Dec.{eqb}
 use lib.ListN.{length, take, drop}
 use lib.Seq.{take-at}
 use Rattle.value.specs.Result.{ok}
-use Rattle.value.specs.Parts.{sameBytes}
-use Rattle.value.specs.PartsLaws.{same-refl, same-bytes}
+use Rattle.shapes.specs.Parts.{sameBytes}
+use Rattle.shapes.specs.PartsLaws.{same-refl, same-bytes}
 use Rattle.sheet.specs.Sheet.{Sheet, readSheet}
 use Rattle.rules.specs.Numbers.{PUT-OUTPUT}
 use Rattle.rules.specs.Answer.{Answer, refusal, success, getAnswer, putAnswer}

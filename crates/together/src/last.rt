@@ -15,7 +15,7 @@ pub fn returned(first: usize, reply: Reply, out: &[u8], plan: &[u8]) -> Trip
             if steps != first {
                 return Trip::Broken;
             }
-            if value::same(front(out, len), plan) {
+            if shapes::same(front(out, len), plan) {
                 return Trip::Kept {
                     first,
                     second: steps,

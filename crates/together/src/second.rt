@@ -15,7 +15,7 @@ pub fn judged(first: usize, reply: Reply, most: usize, out: &[u8], bytes: &[u8])
             if most < steps {
                 return Trip::Broken;
             }
-            if value::same(front(out, len), bytes) {
+            if shapes::same(front(out, len), bytes) {
                 return Trip::Kept {
                     first,
                     second: steps,

@@ -8,8 +8,8 @@ use native.Mathlib.Nat.{add-zero}
 use native.Mathlib.Omega.{arith}
 use lib.Dec.{eqb}
 use lib.ListN.{length, getD, getElem?}
-use Rattle.value.specs.Parts.{sameBytes}
-use Rattle.value.specs.PartsLaws.{same-bytes, same-refl}
+use Rattle.shapes.specs.Parts.{sameBytes}
+use Rattle.shapes.specs.PartsLaws.{same-bytes, same-refl}
 use Rattle.sheet.specs.declared.Node.{Node}
 use Rattle.sheet.specs.declared.Node.the-variants.{Var, False, True, Empty, Number, Front, Pair, ListCase, TruthCase, Split, Call, Add, Each, Wide}
 use Rattle.sheet.specs.Laws.{Ranged}

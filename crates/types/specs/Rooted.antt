@@ -9,8 +9,8 @@ use native.Mathlib.Decide.{ℕ-discrete}
 use lib.Dec.{eqb}
 use lib.ListN.{length, getD}
 use borrow.Author.Tests.{eqb-true, eq-eqb}
-use Rattle.value.specs.Parts.{sameBytes}
-use Rattle.value.specs.PartsLaws.{same-bytes, same-refl}
+use Rattle.shapes.specs.Parts.{sameBytes}
+use Rattle.shapes.specs.PartsLaws.{same-bytes, same-refl}
 use Rattle.sheet.specs.Sheet.{Sheet}
 use Rattle.sheet.specs.Table.{sectionAt}
 use Rattle.typing.specs.Types.{Ty}

@@ -11,8 +11,8 @@ use lib.Dec.{leb, ltb}
 use lib.Seq.{take-at, drop-at}
 use lib.ListN.{length, getD, take, drop, length-append, length-drop, drop-of-length-le, take-append-drop}
 use borrow.Author.Tests.{lt-ltb, le-ltb, le-leb, lt-leb, eq-eqb}
-use Rattle.value.specs.Parts.{both, sameBytes}
-use Rattle.value.specs.PartsLaws.{same-bytes, same-refl}
+use Rattle.shapes.specs.Parts.{both, sameBytes}
+use Rattle.shapes.specs.PartsLaws.{same-bytes, same-refl}
 use Rattle.sheet.specs.Places.{take-rest, rest-begins}
 use Rattle.typing.specs.Numbers.{LONGEST, PAST}
 use Rattle.typing.specs.Types.{Ty, truths, numbers, lists, pairs}

@@ -66,7 +66,7 @@ fn is_typed(
     ensures { λ r. ⌜ ((Γ : Scope) (t : Ty) → Scoped (now (types .entry)) (now (starts .entry)) (now (stand .entry)) scope Γ
         → At (now (types .entry)) (now (starts .entry)) slot t → r ≡ holds (at? (getElem? Γ x) t)) ⌝ }
 {
-    value::same(
+    shapes::same(
         variable(types, starts, stand, scope, x),
         type_in(types, starts, slot),
     )

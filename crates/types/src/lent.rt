@@ -12,7 +12,7 @@ ghost use Rattle.typing.specs.Types.{Ty};
 ghost use Rattle.typing.specs.Fits.{added};
 ghost use Rattle.typing.specs.Written.{bytesOf, Short};
 ghost use Rattle.rules.specs.Text.{two};
-ghost use Rattle.value.specs.Parts.{sameBytes};
+ghost use Rattle.shapes.specs.Parts.{sameBytes};
 
 // The most bytes of one type.
 const LONGEST: usize = 256;
@@ -165,7 +165,7 @@ pub fn kind_in(types: &[u8], starts: &[u16; 242], slot: usize) -> u8
 pub fn is_same(types: &[u8], starts: &[u16; 242], a: usize, b: usize) -> bool
     ensures { λ r. ⌜ r ≡ sameBytes (partAt (now (types .entry)) (now (starts .entry)) a) (partAt (now (types .entry)) (now (starts .entry)) b) ⌝ }
 {
-    value::same(type_in(types, starts, a), type_in(types, starts, b))
+    shapes::same(type_in(types, starts, a), type_in(types, starts, b))
 }
 
 // Whether the type in slot t is that of lists of the type in slot a.
@@ -179,7 +179,7 @@ pub fn is_list_of(types: &[u8], starts: &[u16; 242], t: usize, a: usize) -> bool
     if list[0] != LISTS {
         return false;
     }
-    value::same(&list[1..], type_in(types, starts, a))
+    shapes::same(&list[1..], type_in(types, starts, a))
 }
 
 // Whether the type in slot t is that of pairs of the types in slots a and b.
@@ -196,10 +196,10 @@ pub fn is_pair_of(types: &[u8], starts: &[u16; 242], t: usize, a: usize, b: usiz
         return false;
     }
     let middle = 1 + first.len();
-    if !value::same(&pair[1..middle], first) {
+    if !shapes::same(&pair[1..middle], first) {
         return false;
     }
-    value::same(&pair[middle..], type_in(types, starts, b))
+    shapes::same(&pair[middle..], type_in(types, starts, b))
 }
 
 // The two variables that a case on this type adds: the first member and the rest of a list, the parts of a pair.

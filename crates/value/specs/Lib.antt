@@ -8,10 +8,6 @@ pub mod Encoding
 pub mod Laws
 pub mod Reader
 pub mod Turns
-pub mod Parts
-pub mod PartsLaws
-pub mod TestsLaws
-pub mod Answers
 pub mod Spans
 pub mod Progress
 pub mod SpansLaws

@@ -6,7 +6,7 @@ use Prim.Native.Nat.{ℕ}
 use native.Mathlib.Decide.{decLe, ℕ-discrete}
 use Rattle.value.specs.Result.{ok, refusal, andThen, mapResult, orRefuse, unless}
 use Rattle.value.specs.Value.{encode, encodes, size, sizes}
-use Rattle.value.specs.Parts.{both, sameBytes}
+use Rattle.shapes.specs.Parts.{both, sameBytes}
 use Rattle.value.specs.Reading.{
   onWhole,
   kindOf,

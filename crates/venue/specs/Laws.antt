@@ -11,8 +11,8 @@ use lib.Dec.{eqb, leb}
 use lib.ListN.{length, getD, getElem?, List·getD-eq-default}
 use Rattle.value.specs.Result.{Result, ok, refusal, andThen, unless}
 use Rattle.value.specs.Value.{Value, vfalse, encode}
-use Rattle.value.specs.Parts.{both, sameBytes}
-use Rattle.value.specs.PartsLaws.{same-refl, same-values}
+use Rattle.shapes.specs.Parts.{both, sameBytes}
+use Rattle.shapes.specs.PartsLaws.{same-refl, same-values}
 use Rattle.value.specs.Reading.{readPlan, readView}
 use Rattle.value.specs.Laws.{readValues-sound}
 use Rattle.sheet.specs.Sheet.{Sheet, readSheet}

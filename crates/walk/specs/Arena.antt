@@ -11,8 +11,8 @@ use Rattle.value.specs.Value.{Value, vfalse, encode, size}
 use Rattle.value.specs.Encoding.{size-pos}
 use Rattle.value.specs.Laws.{Readable}
 use Rattle.rules.specs.Numbers.{STACK, VARIABLES, SLOTS}
-use Rattle.step.specs.declared.Scope.{Scope}
-use Rattle.step.specs.Step.{picked}
+use Rattle.scopes.specs.declared.Scope.{Scope}
+use Rattle.scopes.specs.Scopes.{picked}
 use Rattle.walk.specs.Scope.{pushed, alone, withMember}
 use Rattle.walk.specs.Parts.{part, Kept, part-kept}
 

@@ -29,8 +29,8 @@ use Rattle.rules.specs.Text.{two}
 use Rattle.rules.specs.Explain.{Cell, Cells}
 use Rattle.rules.specs.Numbers.{STACK, VARIABLES, SLOTS}
 use Rattle.walk.specs.Parts.{part, Kept, part-kept, kept-below}
-use Rattle.step.specs.Step.{frontTwo, pickedTwo, noteOf, notedLen, slotOf}
-use Rattle.step.specs.StepLaws.{noted}
+use Rattle.scopes.specs.Scopes.{frontTwo, pickedTwo, noteOf, notedLen, slotOf}
+use Rattle.scopes.specs.ScopesLaws.{noted}
 use Rattle.walk.specs.Cells.{Frame, Holds, holds-as, Slot, blank, full, Written, Named}
 
 module _ {A : Type 0} where

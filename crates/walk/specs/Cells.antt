@@ -9,7 +9,7 @@ use Rattle.value.specs.Value.{Value, encode, size}
 use Rattle.value.specs.Laws.{Readable}
 use Rattle.rules.specs.Explain.{Cell, Cells}
 use Rattle.rules.specs.Numbers.{STACK, VARIABLES, SLOTS}
-use Rattle.step.specs.Step.{notedLen, notedBy, slotOf}
+use Rattle.scopes.specs.Scopes.{notedLen, notedBy, slotOf}
 use Rattle.walk.specs.Parts.{part}
 
 -- the bytes of the plan and of the stack below `top` are left alone

@@ -27,7 +27,7 @@ use Rattle.rules.specs.Explanation.{before, afterwards, explained, explainGet}
 use Rattle.rules.specs.Answer.{getWalk, getBytes}
 use Rattle.rules.specs.AnswerLaws.{Lent}
 use Rattle.rules.specs.Numbers.{LEVELS, SCRATCH, STACK, CHAIN-MAX, PUT-OUTPUT, GET-OUTPUT}
-use Rattle.step.specs.declared.Scope.{Scope}
+use Rattle.scopes.specs.declared.Scope.{Scope}
 use Rattle.arena.specs.Door.{shut, door-shut}
 use Rattle.walk.specs.Said.{whyIn, said-done, said-refused}
 use Rattle.walk.specs.declared.Reply.{Reply}

@@ -11,8 +11,8 @@ use Rattle.value.specs.Value.{Value}
 use Rattle.rules.specs.Text.{Env}
 use Rattle.rules.specs.Explain.{Cell, Cells}
 use Rattle.rules.specs.Numbers.{STACK, SLOTS}
-use Rattle.step.specs.declared.Scope.{Scope}
-use Rattle.step.specs.Step.{notedLen}
+use Rattle.scopes.specs.declared.Scope.{Scope}
+use Rattle.scopes.specs.Scopes.{notedLen}
 use Rattle.walk.specs.Parts.{part, Kept, part-kept, kept-below, take-drop}
 use Rattle.walk.specs.Arena.{Below, inPlan, onStack, Held, Scoped, below-later}
 use Rattle.walk.specs.Cells.{Frame, holds-as, Slot, blank, full, Written}

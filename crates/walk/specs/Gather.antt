@@ -12,9 +12,9 @@ use Rattle.value.specs.Laws.{Readable}
 use Rattle.value.specs.Spans.{places, starts}
 use Rattle.value.specs.Progress.{starts-filled}
 use Rattle.rules.specs.Numbers.{SCRATCH, STACK, VARIABLES}
-use Rattle.step.specs.declared.Scope.{Scope}
-use Rattle.step.specs.declared.Span.{Span}
-use Rattle.step.specs.Step.{When, placeOf, nowhere}
+use Rattle.scopes.specs.declared.Scope.{Scope}
+use Rattle.scopes.specs.declared.Span.{Span}
+use Rattle.scopes.specs.Scopes.{When, placeOf, nowhere}
 use Rattle.starts.specs.declared.NewPlan.{NewPlan}
 use Rattle.starts.specs.NewPlan.{planOf, grownBy, grown-one}
 use Rattle.walk.specs.Parts.{part, Kept, Copied, part-length, part-kept, part-join, kept-refl, kept-then}

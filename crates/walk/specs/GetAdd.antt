@@ -8,8 +8,8 @@ use native.Mathlib.Omega.{arith}
 use lib.ListN.{length, getD, set}
 use Rattle.answer.specs.Answer.{isRefusal, lenOf, startOf, stepsOf}
 use Rattle.value.specs.Value.{Value, encode, size}
-use Rattle.value.specs.Parts.{shapeOf}
-use Rattle.value.specs.declared.Shape.the-variants as shapes
+use Rattle.shapes.specs.Parts.{shapeOf}
+use Rattle.shapes.specs.declared.Shape.the-variants as shapes
 use Rattle.rules.specs.Text
 use Rattle.rules.specs.Explain.{getNode, got}
 use Rattle.rules.specs.Readable.{number-readable}

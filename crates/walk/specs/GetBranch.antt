@@ -9,11 +9,11 @@ use native.Mathlib.Omega.{arith}
 use Rattle.answer.specs.Answer.{isRefusal, doneAs, lenOf, startOf, stepsOf, len-small, start-small, steps-small}
 use Rattle.value.specs.Value.{Value}
 use Rattle.value.specs.Tests.{passes}
-use Rattle.value.specs.Parts.{byKinds, passesBytes}
+use Rattle.shapes.specs.Parts.{byKinds, passesBytes}
 use Rattle.rules.specs.Text
 use Rattle.rules.specs.Explain.{tested}
 use Rattle.rules.specs.Numbers.{STACK}
-use Rattle.step.specs.declared.Scope.{Scope}
+use Rattle.scopes.specs.declared.Scope.{Scope}
 use Rattle.walk.specs.Said.{Done, Own, after, done-said, refused-said, said, said-done, said-refused}
 use Rattle.walk.specs.Parts.{part, Kept, kept-refl, kept-below, kept-then, Copied}
 use Rattle.walk.specs.Arena.{onStack, below-within}

@@ -14,7 +14,7 @@ use Rattle.rules.specs.Text
 use Rattle.rules.specs.Text.{Env, two}
 use Rattle.rules.specs.Explain.{getNode}
 use Rattle.rules.specs.Numbers.{CHAIN}
-use Rattle.step.specs.Step.{picked}
+use Rattle.scopes.specs.Scopes.{picked}
 use Rattle.walk.specs.Said.{refused-said, said}
 use Rattle.walk.specs.Parts.{kept-refl}
 use Rattle.walk.specs.Arena.{Scoped, env-pick}

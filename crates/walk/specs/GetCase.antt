@@ -13,17 +13,17 @@ use Rattle.answer.specs.Answer.{isRefusal, laterAs, lenOf, startOf, stepsOf}
 use Rattle.value.specs.Value.{Value, vfalse, vtrue, list, number, wide, pair, nil, cons}
 use Rattle.value.specs.Views.{asList, asPair, asTruth}
 use Rattle.value.specs.Tests.{passes, holds, table, class}
-use Rattle.value.specs.Parts.{shapeOf}
-use Rattle.value.specs.PartsLaws.{shape}
-use Rattle.value.specs.declared.Shape.{Shape}
-use Rattle.value.specs.declared.Shape.the-variants as shapes
+use Rattle.shapes.specs.Parts.{shapeOf}
+use Rattle.shapes.specs.PartsLaws.{shape}
+use Rattle.shapes.specs.declared.Shape.{Shape}
+use Rattle.shapes.specs.declared.Shape.the-variants as shapes
 use Rattle.sheet.specs.Sheet.{Sheet}
 use Rattle.rules.specs.Outcome.{when}
 use Rattle.rules.specs.Text
 use Rattle.rules.specs.Text.{Env, onList, two}
 use Rattle.rules.specs.Explain.{Explained, Getter, Told, Why, follow, get, getNode, give, given, got, met, more, next, own as own-rule, tested, wanted, within}
 use Rattle.rules.specs.Numbers.{CHAIN, VARIABLES}
-use Rattle.step.specs.declared.Scope.{Scope}
+use Rattle.scopes.specs.declared.Scope.{Scope}
 use Rattle.step.specs.declared.Branch.{Branch}
 use Rattle.step.specs.declared.Branch.the-variants.{Plain, Parts, Switch, Refused}
 use Rattle.step.specs.Step.{where-so, fitsKind, fitOf}

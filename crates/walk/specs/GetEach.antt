@@ -13,7 +13,7 @@ use Rattle.rules.specs.Text
 use Rattle.rules.specs.Text.{Env}
 use Rattle.rules.specs.Explain.{getNode}
 use Rattle.rules.specs.Numbers.{SCRATCH, STACK, CHAIN}
-use Rattle.step.specs.declared.Scope.{Scope}
+use Rattle.scopes.specs.declared.Scope.{Scope}
 use Rattle.step.specs.Step.{unfitRest}
 use Rattle.walk.specs.Said.{Own, after, done-said, later-said, refused-said, said, said-done, said-refused}
 use Rattle.walk.specs.declared.at.At.{At}

@@ -22,7 +22,7 @@ use Rattle.rules.specs.Text
 use Rattle.rules.specs.Text.{Env}
 use Rattle.rules.specs.Explain.{Why, Told, met, below, entered, within, get, getNode}
 use Rattle.rules.specs.ExplainChain.{Chain, Meets, stop, get-chain}
-use Rattle.step.specs.declared.Scope.{Scope}
+use Rattle.scopes.specs.declared.Scope.{Scope}
 use Rattle.step.specs.Step.{entryRefusal}
 use Rattle.step.specs.StepLaws.{no-level, no-step as out-of-steps, both-left}
 use Rattle.arena.specs.Chain.{chainAt}

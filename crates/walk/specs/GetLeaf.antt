@@ -17,8 +17,8 @@ use Rattle.rules.specs.Text.{Env}
 use Rattle.rules.specs.Explain.{getNode, give}
 use Rattle.rules.specs.Readable.{nil-readable, truth-readable, number-readable, wide-readable}
 use Rattle.rules.specs.Numbers.{SCRATCH, VARIABLES}
-use Rattle.step.specs.declared.Scope.{Scope}
-use Rattle.step.specs.Step.{When}
+use Rattle.scopes.specs.declared.Scope.{Scope}
+use Rattle.scopes.specs.Scopes.{When}
 use Rattle.walk.specs.Said.{done-said, refused-said, said}
 use Rattle.walk.specs.Parts.{part, kept-refl, kept-then, kept-set, part-one, part-cons, marked, marked-kept, marked-part}
 use Rattle.walk.specs.Arena.{onStack, below-ends, below-later}

@@ -12,7 +12,7 @@ use Rattle.sheet.specs.Sheet.{Sheet, readSheet}
 use Rattle.rules.specs.Text.{Env}
 use Rattle.rules.specs.Explain.{Explained, get}
 use Rattle.rules.specs.Numbers.{CHAIN, VARIABLES}
-use Rattle.step.specs.declared.Scope.{Scope}
+use Rattle.scopes.specs.declared.Scope.{Scope}
 use Rattle.walk.specs.Said.{Done, after, done-said, said}
 use Rattle.walk.specs.declared.at.At.{At}
 use Rattle.walk.specs.Parts.{part, Kept, kept-refl, kept-then, part-kept, part-join, Marked, marked-kept, marked-part}

@@ -12,13 +12,13 @@ use lib.ListN.{getD}
 use Rattle.answer.specs.Answer.{isRefusal, doneAs, lenOf, startOf, stepsOf, steps-small}
 use Rattle.value.specs.Result.{ok}
 use Rattle.value.specs.Value.{Value, Values, vfalse, list, cons, encode, size, eCons}
-use Rattle.value.specs.Parts.{shapeOf, middleOf}
+use Rattle.shapes.specs.Parts.{shapeOf, middleOf}
 use Rattle.sheet.specs.Sheet.{Sheet, readSheet}
 use Rattle.rules.specs.Outcome.{when}
 use Rattle.rules.specs.Text.{Env, two}
 use Rattle.rules.specs.Explain.{_>>=_, get, given}
 use Rattle.rules.specs.Numbers.{SCRATCH, VARIABLES}
-use Rattle.step.specs.declared.Scope.{Scope}
+use Rattle.scopes.specs.declared.Scope.{Scope}
 use Rattle.step.specs.Step.{frontedAs}
 use Rattle.step.specs.StepLaws.{front-refused, front-long, front-done as step-front-done}
 use Rattle.walk.specs.Said.{Own, after, done-said, refused-said, said, said-done, said-refused}

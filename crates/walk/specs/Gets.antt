@@ -12,7 +12,7 @@ use Rattle.sheet.specs.Laws.{Ranged}
 use Rattle.rules.specs.Text.{Env}
 use Rattle.rules.specs.Explain.{Explained, get, getNode, tested}
 use Rattle.rules.specs.Numbers.{ALLOWANCE, SCRATCH, STACK, CHAIN}
-use Rattle.step.specs.declared.Scope.{Scope}
+use Rattle.scopes.specs.declared.Scope.{Scope}
 use Rattle.walk.specs.Said.{said}
 use Rattle.walk.specs.declared.at.At.{At}
 use Rattle.walk.specs.declared.at.Own.{Own}

@@ -7,8 +7,8 @@ use native.Mathlib.Decide.{decLe}
 use native.Mathlib.Omega.{arith}
 use lib.ListN.{length, take, getD, getElem?}
 use Rattle.value.specs.Value.{Value, Values, list, nil, cons, encode, encodes, size, sizes}
-use Rattle.value.specs.Parts.{middleOf}
-use Rattle.value.specs.PartsLaws.{shape}
+use Rattle.shapes.specs.Parts.{middleOf}
+use Rattle.shapes.specs.PartsLaws.{shape}
 use Rattle.rules.specs.Outcome.{when}
 use Rattle.rules.specs.Text
 use Rattle.rules.specs.Text.{two, restOf}

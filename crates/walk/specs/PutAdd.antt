@@ -6,8 +6,8 @@ use native.Mathlib.Nat.{le-refl}
 use native.Mathlib.Omega.{arith}
 use lib.ListN.{getD}
 use Rattle.value.specs.Value.{Value, number, encode}
-use Rattle.value.specs.Parts.{shapeOf}
-use Rattle.value.specs.declared.Shape.the-variants as shapes
+use Rattle.shapes.specs.Parts.{shapeOf}
+use Rattle.shapes.specs.declared.Shape.the-variants as shapes
 use Rattle.rules.specs.Text
 use Rattle.rules.specs.Explain.{putNode}
 use Rattle.rules.specs.Readable.{number-readable}

@@ -5,14 +5,14 @@ use Prim.Native.Nat.{ℕ, suc, _+_, _-_, _*_, _≤_, _<_}
 use native.Mathlib.Omega.{arith}
 use lib.ListN.{getD}
 use Rattle.value.specs.Value.{Value, vfalse}
-use Rattle.value.specs.declared.Shape.the-variants as shapes
+use Rattle.shapes.specs.declared.Shape.the-variants as shapes
 use Rattle.sheet.specs.Sheet.{Sheet}
 use Rattle.sheet.specs.Table.{sectionAt}
 use Rattle.rules.specs.Text
 use Rattle.rules.specs.Text.{Env, two}
 use Rattle.rules.specs.Explain.{Cells, putNode}
 use Rattle.rules.specs.Numbers.{CHAIN}
-use Rattle.step.specs.Step.{picked, pickedTwo}
+use Rattle.scopes.specs.Scopes.{picked, pickedTwo}
 use Rattle.walk.specs.Said.{refused-said, said}
 use Rattle.walk.specs.Arena.{env-pick}
 use Rattle.walk.specs.Seen.{elem-at, elem-none}

@@ -11,11 +11,11 @@ use Rattle.value.specs.Value.{Value, vfalse, vtrue, list, number, wide, pair as
 use Rattle.value.specs.Value.{eFalse, eTrue, eList, eNil}
 use Rattle.value.specs.Views.{asList, asPair, asTruth}
 use Rattle.value.specs.Tests.{passes, holds}
-use Rattle.value.specs.Parts.{shapeOf, passesBytes}
-use Rattle.value.specs.PartsLaws.{shape}
-use Rattle.value.specs.TestsLaws.{passes-whole}
-use Rattle.value.specs.declared.Shape.{Shape}
-use Rattle.value.specs.declared.Shape.the-variants as shapes
+use Rattle.shapes.specs.Parts.{shapeOf, passesBytes}
+use Rattle.shapes.specs.PartsLaws.{shape}
+use Rattle.shapes.specs.TestsLaws.{passes-whole}
+use Rattle.shapes.specs.declared.Shape.{Shape}
+use Rattle.shapes.specs.declared.Shape.the-variants as shapes
 use Rattle.sheet.specs.Sheet.{Sheet}
 use Rattle.rules.specs.Text
 use Rattle.rules.specs.Text.{Env, mkList, mkPair, onList, two}

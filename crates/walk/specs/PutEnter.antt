@@ -17,7 +17,7 @@ use Rattle.rules.specs.Text
 use Rattle.rules.specs.Text.{Env}
 use Rattle.rules.specs.Explain.{Why, Told, met, Explained, below, entered, within, Cells, get, putNode, put}
 use Rattle.rules.specs.ExplainChain.{Chain, Meets, stop, put-chain}
-use Rattle.step.specs.declared.Scope.{Scope}
+use Rattle.scopes.specs.declared.Scope.{Scope}
 use Rattle.walk.specs.declared.at.At.{At}
 use Rattle.arena.specs.Chain.{chainAt}
 use Rattle.walk.specs.Said.{said, beneath, whyIn, bytesAt, length-bytes, Left, up, on, barred-said, left-said, said-refused}

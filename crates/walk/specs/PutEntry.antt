@@ -37,9 +37,9 @@ use Rattle.rules.specs.Explain.{Cell, Cells, Told, orOld, put}
 use Rattle.rules.specs.Answer.{count, newPlan, putWalk, putBytes}
 use Rattle.rules.specs.Numbers.{LEVELS, SCRATCH, STACK, VARIABLES, CHAIN-MAX, PUT-OUTPUT}
 use Rattle.rules.specs.Written.{bitsOf, tookIn, putWritten}
-use Rattle.step.specs.declared.Scope.{Scope}
-use Rattle.step.specs.Step.{placeOf, slotOf}
-use Rattle.step.specs.StepLaws.{was-written}
+use Rattle.scopes.specs.declared.Scope.{Scope}
+use Rattle.scopes.specs.Scopes.{placeOf, slotOf}
+use Rattle.scopes.specs.ScopesLaws.{was-written}
 use Rattle.walk.specs.Said.{whyIn, said-done, said-refused}
 use Rattle.starts.specs.declared.NewPlan.{NewPlan}
 use Rattle.walk.specs.declared.Reply.the-variants.{Done, Refused}

@@ -11,16 +11,17 @@ use lib.Seq.{paste}
 use Rattle.answer.specs.Answer.{doneAs, refusedBy}
 use Rattle.value.specs.Value.{Value, vfalse, vtrue, list, number, wide, nil, encode, encodes, size}
 use Rattle.value.specs.Encoding.{size-encode, size-pos}
-use Rattle.value.specs.Parts.{sameBytes}
-use Rattle.value.specs.PartsLaws.{same-values, other-values}
+use Rattle.shapes.specs.Parts.{sameBytes}
+use Rattle.shapes.specs.PartsLaws.{same-values, other-values}
 use Rattle.sheet.specs.Sheet.{Sheet}
 use Rattle.sheet.specs.Laws.{sheet-ranges}
 use Rattle.rules.specs.Text
 use Rattle.rules.specs.Text.{Env}
 use Rattle.rules.specs.Explain.{own as own-rule, Cell, Cells, constant, putNode, write}
 use Rattle.rules.specs.Numbers.{SCRATCH, VARIABLES}
-use Rattle.step.specs.declared.Scope.{Scope}
-use Rattle.step.specs.Step.{noteOf, notedLen, notedBy, judged, slotOf}
+use Rattle.scopes.specs.declared.Scope.{Scope}
+use Rattle.scopes.specs.Scopes.{noteOf, notedLen, notedBy, slotOf}
+use Rattle.step.specs.Step.{judged}
 use Rattle.arena.specs.Writing.{Takes, Writes, first-wrote, again-wrote}
 use Rattle.walk.specs.Said.{Done, Refused, said, done-said, refused-said, refused-by-said}
 use Rattle.walk.specs.Parts.{part}

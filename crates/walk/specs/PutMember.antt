@@ -12,8 +12,8 @@ use Rattle.answer.specs.Answer.{isRefusal, doneAs, lenOf, startOf, stepsOf}
 use Rattle.value.specs.Result.{ok}
 use Rattle.value.specs.Value.{Value, Values, vfalse, list, nil, cons, encode, size, sizes}
 use Rattle.value.specs.Laws.{Readable}
-use Rattle.value.specs.Parts.{shapeOf, middleOf}
-use Rattle.value.specs.PartsLaws.{shape, shape-encode}
+use Rattle.shapes.specs.Parts.{shapeOf, middleOf}
+use Rattle.shapes.specs.PartsLaws.{shape, shape-encode}
 use Rattle.sheet.specs.Sheet.{Sheet, readSheet}
 use native.Mathlib.Decide.{decLe}
 use Rattle.rules.specs.Outcome.{when}
@@ -21,9 +21,9 @@ use Rattle.rules.specs.Text
 use Rattle.rules.specs.Text.{Env, onList, two}
 use Rattle.rules.specs.Explain.{Cells, Explained, Getter, Putter, _>>=_, get, give, given, got, orOld, put, stoodFor, within}
 use Rattle.rules.specs.Numbers.{ALLOWANCE, SCRATCH, STACK, CHAIN}
-use Rattle.step.specs.declared.Scope.{Scope}
-use Rattle.step.specs.declared.Span.{Span}
-use Rattle.step.specs.Step.{frontTwo, placeOf}
+use Rattle.scopes.specs.declared.Scope.{Scope}
+use Rattle.scopes.specs.declared.Span.{Span}
+use Rattle.scopes.specs.Scopes.{frontTwo, placeOf}
 use Rattle.walk.specs.Said.{Done, Own, Refused, after, done-said, refused-said, said, said-done, said-refused}
 use Rattle.walk.specs.declared.putter.Members.{Members}
 use Rattle.walk.specs.Parts.{Kept, kept-refl}

@@ -11,14 +11,14 @@ use Rattle.answer.specs.Answer.{isRefusal, laterAs, lenOf, startOf, stepsOf}
 use Rattle.value.specs.Value.{Value, Values, vfalse, list, nil, cons, encode, encodes, size, sizes, Encodables, eNil, eCons, eList}
 use Rattle.value.specs.Encoding.{size-encode, size-pos}
 use Rattle.value.specs.Laws.{readable-front}
-use Rattle.value.specs.Parts.{shapeOf, middleOf, firstPart}
-use Rattle.value.specs.PartsLaws.{shape-whole, first-of-list, rest-of-list}
+use Rattle.shapes.specs.Parts.{shapeOf, middleOf, firstPart}
+use Rattle.shapes.specs.PartsLaws.{shape-whole, first-of-list, rest-of-list}
 use Rattle.sheet.specs.Sheet.{Sheet}
 use Rattle.rules.specs.Text
 use Rattle.rules.specs.Text.{Env, restOf}
 use Rattle.rules.specs.Explain.{Cells, Explained, _>>=_, get, got, put, within}
 use Rattle.rules.specs.Numbers.{SCRATCH}
-use Rattle.step.specs.declared.Scope.{Scope}
+use Rattle.scopes.specs.declared.Scope.{Scope}
 use Rattle.walk.specs.Said.{later-said, said, said-done, said-refused}
 use Rattle.walk.specs.declared.at.At.{At}
 use Rattle.walk.specs.declared.putter.Members.{Members}

@@ -12,7 +12,7 @@ use Rattle.rules.specs.Text
 use Rattle.rules.specs.Text.{Env}
 use Rattle.rules.specs.Explain.{Cells, Explained, choice, choose, put, under}
 use Rattle.rules.specs.Numbers.{STACK, CHAIN}
-use Rattle.step.specs.declared.Scope.{Scope}
+use Rattle.scopes.specs.declared.Scope.{Scope}
 use Rattle.walk.specs.Said.{Said, said-done}
 use Rattle.walk.specs.declared.at.At.{At}
 use Rattle.walk.specs.Parts.{Kept}

@@ -17,9 +17,10 @@ use Rattle.rules.specs.Text
 use Rattle.rules.specs.Text.{Env}
 use Rattle.rules.specs.Explain.{Cell, Cells, orOld}
 use Rattle.rules.specs.Numbers.{SCRATCH, STACK, VARIABLES}
-use Rattle.step.specs.declared.Span.{Span}
-use Rattle.step.specs.Step.{placeOf, unfitRest, slotOf}
-use Rattle.step.specs.StepLaws.{was-written}
+use Rattle.scopes.specs.declared.Span.{Span}
+use Rattle.scopes.specs.Scopes.{placeOf, slotOf}
+use Rattle.step.specs.Step.{unfitRest}
+use Rattle.scopes.specs.ScopesLaws.{was-written}
 use Rattle.walk.specs.Said.{refused-said, said}
 use Rattle.walk.specs.Parts.{part}
 use Rattle.walk.specs.Arena.{Held, below-ends}

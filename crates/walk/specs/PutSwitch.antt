@@ -14,7 +14,7 @@ use Rattle.value.specs.Encoding.{size-encode, size-pos}
 use Rattle.sheet.specs.Sheet.{Sheet, readSheet}
 use Rattle.rules.specs.Explain.{Cells, Explained, get, got, within}
 use Rattle.rules.specs.Numbers.{ALLOWANCE, SCRATCH, STACK, CHAIN}
-use Rattle.step.specs.declared.Scope.{Scope}
+use Rattle.scopes.specs.declared.Scope.{Scope}
 use Rattle.step.specs.Step.{unfitRest}
 use Rattle.walk.specs.Said.{after-twice, Done, Own, Said, after, done-said, later-said, refused-said, said, said-done, said-refused}
 use Rattle.walk.specs.declared.at.At.{At}

@@ -9,10 +9,10 @@ use lib.ListN.{getD}
 use Rattle.answer.specs.Answer.{isRefusal, laterAs, stepsOf}
 use Rattle.value.specs.Value.{Value, vfalse, list, pair as aPairOf, cons, encode}
 use Rattle.value.specs.Laws.{Readable, readable-front, readable-pair}
-use Rattle.value.specs.Parts.{shapeOf, firstPart, secondPart}
-use Rattle.value.specs.PartsLaws.{shape, shape-whole, first-of-list, rest-of-list, first-of-pair, second-of-pair}
-use Rattle.value.specs.declared.Shape.{Shape}
-use Rattle.value.specs.declared.Shape.the-variants.{False, True, Empty, Front, Number, Pair, Wide, Malformed}
+use Rattle.shapes.specs.Parts.{shapeOf, firstPart, secondPart}
+use Rattle.shapes.specs.PartsLaws.{shape, shape-whole, first-of-list, rest-of-list, first-of-pair, second-of-pair}
+use Rattle.shapes.specs.declared.Shape.{Shape}
+use Rattle.shapes.specs.declared.Shape.the-variants.{False, True, Empty, Front, Number, Pair, Wide, Malformed}
 use Rattle.sheet.specs.Sheet.{Sheet}
 use Rattle.rules.specs.Text
 use Rattle.rules.specs.Text.{Env}
@@ -21,7 +21,7 @@ use Rattle.rules.specs.Numbers.{CHAIN}
 use Rattle.step.specs.declared.Apart.{Apart}
 use Rattle.step.specs.declared.Apart.the-variants.{At, Other}
 use Rattle.step.specs.Step.{where-so, apartOf}
-use Rattle.step.specs.declared.Scope.{Scope}
+use Rattle.scopes.specs.declared.Scope.{Scope}
 use Rattle.walk.specs.Said.{Own, after, later-said, refused-said, said, said-done, said-refused}
 use Rattle.walk.specs.declared.at.At.{At as Where}
 use Rattle.walk.specs.Answers.{then-done, then-refused, answer-by, give-none, had, not-had}

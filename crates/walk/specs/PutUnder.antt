@@ -13,8 +13,8 @@ use Rattle.sheet.specs.Sheet.{Sheet}
 use Rattle.rules.specs.Text
 use Rattle.rules.specs.Text.{Env, two}
 use Rattle.rules.specs.Explain.{Cells, Putter, _>>=_, under}
-use Rattle.step.specs.declared.Scope.{Scope}
-use Rattle.step.specs.Step.{addedTwo}
+use Rattle.scopes.specs.declared.Scope.{Scope}
+use Rattle.scopes.specs.Scopes.{addedTwo}
 use Rattle.rules.specs.Numbers.{VARIABLES}
 use Rattle.walk.specs.Said.{after, later-said, said, said-done, said-refused}
 use Rattle.walk.specs.declared.at.At.{At}

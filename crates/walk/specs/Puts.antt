@@ -17,7 +17,7 @@ use Rattle.rules.specs.Outcome.{when}
 use Rattle.rules.specs.Text.{Env, mkList}
 use Rattle.rules.specs.Explain.{Cells, Explained, Putter, _>>=_, both, get, given, orOld, put, putNode, under}
 use Rattle.rules.specs.Numbers.{ALLOWANCE, SCRATCH, STACK, CHAIN, VARIABLES}
-use Rattle.step.specs.declared.Scope.{Scope}
+use Rattle.scopes.specs.declared.Scope.{Scope}
 use Rattle.walk.specs.Said.{said}
 use Rattle.walk.specs.declared.at.At.{At}
 use Rattle.walk.specs.declared.at.Own.{Own}

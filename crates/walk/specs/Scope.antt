@@ -7,8 +7,8 @@ use native.Mathlib.Omega.{arith}
 use lib.ListN.{length, getD, set, replicate, length-set}
 use lib.Seq.{getD-set-same, getD-set-other}
 use Rattle.rules.specs.Numbers.{SCRATCH, VARIABLES}
-use Rattle.step.specs.declared.Scope.{Scope}
-use Rattle.step.specs.Step.{frontTwo}
+use Rattle.scopes.specs.declared.Scope.{Scope}
+use Rattle.scopes.specs.Scopes.{frontTwo}
 
 abbrev pub noVariable : Scope
 noVariable = record { count = 0; starts = replicate VARIABLES 0; lens = replicate VARIABLES 0 }

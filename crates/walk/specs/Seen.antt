@@ -12,10 +12,10 @@ use Rattle.value.specs.Encoding.{size-encode, size-pos}
 use Rattle.value.specs.Views.{asList}
 use Rattle.value.specs.Tests.{holds}
 use Rattle.value.specs.Laws.{Readable, readable-front, readable-pair}
-use Rattle.value.specs.Parts.{shapeOf, passesBytes}
-use Rattle.value.specs.PartsLaws.{shape, shape-whole}
-use Rattle.value.specs.TestsLaws.{passes-whole}
-use Rattle.value.specs.declared.Shape.{Shape}
+use Rattle.shapes.specs.Parts.{shapeOf, passesBytes}
+use Rattle.shapes.specs.PartsLaws.{shape, shape-whole}
+use Rattle.shapes.specs.TestsLaws.{passes-whole}
+use Rattle.shapes.specs.declared.Shape.{Shape}
 use Rattle.step.specs.Step.{unfitRest}
 use Rattle.walk.specs.Parts.{part, part-split}
 use Rattle.walk.specs.Arena.{Below, below-part, Held}

@@ -7,8 +7,8 @@ use native.Mathlib.Omega.{arith}
 use Rattle.value.specs.Value.{Value, Values, vfalse, vtrue, list, number, wide, pair, nil, cons, size, Encodable, eNumber}
 use Rattle.value.specs.Views.{asFront, asPair, asNumber, ifSmall}
 use Rattle.value.specs.Laws.{Readable}
-use Rattle.value.specs.PartsLaws.{shape, which, unlike}
-use Rattle.value.specs.declared.Shape.the-variants as is
+use Rattle.shapes.specs.PartsLaws.{shape, which, unlike}
+use Rattle.shapes.specs.declared.Shape.the-variants as is
 
 -- a list with members
 pub record FrontOf (v : Value) (mid : ℕ) : Type 0 where

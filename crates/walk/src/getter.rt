@@ -32,7 +32,7 @@ use answer::start_of;
 use answer::steps_of;
 use arena::leave;
 use step::Branch;
-use step::Scope;
+use scopes::Scope;
 
 // The number of a constant (14).
 fn get_number(sheet: &[u8], arena: &mut [u8], n: u16, top: usize) -> usize
@@ -53,7 +53,7 @@ fn get_wide(sheet: &[u8], arena: &mut [u8], n: u16, top: usize) -> usize
     ensures { λ r. ⌜ (now (arena .exit) ≡ paste (now (arena .entry)) top (wideBytes (now (sheet .entry)) n) 5) × (r ≡ doneAs top 5 0) ⌝ }
 {
     let number = sheet::wide_bytes(sheet, n);
-    step::store(arena, top, &number);
+    scopes::store(arena, top, &number);
     done(top, 5, 0)
 }
 
@@ -66,7 +66,7 @@ fn get_leaf(sheet: &[u8], table: &Table, arena: &mut [u8], scope: Scope, own: Ow
     let kind = own.kind;
     let top = at.top;
     if kind == 0x10 {
-        return step::variable(scope, sheet::number_of(sheet, own.n, 1));
+        return scopes::variable(scope, sheet::number_of(sheet, own.n, 1));
     }
     if kind == 0x14 {
         return get_number(sheet, arena, own.n, top);
@@ -207,7 +207,7 @@ fn get_call(sheet: &[u8], table: &Table, arena: &mut [u8], scope: Scope, own: Ow
         return refused(42);
     }
     let root = sheet::section_root(sheet, sheet::number_of(sheet, own.n, 1));
-    let inner = step::section(scope, x, y);
+    let inner = scopes::section(scope, x, y);
     get_node(sheet, table, arena, inner, root, at)
 }
 

@@ -4,7 +4,7 @@ ghost use mathlib.Core.Bool.{false};
 ghost use Prim.Native.Nat.{_+_, _-_, _≤_, _<_};
 ghost use lib.ListN.{length};
 ghost use Rattle.answer.specs.Answer.{isRefusal, lenOf, startOf};
-ghost use Rattle.value.specs.Parts.{shapeOf, middleOf, passesBytes};
+ghost use Rattle.shapes.specs.Parts.{shapeOf, middleOf, passesBytes};
 ghost use Rattle.walk.specs.Parts.{part};
 ghost use Rattle.walk.specs.GetAt.{Movable, Brought};
 ghost use Rattle.walk.specs.GetBranch.{Judgeable, Judged};
@@ -17,7 +17,7 @@ use answer::len_of;
 use answer::refused;
 use answer::start_of;
 use answer::steps_of;
-use value::Shape;
+use shapes::Shape;
 
 /// The shape of a value that was got.
 pub fn shape_at(arena: &[u8], got: usize) -> Shape
@@ -26,7 +26,7 @@ pub fn shape_at(arena: &[u8], got: usize) -> Shape
 {
     let start = start_of(got);
     let end = start + len_of(got);
-    value::shape_of(&arena[start..end])
+    shapes::shape_of(&arena[start..end])
 }
 
 /// Where the second part of the value that stands from `start` to `end` starts in it.
@@ -34,7 +34,7 @@ pub fn middle_at(arena: &[u8], start: usize, end: usize) -> usize
     requires { ⌜ (start ≤ end) × (end ≤ length (now arena)) ⌝ }
     ensures { λ r. ⌜ r ≡ middleOf (shapeOf (part (now (arena .entry)) start (end - start))) ⌝ }
 {
-    value::middle(&arena[start..end])
+    shapes::middle(&arena[start..end])
 }
 
 /// A value that was got, brought to the top of the stack.
@@ -58,7 +58,7 @@ fn says(arena: &[u8], test: u8, start: usize, end: usize) -> bool
     if test == 0 {
         return true;
     }
-    value::passes(test, &arena[start..end])
+    shapes::passes(test, &arena[start..end])
 }
 
 /// A branch that was got, judged by its test; it stands no higher than `top` then.

@@ -39,10 +39,10 @@ use answer::steps_of;
 use arena::bits_of;
 use arena::door;
 pub use chain::Met;
+use scopes::Scope;
 use sheet::Table;
 use starts::NewPlan;
 use starts::Starts;
-use step::Scope;
 
 /// What a walk gives, and what a call answers: the length of the output and the steps taken, or a refusal's number in document 01's table. A
 /// walk leaves the output at the top of its stack, and a call moves it to its caller's buffer.
@@ -153,9 +153,9 @@ fn gather(arena: &mut [u8], slots: &[u16; rules::VARIABLES], scope: Scope) -> Ne
     let mut len = 0;
     let mut i = 0;
     while i < scope.count as usize {
-        let stood = step::length_of(scope.lens[i]);
+        let stood = scopes::length_of(scope.lens[i]);
         let start = scope.starts[i] as usize;
-        let from = step::place_of(slots[i], i, start, stood);
+        let from = scopes::place_of(slots[i], i, start, stood);
         copy(arena, from.start, rules::STACK + len, from.len);
         len = starts::grow(&mut at, i, len, from.len);
         i += 1;

@@ -5,7 +5,7 @@ ghost use mathlib.Core.List.{[], _∷_};
 ghost use Prim.Native.Nat.{_+_, _*_, _≤_};
 ghost use lib.ListN.{length};
 ghost use Rattle.value.specs.Value.{Value, vfalse};
-ghost use Rattle.value.specs.Parts.{sameBytes};
+ghost use Rattle.shapes.specs.Parts.{sameBytes};
 ghost use Rattle.sheet.specs.Wide.{wideBytes};
 ghost use Rattle.rules.specs.Numbers.{CHAIN};
 ghost use Rattle.answer.specs.Answer.{lenOf};
@@ -62,8 +62,8 @@ use arena::leave;
 use arena::write;
 use step::Apart;
 use step::Branch;
-use step::Scope;
-use value::Shape;
+use scopes::Scope;
+use shapes::Shape;
 
 /// What is noted of each slot, 0 where nothing was written.
 type Slots = [u16; rules::VARIABLES];
@@ -270,11 +270,11 @@ fn put_two(
     ensures { λ r. ⌜ KindTells (now (sheet .entry)) (now (arena .entry)) (now (arena .exit)) (now (slots .entry)) (now (slots .exit)) scope (now (cells .entry))
         own (now (view .entry)) at r ⌝ }
 {
-    let Apart::At(mid) = step::take_apart(own.kind, value::shape_of(view)) else {
+    let Apart::At(mid) = step::take_apart(own.kind, shapes::shape_of(view)) else {
         return refused(51);
     };
-    let left = value::first_part(view, mid);
-    let right = value::second_part(view, mid);
+    let left = shapes::first_part(view, mid);
+    let right = shapes::second_part(view, mid);
     let a = sheet::number_of(sheet, own.n, 1);
     let one = put_node(sheet, table, arena, slots, scope, cells, a, left, at);
     if is_refused(one) {
@@ -310,7 +310,7 @@ fn put_under(
     slots[c + 1] = 0;
     let inner = with_two(scope, parts.start, parts.first, parts.second);
     let mut more = *cells;
-    step::add_cells(&mut more, scope.count as usize, c);
+    scopes::add_cells(&mut more, scope.count as usize, c);
     let to = at.wider();
     let branch = parts.branch;
     let one = put_node(sheet, table, arena, slots, inner, &more, branch, view, to);
@@ -344,8 +344,8 @@ fn put_rebuilt(
     let c = at.cells;
     let start = parts.start;
     let first = parts.first;
-    let f = step::place_of(slots[c], c, start, first);
-    let r = step::place_of(slots[c + 1], c + 1, start + first, parts.second);
+    let f = scopes::place_of(slots[c], c, start, first);
+    let r = scopes::place_of(slots[c + 1], c + 1, start + first, parts.second);
     let rest = r.start;
     if step::unfit(parts.kind, arena[rest]) {
         return refused(43);
@@ -455,7 +455,7 @@ fn defaults(sheet: &[u8], table: &Table, arena: &mut [u8], n: u16, view: &[u8], 
 {
     let top = at.top;
     let len = view.len();
-    step::store(arena, top, view);
+    scopes::store(arena, top, view);
     let seen = single(top, len);
     let to = at.raised(len);
     let got = two_defaults(sheet, table, arena, seen, n, to);
@@ -534,8 +534,8 @@ fn put_call(
         return refused(42);
     }
     let root = sheet::section_root(sheet, sheet::number_of(sheet, own.n, 1));
-    let inner = step::section(scope, x, y);
-    let two = step::pick_cells(cells, x, y);
+    let inner = scopes::section(scope, x, y);
+    let two = scopes::pick_cells(cells, x, y);
     put_node(sheet, table, arena, slots, inner, &two, root, view, at)
 }
 
@@ -556,7 +556,7 @@ fn put_add(
     ensures { λ r. ⌜ KindTells (now (sheet .entry)) (now (arena .entry)) (now (arena .exit)) (now (slots .entry)) (now (slots .exit)) scope (now (cells .entry))
         own (now (view .entry)) at r ⌝ }
 {
-    let Shape::Number(m) = value::shape_of(view) else {
+    let Shape::Number(m) = shapes::shape_of(view) else {
         return refused(51);
     };
     let amount = value::number(
@@ -617,7 +617,7 @@ fn put_one(
     let at = turn.at;
     let built = turn.built;
     let old = by.old;
-    let mid = value::middle(&arena[old..]);
+    let mid = shapes::middle(&arena[old..]);
     let stood = stood_for(sheet, table, arena, by, mid, at);
     if is_refused(stood) {
         return stood;
@@ -627,13 +627,13 @@ fn put_one(
     let cell = at.cells;
     slots[cell] = 0;
     let inner = member(scope, by.x, start, len);
-    let two = step::member_cells(cells, cell, by.x);
+    let two = scopes::member_cells(cells, cell, by.x);
     let to = at.behind(stood).with_cell();
     let put = put_node(sheet, table, arena, slots, inner, &two, by.root, view, to);
     if is_refused(put) {
         return put;
     }
-    let now = step::place_of(slots[cell], cell, start, len);
+    let now = scopes::place_of(slots[cell], cell, start, len);
     let size = 1 + now.len;
     if step::overlong(built, size) {
         return refused(44);
@@ -667,8 +667,8 @@ fn put_all(
     let mut built = 0;
     while view[from] == 3 {
         let rest = &view[from..];
-        let mid = value::middle(rest);
-        let first = value::first_part(rest, mid);
+        let mid = shapes::middle(rest);
+        let first = shapes::first_part(rest, mid);
         let turn = Turn {
             by: next,
             built,

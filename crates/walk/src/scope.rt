@@ -3,7 +3,7 @@ ghost use mathlib.Core.Path.{_≡_};
 ghost use Prim.Native.Nat.{_+_, _-_, _<_, _≤_};
 ghost use Rattle.rules.specs.Numbers.{SCRATCH, VARIABLES};
 ghost use Rattle.walk.specs.Scope.{noVariable, pushed, withMember, withTwo, Stored, Spanned};
-use step::Scope;
+use scopes::Scope;
 use value::Spans;
 
 /// No variable.

@@ -9,7 +9,7 @@ use lib.Dec.{leb, ltb}
 use lib.ListN.{length, drop}
 use Rattle.value.specs.Result.{Result, ok, refusal, andThen, unless}
 use Rattle.value.specs.Value.{Value, encode}
-use Rattle.value.specs.Parts.{sameBytes}
+use Rattle.shapes.specs.Parts.{sameBytes}
 use Rattle.value.specs.Reading.{readPlan, readView}
 use Rattle.sheet.specs.Sheet.{Sheet, readSheet}
 use Rattle.rules.specs.Numbers.{SCRATCH}

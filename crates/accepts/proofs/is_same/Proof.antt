@@ -1,6 +1,6 @@
 -- `is_same` meets its contract. Assumes nothing.
 use mathlib.Core.Path.{ap₂, _∙_}
-use Rattle.value.specs.Parts.{sameBytes}
+use Rattle.shapes.specs.Parts.{sameBytes}
 use borrow.Author.Needs.{needs}
 use Rattle.accepts.proofs.is_same.Statement.{statement}
 use Rattle.accepts.proofs.is_same.Tie as tie

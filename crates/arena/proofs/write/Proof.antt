@@ -5,10 +5,11 @@ use native.Mathlib.Omega.{arith}
 use Prim.Native.Nat.{ℕ, _+_, _-_, _*_, _≤_}
 use lib.ListN.{getD, length, set, take, drop}
 use lib.Seq.{paste}
-use Rattle.value.specs.Parts.{sameBytes}
+use Rattle.shapes.specs.Parts.{sameBytes}
 use Rattle.answer.specs.Answer.{refusedBy}
-use Rattle.step.specs.Step.{notedLen, notedBy, judged}
-use Rattle.step.specs.Step.{slotOf}
+use Rattle.scopes.specs.Scopes.{notedLen, notedBy}
+use Rattle.step.specs.Step.{judged}
+use Rattle.scopes.specs.Scopes.{slotOf}
 use Rattle.arena.specs.Writing.{Takes, not-taken, taken-first, taken-again}
 use borrow.Author.Needs.{needs}
 use Rattle.arena.proofs.write.Statement.{statement}

@@ -1,10 +1,11 @@
 -- `sheet::body_in_range` meets its contract: in each arm the kind byte picks a row of the table of forms, and its numbers are judged as the row's are.
 -- Assumes nothing.
-use mathlib.Core.Path.{_≡_, refl}
-use mathlib.Core.Bool.{and-true, and-assoc}
+use mathlib.Core.Path.{_≡_, refl, sym, ap, _∙_}
+use mathlib.Core.Bool.{Bool, true, _&&_, and-true, and-assoc}
 use mathlib.Core.Option.{some}
 use Prim.Native.Nat.{ℕ, suc, _+_, _*_}
 use native.Mathlib.Omega.{arith}
+use lib.Dec.{leb, ltb}
 use lib.ListN.{getD}
 use borrow.Author.Needs.{needs}
 use Rattle.sheet.specs.Kinds.{Form, formOf, make, nodeInRange}
@@ -14,36 +15,21 @@ use Rattle.sheet.specs.declared.Node.the-variants.{Var, False, True, Emp
 use Rattle.sheet.proofs.body_in_range.Statement.{statement}
 use Rattle.sheet.proofs.body_in_range.Tie as tie
 
--- PLACES: the kind is read; the arms of the kinds, once their bytes are read and judged
+-- PLACES: the kind is read; the arms of the kinds, once their bytes are judged
 abbrev entry : tie.After-byte-at → tie.Start
 entry c = c .before .before
 
-abbrev number : tie.After-pair-at → tie.At-match-keys5
-number c = c .before
-
-abbrev front : tie.After-both-below → tie.At-match-keys6
-front c = c .before .before .before
-
-abbrev pair : tie.After-both-below2 → tie.At-match-keys7
-pair c = c .before .before .before
-
 abbrev list-case : tie.After-both-below3 → tie.At-match-keys8
-list-case c = c .before .before .before .before .before .before .before .before .before .before .before
+list-case c = c .before .before .before .before
 
 abbrev truth-case : tie.After-is-branch4 → tie.At-match-keys9
-truth-case c = c .before .before .before .before .before .before .before .before
-
-abbrev split : tie.After-both-below4 → tie.At-match-keys10
-split c = c .before .before .before
-
-abbrev call : tie.After-at15 → tie.At-match-keys11
-call c = c .before
+truth-case c = c .before .before .before
 
 abbrev add : tie.After-pair-at2 → tie.At-match-keys12
-add c = c .before .before .before
+add c = c .before .before
 
 abbrev each : tie.After-is-below5 → tie.At-match-keys13
-each c = c .before .before .before .before .before
+each c = c .before .before .before
 
 abbrev wide : tie.After-is-wide → tie.At-match-keys14
 wide c = c .before .before
@@ -52,6 +38,40 @@ wide c = c .before .before
 told : (c : tie.After-byte-at) {k : ℕ} → c .byte-at .result ≡ k → {f : Form} → formOf k ≡ some f
     → let r = entry c .args .r .now in nodeOf r ≡ make f (λ i. getD r (suc i) 0)
 told c e q = decoded (entry c .args .r .now) (c .byte-at .ensures) e q (entry c .pre .1)
+
+-- the numbers of a row, one behind the other, as the arms have judged them
+one : {w : Bool} (a : Bool) → w ≡ a → w ≡ a && true
+one a p = p ∙ sym (and-true a)
+
+module _ (own nodes : ℕ) where
+  abbrev below : ℕ → Bool
+  below v = ltb own v && ltb v nodes
+
+  two : {w : Bool} (a b : ℕ) → w ≡ below a && below b → w ≡ below a && (below b && true)
+  two a b p = rw p (ap (λ x. below a && x) (sym (and-true (below b))))
+
+  added : {w x : Bool} (a : ℕ) (b : Bool) → w ≡ below a → x ≡ b → w && x ≡ below a && (b && true)
+  added a b p q = rw (p, q) (ap (λ x. below a && x) (sym (and-true b)))
+
+  each-of : {w x y : Bool} (a : ℕ) (b : Bool) (c : ℕ) → w ≡ below a → x ≡ b → y ≡ below c → w && x && y ≡ below a && (b && (below c && true))
+  each-of a b c p q s = rw (p, q, s) (all (below a) b (below c))
+    where
+      all : (a b c : Bool) → a && b && c ≡ a && (b && (c && true))
+      all a b c = simp (and-true, and-assoc)
+
+  truths : {w x y : Bool} (a b c d e : ℕ) → w ≡ below a → x ≡ below b && leb c 6 → y ≡ below d && leb e 6
+      → w && x && y ≡ below a && (below b && (leb c 6 && (below d && (leb e 6 && true))))
+  truths a b c d e p q s = rw (p, q, s) (all (below a) (below b) (leb c 6) (below d) (leb e 6))
+    where
+      all : (a b c d e : Bool) → a && (b && c) && (d && e) ≡ a && (b && (c && (d && (e && true))))
+      all a b c d e = simp (and-true, and-assoc)
+
+  lists : {w x y z : Bool} (a b c d e f g : ℕ) → w ≡ below a → x ≡ below b && leb c 6 → y ≡ below d && leb e 6 → z ≡ below f && below g
+      → w && x && y && z ≡ below a && (below b && (leb c 6 && (below d && (leb e 6 && (below f && (below g && true))))))
+  lists a b c d e f g p q s t = rw (p, q, s, t) (all (below a) (below b) (leb c 6) (below d) (leb e 6) (below f) (below g))
+    where
+      all : (a b c d e f g : Bool) → a && (b && c) && (d && e) && (f && g) ≡ a && (b && (c && (d && (e && (f && (g && true))))))
+      all a b c d e f g = simp (and-true, and-assoc)
 
 -- NEEDS: the node, and then what is judged of its numbers
 returns : tie.Need-returns
@@ -85,121 +105,106 @@ returns-4 c =
 returns-5 : tie.Need-returns-5
 unfolding formOf make nodeInRange
 returns-5 c =
-    let m = number c in
-    let r = entry (m .before) .args .r .now in
+    let m = c .before in
+    let g = entry (m .before) .args in
+    let r = g .r .now in
     let e : nodeOf r ≡ Number (256 * getD r 1 0 + getD r 2 0) = told (m .before) (m .match .keys5) refl in
-    simp (e, c .pair-at .ensures, and-true)
+    rw e (one (leb (256 * getD r 1 0 + getD r 2 0) 65535) (ap (λ n. leb n 65535) (c .pair-at .ensures)))
 
 returns-6 : tie.Need-returns-6
 unfolding formOf make nodeInRange
 returns-6 c =
-    let m = front c in
-    let r = entry (m .before) .args .r .now in
+    let m = c .before in
+    let g = entry (m .before) .args in
+    let r = g .r .now in
     let e : nodeOf r ≡ Front (getD r 1 0) (getD r 2 0) = told (m .before) (m .match .keys6) refl in
-    simp (e, c .before .before .at .ensures, c .before .at2 .ensures, c .both-below .ensures, and-true, and-assoc)
+    rw e (two (g .own) (g .nodes) (getD r 1 0) (getD r 2 0) (c .both-below .ensures))
 
 returns-7 : tie.Need-returns-7
 unfolding formOf make nodeInRange
 returns-7 c =
-    let m = pair c in
-    let r = entry (m .before) .args .r .now in
+    let m = c .before in
+    let g = entry (m .before) .args in
+    let r = g .r .now in
     let e : nodeOf r ≡ Pair (getD r 1 0) (getD r 2 0) = told (m .before) (m .match .keys7) refl in
-    simp (e, c .before .before .at3 .ensures, c .before .at4 .ensures, c .both-below2 .ensures, and-true, and-assoc)
+    rw e (two (g .own) (g .nodes) (getD r 1 0) (getD r 2 0) (c .both-below2 .ensures))
 
 returns-8 : tie.Need-returns-8
 unfolding formOf make nodeInRange
 returns-8 c =
     let m = list-case c in
-    let r = entry (m .before) .args .r .now in
+    let g = entry (m .before) .args in
+    let r = g .r .now in
     let e : nodeOf r ≡ ListCase (getD r 1 0) (getD r 2 0) (getD r 3 0) (getD r 4 0) (getD r 5 0) (getD r 6 0) (getD r 7 0) =
     told (m .before) (m .match .keys8) refl in
-    simp (
-      e,
-      c .before .before .before .before .before .before .before .before .before .before .at5 .ensures,
-      c .before .before .before .before .before .before .before .before .before .is-below .ensures,
-      c .before .before .before .before .before .before .before .before .at6 .ensures,
-      c .before .before .before .before .before .before .before .byte-at2 .ensures,
-      c .before .before .before .before .before .before .is-branch .ensures,
-      c .before .before .before .before .before .at7 .ensures,
-      c .before .before .before .before .byte-at3 .ensures,
-      c .before .before .before .is-branch2 .ensures,
-      c .before .before .at8 .ensures,
-      c .before .at9 .ensures,
-      c .both-below3 .ensures,
-      and-true,
-      and-assoc,
-    )
+    rw e
+    (lists (g .own) (g .nodes) (getD r 1 0) (getD r 2 0) (getD r 3 0) (getD r 4 0) (getD r 5 0) (getD r 6 0) (getD r 7 0)
+    (c .before .before .before .is-below .ensures) (c .before .before .is-branch .ensures) (c .before .is-branch2 .ensures)
+    (c .both-below3 .ensures))
 
 returns-9 : tie.Need-returns-9
 unfolding formOf make nodeInRange
 returns-9 c =
     let m = truth-case c in
-    let r = entry (m .before) .args .r .now in
+    let g = entry (m .before) .args in
+    let r = g .r .now in
     let e : nodeOf r ≡ TruthCase (getD r 1 0) (getD r 2 0) (getD r 3 0) (getD r 4 0) (getD r 5 0) = told (m .before) (m .match .keys9) refl in
-    simp (
-      e,
-      c .before .before .before .before .before .before .before .at10 .ensures,
-      c .before .before .before .before .before .before .is-below2 .ensures,
-      c .before .before .before .before .before .at11 .ensures,
-      c .before .before .before .before .byte-at4 .ensures,
-      c .before .before .before .is-branch3 .ensures,
-      c .before .before .at12 .ensures,
-      c .before .byte-at5 .ensures,
-      c .is-branch4 .ensures,
-      and-true,
-      and-assoc,
-    )
+    rw e
+    (truths (g .own) (g .nodes) (getD r 1 0) (getD r 2 0) (getD r 3 0) (getD r 4 0) (getD r 5 0)
+    (c .before .before .is-below2 .ensures) (c .before .is-branch3 .ensures) (c .is-branch4 .ensures))
 
 returns-10 : tie.Need-returns-10
 unfolding formOf make nodeInRange
 returns-10 c =
-    let m = split c in
-    let r = entry (m .before) .args .r .now in
+    let m = c .before in
+    let g = entry (m .before) .args in
+    let r = g .r .now in
     let e : nodeOf r ≡ Split (getD r 1 0) (getD r 2 0) = told (m .before) (m .match .keys10) refl in
-    simp (e, c .before .before .at13 .ensures, c .before .at14 .ensures, c .both-below4 .ensures, and-true, and-assoc)
+    rw e (two (g .own) (g .nodes) (getD r 1 0) (getD r 2 0) (c .both-below4 .ensures))
 
 returns-11 : tie.Need-returns-11
 unfolding formOf make nodeInRange
 returns-11 c =
-    let m = call c in
-    let r = entry (m .before) .args .r .now in
+    let m = c .before in
+    let g = entry (m .before) .args in
+    let r = g .r .now in
     let e : nodeOf r ≡ Call (getD r 1 0) (getD r 2 0) (getD r 3 0) = told (m .before) (m .match .keys11) refl in
-    simp (e, c .at15 .ensures, and-true)
+    rw e (one (ltb (getD r 1 0) (g .sections)) (ap (λ n. ltb n (g .sections)) (c .at .ensures)))
 
 returns-12 : tie.Need-returns-12
 unfolding formOf make nodeInRange
 returns-12 c =
     let m = add c in
-    let r = entry (m .before) .args .r .now in
+    let g = entry (m .before) .args in
+    let r = g .r .now in
     let e : nodeOf r ≡ Add (getD r 1 0) (256 * getD r 2 0 + getD r 3 0) = told (m .before) (m .match .keys12) refl in
-    simp (e, c .before .before .at16 .ensures, c .before .is-below3 .ensures, c .pair-at2 .ensures, and-true, and-assoc)
+    rw e
+    (added (g .own) (g .nodes) (getD r 1 0) (leb (256 * getD r 2 0 + getD r 3 0) 65535) (c .before .is-below3 .ensures)
+    (ap (λ n. leb n 65535) (c .pair-at2 .ensures)))
 
 returns-13 : tie.Need-returns-13
 unfolding formOf make nodeInRange
 returns-13 c =
     let m = each c in
-    let r = entry (m .before) .args .r .now in
+    let g = entry (m .before) .args in
+    let r = g .r .now in
     let e : nodeOf r ≡ Each (getD r 1 0) (getD r 2 0) (getD r 3 0) (getD r 4 0) = told (m .before) (m .match .keys13) refl in
-    simp (
-      e,
-      c .before .before .before .before .at17 .ensures,
-      c .before .before .before .is-below4 .ensures,
-      c .before .before .at18 .ensures,
-      c .before .at19 .ensures,
-      c .is-below5 .ensures,
-      and-true,
-      and-assoc,
-    )
+    rw e
+    (each-of (g .own) (g .nodes) (getD r 1 0) (ltb (getD r 2 0) (g .sections)) (getD r 4 0) (c .before .before .is-below4 .ensures)
+    (ap (λ n. ltb n (g .sections)) (c .before .at2 .ensures))
+    (c .is-below5 .ensures))
 
 returns-14 : tie.Need-returns-14
 unfolding formOf make nodeInRange
 returns-14 c =
     let m = wide c in
-    let r = entry (m .before) .args .r .now in
+    let g = entry (m .before) .args in
+    let r = g .r .now in
     let v = c .before .four-at .result in
-    let q : v ≡ 256 * (256 * (256 * getD r 1 0 + getD r 2 0) + getD r 3 0) + getD r 4 0 = omega (arith, c .before .four-at .ensures) in
-    let e : nodeOf r ≡ Wide (256 * (256 * (256 * getD r 1 0 + getD r 2 0) + getD r 3 0) + getD r 4 0) = told (m .before) (m .match .keys14) refl in
-    simp (e, c .is-wide .ensures, q, and-true)
+    let w = 256 * (256 * (256 * getD r 1 0 + getD r 2 0) + getD r 3 0) + getD r 4 0 in
+    let q : v ≡ w = omega (arith, c .before .four-at .ensures) in
+    let e : nodeOf r ≡ Wide w = told (m .before) (m .match .keys14) refl in
+    rw e (one (ltb 65535 w && leb w 4294967295) (rw q at (c .is-wide .ensures)))
 
 returns-15 : tie.Need-returns-15
 unfolding nodeInRange
@@ -212,8 +217,5 @@ body-in-range-spec = tie.close (tie.spec
     (λ c κs. search needs) (λ c κs. search needs) (λ c κs. search needs) (λ c κs. search needs) (λ c κs. search needs) (λ c κs. search needs)
     (λ c κs. search needs) (λ c κs. search needs) (λ c κs. search needs) (λ c κs. search needs) (λ c κs. search needs) (λ c κs. search needs)
     (λ c κs. search needs) (λ c κs. search needs) (λ c κs. search needs) (λ c κs. search needs) (λ c κs. search needs) (λ c κs. search needs)
-    (λ c κs. search needs) (λ c κs. search needs) (λ c κs. search needs) (λ c κs. search needs) (λ c κs. search needs) (λ c κs. search needs)
-    (λ c κs. search needs) (λ c κs. search needs) (λ c κs. search needs) (λ c κs. search needs) (λ c κs. search needs) (λ c κs. search needs)
-    (λ c κs. search needs) (λ c κs. search needs) (λ c κs. search needs) (λ c κs. search needs) (λ c κs. search needs) (λ c κs. search needs)
-    (λ c κs. search needs) (λ c κs. search needs) (λ c κs. search needs) (λ c κs. search needs) (λ c κs. search needs) returns returns-2 returns-3
+    (λ c κs. search needs) (λ c κs. search needs) returns returns-2 returns-3
     returns-4 returns-5 returns-6 returns-7 returns-8 returns-9 returns-10 returns-11 returns-12 returns-13 returns-14 returns-15)

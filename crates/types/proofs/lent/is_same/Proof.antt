@@ -1,6 +1,6 @@
 -- `is_same` meets its contract. Assumes nothing.
 use mathlib.Core.Path.{_∙_, ap₂}
-use Rattle.value.specs.Parts.{sameBytes}
+use Rattle.shapes.specs.Parts.{sameBytes}
 use borrow.Author.Needs.{needs}
 use Rattle.types.proofs.lent.is_same.Statement.{statement}
 use Rattle.types.proofs.lent.is_same.Tie as tie

@@ -5,7 +5,7 @@ use native.Mathlib.Omega.{arith}
 use lib.ListN.{drop}
 use denote.Ref.{now}
 use mathlib.Core.Path.{_≡_}
-use Rattle.step.specs.Storing.{Pasting, pasting-none, pasting-part}
+use Rattle.scopes.specs.Storing.{Pasting, pasting-none, pasting-part}
 use Rattle.walk.proofs.bytes.fill.Statement.{statement}
 use Rattle.walk.proofs.bytes.fill.Tie as tie
 

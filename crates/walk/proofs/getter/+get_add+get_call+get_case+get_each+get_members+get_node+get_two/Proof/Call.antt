@@ -8,8 +8,8 @@ use Rattle.rules.specs.Numbers.{VARIABLES}
 use Rattle.walk.specs.Gets.{here, ready-scope, as-scope}
 use lib.ListN.{getD}
 use Rattle.sheet.specs.Table.{sectionAt}
-use Rattle.step.specs.Step.{picked}
-use Rattle.step.specs.StepLaws.{in-room}
+use Rattle.scopes.specs.Scopes.{picked}
+use Rattle.scopes.specs.ScopesLaws.{in-room}
 use Rattle.walk.specs.GetCall.{Looked, call-42₁, call-42₂, call-asks, call-told}
 use Rattle.walk.proofs.getter.get_call.Reads as get-call
 use Rattle.walk.proofs.getter.+get_add+get_call+get_case+get_each+get_members+get_node+get_two as cycle

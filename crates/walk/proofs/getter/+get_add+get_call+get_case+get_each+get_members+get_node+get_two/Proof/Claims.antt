@@ -17,7 +17,7 @@ use Rattle.step.proofs.entry.Reads as entry
 use Rattle.step.proofs.fits.Reads as fits
 use Rattle.step.proofs.fronted.Reads as fronted
 use Rattle.step.proofs.made.Reads as made
-use Rattle.step.proofs.section.Reads as section
+use Rattle.scopes.proofs.section.Reads as section
 use Rattle.step.proofs.unfit.Reads as unfit
 use Rattle.value.proofs.number.Reads as number
 use Rattle.walk.proofs.at.At.behind.Reads as behind

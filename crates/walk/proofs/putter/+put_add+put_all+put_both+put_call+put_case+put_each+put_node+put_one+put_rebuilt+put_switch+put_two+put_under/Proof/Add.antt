@@ -6,8 +6,8 @@ use Prim.Native.Nat.{ℕ, _-_}
 use native.Mathlib.Omega.{arith}
 use mathlib.Core.List.{[], _∷_}
 use Prim.Native.Nat.{_/_, _%_}
-use Rattle.value.specs.Parts.{shapeOf}
-use Rattle.value.specs.declared.Shape.the-variants.{Number}
+use Rattle.shapes.specs.Parts.{shapeOf}
+use Rattle.shapes.specs.declared.Shape.the-variants.{Number}
 use Rattle.walk.specs.GetLeaf.{sum-as}
 use Rattle.walk.specs.GetAdd.{amountAt}
 use Rattle.walk.specs.PutReady.{ready-as, gives-as, ready-view, gives-view}

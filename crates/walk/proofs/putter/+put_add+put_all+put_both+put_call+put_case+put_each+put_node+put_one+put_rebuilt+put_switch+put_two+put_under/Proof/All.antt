@@ -9,7 +9,7 @@ use native.Mathlib.Omega.{arith}
 use lib.ListN.{take, drop, length, length-drop, length-set}
 use lib.Seq.{take-all}
 use Rattle.answer.specs.Answer.{isRefusal, startOf, start-small, len-small}
-use Rattle.value.specs.Parts.{shapeOf, middleOf, firstPart}
+use Rattle.shapes.specs.Parts.{shapeOf, middleOf, firstPart}
 use Rattle.walk.specs.declared.putter.Members.{Members}
 use Rattle.walk.specs.Gets.{levels-as}
 use Rattle.walk.specs.PutReady.{ready-at, gives-at}

@@ -6,10 +6,10 @@ use Prim.Native.Nat.{ℕ, _+_, _-_, _<_}
 use native.Mathlib.Omega.{arith}
 use lib.ListN.{getD}
 use Rattle.sheet.specs.Table.{sectionAt}
-use Rattle.step.specs.Step.{picked, pickedTwo}
+use Rattle.scopes.specs.Scopes.{picked, pickedTwo}
 use Rattle.rules.specs.Numbers.{VARIABLES}
 use Rattle.walk.specs.Cells.{Shown}
-use Rattle.step.specs.StepLaws.{in-room}
+use Rattle.scopes.specs.ScopesLaws.{in-room}
 use Rattle.walk.specs.Puts.{put-here}
 use Rattle.walk.specs.PutReady.{ready-as, gives-as}
 use Rattle.walk.specs.PutCall.{PutLooked, call-42₁, call-42₂, call-asks, call-told}

@@ -7,7 +7,7 @@ use native.Mathlib.Omega.{arith}
 use mathlib.Core.Bool.{false}
 use lib.ListN.{getD}
 use Rattle.answer.specs.Answer.{isRefusal, later-as}
-use Rattle.value.specs.Parts.{passesBytes}
+use Rattle.shapes.specs.Parts.{passesBytes}
 use Rattle.step.specs.Step.{takeOf, madeOf}
 use Rattle.step.specs.StepLaws.{took}
 use Rattle.step.specs.declared.Branch.{Branch}

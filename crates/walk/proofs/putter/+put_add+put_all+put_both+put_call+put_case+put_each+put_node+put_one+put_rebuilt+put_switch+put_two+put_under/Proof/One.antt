@@ -10,8 +10,8 @@ use lib.ListN.{getD, drop, length, length-drop, length-set}
 use lib.Seq.{take-all}
 use borrow.Author.Tests.{ltb-true, ltb-false}
 use Rattle.answer.specs.Answer.{isRefusal, doneAs, startOf, lenOf, stepsOf, steps-small}
-use Rattle.value.specs.Parts.{shapeOf, middleOf}
-use Rattle.step.specs.Step.{frontTwo, placeOf}
+use Rattle.shapes.specs.Parts.{shapeOf, middleOf}
+use Rattle.scopes.specs.Scopes.{frontTwo, placeOf}
 use Rattle.rules.specs.Numbers.{VARIABLES}
 use Rattle.walk.specs.declared.at.At.{At as Where}
 use Rattle.walk.specs.Places.{behindOf, withCellOf}

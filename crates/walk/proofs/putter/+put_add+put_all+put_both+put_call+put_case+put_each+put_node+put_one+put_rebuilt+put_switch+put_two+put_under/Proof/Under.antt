@@ -6,7 +6,7 @@ use Prim.Native.Nat.{ℕ, _+_, _-_, _≤_}
 use native.Mathlib.Omega.{arith}
 use mathlib.Core.Bool.{false}
 use Rattle.answer.specs.Answer.{isRefusal, later-as}
-use Rattle.step.specs.Step.{addedTwo}
+use Rattle.scopes.specs.Scopes.{addedTwo}
 use Rattle.rules.specs.Numbers.{VARIABLES}
 use Rattle.walk.specs.Cells.{Shown}
 use Rattle.walk.specs.Gets.{levels-as}

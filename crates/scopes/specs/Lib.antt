@@ -1,0 +1,3 @@
+pub mod Scopes
+pub mod ScopesLaws
+pub mod Storing

@@ -1,0 +1,5 @@
+pub mod Parts
+pub mod PartsLaws
+pub mod Needs
+pub mod TestsLaws
+pub mod Answers
