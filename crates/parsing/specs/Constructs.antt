@@ -78,6 +78,10 @@ pub record Parsed (over : ℕ) (def : Reader → Scope → ℕ → List Token �
   pub told : c .code ≡ 0 → Between s (c .at) → sc .many ≤ 16 + c .count → (f : ℕ) → 200 ≤ over + c .count + f
       → Told s (With s (Stored slots′ (c .count))) (def (reader.read (resolveBy s table) f) (scopeAt s names sc) (c .count) (ahead s (c .at))) r
 
+-- a scope, and two names more
+abbrev pub withTwo : Names → Names
+withTwo sc = record { base = sc .base; many = sc .many + 2; lost = sc .lost }
+
 -- what the functions read
 abbrev pub anExpr : Reader → Scope → ℕ → List Token → Nodes
 anExpr rd S n ts = rd whole S n ts

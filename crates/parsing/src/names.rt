@@ -1,13 +1,14 @@
 //! Words and names: what a word spells, whether it is a name, and which of the names in scope it is. A name is kept by the place where it begins; the
 //! end of the text stands for `sent`.
 ghost use mathlib.Core.Path.{_≡_};
+ghost use mathlib.Core.Bool.{true};
 ghost use Prim.Native.Nat.{_+_, _≤_, _<_};
 ghost use lib.ListN.{length, drop};
 ghost use Rattle.syntax.specs.Laid.{shuts};
 ghost use Rattle.syntax.specs.Tokens.{wordOf, same};
-ghost use Rattle.syntax.specs.Reader.{isName, isSome, find, words};
+ghost use Rattle.syntax.specs.Reader.{isName, find};
 ghost use Rattle.parsing.specs.Lexing.{tokenAt, Shape, part};
-ghost use Rattle.parsing.specs.Names.{nameAt, Found};
+ghost use Rattle.parsing.specs.Names.{nameAt, Found, wordsIn, tabled, numberOr};
 use crate::lexer::Lexeme;
 use crate::lexer::WORD;
 use crate::lexer::goes_on;
@@ -41,48 +42,22 @@ pub fn is_word(text: &[u8], t: Lexeme, w: &[u8]) -> bool
     spells(text, t.at, t.end, w)
 }
 
-// Whether a word of the language stands there.
-fn is_reserved(text: &[u8], t: Lexeme) -> bool
-    requires { ⌜ Shape (now text) t ⌝ }
-    ensures { λ r. ⌜ r ≡ isSome (find words (wordOf (tokenAt (now (text .entry)) t))) ⌝ }
+/// The number of a token's word among so many, each of which stands behind its length: how many come after it. `many` where it is none of them.
+pub fn number_in(text: &[u8], t: Lexeme, table: &[u8], many: usize) -> usize
+    requires { ⌜ Shape (now text) t × (tabled many (now table) ≡ true) ⌝ }
+    ensures { λ r. ⌜ r ≡ numberOr many (find (wordsIn many (now (table .entry))) (wordOf (tokenAt (now (text .entry)) t))) ⌝ }
 {
-    if is_word(text, t, b"plan") {
-        return true;
+    let mut at = 0;
+    let mut left = many;
+    while 0 < left {
+        let end = at + 1 + (table[at] - b'0') as usize;
+        if is_word(text, t, &table[at + 1..end]) {
+            return left - 1;
+        }
+        at = end;
+        left -= 1;
     }
-    if is_word(text, t, b"list") {
-        return true;
-    }
-    if is_word(text, t, b"section") {
-        return true;
-    }
-    if is_word(text, t, b"case") {
-        return true;
-    }
-    if is_word(text, t, b"of") {
-        return true;
-    }
-    if is_word(text, t, b"with") {
-        return true;
-    }
-    if is_word(text, t, b"default") {
-        return true;
-    }
-    if is_word(text, t, b"end") {
-        return true;
-    }
-    if is_word(text, t, b"let") {
-        return true;
-    }
-    if is_word(text, t, b"in") {
-        return true;
-    }
-    if is_word(text, t, b"each") {
-        return true;
-    }
-    if is_word(text, t, b"true") {
-        return true;
-    }
-    is_word(text, t, b"false")
+    many
 }
 
 /// Whether a token is a name.
@@ -96,7 +71,13 @@ pub fn is_name(text: &[u8], t: Lexeme) -> bool
     if is_word(text, t, b"_") {
         return false;
     }
-    !is_reserved(text, t)
+    number_in(
+        text,
+        t,
+        b"4plan4list7section4case2of4with7default3end3let2in4each4true5false",
+        13,
+    )
+        == 13
 }
 
 // Whether no word goes on at a place.

@@ -5,6 +5,7 @@ ghost use Prim.Native.Nat.{_+_, _*_, _≤_, _<_};
 ghost use lib.ListN.{length, take};
 ghost use Rattle.report.specs.Writing.{Wrote};
 ghost use Rattle.parsing.specs.Answer.{ReadAnswer, answerOf, replyOf, outputOf};
+ghost use Rattle.parsing.specs.declared.Reading.the-variants.{At};
 ghost use Rattle.syntax.specs.Reader.{sheetOf};
 ghost use Rattle.parsing.specs.Nodes.{recordsFrom, recordsIn, recordIn};
 ghost use Rattle.parsing.specs.Whole.{Full, Planned, Titled, Lent, Sectioned, Sections, Passed};
@@ -224,6 +225,17 @@ fn write(front: &[u8], slots: &[u8], count: usize, out: &mut [u8]) -> usize
     records(slots, count, out, end)
 }
 
+// The refusal that a fault is.
+fn met(c: Cursor) -> Reading
+    ensures { λ r. ⌜ r ≡ At (c .code) (c .at) (c .detail) ⌝ }
+{
+    Reading::At {
+        refusal: c.code,
+        place: c.at,
+        detail: c.detail,
+    }
+}
+
 /// The sheet that a text says.
 pub fn read(text: &[u8], out: &mut [u8]) -> Reading
     requires { ⌜ 2048 ≤ length (now out) ⌝ }
@@ -244,11 +256,7 @@ pub fn read(text: &[u8], out: &mut [u8]) -> Reading
         &mut titles,
     );
     if first.code != 0 {
-        return Reading::At {
-            refusal: first.code,
-            place: first.at,
-            detail: first.detail,
-        };
+        return met(first);
     }
     let mut again = [0usize; 9];
     let second = pass(
@@ -260,11 +268,7 @@ pub fn read(text: &[u8], out: &mut [u8]) -> Reading
         &mut again,
     );
     if second.code != 0 {
-        return Reading::At {
-            refusal: second.code,
-            place: second.at,
-            detail: second.detail,
-        };
+        return met(second);
     }
     Reading::Done(write(&front[..3 + 2 * second.found], &slots, second.count, out))
 }
