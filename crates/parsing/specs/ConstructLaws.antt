@@ -1,43 +1,43 @@
 -- HOW THE ANSWER OF A CONSTRUCT follows from those of its parts: each law has the answers in the order of the code, and ends with the construct's own.
 use mathlib.Core.Path.{_≡_, refl, sym, ap, subst, _∙_}
-use mathlib.Core.Bool.{Bool, true, false, not, _&&_, _||_, cond}
-use mathlib.Core.Option.{Option, none, some}
+use mathlib.Core.Bool.{Bool, true, false, cond}
+use mathlib.Core.Option.{Option, some}
 use mathlib.Core.List.{List, [], _∷_, _++_}
 use Prim.Native.Nat.{ℕ, zero, suc, _+_, _*_, _-_, _/_, _%_, _≤_, _<_}
 use native.Mathlib.Omega.{arith}
 use native.Mathlib.Numerals.{add-one}
 use native.Mathlib.Nat.{mod-eq-of-lt}
-use lib.Dec.{eqb, leb}
+use lib.Dec.{eqb}
 use lib.ListN.{length, getD, take, drop, set, length-append, length-set}
 use lib.Seq.{sets, getD-take, take-take, take-set-le, getD-set-same, getD-set-other}
-use borrow.Author.Tests.{ne-eqb, eq-eqb, le-leb, lt-leb, not-true, not-false, eqb-true, eqb-false}
+use borrow.Author.Tests.{ne-eqb, eq-eqb, le-leb, lt-leb, eqb-true}
 use Rattle.sheet.specs.declared.Node.{Node}
 use Rattle.sheet.specs.declared.Node.the-variants as node
 use Rattle.sheet.specs.Kinds.{width, written}
 use Rattle.syntax.specs.Quoted.{bytes}
 use Rattle.syntax.specs.Tokens.{Token, word, digits, hash, mark, arrow, first, rest, wordOf, markOf, same}
-use Rattle.syntax.specs.Reader.{Out, ok, fault, _>>=_, Name, Scope, scope, find, isSome, isName, sent, symbol, keyword, bind, known, number, variable, test}
+use Rattle.syntax.specs.Reader.{Out, ok, fault, _>>=_, Name, Scope, scope, isName, sent, symbol, keyword, bind, known, variable, test}
 use Rattle.syntax.specs.Reader.{Begin, nothing, aFalse, aTrue, aLet, aCase, anEach, aPair, aList, aName, aHash, aNumber, wordBegin, beginOf, behindOf, branchOf}
-use Rattle.syntax.specs.Reader.{Part, whole, Nodes, Reader, room, begun, constant, pairOf, behind, back, frontOf, listBy, listOf, letIn, amountBy, amountOf}
-use Rattle.syntax.specs.Reader.{truthCase, listCase, branches, caseOf, callOf, eachOf, named, shaped, parted}
+use Rattle.syntax.specs.Reader.{whole, Nodes, Reader, room, begun, constant, pairOf, behind, back, frontOf, listBy, listOf, letIn, amountBy, amountOf}
+use Rattle.syntax.specs.Reader.{truthCase, listCase, branches, caseOf, eachOf, named, shaped, parted}
 use Rattle.syntax.specs.Reader as reader
-use Rattle.syntax.specs.Ahead.{letterFirst, placeAt}
-use Rattle.parsing.specs.Lexing.{Between, ahead, part, tokenAt, Shape, Next, and-true}
-use Rattle.parsing.specs.Cursor.{faultAt, entered, Told, on, off, fault-told, Behind, With, Fault, fault-same, Carries, carries-then, Goes, told-then}
+use Rattle.syntax.specs.Ahead.{letterFirst}
+use Rattle.lexing.specs.Lexing.{Between, ahead, part, tokenAt, Next}
+use Rattle.parsing.specs.Cursor.{faultAt, entered, Told, on, fault-told, Behind, With, fault-same, Carries, carries-then, Goes, told-then}
 use Rattle.parsing.specs.Cursor as cursor
-use Rattle.parsing.specs.Names.{word-is, word-none, nameAt, name-sent, stackOf, stack-kept}
+use Rattle.parsing.specs.Names.{nameAt, name-sent, stackOf, stack-kept}
 use Rattle.parsing.specs.Expect.{marked, mark-is, markAt, mark-own, mark-other, Again, Binds, Named, Numbers, Number, isVariable, isTest}
-use Rattle.parsing.specs.Expect.{isCallee, resolveBy, calleeOf, Resolves, scopeAt, fault-here}
-use Rattle.parsing.specs.Nodes.{Slot, Slots, more, slots-append, Kept, kept-refl, kept-fewer, kept-then, slots-kept}
+use Rattle.parsing.specs.Expect.{isCallee, resolveBy, calleeOf, scopeAt, fault-here}
+use Rattle.parsing.specs.Nodes.{Slots, more, slots-append, Kept, kept-refl, kept-fewer, kept-then, slots-kept}
 use Rattle.parsing.specs.Nodes.{none as no-slots}
-use Rattle.parsing.specs.Expressions.{beginCode, beginBy, bytesIn, behindIt, begin-coded, rowOf, Stored, Below, Leafy, Leaf, Var, Call}
-use Rattle.parsing.specs.Expressions.{Constant, goes-told, enters, stored-kept, stored-more}
+use Rattle.parsing.specs.Expressions.{beginCode, beginBy, bytesIn, behindIt, begin-coded, rowOf, Stored, Below, Leafy, Var, Call}
+use Rattle.parsing.specs.Expressions.{Constant, goes-told, stored-kept, stored-more}
 use Rattle.parsing.specs.declared.cursor.Cursor.{Cursor}
-use Rattle.parsing.specs.declared.lexer.Lexeme.{Lexeme}
+use Rattle.lexing.specs.declared.Lexeme.{Lexeme}
 use Rattle.parsing.specs.declared.expect.Scope.{Scope as Names}
-use Rattle.parsing.specs.Constructs.{Ready, Inner, Begun, Childless, Cased, Parsed, anExpr, aBranch, aDefault, byBegin, byBranch, topped, Expr}
+use Rattle.parsing.specs.Constructs.{Ready, Inner, Begun, Childless, Cased, Parsed, byBegin, Expr}
 use Rattle.parsing.specs.Constructs.{Shaped, Pair, Listed, Front, Back, Let, Each, Case, Branch}
-use Rattle.parsing.specs.Constructs.{withTwo, Default, Cases, Branches, Truth, Lists, together, twoOf, Both, Two}
+use Rattle.parsing.specs.Constructs.{withTwo, Default, Branches, Truth, Lists, together, twoOf, Both, Two}
 
 -- NAMES
 pub below-refl : (top : ℕ) (names : List ℕ) → Below top names names

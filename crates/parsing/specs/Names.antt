@@ -5,19 +5,16 @@ use mathlib.Core.Option.{Option, none, some}
 use mathlib.Core.List.{List, [], _∷_, _++_}
 use Prim.Native.Nat.{ℕ, zero, suc, _+_, _-_, _≤_, _<_}
 use native.Mathlib.Omega.{arith}
-use native.Mathlib.Numerals.{add-one}
-use native.Mathlib.Decide.{decLt}
 use lib.Dec.{eqb, leb}
-use lib.ListN.{length, getD, take, drop, length-drop, length-take, drop-of-length-le}
+use lib.ListN.{length, getD, take, drop, length-drop, drop-of-length-le}
 use lib.Seq.{getD-drop, getD-take, take-take, drop-drop}
 use borrow.Author.Tests.{ne-eqb, eq-eqb, eqb-true, eqb-false, le-leb, lt-leb, leb-true, not-true}
-use Rattle.syntax.specs.Quoted.{bytes}
-use Rattle.syntax.specs.Tokens.{Token, word, digits, hash, mark, classOf, wordOf, markOf, same}
+use Rattle.syntax.specs.Tokens.{digits, hash, mark, classOf, wordOf, same}
 use Rattle.syntax.specs.Reader.{Name, find, isSome, words, wild, sent, some-byte, isName}
 use Rattle.syntax.specs.Laid.{shuts}
 use Rattle.syntax.specs.Ahead.{allIn, isPart}
-use Rattle.parsing.specs.Lexing.{inRun, part, part-length, part-behind, at-byte, and-true, tokenAt, Shape}
-use Rattle.parsing.specs.declared.lexer.Lexeme.{Lexeme}
+use Rattle.lexing.specs.Lexing.{inRun, part, part-length, part-behind, at-byte, and-true, tokenAt, Shape}
+use Rattle.lexing.specs.declared.Lexeme.{Lexeme}
 
 -- SPELLING
 
@@ -215,13 +212,27 @@ find-few (y ∷ xs) w {x} e = go (same y w) e (λ q. find-few xs w q)
     go true q f = let z : length xs ≡ x = cc in omega arith
     go false q f = let z = f q in omega arith
 
--- it is no word of the language
-none-found : (w : Name) {k : ℕ} → k ≡ numberOr 13 (find words w) → eqb k 13 ≡ not (isSome (find words w))
-none-found w {k} e = go (find words w) refl e
+-- A WORD OF THE LANGUAGE: one of these, asked one after the other
+abbrev orSame : Name → Bool → List Name → Bool
+orSame w b [] = b
+orSame w b (x ∷ xs) = orSame w (b || same w x) xs
+
+or-found : (w : Name) (b : Bool) (xs : List Name) → orSame w b xs ≡ b || isSome (find xs w)
+unfolding find
+or-found w true [] = refl
+or-found w false [] = refl
+or-found w b (x ∷ xs) = or-found w (b || same w x) xs ∙ rw (same-sym w x) (go b (same x w))
   where
-    go : (o : Option ℕ) → find words w ≡ o → k ≡ numberOr 13 o → eqb k 13 ≡ not (isSome o)
-    go none p q = unfold numberOr in eq-eqb k 13 q
-    go (some x) p q = unfold numberOr in let i = find-few words w p in ne-eqb k 13 (λ z. absurd (omega arith))
+    go : (b d : Bool) → (b || d) || isSome (find xs w) ≡ b || isSome (cond d (some (length xs)) (find xs w))
+    go true d = refl
+    go false true = refl
+    go false false = refl
+
+pub any-word : (w x : Name) (xs : List Name) → orSame w (same w x) xs ≡ isSome (find (x ∷ xs) w)
+any-word w x xs = or-found w false (x ∷ xs)
+
+pub either : {a b c d : Bool} → a ≡ b → c ≡ d → a || c ≡ b || d
+either e f = rw (e, f)
 
 -- A NAME
 module _ {s : List ℕ} {t : Lexeme} (g : Shape s t) where
@@ -236,10 +247,10 @@ module _ {s : List ℕ} {t : Lexeme} (g : Shape s t) where
       go [] q = absurd (omega (arith, g .a-word e .0))
       go (c ∷ w) q = refl
 
-  pub name-told : t .kind ≡ 97 → {k : ℕ} → same (wordOf (tokenAt s t)) wild ≡ false → k ≡ numberOr 13 (find words (wordOf (tokenAt s t)))
-      → eqb k 13 ≡ isName (wordOf (tokenAt s t))
+  pub name-told : t .kind ≡ 97 → {b : Bool} → same (wordOf (tokenAt s t)) wild ≡ false → b ≡ isSome (find words (wordOf (tokenAt s t)))
+      → not b ≡ isName (wordOf (tokenAt s t))
   unfolding isName
-  name-told e f k = rw (word-some e, f) (none-found (wordOf (tokenAt s t)) k)
+  name-told e f k = rw (word-some e, f, k)
 
 pub wild-no-name : (w : Name) → same w wild ≡ true → false ≡ isName w
 unfolding isName

@@ -6,12 +6,12 @@ ghost use Prim.Native.Nat.{_+_, _≤_, _<_};
 ghost use lib.ListN.{length, drop};
 ghost use Rattle.syntax.specs.Laid.{shuts};
 ghost use Rattle.syntax.specs.Tokens.{wordOf, same};
-ghost use Rattle.syntax.specs.Reader.{isName, find};
-ghost use Rattle.parsing.specs.Lexing.{tokenAt, Shape, part};
+ghost use Rattle.syntax.specs.Reader.{isName, isSome, find, words};
+ghost use Rattle.lexing.specs.Lexing.{tokenAt, Shape, part};
 ghost use Rattle.parsing.specs.Names.{nameAt, Found, wordsIn, tabled, numberOr};
-use crate::lexer::Lexeme;
-use crate::lexer::WORD;
-use crate::lexer::goes_on;
+use lexing::Lexeme;
+use lexing::WORD;
+use lexing::goes_on;
 
 // Whether a part of the text spells these bytes.
 fn spells(text: &[u8], at: usize, end: usize, w: &[u8]) -> bool
@@ -60,6 +60,26 @@ pub fn number_in(text: &[u8], t: Lexeme, table: &[u8], many: usize) -> usize
     many
 }
 
+// Whether a word of the language stands there.
+fn is_reserved(text: &[u8], t: Lexeme) -> bool
+    requires { ⌜ Shape (now text) t ⌝ }
+    ensures { λ r. ⌜ r ≡ isSome (find words (wordOf (tokenAt (now (text .entry)) t))) ⌝ }
+{
+    is_word(text, t, b"plan")
+        | is_word(text, t, b"list")
+        | is_word(text, t, b"section")
+        | is_word(text, t, b"case")
+        | is_word(text, t, b"of")
+        | is_word(text, t, b"with")
+        | is_word(text, t, b"default")
+        | is_word(text, t, b"end")
+        | is_word(text, t, b"let")
+        | is_word(text, t, b"in")
+        | is_word(text, t, b"each")
+        | is_word(text, t, b"true")
+        | is_word(text, t, b"false")
+}
+
 /// Whether a token is a name.
 pub fn is_name(text: &[u8], t: Lexeme) -> bool
     requires { ⌜ Shape (now text) t ⌝ }
@@ -71,13 +91,7 @@ pub fn is_name(text: &[u8], t: Lexeme) -> bool
     if is_word(text, t, b"_") {
         return false;
     }
-    number_in(
-        text,
-        t,
-        b"4plan4list7section4case2of4with7default3end3let2in4each4true5false",
-        13,
-    )
-        == 13
+    !is_reserved(text, t)
 }
 
 // Whether no word goes on at a place.

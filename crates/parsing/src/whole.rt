@@ -1,10 +1,9 @@
 //! A whole text: the plan's names, the list's expression and the sections; read once for the names of the sections, and once more with them.
 ghost use mathlib.Core.Path.{_≡_};
-ghost use mathlib.Core.List.{List};
 ghost use Prim.Native.Nat.{_+_, _*_, _≤_, _<_};
-ghost use lib.ListN.{length, take};
+ghost use lib.ListN.{length};
 ghost use Rattle.report.specs.Writing.{Wrote};
-ghost use Rattle.parsing.specs.Answer.{ReadAnswer, answerOf, replyOf, outputOf};
+ghost use Rattle.parsing.specs.Answer.{answerOf, replyOf, outputOf};
 ghost use Rattle.parsing.specs.declared.Reading.the-variants.{At};
 ghost use Rattle.syntax.specs.Reader.{sheetOf};
 ghost use Rattle.parsing.specs.Nodes.{recordsFrom, recordsIn, recordIn};
@@ -19,11 +18,11 @@ use crate::expect::keyword;
 use crate::expect::symbol;
 use crate::expr::expr;
 use crate::expr::two;
-use crate::lexer::END;
-use crate::lexer::next;
 use crate::names::is_name;
 use crate::names::is_word;
 use crate::names::lookup;
+use lexing::END;
+use lexing::next;
 
 // A 17th name of the plan, or none.
 fn full(text: &[u8], c: Cursor) -> Cursor

@@ -4,7 +4,7 @@ use Prim.Native.Nat.{_+_, _-_}
 use native.Mathlib.Omega.{arith}
 use lib.ListN.{getD}
 use Rattle.syntax.specs.Tokens.{wordOf}
-use Rattle.parsing.specs.Lexing.{tokenAt, part-length}
+use Rattle.lexing.specs.Lexing.{tokenAt, part-length}
 use Rattle.parsing.specs.Names.{Among, among-all, among-none, among-inside, among-first, among-later}
 use Rattle.parsing.proofs.names.number_in.Statement.{statement}
 use Rattle.parsing.proofs.names.number_in.Tie as tie

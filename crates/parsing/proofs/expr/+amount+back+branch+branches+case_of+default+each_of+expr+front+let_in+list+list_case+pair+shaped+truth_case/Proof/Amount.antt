@@ -9,7 +9,7 @@ use Rattle.parsing.specs.ConstructLaws.{amount-fault, amount-constant, a
 use Rattle.parsing.proofs.expr.constant.Reads as constant-reads
 use Rattle.parsing.proofs.cursor.enter.Reads as enter-reads
 use Rattle.parsing.proofs.cursor.fault.Reads as fault-reads
-use Rattle.parsing.proofs.lexer.next.Reads as next-reads
+use Rattle.lexing.proofs.next.Reads as next-reads
 use Rattle.parsing.proofs.expect.number.Reads as number-reads
 use Rattle.parsing.proofs.cursor.read.Reads as read-reads
 use Rattle.parsing.proofs.nodes.store.Reads as store-reads

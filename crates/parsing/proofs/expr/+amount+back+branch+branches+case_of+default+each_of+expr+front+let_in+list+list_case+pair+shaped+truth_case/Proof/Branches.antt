@@ -7,7 +7,7 @@ use borrow.Author.Needs.{needs}
 use Rattle.parsing.specs.ConstructLaws.{branches-on, branches-truth, branches-none, branches-lists, count-behind, code-behind}
 use Rattle.parsing.proofs.cursor.fault.Reads as fault-reads
 use Rattle.parsing.proofs.names.is_word.Reads as is-word-reads
-use Rattle.parsing.proofs.lexer.next.Reads as next-reads
+use Rattle.lexing.proofs.next.Reads as next-reads
 use Rattle.parsing.proofs.cursor.read.Reads as read-reads
 use Rattle.parsing.proofs.expr.branches.Reads as branches-reads
 use Rattle.parsing.proofs.expr.list_case.Reads as list-case-reads

@@ -6,7 +6,7 @@ use native.Mathlib.Omega.{arith}
 use borrow.Author.Needs.{needs}
 use Rattle.parsing.specs.ConstructLaws.{list-empty, list-front, count-behind}
 use Rattle.parsing.proofs.expr.bare.Reads as bare-reads
-use Rattle.parsing.proofs.lexer.next.Reads as next-reads
+use Rattle.lexing.proofs.next.Reads as next-reads
 use Rattle.parsing.proofs.cursor.read.Reads as read-reads
 use Rattle.parsing.proofs.expr.front.Reads as front-reads
 use Rattle.parsing.proofs.expr.list.Reads as list-reads

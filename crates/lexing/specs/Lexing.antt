@@ -1,23 +1,23 @@
 -- THE TOKEN AHEAD, as code has it: a kind, and the places where it begins and ends; what the functions that find it answer.
 use mathlib.Core.Path.{_≡_, refl, sym, ap, _∙_}
-use mathlib.Core.Bool.{Bool, true, false, not, _&&_, _||_, cond}
-use mathlib.Core.List.{List, [], _∷_, _++_, append-nil}
-use Prim.Native.Nat.{ℕ, zero, suc, _+_, _-_, _≤_, _<_}
+use mathlib.Core.Bool.{Bool, true, false, _&&_, cond}
+use mathlib.Core.List.{List, [], _∷_, _++_}
+use Prim.Native.Nat.{ℕ, suc, _+_, _-_, _≤_, _<_}
 use native.Mathlib.Omega.{arith}
 use native.Mathlib.Numerals.{add-one}
 use native.Mathlib.Decide.{decLt}
-use lib.Dec.{eqb, leb}
+use lib.Dec.{eqb}
 use lib.ListN.{length, getD, take, drop, length-drop, length-take, drop-of-length-le, take-append-drop}
 use lib.Seq.{drop-cons, drop-drop, take-suc, getD-drop, drop-length}
-use borrow.Author.Tests.{ne-eqb, eq-eqb, eqb-true}
+use borrow.Author.Tests.{ne-eqb, eqb-true}
 use Rattle.syntax.specs.Quoted.{bytes}
 use Rattle.syntax.specs.Tokens.{Token, word, digits, hash, mark, Class, blank, letter, digit, dash, sharp, other, classOf, Mode, between, comment}
 use Rattle.syntax.specs.Tokens.{arrow, act, begin, tokens, places, last, held, first, rest}
 use Rattle.syntax.specs.Tokens.{isBlank as isBlank′, isLetter as isLetter′, isDigit as isDigit′}
-use Rattle.syntax.specs.Laid.{isLetter, isDigit, shuts}
+use Rattle.syntax.specs.Laid.{isDigit, shuts}
 use Rattle.syntax.specs.Ahead.{Passes, Meets, at-end, at-blank, at-comment, in-comment, at-line, at-mark, at-arrow, at-dash, allIn, isPart, at-word}
 use Rattle.syntax.specs.Ahead.{letterFirst, digitFirst, at-digits, at-hash, Here, here-passed, here-met, placeAt, place-met, place-end}
-use Rattle.parsing.specs.declared.lexer.Lexeme.{Lexeme}
+use Rattle.lexing.specs.declared.Lexeme.{Lexeme}
 
 -- the class of a byte as a number
 unfoldable pub codeOf : Class → ℕ

@@ -2,9 +2,9 @@
 use mathlib.Core.Path.{sym, _∙_}
 use native.Mathlib.Omega.{arith}
 use borrow.Author.Needs.{needs}
-use Rattle.parsing.specs.Lexing.{next-end, next-met, lex-word, lex-digits, lex-hash}
-use Rattle.parsing.proofs.lexer.next.Statement.{statement}
-use Rattle.parsing.proofs.lexer.next.Tie as tie
+use Rattle.lexing.specs.Lexing.{next-end, next-met, lex-word, lex-digits, lex-hash}
+use Rattle.lexing.proofs.next.Statement.{statement}
+use Rattle.lexing.proofs.next.Tie as tie
 
 returns : tie.Need-returns
 returns c = next-end (c .before .skip .ensures) (c .if1 .taken)

@@ -1,7 +1,7 @@
 -- `is_blank` meets its contract: the four bytes are compared in turn. Assumes nothing.
 use borrow.Author.Tests.{ne-eqb}
-use Rattle.parsing.proofs.lexer.is_blank.Statement.{statement}
-use Rattle.parsing.proofs.lexer.is_blank.Tie as tie
+use Rattle.lexing.proofs.is_blank.Statement.{statement}
+use Rattle.lexing.proofs.is_blank.Tie as tie
 
 returns : tie.Need-returns
 returns c = rw (c .if1 .taken)

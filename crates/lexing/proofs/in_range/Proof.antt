@@ -1,7 +1,7 @@
 -- `in_range` meets its contract. Assumes nothing.
 use borrow.Author.Tests.{lt-leb, le-leb}
-use Rattle.parsing.proofs.lexer.in_range.Statement.{statement}
-use Rattle.parsing.proofs.lexer.in_range.Tie as tie
+use Rattle.lexing.proofs.in_range.Statement.{statement}
+use Rattle.lexing.proofs.in_range.Tie as tie
 
 returns : tie.Need-returns
 returns c = rw (lt-leb (c .before .args .a) (c .before .args .c) (c .if1 .taken))

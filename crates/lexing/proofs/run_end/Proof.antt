@@ -5,9 +5,9 @@ use native.Mathlib.Omega.{arith}
 use borrow.Author.Needs.{needs}
 use borrow.Author.Tests.{not-true, not-false}
 use lib.ListN.{length}
-use Rattle.parsing.specs.Lexing.{Run, inRun, run-none, run-more}
-use Rattle.parsing.proofs.lexer.run_end.Statement.{statement}
-use Rattle.parsing.proofs.lexer.run_end.Tie as tie
+use Rattle.lexing.specs.Lexing.{Run, inRun, run-none, run-more}
+use Rattle.lexing.proofs.run_end.Statement.{statement}
+use Rattle.lexing.proofs.run_end.Tie as tie
 
 abbrev Inv-loop : tie.InvT-loop
 Inv-loop text from letters at₀ at = Run (inRun letters) text from at

@@ -1,9 +1,9 @@
 -- `mark` meets its contract. Assumes nothing.
 use native.Mathlib.Omega.{arith}
 use borrow.Author.Needs.{needs}
-use Rattle.parsing.specs.Lexing.{lex-one, lex-last, lex-dash, lex-arrow}
-use Rattle.parsing.proofs.lexer.mark.Statement.{statement}
-use Rattle.parsing.proofs.lexer.mark.Tie as tie
+use Rattle.lexing.specs.Lexing.{lex-one, lex-last, lex-dash, lex-arrow}
+use Rattle.lexing.proofs.mark.Statement.{statement}
+use Rattle.lexing.proofs.mark.Tie as tie
 
 returns : tie.Need-returns
 returns c = lex-one (c .before .before .before .pre) (c .if1 .taken)

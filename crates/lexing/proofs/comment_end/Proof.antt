@@ -2,9 +2,9 @@
 use Prim.Native.Nat.{_-_}
 use native.Mathlib.Omega.{arith}
 use lib.ListN.{length}
-use Rattle.parsing.specs.Lexing.{Commented, comment-first, comment-more, comment-line, comment-last}
-use Rattle.parsing.proofs.lexer.comment_end.Statement.{statement}
-use Rattle.parsing.proofs.lexer.comment_end.Tie as tie
+use Rattle.lexing.specs.Lexing.{Commented, comment-first, comment-more, comment-line, comment-last}
+use Rattle.lexing.proofs.comment_end.Statement.{statement}
+use Rattle.lexing.proofs.comment_end.Tie as tie
 
 abbrev Inv-loop : tie.InvT-loop
 Inv-loop text from at₀ at = Commented text from at

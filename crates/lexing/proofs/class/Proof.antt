@@ -1,9 +1,9 @@
 -- `class` meets its contract: the classes in the order of the definition. Assumes nothing.
 use mathlib.Core.Path.{sym, _∙_}
 use borrow.Author.Needs.{needs}
-use Rattle.parsing.specs.Lexing.{class-blank, class-letter, class-digit, class-dashed, class-sharp, class-other}
-use Rattle.parsing.proofs.lexer.class.Statement.{statement}
-use Rattle.parsing.proofs.lexer.class.Tie as tie
+use Rattle.lexing.specs.Lexing.{class-blank, class-letter, class-digit, class-dashed, class-sharp, class-other}
+use Rattle.lexing.proofs.class.Statement.{statement}
+use Rattle.lexing.proofs.class.Tie as tie
 
 returns : tie.Need-returns
 returns c = class-blank (c .before .before .args .c) (sym (c .before .is-blank .ensures) ∙ c .if1 .taken)

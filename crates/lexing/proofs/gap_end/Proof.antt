@@ -2,9 +2,9 @@
 use mathlib.Core.Path.{sym, _∙_}
 use native.Mathlib.Omega.{arith}
 use borrow.Author.Needs.{needs}
-use Rattle.parsing.specs.Lexing.{gap-blank, gap-none, gap-comment, not-dash, one-dash}
-use Rattle.parsing.proofs.lexer.gap_end.Statement.{statement}
-use Rattle.parsing.proofs.lexer.gap_end.Tie as tie
+use Rattle.lexing.specs.Lexing.{gap-blank, gap-none, gap-comment, not-dash, one-dash}
+use Rattle.lexing.proofs.gap_end.Statement.{statement}
+use Rattle.lexing.proofs.gap_end.Tie as tie
 
 returns : tie.Need-returns
 returns c =

@@ -1,9 +1,9 @@
 //! The tokens of a text: the one ahead of a place, its kind, where it begins and where it ends.
 ghost use mathlib.Core.Path.{_≡_};
 ghost use Prim.Native.Nat.{_≤_, _<_};
-ghost use lib.ListN.{length, getD};
-ghost use Rattle.syntax.specs.Tokens.{within, isBlank, isLetter, isDigit, classOf};
-ghost use Rattle.parsing.specs.Lexing.{codeOf, inRun, Running, Comment, Gap, Skips, Mark, Lexed, Next};
+ghost use lib.ListN.{length};
+ghost use Rattle.syntax.specs.Tokens.{within, isBlank, isLetter, classOf};
+ghost use Rattle.lexing.specs.Lexing.{codeOf, inRun, Running, Comment, Gap, Skips, Mark, Lexed, Next};
 
 /// The kind of a token: one of these, or the byte of a mark.
 pub const WORD: u8 = b'a';
@@ -84,7 +84,7 @@ pub fn class(c: u8) -> u8
     5
 }
 
-// Whether a byte goes on a run of digits, or with `letters` one of letters and digits.
+/// Whether a byte goes on a run of digits, or with `letters` one of letters and digits.
 pub fn goes_on(c: u8, letters: bool) -> bool
     ensures { λ r. ⌜ r ≡ inRun letters (classOf c) ⌝ }
 {

@@ -3,8 +3,8 @@ use mathlib.Core.Path.{_≡_, sym, _∙_}
 use mathlib.Core.Bool.{true, false}
 use borrow.Author.Needs.{needs}
 use Rattle.syntax.specs.Tokens.{within}
-use Rattle.parsing.proofs.lexer.is_letter.Statement.{statement}
-use Rattle.parsing.proofs.lexer.is_letter.Tie as tie
+use Rattle.lexing.proofs.is_letter.Statement.{statement}
+use Rattle.lexing.proofs.is_letter.Tie as tie
 
 returns : tie.Need-returns
 returns c = let e : within 97 122 (c .before .before .args .c) ≡ true = sym (c .before .in-range .ensures) ∙ c .if1 .taken in rw e

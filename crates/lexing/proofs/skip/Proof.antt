@@ -2,9 +2,9 @@
 use Prim.Native.Nat.{_-_}
 use native.Mathlib.Omega.{arith}
 use lib.ListN.{length}
-use Rattle.parsing.specs.Lexing.{Skipped, skip-first, skip-more, skip-done, skip-end}
-use Rattle.parsing.proofs.lexer.skip.Statement.{statement}
-use Rattle.parsing.proofs.lexer.skip.Tie as tie
+use Rattle.lexing.specs.Lexing.{Skipped, skip-first, skip-more, skip-done, skip-end}
+use Rattle.lexing.proofs.skip.Statement.{statement}
+use Rattle.lexing.proofs.skip.Tie as tie
 
 abbrev Inv-loop : tie.InvT-loop
 Inv-loop text from at₀ at = Skipped text from at

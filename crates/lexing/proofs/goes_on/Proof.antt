@@ -4,9 +4,9 @@ use Prim.Native.Nat.{ℕ}
 use lib.Dec.{eqb}
 use borrow.Author.Needs.{needs}
 use Rattle.syntax.specs.Tokens.{classOf}
-use Rattle.parsing.specs.Lexing.{run-told}
-use Rattle.parsing.proofs.lexer.goes_on.Statement.{statement}
-use Rattle.parsing.proofs.lexer.goes_on.Tie as tie
+use Rattle.lexing.specs.Lexing.{run-told}
+use Rattle.lexing.proofs.goes_on.Statement.{statement}
+use Rattle.lexing.proofs.goes_on.Tie as tie
 
 returns : tie.Need-returns
 returns c =
