@@ -20,7 +20,7 @@ use Rattle.syntax.specs.Tokens.{isBlank as isBlank′, isLetter as isLetter′}
 use Rattle.syntax.specs.Ahead.{allIn, letterFirst, placeAt}
 use Rattle.lexing.specs.Lexing.{Between, ahead, part, part-first, part-length, at-byte, and-true, codeOf, tokenAt, Shape, Next}
 use Rattle.parsing.specs.Cursor.{faultAt, behind, Told, on, off, fault-told, Behind, With, fault-same, Carries, Goes, told-then}
-use Rattle.parsing.specs.Names.{part-at, word-is, word-none, same-none, name-read, nameAt, stackOf, Found, same-sym, numberOr, find-few}
+use Rattle.parsing.specs.Names.{part-at, word-is, word-none, same-none, name-read, nameAt, stackOf, Found, same-sym}
 use Rattle.parsing.specs.declared.cursor.Cursor.{Cursor}
 use Rattle.lexing.specs.declared.Lexeme.{Lexeme}
 use Rattle.parsing.specs.declared.expect.Scope.{Scope as Names}
@@ -570,10 +570,35 @@ module _ {s : List ℕ} (table : List ℕ) (c : Cursor) {t : Lexeme} (n : Next s
       on {x = (y, x .1)} {r = r} q (record { stands = record { here = h; tokens = l }; value = u .is-callee }))))))
 
 -- A TEST
+unfoldable pub numberOr : Option ℕ → ℕ
+numberOr none = 7
+numberOr (some x) = x
+
+pub test-first : (w x : Name) (xs : List Name) → same w x ≡ true → length xs ≡ numberOr (find (x ∷ xs) w)
+unfolding find numberOr
+test-first w x xs e = rw (same-sym x w, e)
+
+pub test-later : (w x : Name) (xs : List Name) {k : ℕ} → same w x ≡ false → k ≡ numberOr (find xs w) → k ≡ numberOr (find (x ∷ xs) w)
+unfolding find
+test-later w x xs e f = rw (same-sym x w, e) f
+
+pub test-none : (w : Name) → 7 ≡ numberOr (find [] w)
+unfolding find numberOr
+test-none w = refl
+
 pub record isTest (x : ℕ × ℕ) (r : Cursor) : Type 0 where
   pub is-found : r .found ≡ x .0
   pub is-detail : r .detail ≡ x .1
   pub small : x .0 ≤ 6
+
+tests-few : (xs : List Name) (w : Name) {x : ℕ} → find xs w ≡ some x → x < length xs
+unfolding find
+tests-few [] w e = let z : _≡_ {A = ℕ} 0 1 = cc in absurd (omega arith)
+tests-few (y ∷ xs) w {x} e = go (same y w) e (λ q. tests-few xs w q)
+  where
+    go : (b : Bool) → cond b (some (length xs)) (find xs w) ≡ some x → (find xs w ≡ some x → x < length xs) → x < suc (length xs)
+    go true q f = let z : length xs ≡ x = cc in omega arith
+    go false q f = let z = f q in omega arith
 
 module _ {s : List ℕ} (bare after : ℕ) (c : Cursor) {t : Lexeme} (n : Next s (c .at) t) (z : c .code ≡ 0) where
   abbrev Test : Cursor → Type 0
@@ -592,25 +617,25 @@ module _ {s : List ℕ} (bare after : ℕ) (c : Cursor) {t : Lexeme} (n : Next s
     third : rest (rest (ahead s (c .at))) ≡ ahead s (u .end)
     third = rw (n .behind) (m .behind)
 
-    pub test-missing : {k : ℕ} → k ≡ numberOr 7 (find tests (wordOf (tokenAt s u))) → k ≡ 7 → Test (faultAt c 90 (u .at) 23)
+    pub test-missing : {k : ℕ} → k ≡ numberOr (find tests (wordOf (tokenAt s u))) → k ≡ 7 → Test (faultAt c 90 (u .at) 23)
     unfolding test
     test-missing {k} f g = goes _ z refl (λ b. rw (n .token, e, second) (go (find tests (wordOf (tokenAt s u))) refl (sym f ∙ g) b))
       where
-        go : (o : Option ℕ) → find tests (wordOf (tokenAt s u)) ≡ o → numberOr 7 o ≡ 7 → Between s (c .at)
+        go : (o : Option ℕ) → find tests (wordOf (tokenAt s u)) ≡ o → numberOr o ≡ 7 → Between s (c .at)
             → Told s (With s isTest) (testBy o (length (rest (ahead s (c .at)))) (rest (rest (ahead s (c .at)))) after) (faultAt c 90 (u .at) 23)
         go none p q b = unfold testBy in
             rw (n .behind) (fault-told c 90 (length (ahead s (t .end))) 0 23 (u .at) (omega arith) (let i = m .place (n .here b) in omega arith))
-        go (some x) p q b = let y = find-few tests _ p in let v : x ≡ 7 = unfold numberOr in q in absurd (omega arith)
+        go (some x) p q b = let y = tests-few tests _ p in let v : x ≡ 7 = unfold numberOr in q in absurd (omega arith)
 
-    pub test-read : {k : ℕ} → k ≡ numberOr 7 (find tests (wordOf (tokenAt s u))) → (k ≡ 7 → ⊥) → Test (behind c (u .end) k after)
+    pub test-read : {k : ℕ} → k ≡ numberOr (find tests (wordOf (tokenAt s u))) → (k ≡ 7 → ⊥) → Test (behind c (u .end) k after)
     unfolding test
     test-read {k} f g = goes _ z refl (λ b. rw (n .token, e, second) (go (find tests (wordOf (tokenAt s u))) refl f b))
       where
-        go : (o : Option ℕ) → find tests (wordOf (tokenAt s u)) ≡ o → k ≡ numberOr 7 o → Between s (c .at)
+        go : (o : Option ℕ) → find tests (wordOf (tokenAt s u)) ≡ o → k ≡ numberOr o → Between s (c .at)
             → Told s (With s isTest) (testBy o (length (rest (ahead s (c .at)))) (rest (rest (ahead s (c .at)))) after) (behind c (u .end) k after)
         go none p q b = absurd (g (unfold numberOr in q))
         go (some x) p q b =
-            let y = find-few tests _ p in
+            let y = tests-few tests _ p in
             unfold testBy numberOr in on {x = ((x, after), rest (rest (ahead s (c .at))))} {r = behind c (u .end) k after} refl (record {
               stands = record { here = m .here (n .here b); tokens = third };
               value = record { is-found = q; is-detail = refl; small = omega arith };

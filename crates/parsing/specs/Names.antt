@@ -1,14 +1,14 @@
 -- WORDS AND NAMES as code has them: a name is the place where it begins, and names in scope are places one behind the other.
 use mathlib.Core.Path.{_≡_, refl, sym, ap, _∙_}
 use mathlib.Core.Bool.{Bool, true, false, not, _&&_, _||_, cond}
-use mathlib.Core.Option.{Option, none, some}
+use mathlib.Core.Option.{none, some}
 use mathlib.Core.List.{List, [], _∷_, _++_}
 use Prim.Native.Nat.{ℕ, zero, suc, _+_, _-_, _≤_, _<_}
 use native.Mathlib.Omega.{arith}
 use lib.Dec.{eqb, leb}
-use lib.ListN.{length, getD, take, drop, length-drop, drop-of-length-le}
-use lib.Seq.{getD-drop, getD-take, take-take, drop-drop}
-use borrow.Author.Tests.{ne-eqb, eq-eqb, eqb-true, eqb-false, le-leb, lt-leb, leb-true, not-true}
+use lib.ListN.{length, getD, take, drop, drop-of-length-le}
+use lib.Seq.{getD-drop, getD-take, take-take}
+use borrow.Author.Tests.{ne-eqb, eq-eqb, eqb-true, eqb-false, le-leb, lt-leb, not-true}
 use Rattle.syntax.specs.Tokens.{digits, hash, mark, classOf, wordOf, same}
 use Rattle.syntax.specs.Reader.{Name, find, isSome, words, wild, sent, some-byte, isName}
 use Rattle.syntax.specs.Laid.{shuts}
@@ -89,128 +89,6 @@ module _ (s : List ℕ) (t : Lexeme) where
   unfolding same
   same-none [] h k = absurd (omega arith)
   same-none (c ∷ w) h k = rw (word-none k)
-
--- WORDS IN A TABLE, each behind its length, a digit
-
-unfoldable pub wordsIn : ℕ → List ℕ → List Name
-wordsIn zero l = []
-wordsIn (suc m) [] = []
-wordsIn (suc m) (k ∷ l) = take (k - 48) l ∷ wordsIn m (drop (k - 48) l)
-
--- so many are there, and none is empty
-unfoldable pub tabled : ℕ → List ℕ → Bool
-tabled zero l = true
-tabled (suc m) [] = false
-tabled (suc m) (k ∷ l) = leb 49 k && (leb (k - 48) (length l) && tabled m (drop (k - 48) l))
-
--- the number of a word, or how many there are
-unfoldable pub numberOr : ℕ → Option ℕ → ℕ
-numberOr many none = many
-numberOr many (some x) = x
-
-words-many : (m : ℕ) (l : List ℕ) → tabled m l ≡ true → length (wordsIn m l) ≡ m
-unfolding wordsIn tabled
-words-many zero l e = refl
-words-many (suc m) [] e = let z : _≡_ {A = ℕ} 0 1 = cc in absurd (omega arith)
-words-many (suc m) (k ∷ l) e =
-    ap suc (words-many m (drop (k - 48) l) (and-true (leb (k - 48) (length l)) _ (and-true (leb 49 k) _ e .1) .1))
-
--- the first of them
-pub record First (m : ℕ) (l : List ℕ) : Type 0 where
-  pub some : 49 ≤ getD l 0 0
-  pub inside : 1 + (getD l 0 0 - 48) ≤ length l
-  pub others-there : tabled (m - 1) (drop (1 + (getD l 0 0 - 48)) l) ≡ true
-  pub are : wordsIn m l ≡ take (getD l 0 0 - 48) (drop 1 l) ∷ wordsIn (m - 1) (drop (1 + (getD l 0 0 - 48)) l)
-
-first-there : (m : ℕ) (l : List ℕ) → 0 < m → tabled m l ≡ true → First m l
-unfolding wordsIn tabled
-first-there zero l h e = absurd (omega arith)
-first-there (suc m) [] h e = let z : _≡_ {A = ℕ} 0 1 = cc in absurd (omega arith)
-first-there (suc m) (k ∷ l) h e =
-    let a = and-true (leb 49 k) _ e in
-    let b = and-true (leb (k - 48) (length l)) _ (a .1) in
-    let z : suc m - 1 ≡ m = omega arith in
-    let y : 1 + (k - 48) ≡ suc (k - 48) = omega arith in
-    record {
-      some = leb-true 49 k (a .0);
-      inside = let i = leb-true (k - 48) (length l) (b .0) in omega arith;
-      others-there = rw (z, y) (b .1);
-      are = rw (z, y);
-    }
-
--- of so many words those from a place on are left: the word is none before
-pub record Among (table : List ℕ) (many : ℕ) (w : Name) (at left : ℕ) : Type 0 where
-  pub there : tabled left (drop at table) ≡ true
-  pub others : find (wordsIn many table) w ≡ find (wordsIn left (drop at table)) w
-
-pub among-all : {table : List ℕ} {many : ℕ} (w : Name) → tabled many table ≡ true → Among table many w 0 many
-among-all w h = record { there = h; others = refl }
-
-module _ {table : List ℕ} {many : ℕ} {w : Name} {at left : ℕ} (k : Among table many w at left) where
-  pub among-none : left ≤ 0 → many ≡ numberOr many (find (wordsIn many table) w)
-  unfolding wordsIn find numberOr
-  among-none h = let z : left ≡ 0 = omega arith in rw (k .others, z)
-
-  module _ (h : 0 < left) where
-    abbrev long : ℕ
-    long = getD table at 0 - 48
-
-    here : First left (drop at table)
-    here = first-there left (drop at table) h (k .there)
-
-    first-byte : getD (drop at table) 0 0 ≡ getD table at 0
-    first-byte = let z : at + 0 ≡ at = omega arith in getD-drop at table 0 0 ∙ ap (λ (i : ℕ). getD table i 0) z
-
-    -- the word at the place ends within the table
-    pub among-inside : (49 ≤ getD table at 0) × (at + 1 + long ≤ length table)
-    among-inside =
-        let f = here in
-        let b = first-byte in
-        let i = f .inside in
-        let j = f .some in
-        (omega arith, omega (arith, length-drop at table))
-
-    others-from : drop (1 + (getD (drop at table) 0 0 - 48)) (drop at table) ≡ drop (at + 1 + long) table
-    others-from =
-        let z : at + (1 + (getD (drop at table) 0 0 - 48)) ≡ at + 1 + long = omega (arith, first-byte) in
-        drop-drop (1 + (getD (drop at table) 0 0 - 48)) at table ∙ ap (λ (i : ℕ). drop i table) z
-
-    word-there : take (getD (drop at table) 0 0 - 48) (drop 1 (drop at table)) ≡ take (at + 1 + long - (at + 1)) (drop (at + 1) table)
-    word-there =
-        let z : getD (drop at table) 0 0 - 48 ≡ at + 1 + long - (at + 1) = omega (arith, first-byte) in
-        rw (z, drop-drop)
-
-    found-by : find (wordsIn many table) w
-        ≡ cond (same (part table (at + 1) (at + 1 + long)) w) (some (length (wordsIn (left - 1) (drop (at + 1 + long) table))))
-        (find (wordsIn (left - 1) (drop (at + 1 + long) table)) w)
-    unfolding find
-    found-by = k .others ∙ rw (here .are, word-there, others-from)
-
-    pub among-first : same w (part table (at + 1) (at + 1 + long)) ≡ true → left - 1 ≡ numberOr many (find (wordsIn many table) w)
-    unfolding numberOr
-    among-first e =
-        rw (
-          found-by,
-          same-sym (part table (at + 1) (at + 1 + long)) w,
-          e,
-          words-many (left - 1) (drop (at + 1 + long) table) (rw others-from at (here .others-there)),
-        )
-
-    pub among-later : same w (part table (at + 1) (at + 1 + long)) ≡ false → Among table many w (at + 1 + long) (left - 1)
-    among-later e = record {
-      there = rw others-from at (here .others-there);
-      others = rw (found-by, same-sym (part table (at + 1) (at + 1 + long)) w, e);
-    }
-
--- a word that is found has a number below how many there are
-pub find-few : (xs : List Name) (w : Name) {x : ℕ} → find xs w ≡ some x → x < length xs
-unfolding find
-find-few [] w e = let z : _≡_ {A = ℕ} 0 1 = cc in absurd (omega arith)
-find-few (y ∷ xs) w {x} e = go (same y w) e (λ q. find-few xs w q)
-  where
-    go : (b : Bool) → cond b (some (length xs)) (find xs w) ≡ some x → (find xs w ≡ some x → x < length xs) → x < suc (length xs)
-    go true q f = let z : length xs ≡ x = cc in omega arith
-    go false q f = let z = f q in omega arith
 
 -- A WORD OF THE LANGUAGE: one of these, asked one after the other
 abbrev orSame : Name → Bool → List Name → Bool

@@ -7,9 +7,10 @@ ghost use lib.ListN.{length, drop};
 ghost use Rattle.syntax.specs.Ahead.{letterFirst};
 ghost use Rattle.syntax.specs.Reader as reader;
 ghost use Rattle.syntax.specs.Reader.{zeroFirst};
-ghost use Rattle.lexing.specs.Lexing.{Shape, part};
+ghost use Rattle.syntax.specs.Tokens.{wordOf};
+ghost use Rattle.lexing.specs.Lexing.{Shape, tokenAt, part};
 ghost use Rattle.parsing.specs.Cursor.{Behind, With, Goes};
-ghost use Rattle.parsing.specs.Expect.{isSymbol, marked, Again, Binds, Digits, Numbers, ByNumber, isVariable, isTest};
+ghost use Rattle.parsing.specs.Expect.{isSymbol, marked, Again, Binds, Digits, Numbers, ByNumber, isVariable, isTest, numberOr};
 ghost use Rattle.parsing.specs.Expect.{resolveBy, calleeOf, Resolves, isCallee, scopeAt};
 use crate::cursor::Cursor;
 use crate::cursor::fault;
@@ -18,7 +19,6 @@ use crate::names::is_name;
 use crate::names::is_same;
 use crate::names::is_word;
 use crate::names::lookup;
-use crate::names::number_in;
 use lexing::HASH;
 use lexing::Lexeme;
 use lexing::WORD;
@@ -211,6 +211,35 @@ pub fn callee(text: &[u8], table: &[usize], c: Cursor) -> Cursor
     resolved(text, table, t, read(c, t.end, 0, 0))
 }
 
+// The number of a test; 7 where the token is none.
+fn test_number(text: &[u8], t: Lexeme) -> usize
+    requires { ⌜ Shape (now text) t ⌝ }
+    ensures { λ r. ⌜ r ≡ numberOr (reader.find reader.tests (wordOf (tokenAt (now (text .entry)) t))) ⌝ }
+{
+    if is_word(text, t, b"many") {
+        return 6;
+    }
+    if is_word(text, t, b"one") {
+        return 5;
+    }
+    if is_word(text, t, b"true") {
+        return 4;
+    }
+    if is_word(text, t, b"false") {
+        return 3;
+    }
+    if is_word(text, t, b"members") {
+        return 2;
+    }
+    if is_word(text, t, b"empty") {
+        return 1;
+    }
+    if is_word(text, t, b"any") {
+        return 0;
+    }
+    7
+}
+
 /// A test, if `with` stands there; and the detail for what must follow, `bare` where there is none and `after` behind one.
 pub fn test(text: &[u8], c: Cursor, bare: u8, after: u8) -> Cursor
     ensures { λ r. ⌜ Goes (now (text .entry)) (With (now (text .entry)) isTest) (reader.test bare after) c r ⌝ }
@@ -223,7 +252,7 @@ pub fn test(text: &[u8], c: Cursor, bare: u8, after: u8) -> Cursor
         return read(c, c.at, 0, bare);
     }
     let u = next(text, t.end);
-    let n = number_in(text, u, b"4many3one4true5false7members5empty3any", 7);
+    let n = test_number(text, u);
     if n == 7 {
         return fault(c, 90, u.at, 23);
     }

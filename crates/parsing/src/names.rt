@@ -1,14 +1,13 @@
 //! Words and names: what a word spells, whether it is a name, and which of the names in scope it is. A name is kept by the place where it begins; the
 //! end of the text stands for `sent`.
 ghost use mathlib.Core.Path.{_≡_};
-ghost use mathlib.Core.Bool.{true};
 ghost use Prim.Native.Nat.{_+_, _≤_, _<_};
 ghost use lib.ListN.{length, drop};
 ghost use Rattle.syntax.specs.Laid.{shuts};
 ghost use Rattle.syntax.specs.Tokens.{wordOf, same};
 ghost use Rattle.syntax.specs.Reader.{isName, isSome, find, words};
 ghost use Rattle.lexing.specs.Lexing.{tokenAt, Shape, part};
-ghost use Rattle.parsing.specs.Names.{nameAt, Found, wordsIn, tabled, numberOr};
+ghost use Rattle.parsing.specs.Names.{nameAt, Found};
 use lexing::Lexeme;
 use lexing::WORD;
 use lexing::goes_on;
@@ -40,24 +39,6 @@ pub fn is_word(text: &[u8], t: Lexeme, w: &[u8]) -> bool
         return false;
     }
     spells(text, t.at, t.end, w)
-}
-
-/// The number of a token's word among so many, each of which stands behind its length: how many come after it. `many` where it is none of them.
-pub fn number_in(text: &[u8], t: Lexeme, table: &[u8], many: usize) -> usize
-    requires { ⌜ Shape (now text) t × (tabled many (now table) ≡ true) ⌝ }
-    ensures { λ r. ⌜ r ≡ numberOr many (find (wordsIn many (now (table .entry))) (wordOf (tokenAt (now (text .entry)) t))) ⌝ }
-{
-    let mut at = 0;
-    let mut left = many;
-    while 0 < left {
-        let end = at + 1 + (table[at] - b'0') as usize;
-        if is_word(text, t, &table[at + 1..end]) {
-            return left - 1;
-        }
-        at = end;
-        left -= 1;
-    }
-    many
 }
 
 // Whether a word of the language stands there.
