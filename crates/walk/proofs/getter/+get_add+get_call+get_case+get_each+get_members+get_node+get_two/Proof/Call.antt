@@ -20,7 +20,7 @@ use Rattle.sheet.proofs.section_root.Reads as section-root
 use Rattle.walk.proofs.getter.+get_add+get_call+get_case+get_each+get_members+get_node+get_two as cycle
 use cycle.Lts-get_call as lts
 use cycle.Proof.Frame.{kind, node}
-use Rattle.walk.proofs.Member.{AtMeasure, BelowMeasure, PlacesOf}
+use Rattle.places.specs.Member.{AtMeasure, BelowMeasure, PlacesOf}
 
 abbrev claims : ℕ → lts.Claims
 claims t = (

@@ -43,7 +43,7 @@ use Rattle.step.proofs.unfit.Reads as unfit
 use Rattle.walk.proofs.getter.+get_add+get_call+get_case+get_each+get_members+get_node+get_two as cycle
 use cycle.Lts-get_each as lts
 use cycle.Proof.Frame.{kind, members, node}
-use Rattle.walk.proofs.Member.{AtMeasure, BelowMeasure, PlacesOf}
+use Rattle.places.specs.Member.{AtMeasure, BelowMeasure, PlacesOf}
 
 abbrev claims : ℕ → lts.Claims
 claims t = (

@@ -29,7 +29,7 @@ use Rattle.walk.proofs.at.At.raised.Reads as raised
 use Rattle.walk.proofs.getter.+get_add+get_call+get_case+get_each+get_members+get_node+get_two as cycle
 use cycle.Lts-get_members as lts
 use cycle.Proof.Frame.{members, node}
-use Rattle.walk.proofs.Member.{AtMeasure, BelowMeasure}
+use Rattle.places.specs.Member.{AtMeasure, BelowMeasure}
 
 abbrev claims : ℕ → lts.Claims
 claims t = (

@@ -48,7 +48,7 @@ use Rattle.walk.proofs.putter.put_all.Reads as put-all
 use Rattle.walk.proofs.putter.+put_add+put_all+put_both+put_call+put_case+put_each+put_node+put_one+put_rebuilt+put_switch+put_two+put_under as cycle
 use cycle.Lts-put_all as lts
 use cycle.Proof.Frame.{all, node, one}
-use Rattle.walk.proofs.Member.{AtMeasure, BelowMeasure, LoopPlacesOf}
+use Rattle.places.specs.Member.{AtMeasure, BelowMeasure, LoopPlacesOf}
 
 abbrev claims : ℕ → lts.Claims
 claims t = (
