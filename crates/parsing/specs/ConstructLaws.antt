@@ -1,43 +1,43 @@
 -- HOW THE ANSWER OF A CONSTRUCT follows from those of its parts: each law has the answers in the order of the code, and ends with the construct's own.
 use mathlib.Core.Path.{_≡_, refl, sym, ap, subst, _∙_}
-use mathlib.Core.Bool.{Bool, true, false, not, _&&_, _||_, cond}
-use mathlib.Core.Option.{Option, none, some}
+use mathlib.Core.Bool.{Bool, true, false, cond}
+use mathlib.Core.Option.{Option, some}
 use mathlib.Core.List.{List, [], _∷_, _++_}
 use Prim.Native.Nat.{ℕ, zero, suc, _+_, _*_, _-_, _/_, _%_, _≤_, _<_}
 use native.Mathlib.Omega.{arith}
 use native.Mathlib.Numerals.{add-one}
 use native.Mathlib.Nat.{mod-eq-of-lt}
-use lib.Dec.{eqb, leb}
+use lib.Dec.{eqb}
 use lib.ListN.{length, getD, take, drop, set, length-append, length-set}
 use lib.Seq.{sets, getD-take, take-take, take-set-le, getD-set-same, getD-set-other}
-use borrow.Author.Tests.{ne-eqb, eq-eqb, le-leb, lt-leb, not-true, not-false, eqb-true, eqb-false}
+use borrow.Author.Tests.{ne-eqb, eq-eqb, le-leb, lt-leb, eqb-true}
 use Rattle.sheet.specs.declared.Node.{Node}
 use Rattle.sheet.specs.declared.Node.the-variants as node
 use Rattle.sheet.specs.Kinds.{width, written}
 use Rattle.syntax.specs.Quoted.{bytes}
 use Rattle.syntax.specs.Tokens.{Token, word, digits, hash, mark, arrow, first, rest, wordOf, markOf, same}
-use Rattle.syntax.specs.Reader.{Out, ok, fault, _>>=_, Name, Scope, scope, find, isSome, isName, sent, symbol, keyword, bind, known, number, variable, test}
+use Rattle.syntax.specs.Reader.{Out, ok, fault, _>>=_, Name, Scope, scope, isName, sent, symbol, keyword, bind, known, variable, test}
 use Rattle.syntax.specs.Reader.{Begin, nothing, aFalse, aTrue, aLet, aCase, anEach, aPair, aList, aName, aHash, aNumber, wordBegin, beginOf, behindOf, branchOf}
-use Rattle.syntax.specs.Reader.{Part, whole, Nodes, Reader, room, begun, constant, pairOf, behind, back, frontOf, listBy, listOf, letIn, amountBy, amountOf}
-use Rattle.syntax.specs.Reader.{truthCase, listCase, branches, caseOf, callOf, eachOf, named, shaped, parted}
+use Rattle.syntax.specs.Reader.{whole, Nodes, Reader, room, begun, constant, pairOf, behind, back, frontOf, listBy, listOf, letIn, amountBy, amountOf}
+use Rattle.syntax.specs.Reader.{truthCase, listCase, branches, caseOf, eachOf, named, shaped, parted}
 use Rattle.syntax.specs.Reader as reader
-use Rattle.syntax.specs.Ahead.{letterFirst, placeAt}
-use Rattle.parsing.specs.Lexing.{Between, ahead, part, tokenAt, Shape, Next, and-true}
-use Rattle.parsing.specs.Cursor.{faultAt, entered, Told, on, off, fault-told, Behind, With, Fault, fault-same, Carries, carries-then, Goes, told-then}
+use Rattle.syntax.specs.Ahead.{letterFirst}
+use Rattle.lexing.specs.Lexing.{Between, ahead, part, tokenAt, Next}
+use Rattle.parsing.specs.Cursor.{faultAt, entered, Told, on, fault-told, Behind, With, fault-same, Carries, carries-then, Goes, told-then}
 use Rattle.parsing.specs.Cursor as cursor
-use Rattle.parsing.specs.Names.{word-is, word-none, nameAt, name-sent, stackOf, stack-kept}
+use Rattle.parsing.specs.Names.{nameAt, name-sent, stackOf, stack-kept}
 use Rattle.parsing.specs.Expect.{marked, mark-is, markAt, mark-own, mark-other, Again, Binds, Named, Numbers, Number, isVariable, isTest}
-use Rattle.parsing.specs.Expect.{isCallee, resolveBy, calleeOf, Resolves, scopeAt, fault-here}
-use Rattle.parsing.specs.Nodes.{Slot, Slots, more, slots-append, Kept, kept-refl, kept-fewer, kept-then, slots-kept}
+use Rattle.parsing.specs.Expect.{isCallee, resolveBy, calleeOf, scopeAt, fault-here}
+use Rattle.parsing.specs.Nodes.{Slots, more, slots-append, Kept, kept-refl, kept-fewer, kept-then, slots-kept}
 use Rattle.parsing.specs.Nodes.{none as no-slots}
-use Rattle.parsing.specs.Expressions.{beginCode, beginBy, bytesIn, behindIt, begin-coded, rowOf, Stored, Below, Leafy, Leaf, Var, Call}
-use Rattle.parsing.specs.Expressions.{Constant, goes-told, enters, stored-kept, stored-more}
+use Rattle.parsing.specs.Expressions.{beginCode, beginBy, bytesIn, behindIt, begin-coded, rowOf, Stored, Below, Leafy, Var, Call}
+use Rattle.parsing.specs.Expressions.{Constant, goes-told, stored-kept, stored-more}
 use Rattle.parsing.specs.declared.cursor.Cursor.{Cursor}
-use Rattle.parsing.specs.declared.lexer.Lexeme.{Lexeme}
+use Rattle.lexing.specs.declared.Lexeme.{Lexeme}
 use Rattle.parsing.specs.declared.expect.Scope.{Scope as Names}
-use Rattle.parsing.specs.Constructs.{Ready, Inner, Begun, Childless, Cased, Parsed, anExpr, aBranch, aDefault, byBegin, byBranch, topped, Expr}
+use Rattle.parsing.specs.Constructs.{Ready, Inner, Begun, Childless, Cased, Parsed, byBegin, Expr}
 use Rattle.parsing.specs.Constructs.{Shaped, Pair, Listed, Front, Back, Let, Each, Case, Branch}
-use Rattle.parsing.specs.Constructs.{Default, Cases, Branches, Truth, Lists, together, twoOf, Both, Two}
+use Rattle.parsing.specs.Constructs.{withTwo, Default, Branches, Truth, Lists, together, twoOf, Both, Two}
 
 -- NAMES
 pub below-refl : (top : ℕ) (names : List ℕ) → Below top names names
@@ -444,7 +444,7 @@ pub let-parsed : {s table : List ℕ} {sc : Names} {c : Cursor} {names slots nam
     → Goes s (Behind s) (symbol (marked 40) 8) (entered c) o → Two s names sc (marked 44) 9 o names₁ b → Goes s (Behind s) (symbol (marked 41) 10) b p
     → Goes s (Behind s) (symbol (marked 61) 4) p q → Expr s table names₁ slots sc q names₂ slots₂ a → Goes s (Behind s) (keyword (bytes "in") 15) a i
     → names₃ ≡ set (set names₂ (sc .base + sc .many) (getD names₁ (sc .base + sc .many) 0)) (sc .base + sc .many + 1) (getD names₁ (sc .base + sc .many + 1) 0)
-    → Expr s table names₃ slots₂ (record { base = sc .base; many = sc .many + 2; lost = sc .lost }) i names₄ slots₄ r
+    → Expr s table names₃ slots₂ (withTwo sc) i names₄ slots₄ r
     → slots₅ ≡ sets slots₄ (8 * c .count) (rowOf 25 ((c .count + 1) ∷ i .count ∷ []))
     → Let s table names slots sc c names₄ slots₅ r
 unfolding letIn marked scopeAt
@@ -507,7 +507,7 @@ let-parsed {s} {table} {sc} {c} {names} {slots} {names₁} {names₂} {slots₂}
         (below-set (sc .base + sc .many) _ (sc .base + sc .many + 1) _ (omega arith))))
 
     wider : {x y : Name} → Both s names₁ (sc .base + sc .many) (x, y) b
-        → scope (y ∷ x ∷ stackOf s names (sc .base) (sc .many)) (sc .lost) ≡ scopeAt s names₃ (record { base = sc .base; many = sc .many + 2; lost = sc .lost })
+        → scope (y ∷ x ∷ stackOf s names (sc .base) (sc .many)) (sc .lost) ≡ scopeAt s names₃ (withTwo sc)
     wider u =
         let l = w .ready .names-long in
         let k = kept₂ .long in
@@ -635,7 +635,7 @@ pub lists-parsed : {s table : List ℕ} {n : ℕ} {sc : Names} {c : Cursor}
     {e a t o p q b u m x d k y f r : Cursor} → Cased (length table) (length names) (length slots) (sc .base + sc .many) n c → c .code ≡ 0
     → Goes s (Behind s) (symbol (marked 93) 18) c e → Branch s table names slots sc e names₁ slots₁ a → Goes s (With s isTest) (test 20 21) a t
     → Goes s (Behind s) (symbol (marked 91) (t .detail)) t o → Two s names₁ sc (marked 124) 22 o names₂ p → Goes s (Behind s) (symbol (marked 93) 14) p q
-    → Branch s table names₂ slots₁ (record { base = sc .base; many = sc .many + 2; lost = sc .lost }) q names₃ slots₃ b
+    → Branch s table names₂ slots₁ (withTwo sc) q names₃ slots₃ b
     → Goes s (With s isTest) (test 24 25) b u → Goes s (Behind s) (keyword (bytes "default") (u .detail)) u m
     → Again s (getD names₂ (sc .base + sc .many) 0) 26 m x → Default s table names₃ slots₃ (sc .base + sc .many) x names₄ slots₄ d
     → Goes s (Behind s) (symbol (marked 44) 9) d k → Again s (getD names₂ (sc .base + sc .many + 1) 0) 27 k y
@@ -735,7 +735,7 @@ lists-parsed {s} {table} {n} {sc} {c} {names} {slots} {names₁} {slots₁} {nam
 
     wider : {v v′ : Name} → Both s names₂ (sc .base + sc .many) (v, v′) p
         → scope (v′ ∷ v ∷ stackOf s names (sc .base) (sc .many)) (sc .lost)
-        ≡ scopeAt s names₂ (record { base = sc .base; many = sc .many + 2; lost = sc .lost })
+        ≡ scopeAt s names₂ (withTwo sc)
     wider j = unfold scopeAt in ap (λ (ns : List Name). scope ns (sc .lost))
         (sym (stack-two s names names₂ (sc .base) (sc .many) upto₂ (j .first-is) (j .second-is)))
 
@@ -1374,6 +1374,17 @@ cased-ready w n l h few k =
     let i = w .low in
     record { table-few = w .table-few; names-long = n ∙ w .names-long; slots-long = l ∙ w .slots-long; few = few; low = omega arith }
 
+pub wider-top : (sc : Names) {wider : Names} → wider ≡ withTwo sc → wider .base + wider .many ≡ sc .base + sc .many + 2
+wider-top sc e = rw e (omega arith)
+
+-- behind what was read since
+pub ready-on : {T N L N′ L′ top : ℕ} {c : Cursor} → Ready T N L top c → {d : Cursor} → N′ ≡ N → L′ ≡ L → c .count ≤ d .count → d .count ≤ 200 → {high : ℕ}
+    → high ≤ top
+    → Ready T N′ L′ high d
+ready-on w n l h few k =
+    let i = w .low in
+    record { table-few = w .table-few; names-long = n ∙ w .names-long; slots-long = l ∙ w .slots-long; few = few; low = omega arith }
+
 pub ready-inner : {T N L top : ℕ} (c : Cursor) {d : Cursor} {at f k : ℕ} → Ready T N L top c → c .count < 200 → d ≡ cursor.behind c at f k → Inner T N L top d
 ready-inner c w h e =
     let i = count-behind c e in
@@ -1407,6 +1418,12 @@ pub parsed-at : {over : ℕ} {def : Reader → Scope → ℕ → List Token → 
     {names′ slots′ : List ℕ} {r : Cursor}
     → c ≡ d → Parsed over def s table names slots sc c names′ slots′ r → Parsed over def s table names slots sc d names′ slots′ r
 parsed-at e w = rw e at w
+
+-- and in a scope that is another one
+pub parsed-in : {over : ℕ} {def : Reader → Scope → ℕ → List Token → Nodes} {s table names slots : List ℕ} {sc sc′ : Names} {c : Cursor}
+    {names′ slots′ : List ℕ} {r : Cursor}
+    → sc ≡ sc′ → Parsed over def s table names slots sc c names′ slots′ r → Parsed over def s table names slots sc′ c names′ slots′ r
+parsed-in e w = rw e at w
 
 pub goes-at : {s : List ℕ} {X : Type 0} {Q : X → Cursor → Type 0} {f : List Token → Out X} {c d r : Cursor} → c ≡ d → Goes s Q f c r → Goes s Q f d r
 goes-at e w = rw e at w

@@ -1,38 +1,24 @@
--- THE CONSTRUCTS: what each function of an expression asks and answers, and how its answer follows from those of the functions that it calls.
-use mathlib.Core.Path.{_≡_, refl, sym, ap, subst, _∙_}
-use mathlib.Core.Bool.{Bool, true, false, not, _&&_, _||_, cond}
-use mathlib.Core.Option.{Option, none, some}
-use mathlib.Core.List.{List, [], _∷_, _++_}
-use Prim.Native.Nat.{ℕ, zero, suc, _+_, _*_, _-_, _/_, _%_, _≤_, _<_}
-use native.Mathlib.Omega.{arith}
-use native.Mathlib.Numerals.{add-one}
-use native.Mathlib.Nat.{mod-eq-of-lt}
-use lib.Dec.{eqb, leb}
-use lib.ListN.{length, getD, take, drop, set, length-append, length-set}
-use lib.Seq.{sets, getD-take, take-take, take-set-le, getD-set-same, getD-set-other}
-use borrow.Author.Tests.{ne-eqb, eq-eqb, le-leb, lt-leb, not-true, not-false, eqb-true, eqb-false}
+-- THE CONSTRUCTS: what each function of an expression asks and answers.
+use mathlib.Core.Path.{_≡_}
+use mathlib.Core.Option.{Option}
+use mathlib.Core.List.{List, [], _∷_}
+use Prim.Native.Nat.{ℕ, suc, _+_, _*_, _-_, _≤_, _<_}
+use lib.ListN.{length, getD}
 use Rattle.sheet.specs.declared.Node.{Node}
-use Rattle.sheet.specs.declared.Node.the-variants as node
-use Rattle.sheet.specs.Kinds.{width, written}
 use Rattle.syntax.specs.Quoted.{bytes}
-use Rattle.syntax.specs.Tokens.{Token, word, digits, hash, mark, arrow, first, rest, wordOf, markOf, same}
-use Rattle.syntax.specs.Reader.{Out, ok, fault, _>>=_, Name, Scope, scope, find, isSome, isName, sent, symbol, keyword, bind, known, number, variable, test}
-use Rattle.syntax.specs.Reader.{Begin, nothing, aFalse, aTrue, aLet, aCase, anEach, aPair, aList, aName, aHash, aNumber, wordBegin, beginOf, behindOf, branchOf}
-use Rattle.syntax.specs.Reader.{Part, whole, Nodes, Reader, room, begun, constant, pairOf, behind, back, frontOf, listBy, listOf, letIn, amountBy, amountOf}
-use Rattle.syntax.specs.Reader.{truthCase, listCase, branches, caseOf, callOf, eachOf, named, shaped, parted}
+use Rattle.syntax.specs.Tokens.{Token, arrow, first}
+use Rattle.syntax.specs.Reader.{Out, ok, _>>=_, Name, Scope, scope, sent, symbol, bind}
+use Rattle.syntax.specs.Reader.{beginOf, branchOf, whole, Nodes, Reader, pairOf, back, frontOf, listOf, letIn}
+use Rattle.syntax.specs.Reader.{truthCase, listCase, branches, caseOf, eachOf, shaped}
 use Rattle.syntax.specs.Reader as reader
-use Rattle.syntax.specs.Ahead.{letterFirst, placeAt}
-use Rattle.parsing.specs.Lexing.{Between, ahead, part, tokenAt, Shape, Next, and-true}
-use Rattle.parsing.specs.Cursor.{faultAt, entered, Told, on, off, fault-told, Behind, With, Fault, fault-same, Carries, carries-then, Goes, told-then}
-use Rattle.parsing.specs.Cursor as cursor
-use Rattle.parsing.specs.Names.{word-is, word-none, nameAt, name-sent, stackOf, stack-kept}
-use Rattle.parsing.specs.Expect.{marked, mark-is, Again, Binds, Named, Numbers, Number, isVariable, isTest, isCallee, resolveBy, calleeOf}
-use Rattle.parsing.specs.Expect.{Resolves, scopeAt, fault-here}
-use Rattle.parsing.specs.Nodes.{Slot, Slots, more, slots-append, Kept, kept-refl, kept-fewer, kept-then, slots-kept}
-use Rattle.parsing.specs.Nodes.{none as no-slots}
-use Rattle.parsing.specs.Expressions.{beginCode, rowOf, Stored, Below, Leaf, Var, Call, Constant, goes-told, enters, stored-kept, stored-more}
+use Rattle.lexing.specs.Lexing.{Between, ahead, tokenAt, Next}
+use Rattle.parsing.specs.Cursor.{Told, With, Carries}
+use Rattle.parsing.specs.Names.{nameAt, stackOf}
+use Rattle.parsing.specs.Expect.{resolveBy, scopeAt}
+use Rattle.parsing.specs.Nodes.{Slots, Kept}
+use Rattle.parsing.specs.Expressions.{beginCode, Stored, Below}
 use Rattle.parsing.specs.declared.cursor.Cursor.{Cursor}
-use Rattle.parsing.specs.declared.lexer.Lexeme.{Lexeme}
+use Rattle.lexing.specs.declared.Lexeme.{Lexeme}
 use Rattle.parsing.specs.declared.expect.Scope.{Scope as Names}
 
 -- WHAT IS ASKED: what is lent has its size, and there is room for two names more for each node that is left
@@ -77,6 +63,10 @@ pub record Parsed (over : ℕ) (def : Reader → Scope → ℕ → List Token �
   pub kept : Kept (c .count) slots slots′
   pub told : c .code ≡ 0 → Between s (c .at) → sc .many ≤ 16 + c .count → (f : ℕ) → 200 ≤ over + c .count + f
       → Told s (With s (Stored slots′ (c .count))) (def (reader.read (resolveBy s table) f) (scopeAt s names sc) (c .count) (ahead s (c .at))) r
+
+-- a scope, and two names more
+abbrev pub withTwo : Names → Names
+withTwo sc = record { base = sc .base; many = sc .many + 2; lost = sc .lost }
 
 -- what the functions read
 abbrev pub anExpr : Reader → Scope → ℕ → List Token → Nodes

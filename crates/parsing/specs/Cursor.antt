@@ -7,9 +7,9 @@ use lib.ListN.{length, drop}
 use Rattle.syntax.specs.Tokens.{Token, first, rest}
 use Rattle.syntax.specs.Reader.{Out, ok, fault, _>>=_}
 use Rattle.syntax.specs.Ahead.{placeAt}
-use Rattle.parsing.specs.Lexing.{Between, ahead, tokenAt, Next}
+use Rattle.lexing.specs.Lexing.{Between, ahead, tokenAt, Next}
 use Rattle.parsing.specs.declared.cursor.Cursor.{Cursor}
-use Rattle.parsing.specs.declared.lexer.Lexeme.{Lexeme}
+use Rattle.lexing.specs.declared.Lexeme.{Lexeme}
 
 abbrev pub faultAt : Cursor → ℕ → ℕ → ℕ → Cursor
 faultAt c code at d = record { at = at; count = c .count; found = c .found; code = code; detail = d }

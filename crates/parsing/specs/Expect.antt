@@ -2,27 +2,27 @@
 use mathlib.Core.Path.{_≡_, refl, sym, ap, _∙_}
 use mathlib.Core.Bool.{Bool, true, false, not, _&&_, _||_, cond}
 use mathlib.Core.Option.{Option, none, some}
-use mathlib.Core.List.{List, [], _∷_, _++_}
+use mathlib.Core.List.{List, [], _∷_}
 use Prim.Native.Nat.{ℕ, zero, suc, _+_, _*_, _-_, _≤_, _<_}
 use native.Mathlib.Omega.{arith}
 use native.Mathlib.Numerals.{add-one}
 use lib.Dec.{eqb, leb}
 use lib.ListN.{length, getD, take, drop, set, drop-of-length-le, length-set}
 use lib.Seq.{take-set-le, getD-set-same}
-use borrow.Author.Tests.{ne-eqb, eq-eqb, le-leb, lt-leb, not-true, not-false, eqb-true, eqb-false, leb-true}
+use borrow.Author.Tests.{ne-eqb, eq-eqb, le-leb, lt-leb, not-true, eqb-true, eqb-false, leb-true}
 use Rattle.syntax.specs.Quoted.{bytes}
 use Rattle.syntax.specs.Tokens.{Token, word, digits, hash, mark, Class, blank, letter, digit, dash, sharp, other, classOf, arrow, first, rest, wordOf}
 use Rattle.syntax.specs.Tokens.{markOf, same}
-use Rattle.syntax.specs.Reader.{Out, ok, fault, _>>=_, Name, Scope, scope, find, isSome, wild, tests, isName, symbol, keyword, bind, sectionName, known}
-use Rattle.syntax.specs.Reader.{Valued, is, over, value, zeroFirst, valued, number, byNumber, variableBy, variable, testBy, test}
+use Rattle.syntax.specs.Reader.{Out, ok, fault, _>>=_, Name, Scope, scope, find, wild, tests, isName, symbol, keyword, bind, sectionName, known}
+use Rattle.syntax.specs.Reader.{is, value, zeroFirst, valued, number, byNumber, variableBy, variable, testBy, test}
 use Rattle.syntax.specs.Laid.{isDigit, isLetter}
 use Rattle.syntax.specs.Tokens.{isBlank as isBlank′, isLetter as isLetter′}
 use Rattle.syntax.specs.Ahead.{allIn, letterFirst, placeAt}
-use Rattle.parsing.specs.Lexing.{Between, ahead, part, part-first, part-length, at-byte, and-true, codeOf, tokenAt, Shape, Next}
+use Rattle.lexing.specs.Lexing.{Between, ahead, part, part-first, part-length, at-byte, and-true, codeOf, tokenAt, Shape, Next}
 use Rattle.parsing.specs.Cursor.{faultAt, behind, Told, on, off, fault-told, Behind, With, fault-same, Carries, Goes, told-then}
 use Rattle.parsing.specs.Names.{part-at, word-is, word-none, same-none, name-read, nameAt, stackOf, Found, same-sym}
 use Rattle.parsing.specs.declared.cursor.Cursor.{Cursor}
-use Rattle.parsing.specs.declared.lexer.Lexeme.{Lexeme}
+use Rattle.lexing.specs.declared.Lexeme.{Lexeme}
 use Rattle.parsing.specs.declared.expect.Scope.{Scope as Names}
 
 -- MARKS: the kinds of token that are no mark are no symbol; 65 stands for the arrow

@@ -23,7 +23,7 @@ use Rattle.syntax.specs.Reader.{amountBy, amountOf}
 use Rattle.syntax.specs.Reader.{truthCase, listCase, branches, caseOf, callOf, eachOf, named, shaped, parted}
 use Rattle.syntax.specs.Reader as reader
 use Rattle.syntax.specs.Ahead.{letterFirst, placeAt}
-use Rattle.parsing.specs.Lexing.{Between, ahead, part, tokenAt, Shape, Next, and-true}
+use Rattle.lexing.specs.Lexing.{Between, ahead, part, tokenAt, Shape, Next, and-true}
 use Rattle.parsing.specs.Cursor.{faultAt, entered, Told, on, off, fault-told, Behind, With, Fault, fault-same, Carries, carries-then, Goes, told-then}
 use Rattle.parsing.specs.Cursor as cursor
 use Rattle.parsing.specs.Names.{word-is, word-none, nameAt, stackOf, stack-kept}
@@ -31,7 +31,7 @@ use Rattle.parsing.specs.Expect.{marked, mark-is, Again, Binds, Named, N
 use Rattle.parsing.specs.Expect.{Resolves, scopeAt, fault-here}
 use Rattle.parsing.specs.Nodes.{Slot, Slots, none, more, slots-append, Kept, kept-refl, kept-fewer, kept-then, slots-kept, store-kept, store-more}
 use Rattle.parsing.specs.declared.cursor.Cursor.{Cursor}
-use Rattle.parsing.specs.declared.lexer.Lexeme.{Lexeme}
+use Rattle.lexing.specs.declared.Lexeme.{Lexeme}
 use Rattle.parsing.specs.declared.expect.Scope.{Scope as Names}
 
 -- WHAT AN EXPRESSION BEGINS WITH, as a number

@@ -1,4 +1,3 @@
-pub mod Lexing
 pub mod Cursor
 pub mod Names
 pub mod Expect

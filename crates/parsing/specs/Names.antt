@@ -1,23 +1,20 @@
 -- WORDS AND NAMES as code has them: a name is the place where it begins, and names in scope are places one behind the other.
 use mathlib.Core.Path.{_≡_, refl, sym, ap, _∙_}
 use mathlib.Core.Bool.{Bool, true, false, not, _&&_, _||_, cond}
-use mathlib.Core.Option.{Option, none, some}
+use mathlib.Core.Option.{none, some}
 use mathlib.Core.List.{List, [], _∷_, _++_}
 use Prim.Native.Nat.{ℕ, zero, suc, _+_, _-_, _≤_, _<_}
 use native.Mathlib.Omega.{arith}
-use native.Mathlib.Numerals.{add-one}
-use native.Mathlib.Decide.{decLt}
 use lib.Dec.{eqb, leb}
-use lib.ListN.{length, getD, take, drop, length-drop, length-take, drop-of-length-le}
+use lib.ListN.{length, getD, take, drop, drop-of-length-le}
 use lib.Seq.{getD-drop, getD-take, take-take}
 use borrow.Author.Tests.{ne-eqb, eq-eqb, eqb-true, eqb-false, le-leb, lt-leb, not-true}
-use Rattle.syntax.specs.Quoted.{bytes}
-use Rattle.syntax.specs.Tokens.{Token, word, digits, hash, mark, classOf, wordOf, markOf, same}
+use Rattle.syntax.specs.Tokens.{digits, hash, mark, classOf, wordOf, same}
 use Rattle.syntax.specs.Reader.{Name, find, isSome, words, wild, sent, some-byte, isName}
 use Rattle.syntax.specs.Laid.{shuts}
 use Rattle.syntax.specs.Ahead.{allIn, isPart}
-use Rattle.parsing.specs.Lexing.{inRun, part, part-length, part-behind, at-byte, and-true, tokenAt, Shape}
-use Rattle.parsing.specs.declared.lexer.Lexeme.{Lexeme}
+use Rattle.lexing.specs.Lexing.{inRun, part, part-length, part-behind, at-byte, and-true, tokenAt, Shape}
+use Rattle.lexing.specs.declared.Lexeme.{Lexeme}
 
 -- SPELLING
 
@@ -93,22 +90,27 @@ module _ (s : List ℕ) (t : Lexeme) where
   same-none [] h k = absurd (omega arith)
   same-none (c ∷ w) h k = rw (word-none k)
 
--- A WORD OF THE LANGUAGE: it is the first of these, or among the others
-pub first-word : (w x : Name) (xs : List Name) → same w x ≡ true → true ≡ isSome (find (x ∷ xs) w)
-unfolding find
-first-word w x xs e = rw (same-sym x w, e)
+-- A WORD OF THE LANGUAGE: one of these, asked one after the other
+abbrev orSame : Name → Bool → List Name → Bool
+orSame w b [] = b
+orSame w b (x ∷ xs) = orSame w (b || same w x) xs
 
-pub other-word : (w x : Name) (xs : List Name) {b : Bool} → same w x ≡ false → b ≡ isSome (find xs w) → b ≡ isSome (find (x ∷ xs) w)
+or-found : (w : Name) (b : Bool) (xs : List Name) → orSame w b xs ≡ b || isSome (find xs w)
 unfolding find
-other-word w x xs e f = rw (same-sym x w, e) f
-
-pub last-word : (w x : Name) → same w x ≡ isSome (find (x ∷ []) w)
-unfolding find
-last-word w x = go (same x w) (same-sym w x)
+or-found w true [] = refl
+or-found w false [] = refl
+or-found w b (x ∷ xs) = or-found w (b || same w x) xs ∙ rw (same-sym w x) (go b (same x w))
   where
-    go : (b : Bool) → same w x ≡ b → same w x ≡ isSome (cond b (some 0) none)
-    go true e = e
-    go false e = e
+    go : (b d : Bool) → (b || d) || isSome (find xs w) ≡ b || isSome (cond d (some (length xs)) (find xs w))
+    go true d = refl
+    go false true = refl
+    go false false = refl
+
+pub any-word : (w x : Name) (xs : List Name) → orSame w (same w x) xs ≡ isSome (find (x ∷ xs) w)
+any-word w x xs = or-found w false (x ∷ xs)
+
+pub either : {a b c d : Bool} → a ≡ b → c ≡ d → a || c ≡ b || d
+either e f = rw (e, f)
 
 -- A NAME
 module _ {s : List ℕ} {t : Lexeme} (g : Shape s t) where

@@ -21,7 +21,7 @@ use Rattle.syntax.specs.Reader.{whole, plan, section}
 use Rattle.syntax.specs.Reader.{sections, textRead}
 use Rattle.syntax.specs.Reader as reader
 use Rattle.syntax.specs.Ahead.{here-first}
-use Rattle.parsing.specs.Lexing.{Between, ahead, tokenAt, Shape, Next}
+use Rattle.lexing.specs.Lexing.{Between, ahead, tokenAt, Shape, Next}
 use Rattle.parsing.specs.Cursor.{faultAt, Told, on, off, fault-told, Behind, With, Fault, fault-same, Carries, carries-then, Goes, told-then}
 use Rattle.parsing.specs.Cursor as cursor
 use Rattle.parsing.specs.Names.{nameAt, name-read, stackOf, stack-length, stack-kept, Found}
@@ -32,7 +32,7 @@ use Rattle.parsing.specs.Expressions.{Stored, Below, goes-told}
 use Rattle.parsing.specs.Constructs.{Ready, Expr, Both, Two}
 use Rattle.parsing.specs.ConstructLaws.{told-two, two-at, below-refl, below-then, below-lower, below-set, stack-one, stack-two, part-told, scope-kept}
 use Rattle.parsing.specs.declared.cursor.Cursor.{Cursor}
-use Rattle.parsing.specs.declared.lexer.Lexeme.{Lexeme}
+use Rattle.lexing.specs.declared.Lexeme.{Lexeme}
 use Rattle.parsing.specs.declared.expect.Scope.{Scope as Names}
 
 -- THE PLAN'S NAMES

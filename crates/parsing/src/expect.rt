@@ -2,28 +2,28 @@
 //! the token, or a fault; a fault that it is given it hands on.
 ghost use mathlib.Core.Path.{_≡_};
 ghost use mathlib.Core.Bool.{true};
-ghost use Prim.Native.Nat.{suc, _+_, _≤_, _<_};
+ghost use Prim.Native.Nat.{_+_, _≤_, _<_};
 ghost use lib.ListN.{length, drop};
 ghost use Rattle.syntax.specs.Ahead.{letterFirst};
 ghost use Rattle.syntax.specs.Reader as reader;
 ghost use Rattle.syntax.specs.Reader.{zeroFirst};
 ghost use Rattle.syntax.specs.Tokens.{wordOf};
-ghost use Rattle.parsing.specs.Lexing.{Shape, tokenAt, part};
+ghost use Rattle.lexing.specs.Lexing.{Shape, tokenAt, part};
 ghost use Rattle.parsing.specs.Cursor.{Behind, With, Goes};
 ghost use Rattle.parsing.specs.Expect.{isSymbol, marked, Again, Binds, Digits, Numbers, ByNumber, isVariable, isTest, numberOr};
 ghost use Rattle.parsing.specs.Expect.{resolveBy, calleeOf, Resolves, isCallee, scopeAt};
 use crate::cursor::Cursor;
 use crate::cursor::fault;
 use crate::cursor::read;
-use crate::lexer::HASH;
-use crate::lexer::Lexeme;
-use crate::lexer::WORD;
-use crate::lexer::class;
-use crate::lexer::next;
 use crate::names::is_name;
 use crate::names::is_same;
 use crate::names::is_word;
 use crate::names::lookup;
+use lexing::HASH;
+use lexing::Lexeme;
+use lexing::WORD;
+use lexing::class;
+use lexing::next;
 
 /// The names in scope, `many` of them from `base` on; and the detail for a name that is none of them.
 pub struct Scope {

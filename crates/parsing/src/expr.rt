@@ -7,14 +7,14 @@ ghost use mathlib.Core.List.{[]};
 ghost use Prim.Native.Nat.{_+_, _*_, _≤_, _<_};
 ghost use lib.Seq.{sets};
 ghost use lib.ListN.{length};
-ghost use Rattle.syntax.specs.Reader.{Begin, beginOf};
-ghost use Rattle.parsing.specs.Lexing.{Shape, tokenAt};
+ghost use Rattle.syntax.specs.Reader.{beginOf};
+ghost use Rattle.lexing.specs.Lexing.{Shape, tokenAt};
 ghost use Rattle.parsing.specs.Cursor.{entered};
 ghost use Rattle.parsing.specs.Nodes.{Kept};
 ghost use Rattle.parsing.specs.Expect.{isSymbol, marked};
 ghost use Rattle.parsing.specs.Expressions.{beginCode, rowOf, Constant, Leafy, Var, Call};
 ghost use Rattle.parsing.specs.Constructs.{Ready, Inner, Begun, Childless, Cased, Two, Expr, Shaped, Pair, Listed, Front, Back, Let, Each, Case};
-ghost use Rattle.parsing.specs.Constructs.{Branches, Branch, Default, Truth, Lists};
+ghost use Rattle.parsing.specs.Constructs.{withTwo, Branches, Branch, Default, Truth, Lists};
 use crate::cursor::Cursor;
 use crate::cursor::enter;
 use crate::cursor::fault;
@@ -29,15 +29,15 @@ use crate::expect::resolved;
 use crate::expect::symbol;
 use crate::expect::test;
 use crate::expect::variable;
-use crate::lexer::ARROW;
-use crate::lexer::DIGITS;
-use crate::lexer::HASH;
-use crate::lexer::Lexeme;
-use crate::lexer::WORD;
-use crate::lexer::next;
 use crate::names::is_name;
 use crate::names::is_word;
 use crate::nodes::store;
+use lexing::ARROW;
+use lexing::DIGITS;
+use lexing::HASH;
+use lexing::Lexeme;
+use lexing::WORD;
+use lexing::next;
 
 const MOST: usize = 4_294_967_295;
 
@@ -367,6 +367,18 @@ fn back(
     bare(slots, read(c, t.end, 0, 0), 0x13)
 }
 
+// The scope, and two names more.
+fn wider(sc: Scope) -> Scope
+    requires { ⌜ sc .many ≤ 414 ⌝ }
+    ensures { λ r. ⌜ r ≡ withTwo sc ⌝ }
+{
+    Scope {
+        base: sc.base,
+        many: sc.many + 2,
+        lost: sc.lost,
+    }
+}
+
 // `let`, behind the word.
 fn let_in(
     text: &[u8],
@@ -390,12 +402,7 @@ fn let_in(
     let within = keyword(text, a, b"in", 15);
     names[top] = x;
     names[top + 1] = y;
-    let wider = Scope {
-        base: sc.base,
-        many: sc.many + 2,
-        lost: sc.lost,
-    };
-    let b = expr(text, table, names, slots, wider, within);
+    let b = expr(text, table, names, slots, wider(sc), within);
     let first = (c.count + 1) as u8;
     let second = within.count as u8;
     store(slots, c.count, [0x19, first, second, 0, 0, 0, 0, 0]);
@@ -644,12 +651,7 @@ fn list_case(
     let x = names[top];
     let y = names[top + 1];
     let close = symbol(text, bound, b']', 14);
-    let wider = Scope {
-        base: sc.base,
-        many: sc.many + 2,
-        lost: sc.lost,
-    };
-    let b = branch(text, table, names, slots, wider, close);
+    let b = branch(text, table, names, slots, wider(sc), close);
     let u = test(text, b, 24, 25);
     let word = keyword(text, u, b"default", u.detail);
     let member = again(text, word, x, 26);
@@ -659,21 +661,16 @@ fn list_case(
     let e = default(text, table, names, slots, top, rest);
     let end = keyword(text, e, b"end", 31);
     let subject = (n + 1) as u8;
+    let first = c.count as u8;
+    let second = close.count as u8;
     let test_a = (t.found % 256) as u8;
     let test_b = (u.found % 256) as u8;
+    let one = member.count as u8;
+    let others = rest.count as u8;
     store(
         slots,
         n,
-        [
-            0x17,
-            subject,
-            c.count as u8,
-            test_a,
-            close.count as u8,
-            test_b,
-            member.count as u8,
-            rest.count as u8,
-        ],
+        [0x17, subject, first, test_a, second, test_b, one, others],
     );
     end
 }

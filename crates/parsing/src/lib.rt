@@ -6,7 +6,6 @@ ghost use Rattle.parsing.specs.Answer.{readAnswer, replyOf, outputOf};
 mod cursor;
 mod expect;
 mod expr;
-mod lexer;
 mod names;
 mod nodes;
 mod whole;

@@ -6,11 +6,11 @@ ghost use lib.ListN.{length, drop};
 ghost use Rattle.syntax.specs.Laid.{shuts};
 ghost use Rattle.syntax.specs.Tokens.{wordOf, same};
 ghost use Rattle.syntax.specs.Reader.{isName, isSome, find, words};
-ghost use Rattle.parsing.specs.Lexing.{tokenAt, Shape, part};
+ghost use Rattle.lexing.specs.Lexing.{tokenAt, Shape, part};
 ghost use Rattle.parsing.specs.Names.{nameAt, Found};
-use crate::lexer::Lexeme;
-use crate::lexer::WORD;
-use crate::lexer::goes_on;
+use lexing::Lexeme;
+use lexing::WORD;
+use lexing::goes_on;
 
 // Whether a part of the text spells these bytes.
 fn spells(text: &[u8], at: usize, end: usize, w: &[u8]) -> bool
@@ -46,43 +46,19 @@ fn is_reserved(text: &[u8], t: Lexeme) -> bool
     requires { ⌜ Shape (now text) t ⌝ }
     ensures { λ r. ⌜ r ≡ isSome (find words (wordOf (tokenAt (now (text .entry)) t))) ⌝ }
 {
-    if is_word(text, t, b"plan") {
-        return true;
-    }
-    if is_word(text, t, b"list") {
-        return true;
-    }
-    if is_word(text, t, b"section") {
-        return true;
-    }
-    if is_word(text, t, b"case") {
-        return true;
-    }
-    if is_word(text, t, b"of") {
-        return true;
-    }
-    if is_word(text, t, b"with") {
-        return true;
-    }
-    if is_word(text, t, b"default") {
-        return true;
-    }
-    if is_word(text, t, b"end") {
-        return true;
-    }
-    if is_word(text, t, b"let") {
-        return true;
-    }
-    if is_word(text, t, b"in") {
-        return true;
-    }
-    if is_word(text, t, b"each") {
-        return true;
-    }
-    if is_word(text, t, b"true") {
-        return true;
-    }
-    is_word(text, t, b"false")
+    is_word(text, t, b"plan")
+        | is_word(text, t, b"list")
+        | is_word(text, t, b"section")
+        | is_word(text, t, b"case")
+        | is_word(text, t, b"of")
+        | is_word(text, t, b"with")
+        | is_word(text, t, b"default")
+        | is_word(text, t, b"end")
+        | is_word(text, t, b"let")
+        | is_word(text, t, b"in")
+        | is_word(text, t, b"each")
+        | is_word(text, t, b"true")
+        | is_word(text, t, b"false")
 }
 
 /// Whether a token is a name.

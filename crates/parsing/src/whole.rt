@@ -1,10 +1,10 @@
 //! A whole text: the plan's names, the list's expression and the sections; read once for the names of the sections, and once more with them.
 ghost use mathlib.Core.Path.{_≡_};
-ghost use mathlib.Core.List.{List};
 ghost use Prim.Native.Nat.{_+_, _*_, _≤_, _<_};
-ghost use lib.ListN.{length, take};
+ghost use lib.ListN.{length};
 ghost use Rattle.report.specs.Writing.{Wrote};
-ghost use Rattle.parsing.specs.Answer.{ReadAnswer, answerOf, replyOf, outputOf};
+ghost use Rattle.parsing.specs.Answer.{answerOf, replyOf, outputOf};
+ghost use Rattle.parsing.specs.declared.Reading.the-variants.{At};
 ghost use Rattle.syntax.specs.Reader.{sheetOf};
 ghost use Rattle.parsing.specs.Nodes.{recordsFrom, recordsIn, recordIn};
 ghost use Rattle.parsing.specs.Whole.{Full, Planned, Titled, Lent, Sectioned, Sections, Passed};
@@ -18,11 +18,11 @@ use crate::expect::keyword;
 use crate::expect::symbol;
 use crate::expr::expr;
 use crate::expr::two;
-use crate::lexer::END;
-use crate::lexer::next;
 use crate::names::is_name;
 use crate::names::is_word;
 use crate::names::lookup;
+use lexing::END;
+use lexing::next;
 
 // A 17th name of the plan, or none.
 fn full(text: &[u8], c: Cursor) -> Cursor
@@ -224,6 +224,17 @@ fn write(front: &[u8], slots: &[u8], count: usize, out: &mut [u8]) -> usize
     records(slots, count, out, end)
 }
 
+// The refusal that a fault is.
+fn met(c: Cursor) -> Reading
+    ensures { λ r. ⌜ r ≡ At (c .code) (c .at) (c .detail) ⌝ }
+{
+    Reading::At {
+        refusal: c.code,
+        place: c.at,
+        detail: c.detail,
+    }
+}
+
 /// The sheet that a text says.
 pub fn read(text: &[u8], out: &mut [u8]) -> Reading
     requires { ⌜ 2048 ≤ length (now out) ⌝ }
@@ -244,11 +255,7 @@ pub fn read(text: &[u8], out: &mut [u8]) -> Reading
         &mut titles,
     );
     if first.code != 0 {
-        return Reading::At {
-            refusal: first.code,
-            place: first.at,
-            detail: first.detail,
-        };
+        return met(first);
     }
     let mut again = [0usize; 9];
     let second = pass(
@@ -260,11 +267,7 @@ pub fn read(text: &[u8], out: &mut [u8]) -> Reading
         &mut again,
     );
     if second.code != 0 {
-        return Reading::At {
-            refusal: second.code,
-            place: second.at,
-            detail: second.detail,
-        };
+        return met(second);
     }
     Reading::Done(write(&front[..3 + 2 * second.found], &slots, second.count, out))
 }

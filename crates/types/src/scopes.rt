@@ -4,6 +4,7 @@ ghost use mathlib.Core.Path.{_≡_};
 ghost use mathlib.Core.List.{List, [], _∷_};
 ghost use Prim.Native.Nat.{ℕ, _+_, _*_, _/_, _%_, _≤_, _<_};
 ghost use lib.ListN.{getElem?};
+ghost use Rattle.sheet.specs.Kinds.{row};
 ghost use Rattle.typing.specs.Fits.{Scope};
 ghost use Rattle.types.specs.Scopes.{Scoped, bytesOr, widen, viewOf, Put, PutAll, childScopes, sectionScopes, subject};
 ghost use Rattle.types.specs.Uses.{Roots};
@@ -69,7 +70,28 @@ pub fn place_roots(stand: &mut [u32; 200], sheet: &[u8], k: usize, root: usize, 
     }
 }
 
-// The children of node i, which is n and stands in this scope.
+// The children of node i, which is n and stands in this scope, where it is a case on a list.
+fn place_list_case(stand: &mut [u32; 200], n: Node, i: usize, scope: u32)
+    requires { ⌜ (scope < 256000) × (i < 200) × (subject n < 200) ⌝ }
+    ensures { λ _. ⌜ (row n .kind ≡ 0x17 → PutAll (now (stand .entry)) (childScopes scope i n) (now (stand .exit))) ⌝ }
+{
+    let Node::ListCase {
+        subject,
+        empty,
+        front,
+        first,
+        rest,
+        ..
+    } = n
+    else {
+        return;
+    };
+    place_two(stand, subject, empty, scope);
+    place(stand, front, widened(scope, subject));
+    place_two(stand, first, rest, view_of(i));
+}
+
+// The same of any node.
 pub fn place_children(stand: &mut [u32; 200], n: Node, i: usize, scope: u32)
     requires { ⌜ (scope < 256000) × (i < 200) × (subject n < 200) ⌝ }
     ensures { λ _. ⌜ PutAll (now (stand .entry)) (childScopes scope i n) (now (stand .exit)) ⌝ }
@@ -77,18 +99,7 @@ pub fn place_children(stand: &mut [u32; 200], n: Node, i: usize, scope: u32)
     match n {
         Node::Front { first, rest } => place_two(stand, first, rest, scope),
         Node::Pair { left, right } => place_two(stand, left, right, scope),
-        Node::ListCase {
-            subject,
-            empty,
-            front,
-            first,
-            rest,
-            ..
-        } => {
-            place_two(stand, subject, empty, scope);
-            place(stand, front, widened(scope, subject));
-            place_two(stand, first, rest, view_of(i));
-        }
+        Node::ListCase { .. } => place_list_case(stand, n, i, scope),
         Node::TruthCase {
             subject,
             no,

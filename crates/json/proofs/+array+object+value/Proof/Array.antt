@@ -28,7 +28,7 @@ use Rattle.report.proofs.byte.Reads as byte-reads
 use Rattle.json.proofs.+array+object+value as cycle
 use cycle.Lts-array as lts
 use cycle.Proof.Frame.{array, value}
-use Rattle.json.proofs.Member.{AtMeasure, BelowMeasure, LoopPlacesOf}
+use Rattle.places.specs.Member.{AtMeasure, BelowMeasure, LoopPlacesOf}
 
 abbrev claims : ℕ → lts.Claims
 claims t = (skip-reads.Asked, skip-reads.Learnt, byte-reads.Asked, byte-reads.Learnt, BelowMeasure value t, value-reads.Post)

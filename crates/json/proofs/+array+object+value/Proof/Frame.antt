@@ -3,7 +3,7 @@
 use Prim.Native.Nat.{_+_, _-_, _*_}
 use lib.ListN.{length}
 use denote.Ref.{now}
-use Rattle.json.proofs.Member.{Member}
+use Rattle.places.specs.Member.{Member}
 use Rattle.json.proofs.array.Reads as array-reads
 use Rattle.json.proofs.array.Kinds as array-kinds
 use Rattle.json.proofs.object.Reads as object-reads

@@ -30,7 +30,7 @@ use Rattle.report.proofs.byte.Reads as byte-reads
 use Rattle.json.proofs.+array+object+value as cycle
 use cycle.Lts-object as lts
 use cycle.Proof.Frame.{object, value}
-use Rattle.json.proofs.Member.{AtMeasure, BelowMeasure, PlacesOf}
+use Rattle.places.specs.Member.{AtMeasure, BelowMeasure, PlacesOf}
 
 abbrev claims : ℕ → lts.Claims
 claims t = (

@@ -12,7 +12,7 @@ use Rattle.json.proofs.value.Reads as value-reads
 use Rattle.json.proofs.+array+object+value as cycle
 use cycle.Lts-value as lts
 use cycle.Proof.Frame.{array, object, value}
-use Rattle.json.proofs.Member.{AtMeasure, BelowMeasure, PlacesOf}
+use Rattle.places.specs.Member.{AtMeasure, BelowMeasure, PlacesOf}
 
 abbrev claims : ℕ → lts.Claims
 claims t = (

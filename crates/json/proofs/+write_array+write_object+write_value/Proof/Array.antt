@@ -30,7 +30,7 @@ use Rattle.report.proofs.byte.Reads as byte-reads
 use Rattle.json.proofs.+write_array+write_object+write_value as cycle
 use cycle.Lts-write_array as lts
 use cycle.Proof.Frame.{array, value}
-use Rattle.json.proofs.Member.{AtMeasure, BelowMeasure, LoopPlacesOf}
+use Rattle.places.specs.Member.{AtMeasure, BelowMeasure, LoopPlacesOf}
 
 abbrev claims : ℕ → lts.Claims
 claims t = (byte-reads.Asked, byte-reads.Learnt, BelowMeasure value t, value-reads.Post)

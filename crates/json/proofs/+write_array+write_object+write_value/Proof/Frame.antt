@@ -4,7 +4,7 @@
 use Prim.Native.Nat.{_+_, _-_, _*_}
 use lib.ListN.{length}
 use denote.Ref.{now}
-use Rattle.json.proofs.Member.{Member}
+use Rattle.places.specs.Member.{Member}
 use Rattle.json.proofs.write_array.Reads as array-reads
 use Rattle.json.proofs.write_array.Kinds as array-kinds
 use Rattle.json.proofs.write_object.Reads as object-reads

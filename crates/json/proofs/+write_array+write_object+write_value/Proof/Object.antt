@@ -11,7 +11,7 @@ use Rattle.report.proofs.bytes.Reads as bytes-reads
 use Rattle.json.proofs.+write_array+write_object+write_value as cycle
 use cycle.Lts-write_object as lts
 use cycle.Proof.Frame.{object, value}
-use Rattle.json.proofs.Member.{AtMeasure, BelowMeasure, PlacesOf}
+use Rattle.places.specs.Member.{AtMeasure, BelowMeasure, PlacesOf}
 
 abbrev claims : ℕ → lts.Claims
 claims t = (bytes-reads.Asked, bytes-reads.Learnt, BelowMeasure value t, value-reads.Post, byte-reads.Asked, byte-reads.Learnt)

@@ -10,7 +10,7 @@ use Rattle.json.proofs.write_value.Reads as value-reads
 use Rattle.json.proofs.+write_array+write_object+write_value as cycle
 use cycle.Lts-write_value as lts
 use cycle.Proof.Frame.{array, object, value}
-use Rattle.json.proofs.Member.{AtMeasure, BelowMeasure, PlacesOf}
+use Rattle.places.specs.Member.{AtMeasure, BelowMeasure, PlacesOf}
 
 abbrev claims : ℕ → lts.Claims
 claims t = (scalar-reads.Asked, scalar-reads.Learnt, BelowMeasure array t, array-reads.Post, BelowMeasure object t, object-reads.Post)

@@ -7,7 +7,7 @@ use borrow.Author.Needs.{needs}
 use lib.ListN.{drop}
 use Rattle.syntax.specs.Tokens.{wordOf}
 use Rattle.syntax.specs.Reader.{Name, find, tests}
-use Rattle.parsing.specs.Lexing.{tokenAt}
+use Rattle.lexing.specs.Lexing.{tokenAt}
 use Rattle.parsing.specs.Expect.{numberOr, test-first, test-later, test-none}
 use Rattle.parsing.proofs.expect.test_number.Reads as reads
 use Rattle.parsing.proofs.expect.test_number.Lts as lts

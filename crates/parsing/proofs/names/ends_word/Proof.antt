@@ -1,8 +1,6 @@
 -- `ends_word` meets its contract. Assumes nothing.
 use native.Mathlib.Omega.{arith}
 use borrow.Author.Needs.{needs}
-use lib.ListN.{drop-of-length-le}
-use Rattle.syntax.specs.Laid.{shuts}
 use Rattle.parsing.specs.Names.{shut-end, shut-at}
 use Rattle.parsing.proofs.names.ends_word.Statement.{statement}
 use Rattle.parsing.proofs.names.ends_word.Tie as tie

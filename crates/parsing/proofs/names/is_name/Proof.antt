@@ -2,7 +2,7 @@
 use mathlib.Core.Path.{sym, _∙_}
 use borrow.Author.Needs.{needs}
 use Rattle.syntax.specs.Tokens.{wordOf}
-use Rattle.parsing.specs.Lexing.{tokenAt}
+use Rattle.lexing.specs.Lexing.{tokenAt}
 use Rattle.parsing.specs.Names.{no-name, wild-no-name, name-told}
 use Rattle.parsing.proofs.names.is_name.Statement.{statement}
 use Rattle.parsing.proofs.names.is_name.Tie as tie

@@ -1,16 +1,14 @@
 -- `is_same` meets its contract: the first i bytes are alike. Assumes nothing.
-use Prim.Native.Nat.{ℕ, _+_, _-_, _≤_}
-use mathlib.Core.Path.{_≡_, sym, ap, _∙_}
-use mathlib.Core.List.{List}
+use Prim.Native.Nat.{_+_, _-_, _≤_}
+use mathlib.Core.Path.{sym, ap, _∙_}
 use native.Mathlib.Omega.{arith}
 use borrow.Author.Needs.{needs}
 use lib.ListN.{length}
 use Rattle.syntax.specs.Quoted.{bytes}
 use Rattle.syntax.specs.Tokens.{wordOf, same}
 use Rattle.syntax.specs.Reader.{Name}
-use Rattle.parsing.specs.Lexing.{part, part-length, tokenAt, Shape}
+use Rattle.lexing.specs.Lexing.{part, part-length, tokenAt}
 use Rattle.parsing.specs.Names.{Alike, alike-none, alike-more, alike-not, alike-short, alike-all, same-sym, name-sent, name-alike, part-at}
-use Rattle.parsing.specs.declared.lexer.Lexeme.{Lexeme}
 use Rattle.parsing.proofs.names.is_same.Statement.{statement}
 use Rattle.parsing.proofs.names.is_same.Tie as tie
 

@@ -2,7 +2,6 @@
 use mathlib.Core.Path.{sym, ap, _∙_}
 use mathlib.Core.List.{List}
 use Prim.Native.Nat.{ℕ}
-use borrow.Author.Needs.{needs}
 use Rattle.syntax.specs.Tokens.{same}
 use Rattle.parsing.specs.Names.{same-none, word-is}
 use Rattle.parsing.proofs.names.is_word.Statement.{statement}

@@ -2,9 +2,8 @@
 use Prim.Native.Nat.{_-_}
 use mathlib.Core.Path.{sym, _∙_}
 use native.Mathlib.Omega.{arith}
-use borrow.Author.Needs.{needs}
 use Rattle.syntax.specs.Tokens.{wordOf}
-use Rattle.parsing.specs.Lexing.{tokenAt}
+use Rattle.lexing.specs.Lexing.{tokenAt}
 use Rattle.parsing.specs.Names.{Above, above-all, above-one, above-found, above-none}
 use Rattle.parsing.proofs.names.lookup.Statement.{statement}
 use Rattle.parsing.proofs.names.lookup.Tie as tie

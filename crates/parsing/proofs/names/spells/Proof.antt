@@ -3,7 +3,7 @@ use Prim.Native.Nat.{_-_}
 use mathlib.Core.Path.{sym, _∙_}
 use native.Mathlib.Omega.{arith}
 use lib.ListN.{length}
-use Rattle.parsing.specs.Lexing.{part, part-length}
+use Rattle.lexing.specs.Lexing.{part, part-length}
 use Rattle.parsing.specs.Names.{Agree, agree-none, agree-more, agree-not, agree-all, same-long, part-at}
 use Rattle.parsing.proofs.names.spells.Statement.{statement}
 use Rattle.parsing.proofs.names.spells.Tie as tie

@@ -7,9 +7,9 @@ use borrow.Author.Needs.{needs}
 use Rattle.parsing.specs.Whole.{plan-on, plan-full, plan-fault, plan-last, plan-more}
 use Rattle.parsing.proofs.cursor.read.Reads as read-reads
 use Rattle.parsing.proofs.expect.bind.Reads as bind-reads
-use Rattle.parsing.proofs.lexer.next.Reads as next-reads
+use Rattle.lexing.proofs.next.Reads as next-reads
 use Rattle.parsing.proofs.whole.full.Reads as full-reads
-use Rattle.parsing.proofs.Member.{Member, AtMeasure, BelowMeasure, PlacesOf}
+use Rattle.places.specs.Member.{Member, AtMeasure, BelowMeasure, PlacesOf}
 use Rattle.parsing.proofs.whole.plan.Reads as plan-reads
 use Rattle.parsing.proofs.whole.plan.Kinds as plan-kinds
 use Rattle.parsing.proofs.whole.+plan.Lts-plan as lts

@@ -9,10 +9,10 @@ use lib.ListN.{length-set}
 use Rattle.parsing.specs.Whole.{sections-on, sections-end, sections-none, sections-full, sections-more, lent-behind}
 use Rattle.parsing.proofs.cursor.fault.Reads as fault-reads
 use Rattle.parsing.proofs.cursor.read.Reads as read-reads
-use Rattle.parsing.proofs.lexer.next.Reads as next-reads
+use Rattle.lexing.proofs.next.Reads as next-reads
 use Rattle.parsing.proofs.names.is_word.Reads as is-word-reads
 use Rattle.parsing.proofs.whole.section.Reads as section-reads
-use Rattle.parsing.proofs.Member.{Member, AtMeasure, BelowMeasure, PlacesOf}
+use Rattle.places.specs.Member.{Member, AtMeasure, BelowMeasure, PlacesOf}
 use Rattle.parsing.proofs.whole.sections.Reads as sections-reads
 use Rattle.parsing.proofs.whole.sections.Kinds as sections-kinds
 use Rattle.parsing.proofs.whole.+sections.Lts-sections as lts

@@ -15,12 +15,12 @@ pass-requires c κs =
 
 returns : tie.Need-returns
 returns c =
-    let i = c in
+    let i = c .before in
     let p = i .before .before .before .before .before .before in
     let e = p .before .before .before .before .before .before .before .before in
     let a = p .pass .result in
     let f = first-fault (p .pass .ensures .0) (i .if1 .taken) in
-    (told-met (a .code) (a .at) (a .detail) f, kept-met (a .code) (a .at) (a .detail) (e .args .out .now) f)
+    (c .met .ensures ∙ told-met (a .code) (a .at) (a .detail) f, kept-met (a .code) (a .at) (a .detail) (e .args .out .now) f)
 
 add-titles : tie.Need-add-titles
 add-titles c =
@@ -51,14 +51,14 @@ pass-requires-2 c κs =
 
 returns-2 : tie.Need-returns-2
 returns-2 c =
-    let j = c in
+    let j = c .before in
     let q = j .before .before .before .before .before .before in
     let i = q .before .before .before .before .before .before .before in
     let p = i .before .before .before .before .before .before in
     let e = p .before .before .before .before .before .before .before .before in
     let a = q .pass2 .result in
     let f = second-fault (p .pass .ensures .0) (i .if1 .left) (p .pass .ensures .1 .3) (q .pass2 .ensures .0) (j .if2 .taken) in
-    (told-met (a .code) (a .at) (a .detail) f, kept-met (a .code) (a .at) (a .detail) (e .args .out .now) f)
+    (c .met2 .ensures ∙ told-met (a .code) (a .at) (a .detail) f, kept-met (a .code) (a .at) (a .detail) (e .args .out .now) f)
 
 mul-front : tie.Need-mul-front
 mul-front c =
@@ -109,7 +109,7 @@ pub read-spec : {M : Type 1} → statement M
 read-spec =
     tie.close
     (tie.spec
-    (λ c. search needs) (λ c. search needs) (λ c. search needs) (λ c. search needs) (λ c. search needs) (λ c. search needs) pass-requires returns
+    (λ c. search needs) (λ c. search needs) (λ c. search needs) (λ c. search needs) (λ c. search needs) (λ c. search needs) pass-requires (λ c κs. search needs) returns
     add-titles array-share-prefix-titles slice-aggregate-pass-6 (λ c. search needs) (λ c. search needs) (λ c. search needs) (λ c. search needs)
-    pass-requires-2 returns-2 mul-front add-front array-share-prefix-front slice-aggregate-write (λ c. search needs) write-requires same-length
+    pass-requires-2 (λ c κs. search needs) returns-2 mul-front add-front array-share-prefix-front slice-aggregate-write (λ c. search needs) write-requires same-length
     returns-3)

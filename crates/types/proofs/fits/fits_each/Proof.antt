@@ -1,12 +1,12 @@
 -- `fits_each` meets its contract. Assumes nothing.
 use Rattle.types.specs.Decided.{ranged-as, in-node, in-first, in-second, in-result, same-types, list-types, fits-each}
-use Rattle.types.proofs.Tags.{not-each}
+use Rattle.places.specs.Tags.{not-here}
 use borrow.Author.Needs.{needs}
 use Rattle.types.proofs.fits.fits_each.Statement.{statement}
 use Rattle.types.proofs.fits.fits_each.Tie as tie
 
 returns : tie.Need-returns
-returns c q = absurd (not-each (c .before .before .args .n) (c .match .keys2) q)
+returns c q = absurd (not-here 0x1C (c .before .before .args .n) (c .match .keys2) q)
 
 returns-2 : tie.Need-returns-2
 returns-2 c q sections nodes ts Γ k =

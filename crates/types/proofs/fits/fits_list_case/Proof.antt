@@ -1,12 +1,12 @@
 -- `fits_list_case` meets its contract. Assumes nothing.
 use Rattle.types.specs.Decided.{ranged-as, in-node, list-types, same-types, fits-list}
-use Rattle.types.proofs.Tags.{not-list-case}
+use Rattle.places.specs.Tags.{not-here}
 use borrow.Author.Needs.{needs}
 use Rattle.types.proofs.fits.fits_list_case.Statement.{statement}
 use Rattle.types.proofs.fits.fits_list_case.Tie as tie
 
 returns : tie.Need-returns
-returns c stand q = absurd (not-list-case (c .before .before .args .n) (c .match .keys2) q)
+returns c stand q = absurd (not-here 0x17 (c .before .before .args .n) (c .match .keys2) q)
 
 returns-2 : tie.Need-returns-2
 returns-2 c stand q sections nodes ts Γ k =

@@ -1,12 +1,12 @@
 -- `fits_truth_case` meets its contract. Assumes nothing.
 use Rattle.types.specs.Decided.{ranged-as, in-node, kind-is, same-types, fits-truth}
-use Rattle.types.proofs.Tags.{not-truth-case}
+use Rattle.places.specs.Tags.{not-here}
 use borrow.Author.Needs.{needs}
 use Rattle.types.proofs.fits.fits_truth_case.Statement.{statement}
 use Rattle.types.proofs.fits.fits_truth_case.Tie as tie
 
 returns : tie.Need-returns
-returns c stand q = absurd (not-truth-case (c .before .before .args .n) (c .match .keys2) q)
+returns c stand q = absurd (not-here 0x18 (c .before .before .args .n) (c .match .keys2) q)
 
 returns-2 : tie.Need-returns-2
 returns-2 c stand q sections nodes ts Γ k =

@@ -7,7 +7,7 @@ use borrow.Author.Needs.{needs}
 use Rattle.parsing.specs.ConstructLaws.{parsed-on, back-bar, back-full, back-comma, back-none, back-end-full, back-end, ready-inner, count-behind}
 use Rattle.parsing.proofs.expr.bare.Reads as bare-reads
 use Rattle.parsing.proofs.cursor.fault.Reads as fault-reads
-use Rattle.parsing.proofs.lexer.next.Reads as next-reads
+use Rattle.lexing.proofs.next.Reads as next-reads
 use Rattle.parsing.proofs.cursor.read.Reads as read-reads
 use Rattle.parsing.proofs.expect.symbol.Reads as symbol-reads
 use Rattle.parsing.proofs.expr.back.Reads as back-reads
@@ -16,7 +16,7 @@ use Rattle.parsing.proofs.expr.front.Reads as front-reads
 use Rattle.parsing.proofs.expr.+amount+back+branch+branches+case_of+default+each_of+expr+front+let_in+list+list_case+pair+shaped+truth_case as cycle
 use cycle.Lts-back as lts
 use cycle.Proof.Frame.{back, expr, front}
-use Rattle.parsing.proofs.Member.{AtMeasure, BelowMeasure, PlacesOf}
+use Rattle.places.specs.Member.{AtMeasure, BelowMeasure, PlacesOf}
 
 abbrev claims : ℕ → lts.Claims
 claims t = (

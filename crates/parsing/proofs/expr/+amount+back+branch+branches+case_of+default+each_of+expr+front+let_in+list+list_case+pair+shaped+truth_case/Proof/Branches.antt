@@ -7,7 +7,7 @@ use borrow.Author.Needs.{needs}
 use Rattle.parsing.specs.ConstructLaws.{branches-on, branches-truth, branches-none, branches-lists, count-behind, code-behind}
 use Rattle.parsing.proofs.cursor.fault.Reads as fault-reads
 use Rattle.parsing.proofs.names.is_word.Reads as is-word-reads
-use Rattle.parsing.proofs.lexer.next.Reads as next-reads
+use Rattle.lexing.proofs.next.Reads as next-reads
 use Rattle.parsing.proofs.cursor.read.Reads as read-reads
 use Rattle.parsing.proofs.expr.branches.Reads as branches-reads
 use Rattle.parsing.proofs.expr.list_case.Reads as list-case-reads
@@ -15,7 +15,7 @@ use Rattle.parsing.proofs.expr.truth_case.Reads as truth-case-reads
 use Rattle.parsing.proofs.expr.+amount+back+branch+branches+case_of+default+each_of+expr+front+let_in+list+list_case+pair+shaped+truth_case as cycle
 use cycle.Lts-branches as lts
 use cycle.Proof.Frame.{branches, list-case, truth-case}
-use Rattle.parsing.proofs.Member.{AtMeasure, BelowMeasure, PlacesOf}
+use Rattle.places.specs.Member.{AtMeasure, BelowMeasure, PlacesOf}
 
 abbrev claims : ℕ → lts.Claims
 claims t = (

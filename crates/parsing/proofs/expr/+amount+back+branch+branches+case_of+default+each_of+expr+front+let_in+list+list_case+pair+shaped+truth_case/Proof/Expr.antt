@@ -7,13 +7,13 @@ use borrow.Author.Needs.{needs}
 use Rattle.parsing.specs.ConstructLaws.{parsed-on, expr-none, expr-full, expr-shaped}
 use Rattle.parsing.proofs.expr.begins.Reads as begins-reads
 use Rattle.parsing.proofs.cursor.fault.Reads as fault-reads
-use Rattle.parsing.proofs.lexer.next.Reads as next-reads
+use Rattle.lexing.proofs.next.Reads as next-reads
 use Rattle.parsing.proofs.expr.expr.Reads as expr-reads
 use Rattle.parsing.proofs.expr.shaped.Reads as shaped-reads
 use Rattle.parsing.proofs.expr.+amount+back+branch+branches+case_of+default+each_of+expr+front+let_in+list+list_case+pair+shaped+truth_case as cycle
 use cycle.Lts-expr as lts
 use cycle.Proof.Frame.{expr, shaped}
-use Rattle.parsing.proofs.Member.{AtMeasure, BelowMeasure, PlacesOf}
+use Rattle.places.specs.Member.{AtMeasure, BelowMeasure, PlacesOf}
 
 abbrev claims : ℕ → lts.Claims
 claims t = (

@@ -2,7 +2,7 @@
 -- those that it calls at the same number.
 -- Assumes nothing.
 use Prim.Native.Nat.{ℕ, _+_, _-_, _*_}
-use Rattle.parsing.proofs.Member.{Member}
+use Rattle.places.specs.Member.{Member}
 use Rattle.parsing.proofs.expr.amount.Reads as amount-reads
 use Rattle.parsing.proofs.expr.amount.Kinds as amount-kinds
 use Rattle.parsing.proofs.expr.back.Reads as back-reads

@@ -1,22 +1,23 @@
 -- `let_in` meets its contract.
 -- Assumes nothing.
-use mathlib.Core.Path.{refl, sym, ap, _∙_}
+use mathlib.Core.Path.{refl, _∙_}
 use Prim.Native.Nat.{ℕ}
 use native.Mathlib.Omega.{arith}
 use borrow.Author.Needs.{needs}
 use lib.ListN.{length-set}
-use Rattle.parsing.specs.ConstructLaws.{let-parsed, goes-at, inner-ready, count-entered}
+use Rattle.parsing.specs.ConstructLaws.{let-parsed, parsed-in, goes-at, inner-ready, wider-top, count-entered}
 use Rattle.parsing.proofs.cursor.enter.Reads as enter-reads
 use Rattle.parsing.proofs.expect.keyword.Reads as keyword-reads
 use Rattle.parsing.proofs.nodes.store.Reads as store-reads
 use Rattle.parsing.proofs.expect.symbol.Reads as symbol-reads
 use Rattle.parsing.proofs.expr.two.Reads as two-reads
+use Rattle.parsing.proofs.expr.wider.Reads as wider-reads
 use Rattle.parsing.proofs.expr.expr.Reads as expr-reads
 use Rattle.parsing.proofs.expr.let_in.Reads as let-in-reads
 use Rattle.parsing.proofs.expr.+amount+back+branch+branches+case_of+default+each_of+expr+front+let_in+list+list_case+pair+shaped+truth_case as cycle
 use cycle.Lts-let_in as lts
 use cycle.Proof.Frame.{expr, let-in}
-use Rattle.parsing.proofs.Member.{AtMeasure, BelowMeasure, PlacesOf}
+use Rattle.places.specs.Member.{AtMeasure, BelowMeasure, PlacesOf}
 
 abbrev claims : ℕ → lts.Claims
 claims t = (
@@ -30,6 +31,8 @@ claims t = (
   expr-reads.Post,
   keyword-reads.Asked,
   keyword-reads.Learnt,
+  wider-reads.Asked,
+  wider-reads.Learnt,
   store-reads.Asked,
   store-reads.Learnt,
 )
@@ -190,9 +193,9 @@ module _ (t : ℕ) where
       let m = e .pre .1 .ready .names-long in
       let k = w .two .ensures .below .long in let k₂ = x .expr .ensures .below .long in rw length-set (omega arith)
 
-  add-t26 : At lts.Need-add-t26
-  add-t26 c =
-      let e = entry-keyword (c .before) in
+  wider-requires : At lts.Need-wider-requires
+  wider-requires c κs =
+      let e = entry-keyword (c .before .before) in
       let l = e .pre .1 .ready .low in let f = e .pre .1 .free in omega arith
 
   expr-requires-2 : At lts.Need-expr-requires-2
@@ -217,7 +220,7 @@ module _ (t : ℕ) where
       let j₇ = k .keyword .ensures .same in (
         omega (arith, e .pre .0),
         inner-ready (e .pre .1) (simp length-set (p .below .long ∙ w .two .ensures .below .long)) (p .kept .long) (omega arith)
-            (omega arith) (omega arith),
+            (omega arith) (omega (arith, wider-top (e .args .sc) (c .wider .ensures))),
       )
 
   add-first : At lts.Need-add-first
@@ -260,11 +263,11 @@ module _ (t : ℕ) where
       let n = before-symbol g in
       let e = entry-enter n in
       let-parsed (e .pre .1) (goes-at (n .enter .ensures) (g .symbol .ensures)) (w .two .ensures) (h .symbol2 .ensures) (q .symbol3 .ensures) (x .expr .ensures)
-      (k .keyword .ensures) refl (y .expr2 .ensures) (s .store .ensures)
+      (k .keyword .ensures) refl (parsed-in (y .before .wider .ensures) (y .expr2 .ensures)) (s .store .ensures)
 
 pub let-in-met : {M : Type 1} (t : ℕ) → lts.Closed (claims t) (AtMeasure let-in t) let-in-reads.Post M
 let-in-met t = lts.spec (claims t) (AtMeasure let-in t) let-in-reads.Post
     (add-top t) (enter-requires t) (λ c κs. search needs) (two-requires t) (mul-x t) (slice-read-x t) (add-y t) (mul-y t) (slice-read-y t)
     (λ c κs. search needs) (λ c κs. search needs) (expr-requires t) (λ c. search needs) (λ c κs. search needs) (mul-names t) (slice-write-names t)
-    (add-names t) (mul-names-2 t) (slice-write-names-2 t) (add-t26 t) (expr-requires-2 t) (add-first t) (cast-first t) (cast-second t)
+    (add-names t) (mul-names-2 t) (slice-write-names-2 t) (wider-requires t) (expr-requires-2 t) (add-first t) (cast-first t) (cast-second t)
     (store-requires t) (λ c. returns t c .below .long) (λ c. returns t c .kept .long) (returns t)

@@ -6,14 +6,14 @@ use native.Mathlib.Omega.{arith}
 use borrow.Author.Needs.{needs}
 use Rattle.parsing.specs.ConstructLaws.{list-empty, list-front, count-behind}
 use Rattle.parsing.proofs.expr.bare.Reads as bare-reads
-use Rattle.parsing.proofs.lexer.next.Reads as next-reads
+use Rattle.lexing.proofs.next.Reads as next-reads
 use Rattle.parsing.proofs.cursor.read.Reads as read-reads
 use Rattle.parsing.proofs.expr.front.Reads as front-reads
 use Rattle.parsing.proofs.expr.list.Reads as list-reads
 use Rattle.parsing.proofs.expr.+amount+back+branch+branches+case_of+default+each_of+expr+front+let_in+list+list_case+pair+shaped+truth_case as cycle
 use cycle.Lts-list as lts
 use cycle.Proof.Frame.{front, list}
-use Rattle.parsing.proofs.Member.{AtMeasure, BelowMeasure, PlacesOf}
+use Rattle.places.specs.Member.{AtMeasure, BelowMeasure, PlacesOf}
 
 abbrev claims : ℕ → lts.Claims
 claims t = (

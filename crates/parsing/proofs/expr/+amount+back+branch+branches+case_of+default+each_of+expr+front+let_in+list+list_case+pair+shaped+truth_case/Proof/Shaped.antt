@@ -17,7 +17,7 @@ use Rattle.parsing.proofs.expr.shaped.Reads as shaped-reads
 use Rattle.parsing.proofs.expr.+amount+back+branch+branches+case_of+default+each_of+expr+front+let_in+list+list_case+pair+shaped+truth_case as cycle
 use cycle.Lts-shaped as lts
 use cycle.Proof.Frame.{amount, case-of, each-of, let-in, list, pair, shaped}
-use Rattle.parsing.proofs.Member.{AtMeasure, BelowMeasure, PlacesOf}
+use Rattle.places.specs.Member.{AtMeasure, BelowMeasure, PlacesOf}
 
 abbrev claims : ℕ → lts.Claims
 claims t = (

@@ -5,7 +5,7 @@ use native.Mathlib.Omega.{arith}
 use borrow.Author.Needs.{needs}
 use Rattle.printing.specs.Saying.{tells-long}
 use Rattle.printing.specs.Telling.{kids, next-ready, add-tells}
-use Rattle.printing.proofs.Tags.{not-add}
+use Rattle.places.specs.Tags.{not-here}
 use Rattle.printing.proofs.nodes.add.Reads as add-reads
 use Rattle.report.proofs.bytes.Reads as bytes-reads
 use Rattle.report.proofs.decimal.Reads as decimal-reads
@@ -13,7 +13,7 @@ use Rattle.printing.proofs.nodes.say.Reads as say-reads
 use Rattle.printing.proofs.nodes.+add+body+branch+defaults+each+front+list_case+list_rest+pair+say+split+truth_case as cycle
 use cycle.Lts-add as lts
 use cycle.Proof.Frame.{add, say}
-use Rattle.printing.proofs.Member.{AtMeasure, BelowMeasure, PlacesOf}
+use Rattle.places.specs.Member.{AtMeasure, BelowMeasure, PlacesOf}
 
 abbrev claims : ℕ → lts.Claims
 claims t = (decimal-reads.Asked, decimal-reads.Learnt, bytes-reads.Asked, bytes-reads.Learnt, BelowMeasure say t, say-reads.Post)
@@ -37,7 +37,7 @@ module _ (t : ℕ) where
 
   -- NEEDS
   returns : At lts.Need-returns
-  returns c = let e = c .before .before .before in absurd (not-add (e .args .node) (c .match .keys2) (e .pre .1 .of-kind))
+  returns c = let e = c .before .before .before in absurd (not-here 0x1B (e .args .node) (c .match .keys2) (e .pre .1 .of-kind))
 
   say-requires : At lts.Need-say-requires
   say-requires c κs =

@@ -11,7 +11,7 @@ use Rattle.printing.proofs.pieces.test.Reads as test-reads
 use Rattle.printing.proofs.nodes.+add+body+branch+defaults+each+front+list_case+list_rest+pair+say+split+truth_case as cycle
 use cycle.Lts-branch as lts
 use cycle.Proof.Frame.{body, branch}
-use Rattle.printing.proofs.Member.{AtMeasure, BelowMeasure, PlacesOf}
+use Rattle.places.specs.Member.{AtMeasure, BelowMeasure, PlacesOf}
 
 abbrev claims : ℕ → lts.Claims
 claims t = (BelowMeasure body t, body-reads.Post, test-reads.Asked, test-reads.Learnt)

@@ -5,7 +5,7 @@ use native.Mathlib.Omega.{arith}
 use borrow.Author.Needs.{needs}
 use Rattle.printing.specs.Saying.{ready-bounded, tells-long}
 use Rattle.printing.specs.Telling.{kids, next-ready, defaults-tells}
-use Rattle.printing.proofs.Tags.{not-list-case}
+use Rattle.places.specs.Tags.{not-here}
 use Rattle.printing.proofs.nodes.body.Reads as body-reads
 use Rattle.printing.proofs.nodes.defaults.Reads as defaults-reads
 use Rattle.printing.proofs.pieces.first_default.Reads as first-default-reads
@@ -14,7 +14,7 @@ use Rattle.printing.proofs.pieces.rest_default.Reads as rest-default-re
 use Rattle.printing.proofs.nodes.+add+body+branch+defaults+each+front+list_case+list_rest+pair+say+split+truth_case as cycle
 use cycle.Lts-defaults as lts
 use cycle.Proof.Frame.{body, defaults}
-use Rattle.printing.proofs.Member.{AtMeasure, BelowMeasure, PlacesOf}
+use Rattle.places.specs.Member.{AtMeasure, BelowMeasure, PlacesOf}
 
 abbrev claims : ℕ → lts.Claims
 claims t = (
@@ -53,7 +53,7 @@ module _ (t : ℕ) where
 
   -- NEEDS
   returns : At lts.Need-returns
-  returns c = let e = c .before .before .before in absurd (not-list-case (e .args .node) (c .match .keys2) (e .pre .1 .of-kind))
+  returns c = let e = c .before .before .before in absurd (not-here 0x17 (e .args .node) (c .match .keys2) (e .pre .1 .of-kind))
 
   body-requires : At lts.Need-body-requires
   body-requires c κs =

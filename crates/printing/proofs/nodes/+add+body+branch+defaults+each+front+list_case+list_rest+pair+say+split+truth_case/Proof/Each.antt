@@ -5,7 +5,7 @@ use native.Mathlib.Omega.{arith}
 use borrow.Author.Needs.{needs}
 use Rattle.printing.specs.Saying.{ready-bounded, tells-long}
 use Rattle.printing.specs.Telling.{kids, next-ready, each-tells}
-use Rattle.printing.proofs.Tags.{not-each}
+use Rattle.places.specs.Tags.{not-here}
 use Rattle.printing.proofs.nodes.each.Reads as each-reads
 use Rattle.printing.proofs.pieces.each_default.Reads as each-default-reads
 use Rattle.printing.proofs.pieces.each_open.Reads as each-open-reads
@@ -13,7 +13,7 @@ use Rattle.printing.proofs.nodes.say.Reads as say-reads
 use Rattle.printing.proofs.nodes.+add+body+branch+defaults+each+front+list_case+list_rest+pair+say+split+truth_case as cycle
 use cycle.Lts-each as lts
 use cycle.Proof.Frame.{each, say}
-use Rattle.printing.proofs.Member.{AtMeasure, BelowMeasure, PlacesOf}
+use Rattle.places.specs.Member.{AtMeasure, BelowMeasure, PlacesOf}
 
 abbrev claims : ℕ → lts.Claims
 claims t = (each-open-reads.Asked, each-open-reads.Learnt, BelowMeasure say t, say-reads.Post, each-default-reads.Asked, each-default-reads.Learnt)
@@ -40,7 +40,7 @@ module _ (t : ℕ) where
 
   -- NEEDS
   returns : At lts.Need-returns
-  returns c = let e = c .before .before .before in absurd (not-each (e .args .node) (c .match .keys2) (e .pre .1 .of-kind))
+  returns c = let e = c .before .before .before in absurd (not-here 0x1C (e .args .node) (c .match .keys2) (e .pre .1 .of-kind))
 
   say-requires : At lts.Need-say-requires
   say-requires c κs =

@@ -3,7 +3,7 @@
 -- defaults below a case.
 -- Assumes nothing.
 use Prim.Native.Nat.{_+_, _-_, _*_}
-use Rattle.printing.proofs.Member.{Member}
+use Rattle.places.specs.Member.{Member}
 use Rattle.printing.proofs.nodes.add.Reads as add-reads
 use Rattle.printing.proofs.nodes.add.Kinds as add-kinds
 use Rattle.printing.proofs.nodes.body.Reads as body-reads

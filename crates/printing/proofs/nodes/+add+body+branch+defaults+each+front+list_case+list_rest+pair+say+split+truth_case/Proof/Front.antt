@@ -5,7 +5,7 @@ use native.Mathlib.Omega.{arith}
 use borrow.Author.Needs.{needs}
 use Rattle.printing.specs.Saying.{ready-few, ready-bounded, tells-long}
 use Rattle.printing.specs.Telling.{kids, next-ready, next-trailing, front-tells}
-use Rattle.printing.proofs.Tags.{not-front}
+use Rattle.places.specs.Tags.{not-here}
 use Rattle.printing.proofs.nodes.front.Reads as front-reads
 use Rattle.printing.proofs.nodes.list_rest.Reads as list-rest-reads
 use Rattle.printing.proofs.pieces.open_mark.Reads as open-mark-reads
@@ -13,7 +13,7 @@ use Rattle.printing.proofs.nodes.say.Reads as say-reads
 use Rattle.printing.proofs.nodes.+add+body+branch+defaults+each+front+list_case+list_rest+pair+say+split+truth_case as cycle
 use cycle.Lts-front as lts
 use cycle.Proof.Frame.{front, list-rest, say}
-use Rattle.printing.proofs.Member.{AtMeasure, BelowMeasure, PlacesOf}
+use Rattle.places.specs.Member.{AtMeasure, BelowMeasure, PlacesOf}
 
 abbrev claims : ℕ → lts.Claims
 claims t = (open-mark-reads.Asked, open-mark-reads.Learnt, BelowMeasure say t, say-reads.Post, BelowMeasure list-rest t, list-rest-reads.Post)
@@ -37,7 +37,7 @@ module _ (t : ℕ) where
 
   -- NEEDS
   returns : At lts.Need-returns
-  returns c = let e = c .before .before .before in absurd (not-front (e .args .node) (c .match .keys2) (e .pre .1 .of-kind))
+  returns c = let e = c .before .before .before in absurd (not-here 0x15 (e .args .node) (c .match .keys2) (e .pre .1 .of-kind))
 
   say-requires : At lts.Need-say-requires
   say-requires c κs =

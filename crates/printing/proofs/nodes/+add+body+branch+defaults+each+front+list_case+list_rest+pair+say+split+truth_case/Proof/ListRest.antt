@@ -20,7 +20,7 @@ use Rattle.printing.proofs.nodes.say.Reads as say-reads
 use Rattle.printing.proofs.nodes.+add+body+branch+defaults+each+front+list_case+list_rest+pair+say+split+truth_case as cycle
 use cycle.Lts-list_rest as lts
 use cycle.Proof.Frame.{list-rest, say}
-use Rattle.printing.proofs.Member.{AtMeasure, BelowMeasure, PlacesOf}
+use Rattle.places.specs.Member.{AtMeasure, BelowMeasure, PlacesOf}
 
 abbrev claims : ℕ → lts.Claims
 claims t = (

@@ -23,7 +23,7 @@ use Rattle.printing.proofs.pieces.variable.Reads as variable-reads
 use Rattle.printing.proofs.nodes.+add+body+branch+defaults+each+front+list_case+list_rest+pair+say+split+truth_case as cycle
 use cycle.Lts-say as lts
 use cycle.Proof.Frame.{add, each, front, list-case, pair, say, split, truth-case}
-use Rattle.printing.proofs.Member.{AtMeasure, BelowMeasure, PlacesOf}
+use Rattle.places.specs.Member.{AtMeasure, BelowMeasure, PlacesOf}
 
 abbrev claims : ℕ → lts.Claims
 claims t = (

@@ -5,7 +5,7 @@ use native.Mathlib.Omega.{arith}
 use borrow.Author.Needs.{needs}
 use Rattle.printing.specs.Saying.{ready-bounded, tells-long}
 use Rattle.printing.specs.Telling.{kids, next-ready, truth-tells}
-use Rattle.printing.proofs.Tags.{not-truth-case}
+use Rattle.places.specs.Tags.{not-here}
 use Rattle.printing.proofs.nodes.branch.Reads as branch-reads
 use Rattle.report.proofs.bytes.Reads as bytes-reads
 use Rattle.printing.proofs.pieces.on_line.Reads as on-line-reads
@@ -14,7 +14,7 @@ use Rattle.printing.proofs.nodes.truth_case.Reads as truth-case-reads
 use Rattle.printing.proofs.nodes.+add+body+branch+defaults+each+front+list_case+list_rest+pair+say+split+truth_case as cycle
 use cycle.Lts-truth_case as lts
 use cycle.Proof.Frame.{branch, say, truth-case}
-use Rattle.printing.proofs.Member.{AtMeasure, BelowMeasure, PlacesOf}
+use Rattle.places.specs.Member.{AtMeasure, BelowMeasure, PlacesOf}
 
 abbrev claims : ℕ → lts.Claims
 claims t = (
@@ -62,7 +62,7 @@ module _ (t : ℕ) where
 
   -- NEEDS
   returns : At lts.Need-returns
-  returns c = let e = c .before .before .before in absurd (not-truth-case (e .args .node) (c .match .keys2) (e .pre .1 .of-kind))
+  returns c = let e = c .before .before .before in absurd (not-here 0x18 (e .args .node) (c .match .keys2) (e .pre .1 .of-kind))
 
   say-requires : At lts.Need-say-requires
   say-requires c κs =

@@ -4,7 +4,7 @@
 use Prim.Native.Nat.{ℕ, _+_, _*_}
 use borrow.Fn.Kinds.{In}
 use borrow.Fn.PlainCycle.{Measures}
-use Rattle.walk.proofs.Member.{Member}
+use Rattle.places.specs.Member.{Member}
 use Rattle.walk.proofs.getter.get_members.Reads as get-members
 use Rattle.walk.proofs.getter.get_members.Kinds as of-members
 use Rattle.walk.proofs.getter.get_node.Reads as get-node

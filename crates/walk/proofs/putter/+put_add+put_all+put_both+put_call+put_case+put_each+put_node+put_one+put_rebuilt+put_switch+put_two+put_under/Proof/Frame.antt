@@ -3,7 +3,7 @@
 use Prim.Native.Nat.{ℕ, _+_, _*_}
 use borrow.Fn.Kinds.{In}
 use borrow.Fn.PlainCycle.{Measures}
-use Rattle.walk.proofs.Member.{Member}
+use Rattle.places.specs.Member.{Member}
 use Rattle.walk.proofs.putter.put_both.Reads as put-both
 use Rattle.walk.proofs.putter.put_both.Kinds as of-both
 use Rattle.walk.proofs.putter.put_one.Reads as put-one
