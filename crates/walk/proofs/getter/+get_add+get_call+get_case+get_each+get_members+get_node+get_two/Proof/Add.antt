@@ -13,7 +13,7 @@ use Rattle.walk.proofs.getter.+get_add+get_call+get_case+get_each+get_m
 use cycle.Lts-get_add as lts
 use cycle.Proof.Frame.{kind, node}
 use cycle.Proof.Claims.{add-claims}
-use Rattle.walk.proofs.Member.{AtMeasure, PlacesOf}
+use Rattle.places.specs.Member.{AtMeasure, PlacesOf}
 
 module _ (t : ℕ) where
   abbrev At : PlacesOf (kind get-add.Pre) lts.Claims → Type 0

@@ -16,7 +16,7 @@ use Rattle.walk.proofs.getter.+get_add+get_call+get_case+get_each+get_m
 use cycle.Lts-get_call as lts
 use cycle.Proof.Frame.{kind}
 use cycle.Proof.Claims.{call-claims}
-use Rattle.walk.proofs.Member.{AtMeasure, PlacesOf}
+use Rattle.places.specs.Member.{AtMeasure, PlacesOf}
 
 module _ (t : ℕ) where
   abbrev At : PlacesOf (kind get-call.Pre) lts.Claims → Type 0

@@ -13,13 +13,13 @@ use Rattle.walk.specs.Gets.{here, levels-as, ready-node, as-node, ready-
 use Rattle.walk.specs.Scope.{withTwo, Stored, stored-as}
 use Rattle.walk.specs.GetBranch.{judgeable, judged-as}
 use Rattle.walk.specs.GetCase.{Subject, subject-asks, subject-refused, plain-asks, plain-told, parts-stored, parts-asks, parts-told, none-told}
-use Rattle.walk.proofs.Tags.{is-unfitting}
+use Rattle.step.proofs.Tags.{is-unfitting}
 use Rattle.walk.proofs.getter.get_case.Reads as get-case
 use Rattle.walk.proofs.getter.+get_add+get_call+get_case+get_each+get_members+get_node+get_two as cycle
 use cycle.Lts-get_case as lts
 use cycle.Proof.Frame.{kind}
 use cycle.Proof.Claims.{case-claims}
-use Rattle.walk.proofs.Member.{AtMeasure, PlacesOf}
+use Rattle.places.specs.Member.{AtMeasure, PlacesOf}
 
 module _ (t : ℕ) where
   abbrev At : PlacesOf (kind get-case.Pre) lts.Claims → Type 0

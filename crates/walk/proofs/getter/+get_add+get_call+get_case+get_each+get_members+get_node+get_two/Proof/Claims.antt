@@ -49,7 +49,7 @@ use cycle.Lts-get_members as lts-members
 use cycle.Lts-get_node as lts-node
 use cycle.Lts-get_two as lts-two
 use cycle.Proof.Frame.{kind, members, node}
-use Rattle.walk.proofs.Member.{BelowMeasure}
+use Rattle.places.specs.Member.{BelowMeasure}
 
 abbrev pub add-claims : ℕ → lts-add.Claims
 add-claims t = (

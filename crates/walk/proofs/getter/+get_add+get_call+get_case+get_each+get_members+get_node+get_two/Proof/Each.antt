@@ -31,7 +31,7 @@ use Rattle.walk.proofs.getter.+get_add+get_call+get_case+get_each+get_m
 use cycle.Lts-get_each as lts
 use cycle.Proof.Frame.{kind, members}
 use cycle.Proof.Claims.{each-claims}
-use Rattle.walk.proofs.Member.{AtMeasure, PlacesOf}
+use Rattle.places.specs.Member.{AtMeasure, PlacesOf}
 
 module _ (t : ℕ) where
   abbrev At : PlacesOf (kind get-each.Pre) lts.Claims → Type 0

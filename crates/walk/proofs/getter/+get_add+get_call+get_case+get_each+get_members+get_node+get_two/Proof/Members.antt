@@ -22,7 +22,7 @@ use Rattle.walk.proofs.getter.+get_add+get_call+get_case+get_each+get_m
 use cycle.Lts-get_members as lts
 use cycle.Proof.Frame.{members}
 use cycle.Proof.Claims.{members-claims}
-use Rattle.walk.proofs.Member.{AtMeasure}
+use Rattle.places.specs.Member.{AtMeasure}
 
 abbrev Inv-loop : lts.InvT-loop
 Inv-loop sheet table arena₀ x root start end at scope base to₀ next₀ inner₀ arena to next inner =

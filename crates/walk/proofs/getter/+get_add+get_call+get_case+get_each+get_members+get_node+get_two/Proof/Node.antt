@@ -22,7 +22,7 @@ use Rattle.walk.proofs.getter.+get_add+get_call+get_case+get_each+get_m
 use cycle.Lts-get_node as lts
 use cycle.Proof.Frame.{kind, node}
 use cycle.Proof.Claims.{node-claims}
-use Rattle.walk.proofs.Member.{AtMeasure, PlacesOf}
+use Rattle.places.specs.Member.{AtMeasure, PlacesOf}
 
 module _ (t : ℕ) where
   abbrev At : PlacesOf node lts.Claims → Type 0

@@ -40,7 +40,7 @@ use Rattle.walk.proofs.putter.+put_add+put_all+put_both+put_call+put_ca
 use cycle.Lts-put_all as lts
 use cycle.Proof.Frame.{all}
 use cycle.Proof.Claims.{all-claims}
-use Rattle.walk.proofs.Member.{AtMeasure, LoopPlacesOf}
+use Rattle.places.specs.Member.{AtMeasure, LoopPlacesOf}
 
 abbrev Inv-loop : lts.InvT-loop
 Inv-loop sheet table arena₀ slots₀ scope cells by view at whole₀ to₀ next₀ from₀ built₀ arena slots whole to next from built =

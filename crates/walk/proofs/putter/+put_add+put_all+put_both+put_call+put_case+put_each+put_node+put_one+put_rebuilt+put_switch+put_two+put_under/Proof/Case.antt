@@ -36,7 +36,7 @@ use Rattle.walk.proofs.putter.+put_add+put_all+put_both+put_call+put_ca
 use cycle.Lts-put_case as lts
 use cycle.Proof.Frame.{kind, switch}
 use cycle.Proof.Claims.{case-claims}
-use Rattle.walk.proofs.Member.{AtMeasure, PlacesOf}
+use Rattle.places.specs.Member.{AtMeasure, PlacesOf}
 
 module _ (t : ℕ) where
   abbrev At : PlacesOf (kind put-case.Pre) lts.Claims → Type 0

@@ -73,7 +73,7 @@ use cycle.Lts-put_switch as lts-switch
 use cycle.Lts-put_two as lts-two
 use cycle.Lts-put_under as lts-under
 use cycle.Proof.Frame.{all, both, kind, node, one, rebuilt, switch, under}
-use Rattle.walk.proofs.Member.{BelowMeasure}
+use Rattle.places.specs.Member.{BelowMeasure}
 
 abbrev pub add-claims : ℕ → lts-add.Claims
 add-claims t = (

@@ -25,7 +25,7 @@ use Rattle.walk.proofs.putter.+put_add+put_all+put_both+put_call+put_ca
 use cycle.Lts-put_node as lts
 use cycle.Proof.Frame.{kind, node}
 use cycle.Proof.Claims.{node-claims}
-use Rattle.walk.proofs.Member.{AtMeasure, PlacesOf}
+use Rattle.places.specs.Member.{AtMeasure, PlacesOf}
 
 module _ (t : ℕ) where
   abbrev At : PlacesOf node lts.Claims → Type 0

@@ -38,7 +38,7 @@ use Rattle.walk.proofs.putter.+put_add+put_all+put_both+put_call+put_ca
 use cycle.Lts-put_one as lts
 use cycle.Proof.Frame.{one}
 use cycle.Proof.Claims.{one-claims}
-use Rattle.walk.proofs.Member.{AtMeasure, PlacesOf}
+use Rattle.places.specs.Member.{AtMeasure, PlacesOf}
 
 module _ (t : ℕ) where
   abbrev At : PlacesOf one lts.Claims → Type 0

@@ -16,7 +16,7 @@ use Rattle.walk.proofs.putter.+put_add+put_all+put_both+put_call+put_ca
 use cycle.Lts-put_rebuilt as lts
 use cycle.Proof.Frame.{rebuilt}
 use cycle.Proof.Claims.{rebuilt-claims}
-use Rattle.walk.proofs.Member.{AtMeasure, PlacesOf}
+use Rattle.places.specs.Member.{AtMeasure, PlacesOf}
 
 module _ (t : ℕ) where
   abbrev At : PlacesOf rebuilt lts.Claims → Type 0

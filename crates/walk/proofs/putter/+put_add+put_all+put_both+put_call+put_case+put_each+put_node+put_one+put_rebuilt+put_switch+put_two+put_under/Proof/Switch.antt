@@ -19,7 +19,7 @@ use Rattle.walk.proofs.putter.+put_add+put_all+put_both+put_call+put_ca
 use cycle.Lts-put_switch as lts
 use cycle.Proof.Frame.{switch}
 use cycle.Proof.Claims.{switch-claims}
-use Rattle.walk.proofs.Member.{AtMeasure, PlacesOf}
+use Rattle.places.specs.Member.{AtMeasure, PlacesOf}
 
 module _ (t : ℕ) where
   abbrev At : PlacesOf switch lts.Claims → Type 0

@@ -30,7 +30,7 @@ use Rattle.walk.proofs.putter.+put_add+put_all+put_both+put_call+put_ca
 use cycle.Lts-put_under as lts
 use cycle.Proof.Frame.{under}
 use cycle.Proof.Claims.{under-claims}
-use Rattle.walk.proofs.Member.{AtMeasure, PlacesOf}
+use Rattle.places.specs.Member.{AtMeasure, PlacesOf}
 
 module _ (t : ℕ) where
   abbrev At : PlacesOf under lts.Claims → Type 0
