@@ -21,14 +21,14 @@ use Rattle.sheet.specs.Table.{tableOf}
 use Rattle.sheet.specs.Laws.{table-reads}
 use Rattle.rules.specs.Numbers.{ALLOWANCE, SCRATCH, STACK, GET-OUTPUT}
 use Rattle.rules.specs.Outcome.{Out, done, refused, mapOut, reading}
-use Rattle.rules.specs.Rules.{Env}
+use Rattle.rules.specs.Counting.{Env}
 use Rattle.rules.specs.Answer.{getWalk, getBytes}
-use Rattle.rules.specs.AnswerLaws.{Lent, door-scratch, door-none, door-over}
-use Rattle.rules.specs.Refusals.{Lists, lDone, lRefused, listed-above, lists-get-bytes, lists-put-bytes}
+use Rattle.rules.specs.Laws.Answers.{DoorOpens, door-scratch, door-none, door-over}
+use Rattle.rules.specs.Laws.Refusals.{Lists, lDone, lRefused, listed-above, lists-get-bytes, lists-put-bytes}
 use Rattle.walk.specs.declared.Reply.{Reply}
 use Rattle.walk.specs.declared.Reply.the-variants.{Done as Reply·Done, Refused as Reply·Refused}
-use Rattle.walk.specs.Entry.{Says, says-done, says-refused, Free, get-sheet-refused, get-plan-refused}
-use Rattle.walk.specs.PutEntry.{put-view-refused}
+use Rattle.walk.specs.Call.{Says, says-done, says-refused, Free, get-sheet-refused, get-plan-refused}
+use Rattle.walk.specs.Call.Put.{put-view-refused}
 use Rattle.calls.specs.Buffers.{zeroed}
 use Rattle.calls.specs.Calls.{afterRefusal}
 use Rattle.calls.specs.CallLaws.{zeros-same}
@@ -240,11 +240,11 @@ module _ (sheet old view new : List ℕ) (allowance : ℕ) (s : List ℕ) where
           by 3 (f ∙ sym (shut-is _ _ _ _ (door-over _ _ _ _ _ (omega arith) a (omega arith)))) refl
           (rw (le-leb SCRATCH (length s) a, le-leb 1 allowance b, lt-leb allowance ALLOWANCE (omega arith)))
       go (yes a) (yes b) (yes d) =
-          let l : Lent 0 0 (length s) allowance = record { output-long = omega arith; scratch-long = a; some-steps = b; few-steps = d } in
+          let l : DoorOpens 0 0 (length s) allowance = record { output-long = omega arith; scratch-long = a; some-steps = b; few-steps = d } in
           absurd (n (f ∙ sym (shut-open l)))
 
   -- it opens
-  pub opened : Lent 0 0 (length s) allowance → Answer ≡ judgedOf sheet old view new allowance
+  pub opened : DoorOpens 0 0 (length s) allowance → Answer ≡ judgedOf sheet old view new allowance
   unfolding acceptsOf unless
   opened l = rw (le-leb SCRATCH (length s) (l .scratch-long), le-leb 1 allowance (l .some-steps), le-leb allowance ALLOWANCE (l .few-steps))
 
@@ -293,7 +293,7 @@ unfolding cleared afterRefusal
 cleared-high (ok b) s h = refl
 cleared-high (refusal c) s h = rw (lt-leb c 3 (h c refl))
 
-pub behind : (sheet old view new : List ℕ) (allowance : ℕ) (s : List ℕ) → Lent 0 0 (length s) allowance
+pub behind : (sheet old view new : List ℕ) (allowance : ℕ) (s : List ℕ) → DoorOpens 0 0 (length s) allowance
     → {r : Verdict} → r ≡ verdict (judgedOf sheet old view new allowance) → {a : List ℕ} → Free SCRATCH s a → {s′ : List ℕ} → s′ ≡ zeroed a
     → Accepted (acceptsOf sheet old view new allowance (length s)) r s s′
 behind sheet old view new allowance s l e {a} f z = rw (opened sheet old view new allowance s l) (record {

@@ -23,7 +23,7 @@ use Rattle.sheet.specs.Kinds.{variables}
 use Rattle.sheet.specs.Sheet.{Sheet, readSheet}
 use Rattle.sheet.specs.Table.{nodeAt}
 use Rattle.sheet.specs.Laws.{Reads}
-use Rattle.rules.specs.Rules.{Env}
+use Rattle.rules.specs.Counting.{Env}
 use Rattle.undo.specs.Alike.{names}
 use Rattle.venue.specs.Accepts.{spared, sparedFrom, kept}
 use Rattle.accepts.specs.Marks.{same-sheet, isMarked, Marks}

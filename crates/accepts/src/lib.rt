@@ -3,8 +3,8 @@ ghost use mathlib.Core.Path.{_≡_};
 ghost use lib.ListN.{length};
 ghost use Rattle.sheet.specs.Kinds.{variables};
 ghost use Rattle.shapes.specs.Parts.{sameBytes};
-ghost use Rattle.rules.specs.AnswerLaws.{Lent};
-ghost use Rattle.walk.specs.Entry.{Free};
+ghost use Rattle.rules.specs.Laws.Answers.{DoorOpens};
+ghost use Rattle.walk.specs.Call.{Free};
 ghost use Rattle.rules.specs.Numbers.{SCRATCH};
 ghost use Rattle.venue.specs.Accepts.{judgedOf, acceptsOf};
 ghost use Rattle.accepts.specs.Accepts.{yesNo, verdict, Accepted};
@@ -133,7 +133,7 @@ fn judged(
     allowance: usize,
     scratch: &mut [u8],
 ) -> Verdict
-    requires { ⌜ Lent 0 0 (length (now scratch)) allowance ⌝ }
+    requires { ⌜ DoorOpens 0 0 (length (now scratch)) allowance ⌝ }
     ensures { λ r. ⌜ r ≡ verdict (judgedOf (now (sheet .entry)) (now (old .entry)) (now (view .entry)) (now (new .entry)) allowance) ⌝ }
     ensures { λ _. ⌜ Free SCRATCH (now (scratch .entry)) (now (scratch .exit)) ⌝ }
 {

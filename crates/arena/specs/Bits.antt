@@ -7,8 +7,8 @@ use native.Mathlib.Omega.{arith}
 use borrow.Author.Tests.{eq-eqb, ne-eqb}
 use lib.Dec.{eqb}
 use lib.ListN.{length, getD}
-use Rattle.rules.specs.Written.{bitsOf}
-use Rattle.rules.specs.WrittenLaws.{bits-below}
+use Rattle.rules.specs.Bits.{bitsOf}
+use Rattle.rules.specs.Bits.Laws.{bits-below}
 
 -- a slot of 0 took no view
 unfoldable pub filled : ℕ → Bool

@@ -8,7 +8,7 @@ use borrow.Author.Tests.{le-leb, lt-leb}
 use lib.Dec.{leb}
 use lib.ListN.{length, set}
 use lib.Seq.{set-out}
-use Rattle.answer.specs.Answer.{isRefusal, deeperAs, laterAs}
+use Rattle.outcome.specs.Outcome.{isRefusal, deeperAs, laterAs}
 use Rattle.rules.specs.Numbers.{LEVELS, CHAIN}
 
 -- where a node has its place in the chain that was entered with l levels left: the root is the first of 49

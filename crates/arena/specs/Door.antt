@@ -8,9 +8,9 @@ use native.Mathlib.Decide.{decLe}
 use lib.Dec.{leb}
 use Rattle.rules.specs.Numbers.{ALLOWANCE, SCRATCH}
 use Rattle.rules.specs.Outcome.{Out, done, refused}
-use Rattle.rules.specs.OutcomeLaws.{given-yes}
+use Rattle.rules.specs.Laws.Outcomes.{given-yes}
 use Rattle.rules.specs.Answer.{door}
-use Rattle.rules.specs.AnswerLaws.{Lent, door-open, door-output, door-scratch, door-none, door-over}
+use Rattle.rules.specs.Laws.Answers.{DoorOpens, door-open, door-output, door-scratch, door-none, door-over}
 
 -- the number of a refusal, 0 where there is none
 unfoldable pub number : Out (List ℕ) → ℕ
@@ -23,7 +23,7 @@ shut need output scratch allowance = number (door need output scratch allowance 
 
 -- what shut says: all is lent that is needed, or a refusal 1 to 3, whatever stands behind the door
 pub data Door (need output scratch allowance : ℕ) : ℕ → Type 0 where
-  opens : Lent need output scratch allowance → Door need output scratch allowance 0
+  opens : DoorOpens need output scratch allowance → Door need output scratch allowance 0
   shuts : {c : ℕ} → 1 ≤ c → leb c 3 ≡ true → ((o : Out (List ℕ)) → door need output scratch allowance o ≡ refused c 0) → Door need output scratch allowance c
 
 -- a return of the code
@@ -39,7 +39,7 @@ past-output {need} {output} h scratch allowance =
     ap number (given-yes 1 (decLe 0 0) (omega arith) ∙ sym (given-yes 1 (decLe need output) h))
 
 module _ {need output scratch allowance : ℕ} where
-  pub shut-open : Lent need output scratch allowance → 0 ≡ shut need output scratch allowance
+  pub shut-open : DoorOpens need output scratch allowance → 0 ≡ shut need output scratch allowance
   unfolding shut number
   shut-open l = sym (ap number (door-open {o = done [] 0} l))
 
@@ -57,17 +57,17 @@ module _ {need output scratch allowance : ℕ} where
       go (yes h) (yes q) (no r) t = shutting (omega arith) refl (λ o. door-none _ _ _ _ o h q (omega arith))
       go (yes h) (yes q) (yes r) (no t) = shutting (omega arith) refl (λ o. door-over _ _ _ _ o h q (omega arith))
       go (yes h) (yes q) (yes r) (yes t) =
-          let l : Lent need output scratch allowance = record { output-long = h; scratch-long = q; some-steps = r; few-steps = t } in
+          let l : DoorOpens need output scratch allowance = record { output-long = h; scratch-long = q; some-steps = r; few-steps = t } in
           rw (← shut-open l) (opens l)
 
   -- behind it
-  pub door-lent : {c : ℕ} → c ≡ shut need output scratch allowance → c ≡ 0 → Lent need output scratch allowance
+  pub door-lent : {c : ℕ} → c ≡ shut need output scratch allowance → c ≡ 0 → DoorOpens need output scratch allowance
   door-lent {c} e z = go door-cases (sym e ∙ z)
     where
-      go : {k : ℕ} → Door need output scratch allowance k → k ≡ 0 → Lent need output scratch allowance
+      go : {k : ℕ} → Door need output scratch allowance k → k ≡ 0 → DoorOpens need output scratch allowance
       go (opens l) y = l
       go (shuts h l f) y = absurd (omega arith)
 
   -- it stays shut, so that not all is lent
-  pub door-shut : {c : ℕ} → c ≡ shut need output scratch allowance → (c ≡ 0 → ⊥) → Lent need output scratch allowance → ⊥
+  pub door-shut : {c : ℕ} → c ≡ shut need output scratch allowance → (c ≡ 0 → ⊥) → DoorOpens need output scratch allowance → ⊥
   door-shut e n l = n (e ∙ sym (shut-open l))

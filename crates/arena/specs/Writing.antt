@@ -6,12 +6,12 @@ use lib.ListN.{length, getD, set, take, drop}
 use lib.Seq.{paste}
 use lib.Dec.{eqb}
 use Rattle.shapes.specs.Parts.{sameBytes}
-use Rattle.answer.specs.Answer.{doneAs, refusedBy}
+use Rattle.outcome.specs.Outcome.{doneAs, refusedBy}
 use Rattle.rules.specs.Numbers.{VARIABLES, SLOT}
 use Rattle.scopes.specs.Scopes.{When, noteOf, notedLen, notedBy, slotOf}
-use Rattle.step.specs.Step.{where-so, judged}
+use Rattle.decisions.specs.Decisions.{where-so, judged}
 use Rattle.scopes.specs.ScopesLaws.{when-in, when-out}
-use Rattle.step.specs.StepLaws.{where-is, where-not}
+use Rattle.decisions.specs.DecisionLaws.{where-is, where-not}
 
 -- there is such a cell, whose slot is in the arena, such a node, and a value of so many bytes
 abbrev pub Takes : (arena : List ℕ) (c node : ℕ) (view : List ℕ) → Type 0

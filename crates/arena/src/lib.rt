@@ -4,17 +4,17 @@
 ghost use mathlib.Core.Bool.{cond};
 ghost use mathlib.Core.Path.{_≡_};
 ghost use Prim.Native.Nat.{min};
-ghost use Rattle.rules.specs.Written.{bitsOf};
+ghost use Rattle.rules.specs.Bits.{bitsOf};
 ghost use Rattle.scopes.specs.Scopes.{When};
 ghost use Rattle.arena.specs.Writing.{Takes, writeAnswer, writtenBytes, writtenNotes};
 ghost use Rattle.arena.specs.Chain.{inChain, chained, leftAs};
 ghost use Rattle.arena.specs.Bits.{filled, filledFrom};
 ghost use Rattle.arena.specs.Door.{shut};
-use answer::deeper;
-use answer::done;
-use answer::is_refused;
-use answer::later;
-use answer::refused;
+use outcome::deeper;
+use outcome::done;
+use outcome::is_refused;
+use outcome::later;
+use outcome::refused;
 
 /// What a walk refuses before it reads anything, 0 for nothing: 2 too little scratch, 3 an allowance of 0 or one that is too large.
 pub fn door(scratch: usize, allowance: usize) -> u8
@@ -72,7 +72,7 @@ pub fn write(
         return done(0, 0, 0);
     }
     let end = slot + scopes::noted_len(note);
-    step::put_again(note, &arena[slot..end], view)
+    decisions::put_again(note, &arena[slot..end], view)
 }
 
 // A node's byte in the chain, where it was entered with so many levels left; nothing changes where there is no such place.

@@ -11,8 +11,8 @@ use lib.ListN.{length, take, drop, length-append}
 use lib.Seq.{paste}
 use Rattle.rules.specs.Outcome.{Out, done, refused}
 use Rattle.rules.specs.Answer.{Answer, refusal, success, answer, door}
-use Rattle.rules.specs.AnswerLaws.{Lent, door-open}
-use Rattle.rules.specs.Refusals.{Lists, lRefused, listed-above}
+use Rattle.rules.specs.Laws.Answers.{DoorOpens, door-open}
+use Rattle.rules.specs.Laws.Refusals.{Lists, lRefused, listed-above}
 use Rattle.calls.specs.Reply.{Reply, Done, Refused}
 use Rattle.calls.specs.Buffers.{zeros, zeroed}
 use Rattle.arena.specs.Door.{shut, Door, opens, shuts, door-cases}
@@ -45,14 +45,14 @@ module _ (need : ℕ) (o s : List ℕ) (allowance : ℕ) (w : Out (List ℕ)) wh
       go : Lists {A = List ℕ} (refused c n) → 3 < c
       go (lRefused h) = listed-above c h
 
-  pub refused-behind : Lent need (length o) (length s) allowance → Lists w → {c n : ℕ} → w ≡ refused c n
+  pub refused-behind : DoorOpens need (length o) (length s) allowance → Lists w → {c n : ℕ} → w ≡ refused c n
       → {s′ : List ℕ} → s′ ≡ zeroed s → Answered Call (Refused c) o o s s′
   unfolding answer reply written cleared afterRefusal
   refused-behind l h {c} {n} e {s′} z =
       let k : leb c 3 ≡ false = lt-leb c 3 (high h e) in
       rw (door-open {o = w} l, e) (record { answer = refl; output = refl; scratch = rw k z })
 
-  pub done-behind : Lent need (length o) (length s) allowance → {bs : List ℕ} {n len : ℕ} → w ≡ done bs n → len ≡ length bs
+  pub done-behind : DoorOpens need (length o) (length s) allowance → {bs : List ℕ} {n len : ℕ} → w ≡ done bs n → len ≡ length bs
       → {o′ s′ : List ℕ} → o′ ≡ bs ++ drop len o → s′ ≡ zeroed s → Answered Call (Done len n) o o′ s s′
   unfolding answer reply written cleared
   done-behind l {bs} {n} {len} e q {o′} {s′} p z =

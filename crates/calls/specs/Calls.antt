@@ -6,7 +6,7 @@ use Prim.Native.Nat.{ℕ}
 use lib.Dec.{leb}
 use lib.ListN.{length, drop}
 use Rattle.rules.specs.Answer.{Answer, refusal, success}
-use Rattle.rules.specs.Written.{putWritten}
+use Rattle.rules.specs.Bits.{putWritten}
 use Rattle.starts.specs.declared.Starts.{Starts}
 use Rattle.starts.specs.Starts.{noStarts, loadOf}
 use Rattle.calls.specs.declared.PutReply.{PutReply}

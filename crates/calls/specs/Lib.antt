@@ -4,10 +4,8 @@ pub mod Calls
 pub mod CallLaws
 pub mod Trips
 pub mod Small
-pub mod Told
+pub mod Output
 pub mod WalkCalls
 pub mod StartsLaws
-pub mod WrittenLaws
-pub mod Whys
-pub mod WhyCalls
-pub mod WhyLaws
+pub mod BitsLaws
+pub mod Explain

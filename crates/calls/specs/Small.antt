@@ -7,9 +7,9 @@ use native.Mathlib.Nat.{le-trans}
 use lib.ListN.{length}
 use Rattle.rules.specs.Numbers.{ALLOWANCE, PUT-OUTPUT}
 use Rattle.rules.specs.Answer.{Answer, refusal, success, getAnswer, putAnswer}
-use Rattle.rules.specs.AnswerLaws.{get-shows, put-shows, get-steps, put-steps}
-use Rattle.rules.specs.Trips.{get-short, put-short}
-use Rattle.rules.specs.Refusals.{Stated, stated-small, get-refusals, put-refusals}
+use Rattle.rules.specs.Laws.Answers.{get-shows, put-shows, get-steps, put-steps}
+use Rattle.rules.specs.Laws.Trips.{get-short, put-short}
+use Rattle.rules.specs.Laws.Refusals.{Stated, stated-small, get-refusals, put-refusals}
 use Rattle.calls.specs.Reply.{Reply, Done, Refused}
 use Rattle.calls.specs.Calls.{reply, Answered}
 

@@ -15,7 +15,7 @@ use Rattle.starts.specs.declared.Starts.{Starts}
 use Rattle.starts.specs.Starts.{noStarts, loadOf, findOf, partOf}
 use Rattle.starts.specs.StartsLaws.{load-few, load-gives, loaded-part, loaded-none}
 use Rattle.rules.specs.Answer.{Answer, refusal, success, putAnswer}
-use Rattle.rules.specs.Trips.{new-plan}
+use Rattle.rules.specs.Laws.Trips.{new-plan}
 use Rattle.calls.specs.declared.PutReply.{PutReply}
 use Rattle.calls.specs.Calls.{newStarts, PutAnswered}
 

@@ -8,17 +8,17 @@ use lib.Seq.{paste}
 use Rattle.rules.specs.Numbers.{SCRATCH, STACK, GET-OUTPUT, PUT-OUTPUT}
 use Rattle.rules.specs.Outcome.{Out, done, refused}
 use Rattle.rules.specs.Answer.{Answer, refusal, success, answer, door, getBytes, getAnswer, putBytes, putAnswer}
-use Rattle.rules.specs.AnswerLaws.{Lent, door-open}
-use Rattle.rules.specs.Refusals.{Lists, lists-get-bytes, lists-put-bytes}
+use Rattle.rules.specs.Laws.Answers.{DoorOpens, door-open}
+use Rattle.rules.specs.Laws.Refusals.{Lists, lists-get-bytes, lists-put-bytes}
 use Rattle.starts.specs.Starts.{noStarts, loadOf}
-use Rattle.walk.specs.Entry.{Says, says-done, says-refused, WalkCall}
+use Rattle.walk.specs.Call.{Says, says-done, says-refused, WalkCall}
 use Rattle.calls.specs.Reply.{Reply, Done, Refused}
 use Rattle.calls.specs.Buffers.{zeroed}
 use Rattle.arena.specs.Door.{shut}
-use Rattle.walk.specs.NewStarts.{newStarts as Walk·newStarts}
-use Rattle.walk.specs.Bits.{newWritten as Walk·newWritten}
+use Rattle.walk.specs.Call.NewStarts.{newStarts as Walk·newStarts}
+use Rattle.walk.specs.Call.Bits.{newWritten as Walk·newWritten}
 use Rattle.calls.specs.Calls.{reply, Answered, newStarts, newWritten}
-use Rattle.calls.specs.Told.{Fits, outputOf}
+use Rattle.calls.specs.Output.{HasRoom, outputOf}
 use Rattle.calls.specs.CallLaws.{zeros-same, shut-call, refused-behind, done-behind, at-front}
 
 -- what a walk that is done says
@@ -69,7 +69,7 @@ clear-refused sheet plan view allowance (refusal c) e = refl
 clear-refused sheet plan view allowance (success bs n) e = let z : _≡_ {A = ℕ} 0 1 = cc in absurd (omega arith)
 
 -- what is lent to a call is lent to its walk
-pub inside : {need output scratch allowance : ℕ} → Lent need output scratch allowance → Lent 0 0 scratch allowance
+pub inside : {need output scratch allowance : ℕ} → DoorOpens need output scratch allowance → DoorOpens 0 0 scratch allowance
 inside l = record { output-long = omega arith; scratch-long = l .scratch-long; some-steps = l .some-steps; few-steps = l .few-steps }
 
 -- THE RETURNS OF A CALL
@@ -77,7 +77,7 @@ module _ {need : ℕ} {w : Out (List ℕ)} {allowance : ℕ} {o s : List ℕ} {x
   pub call-shut : {c : ℕ} → c ≡ shut need (length o) (length s) allowance → (c ≡ 0 → ⊥) → Answered x (Refused c) o o s s
   call-shut e n = rw (b .is) (shut-call need o s allowance w e n)
 
-  module _ (l : Lent need (length o) (length s) allowance) {U : Type 0} {a : List ℕ} {r : Reply} (g : WalkCall U need w allowance s a r) where
+  module _ (l : DoorOpens need (length o) (length s) allowance) {U : Type 0} {a : List ℕ} {r : Reply} (g : WalkCall U need w allowance s a r) where
     says : Says need a r w
     says = g .says (inside l)
 
@@ -92,10 +92,10 @@ module _ {need : ℕ} {w : Out (List ℕ)} {allowance : ℕ} {o s : List ℕ} {x
         rw (b .is) (done-behind need o s allowance w l (d .is) (d .long) q (z ∙ zeros-same SCRATCH s a (g .free .behind)))
 
     -- what the walk's answer asks of the buffers, and what becomes of it
-    pub call-fits : (SCRATCH ≤ length a) × Fits r o a
+    pub call-fits : (SCRATCH ≤ length a) × HasRoom r o a
     call-fits = (omega (arith, g .free .long, l .scratch-long), go r refl)
       where
-        go : (t : Reply) → r ≡ t → Fits t o a
+        go : (t : Reply) → r ≡ t → HasRoom t o a
         go (Refused c) e = tt
         go (Done len n) e =
             let d = said-done says e in

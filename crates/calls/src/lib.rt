@@ -9,8 +9,8 @@ ghost use Rattle.calls.specs.Buffers.{zeros, zeroed};
 ghost use Rattle.calls.specs.Calls.{Answered, PutAnswered};
 ghost use Rattle.arena.specs.Door.{shut};
 ghost use Rattle.calls.specs.Reply.{Done, Refused};
-ghost use Rattle.calls.specs.Told.{Fits, outputOf};
-ghost use Rattle.calls.specs.Trips.{Stands, Unmoved};
+ghost use Rattle.calls.specs.Output.{HasRoom, outputOf};
+ghost use Rattle.calls.specs.Trips.{Consistent, Acceptable};
 
 mod buffers;
 mod why;
@@ -72,7 +72,7 @@ fn given(len: usize, steps: usize, out: &mut [u8], scratch: &mut [u8]) -> Reply
 // A walk's answer, told to the caller: what a walk that is done built goes to the output, and scratch is cleared.
 fn answered(walked: Reply, out: &mut [u8], scratch: &mut [u8]) -> Reply
     requires { ⌜ SCRATCH ≤ length (now scratch) ⌝ }
-    requires { ⌜ Fits walked (now out) (now scratch) ⌝ }
+    requires { ⌜ HasRoom walked (now out) (now scratch) ⌝ }
     ensures { λ r. ⌜ (r ≡ walked) × (now (out .exit) ≡ outputOf walked (now (out .entry)) (now (scratch .entry))) ×
         (now (scratch .exit) ≡ zeroed (now (scratch .entry))) ⌝ }
 {
@@ -86,7 +86,7 @@ fn answered(walked: Reply, out: &mut [u8], scratch: &mut [u8]) -> Reply
 pub fn get(sheet: &[u8], plan: &[u8], allowance: u32, out: &mut [u8], scratch: &mut [u8]) -> Reply
     ensures { λ r. ⌜ Answered (getAnswer (now (sheet .entry)) (now (plan .entry)) allowance (length (now (out .entry))) (length (now (scratch .entry)))) r
         (now (out .entry)) (now (out .exit)) (now (scratch .entry)) (now (scratch .exit)) ⌝ }
-    ensures { λ r. ⌜ Unmoved (now (sheet .entry)) (now (plan .entry)) r (now (out .exit)) ⌝ }
+    ensures { λ r. ⌜ Acceptable (now (sheet .entry)) (now (plan .entry)) r (now (out .exit)) ⌝ }
 {
     let steps_allowed = allowance as usize;
     let refusal = door(rules::GET_OUTPUT, out.len(), scratch.len(), steps_allowed);
@@ -111,7 +111,7 @@ pub fn put(
     ensures { λ r. ⌜ PutAnswered (now (sheet .entry)) (now (plan .entry)) (now (view .entry)) allowance
         (putAnswer (now (sheet .entry)) (now (plan .entry)) (now (view .entry)) allowance (length (now (out .entry))) (length (now (scratch .entry)))) r
         (now (out .entry)) (now (out .exit)) (now (scratch .entry)) (now (scratch .exit)) ⌝ }
-    ensures { λ r. ⌜ Stands (now (sheet .entry)) (now (view .entry)) allowance (r .reply) (now (out .exit)) ⌝ }
+    ensures { λ r. ⌜ Consistent (now (sheet .entry)) (now (view .entry)) allowance (r .reply) (now (out .exit)) ⌝ }
 {
     let steps_allowed = allowance as usize;
     let refusal = door(rules::PUT_OUTPUT, out.len(), scratch.len(), steps_allowed);

@@ -9,9 +9,9 @@ use Rattle.value.specs.Value.{Value}
 use Rattle.sheet.specs.declared.Node.the-variants.{False}
 use Rattle.sheet.specs.Sheet.{Sheet}
 use Rattle.rules.specs.Outcome.{Out, done, refused, plus, _>>=_, given, choose}
-use Rattle.rules.specs.Text
-use Rattle.rules.specs.Rules.{Env, Cells, counting, get, put}
-use Rattle.rules.specs.Embedding.{Relates, itself, held-itself, cells-same, cells, get-node-held, put-node-held}
+use Rattle.rules.specs.Semantics
+use Rattle.rules.specs.Counting.{Env, Cells, counting, get, put}
+use Rattle.rules.specs.Laws.Embedding.{Relates, itself, held-itself, cells-same, cells, get-node-held, put-node-held}
 
 -- what is done stays done, with the same steps
 data Keeps {A B : Type 0} (h : A → B) : Out A → Out B → Type 0 where
@@ -71,7 +71,7 @@ keeps-done e (lost c t o) q = let z : _≡_ {A = ℕ} 0 1 = cc in absurd (omega 
 
 module _ (sh : Sheet) where
   get-keeps : (l m : ℕ) → l ≤ m → (n : ℕ) (μ : Env) → Unit {0} → Keeps itself (get l sh n μ) (get m sh n μ)
-  unfolding Text.get
+  unfolding Semantics.get
   get-keeps zero m h n μ p = lost 40 0 (get m sh n μ)
   get-keeps (suc l) zero h n μ p = absurd (omega arith)
   get-keeps (suc l) (suc m) h n μ p =
@@ -81,7 +81,7 @@ module _ (sh : Sheet) where
 
   put-keeps : (l m : ℕ) → l ≤ m → (n : ℕ) (μ : Env) (σ : List ℕ) (v : Value) (W : Cells) → Unit {0}
       → Keeps (cells keeping) (put l sh n μ σ v W) (put m sh n μ σ v (cells keeping W))
-  unfolding Text.put
+  unfolding Semantics.put
   put-keeps zero m h n μ σ v W p = lost 40 0 (put m sh n μ σ v (cells keeping W))
   put-keeps (suc l) zero h n μ σ v W p = absurd (omega arith)
   put-keeps (suc l) (suc m) h n μ σ v W p =

@@ -13,12 +13,12 @@ use Rattle.sheet.specs.Sheet.{Sheet, readSheet}
 use Rattle.rules.specs.Numbers.{LEVELS, ALLOWANCE, SCRATCH, GET-OUTPUT, PUT-OUTPUT}
 use Rattle.rules.specs.Outcome.{Out, mapOut, reading}
 use Rattle.rules.specs.Allowance.{within}
-use Rattle.rules.specs.Rules.{Env, get, put}
+use Rattle.rules.specs.Counting.{Env, get, put}
 use Rattle.rules.specs.Answer.{answer, door, count, newPlan, getWalk, getBytes, getAnswer, putWalk, putBytes, putAnswer}
-use Rattle.rules.specs.Written.{tookIn, putWritten}
+use Rattle.rules.specs.Bits.{tookIn, putWritten}
 use Rattle.rules.specs.Explain as Explain
-use Rattle.rules.specs.Explain.{Told, got, met}
-use Rattle.rules.specs.Explanation.{
+use Rattle.rules.specs.Explain.{Exit, got, met}
+use Rattle.rules.specs.Explain.Calls.{
   Explanation,
   success,
   before,
@@ -32,7 +32,7 @@ use Rattle.rules.specs.Explanation.{
   whyGet,
   whyPut,
 }
-use Rattle.rules.specs.Embedding.{Holds, itself}
+use Rattle.rules.specs.Laws.Embedding.{Holds, itself}
 use Rattle.embedding.specs.EmbeddingLaws.{get-embedded, put-embedded, whyAnew, cellsAnew, toldAnew, get-explained, put-explained}
 
 pub reading-same : {A B : Type 0} (r : Result A) {r′ : Result A} {j k : A → Out B} → r′ ≡ r → ((a : A) → j a ≡ k a) → reading r′ j ≡ reading r k
@@ -46,7 +46,7 @@ module _ (f : ℕ → ℕ) where
   explanationAnew (before c) = before c
   explanationAnew (walked y) = walked (whyAnew f y)
 
-  anew-told : {A B : Type 0} (h : A → B) (t : Told A) → explained (toldAnew f h t) ≡ explanationAnew (explained t)
+  anew-told : {A B : Type 0} (h : A → B) (t : Exit A) → explained (toldAnew f h t) ≡ explanationAnew (explained t)
   unfolding explained toldAnew explanationAnew
   anew-told h (got a s) = refl
   anew-told h (met y s) = refl

@@ -6,11 +6,11 @@ use Prim.Native.Nat.{ℕ, zero, suc, _+_, _-_}
 use Rattle.value.specs.Value.{Value}
 use Rattle.sheet.specs.Sheet.{Sheet}
 use Rattle.rules.specs.Outcome.{Out, done, refused, plus, _>>=_, given, choose}
-use Rattle.rules.specs.Text.{Env}
-use Rattle.rules.specs.Rules.{counting, Cells, get, put}
+use Rattle.rules.specs.Semantics.{Env}
+use Rattle.rules.specs.Counting.{counting, Cells, get, put}
 use Rattle.rules.specs.Explain as Explain
-use Rattle.rules.specs.Explain.{Why, Told, got, met, Explained, more, below, entered, choice, follow, next, wanted, Cell, explaining, own}
-use Rattle.rules.specs.Embedding.{Holds, Relates, itself, cells-same, get-held, put-held}
+use Rattle.rules.specs.Explain.{Cause, Exit, got, met, Explained, more, below, entered, choice, follow, next, wanted, Cell, explaining, own}
+use Rattle.rules.specs.Laws.Embedding.{Holds, Relates, itself, cells-same, get-held, put-held}
 
 -- COUNTING: no number of a node stands in an outcome, so it is the same one, with h of what was done
 
@@ -81,7 +81,7 @@ module _ {P : ℕ → Type 0} {f g : ℕ → ℕ} {sh sh′ : Sheet} (held : Hol
 -- EXPLAINING: the nodes of the chain and the first writer have their new numbers
 
 module _ (f : ℕ → ℕ) where
-  abbrev pub whyAnew : Why → Why
+  abbrev pub whyAnew : Cause → Cause
   whyAnew y = record { code = y .code; chain = map f (y .chain); first = Option·map f (y .first) }
 
   abbrev pub cellAnew : Cell → Cell
@@ -91,24 +91,24 @@ module _ (f : ℕ → ℕ) where
   cellsAnew W = map (Option·map cellAnew) W
 
   module _ {A B : Type 0} where
-    unfoldable pub toldAnew : (A → B) → Told A → Told B
+    unfoldable pub toldAnew : (A → B) → Exit A → Exit B
     toldAnew h (got a s) = got (h a) s
     toldAnew h (met y s) = met (whyAnew y) s
 
-  data Retold {A B : Type 0} (h : A → B) : Told A → Told B → Type 0 where
+  data Retold {A B : Type 0} (h : A → B) : Exit A → Exit B → Type 0 where
     says : (a : A) (s : ℕ) → Retold h (got a s) (got (h a) s)
-    ends : (y : Why) (s : ℕ) → Retold h (met y s) (met (whyAnew y) s)
+    ends : (y : Cause) (s : ℕ) → Retold h (met y s) (met (whyAnew y) s)
 
   record Renamed {A B : Type 0} (h : A → B) (m : Explained A) (o : Explained B) : Type 0 where
     at : (left : ℕ) → Retold h (m left) (o left)
 
   module _ {A B : Type 0} {h : A → B} where
-    retold-more : (s : ℕ) {m : Told A} {o : Told B} → Retold h m o → Retold h (more s m) (more s o)
+    retold-more : (s : ℕ) {m : Exit A} {o : Exit B} → Retold h m o → Retold h (more s m) (more s o)
     unfolding more
     retold-more s (says a t) = says a (s + t)
     retold-more s (ends y t) = ends y (s + t)
 
-    retold-below : (n : ℕ) {m : Told A} {o : Told B} → Retold h m o → Retold h (below n m) (below (f n) o)
+    retold-below : (n : ℕ) {m : Exit A} {o : Exit B} → Retold h m o → Retold h (below n m) (below (f n) o)
     unfolding below
     retold-below n (says a t) = says a (1 + t)
     retold-below n (ends y t) = ends _ (1 + t)
@@ -128,7 +128,7 @@ module _ (f : ℕ → ℕ) where
     renamed-choose (no p) (yes q) e k = k
     renamed-choose (no p) (no q) e k = record { at = λ left. ends (own 53 none) 0 }
 
-    retold-is : {m : Told A} {o : Told B} → Retold h m o → o ≡ toldAnew h m
+    retold-is : {m : Exit A} {o : Exit B} → Retold h m o → o ≡ toldAnew h m
     unfolding toldAnew
     retold-is (says a s) = refl
     retold-is (ends y s) = refl
@@ -139,19 +139,19 @@ module _ (f : ℕ → ℕ) where
     unfolding next follow
     renamed-bind {m} {o} {k} j e c = record { at = λ left. go left (e .at left) }
       where
-        go : (left : ℕ) {x : Told A} {y : Told C} → Retold h x y → Retold u (follow x (λ a s. k a (left - s))) (follow y (λ a s. j a (left - s)))
+        go : (left : ℕ) {x : Exit A} {y : Exit C} → Retold h x y → Retold u (follow x (λ a s. k a (left - s))) (follow y (λ a s. j a (left - s)))
         go left (says a s) = retold-more s (c a .at (left - s))
         go left (ends y s) = ends y s
 
   module _ {A B C D : Type 0} (h : A → C) {u : B → D} where
-    renamed-given : (y : Why) (o : Option A) (p : Option C) {k : A → Explained B} (j : C → Explained D) → p ≡ Option·map h o
+    renamed-given : (y : Cause) (o : Option A) (p : Option C) {k : A → Explained B} (j : C → Explained D) → p ≡ Option·map h o
         → ((a : A) → Renamed u (k a) (j (h a))) → Renamed u (wanted y o k) (wanted (whyAnew y) p j)
     unfolding wanted
     renamed-given y none p j e k = rw e (record { at = λ left. ends y 0 })
     renamed-given y (some a) p j e k = rw e (k a)
 
   module _ {A B D : Type 0} {u : B → D} where
-    renamed-asked : (y : Why) (o : Option A) {k : A → Explained B} (j : A → Explained D) → ((a : A) → Renamed u (k a) (j a))
+    renamed-asked : (y : Cause) (o : Option A) {k : A → Explained B} (j : A → Explained D) → ((a : A) → Renamed u (k a) (j a))
         → Renamed u (wanted y o k) (wanted (whyAnew y) o j)
     unfolding wanted
     renamed-asked y none j k = record { at = λ left. ends y 0 }

@@ -7,7 +7,7 @@ use Rattle.sheet.specs.Kinds.{children, calls, renumber}
 use Rattle.sheet.specs.Sheet.{Sheet}
 use Rattle.sheet.specs.Laws.{Child, Ranges}
 use Rattle.sheet.specs.Ranging.{every-map, children-in, calls-in}
-use Rattle.rules.specs.Embedding.{Sent, Holds}
+use Rattle.rules.specs.Laws.Embedding.{Sent, Holds}
 
 child-in : {nodes own : ℕ} (c : ℕ) → Child nodes own c → c < nodes
 child-in c k = k .inside

@@ -109,8 +109,8 @@ fn tool_line(bytes: &[u8], text: &mut [u8]) -> usize
 {
     let mut out = io::buffer();
     let mut scratch = io::large_buffer();
-    let mut line = [0u8; tool::LINE];
-    let end = tool::line(bytes, &mut out, &mut scratch, &mut line);
+    let mut line = [0u8; command::LINE];
+    let end = command::line(bytes, &mut out, &mut scratch, &mut line);
     report::bytes(text, 0, &line[..end])
 }
 

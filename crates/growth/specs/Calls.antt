@@ -19,12 +19,12 @@ use Rattle.sheet.specs.Sheet.{Sheet, readSheet}
 use Rattle.sheet.specs.Laws.{sheet-ranges}
 use Rattle.rules.specs.Numbers.{LEVELS}
 use Rattle.rules.specs.Outcome.{Out, done, refused, reading}
-use Rattle.rules.specs.Rules.{Env, get}
+use Rattle.rules.specs.Counting.{Env, get}
 use Rattle.rules.specs.Answer.{success, getBytes, getAnswer}
-use Rattle.rules.specs.Refusals.{table, among, Lists, lDone, lRefused, lists-get-bytes}
-use Rattle.rules.specs.OutcomeLaws.{after-at}
-use Rattle.rules.specs.AnswerLaws.{get-shows}
-use Rattle.rules.specs.Trips.{get-short}
+use Rattle.rules.specs.Laws.Refusals.{table, among, Lists, lDone, lRefused, lists-get-bytes}
+use Rattle.rules.specs.Laws.Outcomes.{after-at}
+use Rattle.rules.specs.Laws.Answers.{get-shows}
+use Rattle.rules.specs.Laws.Trips.{get-short}
 use Rattle.growth.specs.Growth.{plain, allPlain, entered, capped, growthOf}
 use Rattle.growth.specs.Counts.{capped-is}
 use Rattle.growth.specs.Grows.{OnlyAt, grows, covers}

@@ -16,9 +16,9 @@ use Rattle.sheet.specs.Kinds.{children, variables}
 use Rattle.sheet.specs.Sheet.{Sheet}
 use Rattle.sheet.specs.Laws.{Ranges}
 use Rattle.rules.specs.Outcome.{Out}
-use Rattle.rules.specs.Text
-use Rattle.rules.specs.Rules.{Env, Getter, bounded, getNode, get}
-use Rattle.rules.specs.OutcomeLaws.{After, fine, stopped, after-map, after-plus, after-bind, after-given}
+use Rattle.rules.specs.Semantics
+use Rattle.rules.specs.Counting.{Env, Getter, bounded, getNode, get}
+use Rattle.rules.specs.Laws.Outcomes.{After, fine, stopped, after-map, after-plus, after-bind, after-given}
 use Rattle.growth.specs.Growth.{plain, own, total, entered}
 use Rattle.growth.specs.Counts.{entered-at}
 
@@ -60,7 +60,7 @@ module _ (x : ℕ) (μ ν : Env) (only : OnlyAt x μ ν) (r : ℕ → ℕ) (g : 
 
   node-grows : (nd : Node) → T (plain nd)
       → Grows (size (getD μ x vfalse)) (size (getD ν x vfalse)) (own x nd + total r (children nd)) (getNode g sh nd μ) (getNode g sh nd ν)
-  unfolding Text.getNode Text.bounded size children own variables
+  unfolding Semantics.getNode Semantics.bounded size children own variables
   node-grows (Var y) p = after-given _ λ v ev. fine (after-given _ λ u eu. fine (var-grows y v u ev eu (ℕ-discrete y x)))
   node-grows False p = fine (fine (omega arith))
   node-grows True p = fine (fine (omega arith))
@@ -84,7 +84,7 @@ module _ (x : ℕ) (μ ν : Env) (only : OnlyAt x μ ν) (r : ℕ → ℕ) (g : 
 module _ (sh : Sheet) (ranges : Ranges sh) (kinds : (n : ℕ) → T (plain (getD (sh .nodes) n False))) (x : ℕ) where
   pub grows : (μ ν : Env) → OnlyAt x μ ν → (l n : ℕ)
       → Grows (size (getD μ x vfalse)) (size (getD ν x vfalse)) (entered sh x n) (get l sh n μ) (get l sh n ν)
-  unfolding Text.get
+  unfolding Semantics.get
   grows μ ν only zero n = stopped tt
   grows μ ν only (suc l) n = rw (entered-at sh ranges x n) (after-plus 1 (after-map
       (node-grows x μ ν only (entered sh x) (get l sh) (grows μ ν only l) sh _ (kinds n)) λ v s h. after-plus 1 (after-map h λ u t e. e)))
@@ -97,7 +97,7 @@ module _ (x : ℕ) (μ : Env) (r : ℕ → ℕ) (g : Getter) (ih : (n : ℕ) →
   own-small y (no q) = rw (own-not x y q) (omega arith)
 
   node-covers : (nd : Node) → T (plain nd) → After (Unit {0}) (λ v s. own x nd + total r (children nd) ≤ size v) (getNode g sh nd μ)
-  unfolding Text.getNode Text.bounded size children own variables
+  unfolding Semantics.getNode Semantics.bounded size children own variables
   node-covers (Var y) p = after-given _ λ v _. fine (omega (arith, own-small y (ℕ-discrete y x), size-pos v))
   node-covers False p = fine (omega arith)
   node-covers True p = fine (omega arith)
@@ -116,6 +116,6 @@ module _ (x : ℕ) (μ : Env) (r : ℕ → ℕ) (g : Getter) (ih : (n : ℕ) →
 
 module _ (sh : Sheet) (ranges : Ranges sh) (kinds : (n : ℕ) → T (plain (getD (sh .nodes) n False))) (x : ℕ) (μ : Env) where
   pub covers : (l n : ℕ) → After (Unit {0}) (λ v s. entered sh x n ≤ size v) (get l sh n μ)
-  unfolding Text.get
+  unfolding Semantics.get
   covers zero n = stopped tt
   covers (suc l) n = rw (entered-at sh ranges x n) (after-plus 1 (node-covers x μ (entered sh x) (get l sh) (covers l) sh _ (kinds n)))

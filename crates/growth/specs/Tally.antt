@@ -12,10 +12,10 @@ use Rattle.sheet.specs.Kinds.{children}
 use Rattle.sheet.specs.Sheet.{Sheet}
 use Rattle.sheet.specs.Laws.{Ranges}
 use Rattle.rules.specs.Outcome.{Out, done, refused, plus, _>>=_, given, choose}
-use Rattle.rules.specs.Text
-use Rattle.rules.specs.Text.{Reading}
-use Rattle.rules.specs.Rules.{Env, Getter, bounded, getNode, get}
-use Rattle.rules.specs.OutcomeLaws.{After, fine, stopped, after-map, after-plus, after-bind, after-given}
+use Rattle.rules.specs.Semantics
+use Rattle.rules.specs.Semantics.{Reading}
+use Rattle.rules.specs.Counting.{Env, Getter, bounded, getNode, get}
+use Rattle.rules.specs.Laws.Outcomes.{After, fine, stopped, after-map, after-plus, after-bind, after-given}
 use Rattle.growth.specs.Growth.{plain, own, total, entered}
 use Rattle.growth.specs.Counts.{entered-at}
 
@@ -49,9 +49,9 @@ module _ (sh : Sheet) (x : ℕ) where
   abbrev Tallies : ℕ → Out Value → Out Value → Type 0
   Tallies r o q = After (Unit {0}) (λ v s. o ≡ done v r) q
 
-  module _ (r : ℕ → ℕ) (h : Text.Getter (tallying sh x)) (g : Getter) (μ : Env) (ih : (n : ℕ) → Tallies (r n) (h n μ) (g n μ)) where
-    node-tallies : (nd : Node) → T (plain nd) → Tallies (total r (children nd)) (Text.getNode (tallying sh x) h sh nd μ) (getNode g sh nd μ)
-    unfolding Text.getNode Text.bounded children
+  module _ (r : ℕ → ℕ) (h : Semantics.Getter (tallying sh x)) (g : Getter) (μ : Env) (ih : (n : ℕ) → Tallies (r n) (h n μ) (g n μ)) where
+    node-tallies : (nd : Node) → T (plain nd) → Tallies (total r (children nd)) (Semantics.getNode (tallying sh x) h sh nd μ) (getNode g sh nd μ)
+    unfolding Semantics.getNode Semantics.bounded children
     node-tallies (Var y) p = after-given _ λ v e. fine (given-is 42 _ e refl)
     node-tallies False p = fine refl
     node-tallies True p = fine refl
@@ -71,8 +71,8 @@ module _ (sh : Sheet) (x : ℕ) where
     node-tallies (Each s c y d) p = absurd p
 
   module _ (ranges : Ranges sh) (kinds : (n : ℕ) → T (plain (getD (sh .nodes) n False))) where
-    pub tallies : (l n : ℕ) (μ : Env) → Tallies (entered sh x n) (Text.get (tallying sh x) l sh n μ) (get l sh n μ)
-    unfolding Text.get plus
+    pub tallies : (l n : ℕ) (μ : Env) → Tallies (entered sh x n) (Semantics.get (tallying sh x) l sh n μ) (get l sh n μ)
+    unfolding Semantics.get plus
     tallies zero n μ = stopped tt
     tallies (suc l) n μ = rw (entered-at sh ranges x n) (after-plus 1 (after-map
-        (node-tallies (entered sh x) (Text.get (tallying sh x) l sh) (get l sh) μ (λ m. tallies l m μ) _ (kinds n)) λ v s e. rw e))
+        (node-tallies (entered sh x) (Semantics.get (tallying sh x) l sh) (get l sh) μ (λ m. tallies l m μ) _ (kinds n)) λ v s e. rw e))

@@ -47,7 +47,7 @@ replyLine (Done len n) o = successLine n (take len o)
 
 -- a call with the answer a: its line is at the front of the text t, which became t′, and r is the line's length; output and scratch are as
 -- the call leaves them
-pub record Said (a : Answer) (r : ℕ) (t t′ o o′ s s′ : List ℕ) : Type 0 where
+pub record Printed (a : Answer) (r : ℕ) (t t′ o o′ s s′ : List ℕ) : Type 0 where
   pub text : Front (answerLine a) t t′ r
   pub output : o′ ≡ written a o
   pub scratch : s′ ≡ cleared a s
@@ -58,6 +58,6 @@ clearedBy bs (Get f) s = cleared (answerOf bs (Get f)) s
 clearedBy bs (Put f) s = cleared (answerOf bs (Put f)) s
 clearedBy bs Other s = s
 
-pub record Lent (bs o o′ s s′ : List ℕ) : Type 0 where
+pub record BuffersAfter (bs o o′ s s′ : List ℕ) : Type 0 where
   pub output : o′ ≡ written (jobAnswer bs) o
   pub scratch : s′ ≡ cond (leb (length bs) INPUT) (clearedBy bs (jobOf bs) s) s

@@ -23,7 +23,7 @@ use Rattle.words.specs.declared.fields.Fields.{Fields}
 use Rattle.words.specs.declared.Job.{Job}
 use Rattle.words.specs.declared.Job.the-variants.{Get, Put, Other}
 use Rattle.words.specs.Format.{sheetOf, planOf, viewOf, jobOf}
-use Rattle.job.specs.Line.{LINE, answerOf, jobAnswer, answerLine, jobLine, replyLine, Said, clearedBy, Lent}
+use Rattle.job.specs.Line.{LINE, answerOf, jobAnswer, answerLine, jobLine, replyLine, Printed, clearedBy, BuffersAfter}
 
 -- HOW LONG A LINE IS
 
@@ -80,7 +80,7 @@ module _ {a : Answer} {q : Reply} {o o′ s s′ : List ℕ} (w : Answered a q o
       go (refusal c) e p = rw e
       go (success bs n) e p = rw (e, p, take-append-seam bs (drop (length bs) o))
 
-  pub said : {t t′ : List ℕ} {r : ℕ} → Wrote (replyLine q o′) 0 t t′ r → length (answerLine a) ≤ length t → Said a r t t′ o o′ s s′
+  pub said : {t t′ : List ℕ} {r : ℕ} → Wrote (replyLine q o′) 0 t t′ r → length (answerLine a) ≤ length t → Printed a r t t′ o o′ s s′
   said l h = record { text = wrote-front (wrote-text l reply-line) h; output = w .output; scratch = w .scratch }
 
 -- a reply, case by case
@@ -101,11 +101,11 @@ module _ {o s t : List ℕ} (eo : length o ≡ PUT-OUTPUT) (es : length s ≡ SC
     {q : Reply} {o′ s′ t′ : List ℕ} {r : ℕ} where
   -- a get is lent more than the 256 bytes that it needs
   pub said-get : Answered (getAnswer sheet plan allowance (length o) (length s)) q o o′ s s′ → Wrote (replyLine q o′) 0 t t′ r
-      → Said (getAnswer sheet plan allowance GET-OUTPUT SCRATCH) r t t′ o o′ s s′
+      → Printed (getAnswer sheet plan allowance GET-OUTPUT SCRATCH) r t t′ o o′ s s′
   said-get w l = said (rw (eo, es, more-output sheet plan allowance) at w) l (rw et (fits-get sheet plan allowance GET-OUTPUT SCRATCH))
 
   pub said-put : (view : List ℕ) → Answered (putAnswer sheet plan view allowance (length o) (length s)) q o o′ s s′ → Wrote (replyLine q o′) 0 t t′ r
-      → Said (putAnswer sheet plan view allowance PUT-OUTPUT SCRATCH) r t t′ o o′ s s′
+      → Printed (putAnswer sheet plan view allowance PUT-OUTPUT SCRATCH) r t t′ o o′ s s′
   said-put view w l = said (rw (eo, es) at w) l (rw et (fits-put sheet plan view allowance PUT-OUTPUT SCRATCH))
 
 -- an input: over 8,192 bytes, no job, a get, a put
@@ -118,12 +118,12 @@ module _ (bs : List ℕ) where
   unfolding jobAnswer
   answer-job h e q = rw (le-leb (length bs) INPUT h, ← e, q)
 
-  lent-over : (o s : List ℕ) → INPUT < length bs → Lent bs o o s s
+  lent-over : (o s : List ℕ) → INPUT < length bs → BuffersAfter bs o o s s
   unfolding written
   lent-over o s h = record { output = rw (answer-over h); scratch = rw (lt-leb (length bs) INPUT h) }
 
   lent-job : {i j : Job} → length bs ≤ INPUT → i ≡ jobOf bs → i ≡ j → {o o′ s s′ : List ℕ}
-      → o′ ≡ written (answerOf bs j) o → s′ ≡ clearedBy bs j s → Lent bs o o′ s s′
+      → o′ ≡ written (answerOf bs j) o → s′ ≡ clearedBy bs j s → BuffersAfter bs o o′ s s′
   lent-job h e q p z = record { output = rw (answer-job h e q) p; scratch = rw (le-leb (length bs) INPUT h, ← e, q) z }
 
   module _ {t t′ : List ℕ} {r : ℕ} where
@@ -135,25 +135,26 @@ module _ (bs : List ℕ) where
     unfolding jobLine
     line-said e f = rw e f
 
-    pub prints-over : {o s : List ℕ} → length t ≡ LINE → INPUT < length bs → Wrote (refusalLine 61) 0 t t′ r → Front (jobLine bs) t t′ r × Lent bs o o s s
+    pub prints-over : {o s : List ℕ} → length t ≡ LINE → INPUT < length bs → Wrote (refusalLine 61) 0 t t′ r
+        → Front (jobLine bs) t t′ r × BuffersAfter bs o o s s
     prints-over {o} {s} et h l = (line-wrote 61 et (answer-over h) l, lent-over o s h)
 
     module _ {j : Job} (h : length bs ≤ INPUT) (e : j ≡ jobOf bs) where
-      pub prints-none : {o s : List ℕ} → length t ≡ LINE → j ≡ Other → Wrote (refusalLine 60) 0 t t′ r → Front (jobLine bs) t t′ r × Lent bs o o s s
+      pub prints-none : {o s : List ℕ} → length t ≡ LINE → j ≡ Other → Wrote (refusalLine 60) 0 t t′ r → Front (jobLine bs) t t′ r × BuffersAfter bs o o s s
       unfolding answerOf written clearedBy
       prints-none et q l = (line-wrote 60 et (answer-job h e q) l, lent-job h e q refl refl)
 
       module _ {f : Fields} {sheet plan : List ℕ} (es : sheet ≡ sheetOf bs f) (ep : plan ≡ planOf bs f) {o o′ s s′ : List ℕ} where
-        pub prints-get : j ≡ Get f → Said (getAnswer sheet plan (f .allowance) GET-OUTPUT SCRATCH) r t t′ o o′ s s′
-            → Front (jobLine bs) t t′ r × Lent bs o o′ s s′
+        pub prints-get : j ≡ Get f → Printed (getAnswer sheet plan (f .allowance) GET-OUTPUT SCRATCH) r t t′ o o′ s s′
+            → Front (jobLine bs) t t′ r × BuffersAfter bs o o′ s s′
         unfolding answerOf clearedBy
         prints-get q w =
-            let v : Said (answerOf bs (Get f)) r t t′ o o′ s s′ = rw (es, ep) at w in
+            let v : Printed (answerOf bs (Get f)) r t t′ o o′ s s′ = rw (es, ep) at w in
             (line-said (answer-job h e q) (v .text), lent-job h e q (v .output) (v .scratch))
 
         pub prints-put : {view : List ℕ} → j ≡ Put f → view ≡ viewOf bs f
-            → Said (putAnswer sheet plan view (f .allowance) PUT-OUTPUT SCRATCH) r t t′ o o′ s s′ → Front (jobLine bs) t t′ r × Lent bs o o′ s s′
+            → Printed (putAnswer sheet plan view (f .allowance) PUT-OUTPUT SCRATCH) r t t′ o o′ s s′ → Front (jobLine bs) t t′ r × BuffersAfter bs o o′ s s′
         unfolding answerOf clearedBy
         prints-put q ev w =
-            let v : Said (answerOf bs (Put f)) r t t′ o o′ s s′ = rw (es, ep, ev) at w in
+            let v : Printed (answerOf bs (Put f)) r t t′ o o′ s s′ = rw (es, ep, ev) at w in
             (line-said (answer-job h e q) (v .text), lent-job h e q (v .output) (v .scratch))

@@ -2,7 +2,7 @@
 ghost use Rattle.rules.specs.Numbers.{SCRATCH, GET-OUTPUT, PUT-OUTPUT};
 ghost use Rattle.rules.specs.Answer.{getAnswer, putAnswer};
 ghost use Rattle.report.specs.Writing.{Wrote, Front};
-ghost use Rattle.job.specs.Line.{jobLine, replyLine, Said, Lent};
+ghost use Rattle.job.specs.Line.{jobLine, replyLine, Printed, BuffersAfter};
 ghost use Rattle.calls.specs.CallLaws.{Within};
 use calls::Reply;
 use words::INPUT;
@@ -34,7 +34,7 @@ fn get_line(
     scratch: &mut [u8; rules::SCRATCH],
     text: &mut [u8; LINE],
 ) -> usize
-    ensures { λ r. ⌜ Said (getAnswer (now (sheet .entry)) (now (plan .entry)) allowance GET-OUTPUT SCRATCH) r (now (text .entry)) (now (text .exit))
+    ensures { λ r. ⌜ Printed (getAnswer (now (sheet .entry)) (now (plan .entry)) allowance GET-OUTPUT SCRATCH) r (now (text .entry)) (now (text .exit))
         (now (out .entry)) (now (out .exit)) (now (scratch .entry)) (now (scratch .exit)) ⌝ }
 {
     let reply = calls::get(sheet, plan, allowance, out, scratch);
@@ -51,7 +51,7 @@ fn put_line(
     scratch: &mut [u8; rules::SCRATCH],
     text: &mut [u8; LINE],
 ) -> usize
-    ensures { λ r. ⌜ Said (putAnswer (now (sheet .entry)) (now (plan .entry)) (now (view .entry)) allowance PUT-OUTPUT SCRATCH) r (now (text .entry))
+    ensures { λ r. ⌜ Printed (putAnswer (now (sheet .entry)) (now (plan .entry)) (now (view .entry)) allowance PUT-OUTPUT SCRATCH) r (now (text .entry))
         (now (text .exit)) (now (out .entry)) (now (out .exit)) (now (scratch .entry)) (now (scratch .exit)) ⌝ }
 {
     let answer = calls::put(sheet, plan, view, allowance, out, scratch);
@@ -67,7 +67,7 @@ pub fn line(
     text: &mut [u8; LINE],
 ) -> usize
     ensures { λ r. ⌜ Front (jobLine (now (input .entry))) (now (text .entry)) (now (text .exit)) r ⌝ }
-    ensures { λ _. ⌜ Lent (now (input .entry)) (now (out .entry)) (now (out .exit)) (now (scratch .entry)) (now (scratch .exit)) ⌝ }
+    ensures { λ _. ⌜ BuffersAfter (now (input .entry)) (now (out .entry)) (now (out .exit)) (now (scratch .entry)) (now (scratch .exit)) ⌝ }
 {
     if INPUT < input.len() {
         return report::refusal(text, 0, 61);

@@ -21,7 +21,7 @@ use Rattle.sheet.specs.Ranging.{every-map, children-in, calls-in}
 use Rattle.records.specs.declared.Anew.{Anew}
 use Rattle.records.specs.Anew.{shiftedBy, within, newNode, newSection, recordsOf, named, rootsOf, sectionsOf}
 use Rattle.records.specs.AnewLaws.{listing-same, listing-map, every-listing, within-in, shift-at, Renumbers, records-are, roots-append, roots-written}
-use Rattle.rules.specs.Embedding.{itself}
+use Rattle.rules.specs.Laws.Embedding.{itself}
 use Rattle.joined.specs.Joined.{nodeBehind, sectionBehind, joined}
 use Rattle.joined.specs.JoinedCalls.{joinedBytes, Joins, joined-told, joined-short}
 use Rattle.join.specs.JoinAnswer.{textOf}

@@ -15,10 +15,10 @@ use Rattle.sheet.specs.declared.Node.{Node}
 use Rattle.sheet.specs.declared.Node.the-variants.{Var, False, True, Empty, Number, Front, Pair, ListCase, TruthCase, Split, Call, Add, Each, Wide}
 use Rattle.sheet.specs.Sheet.{Sheet}
 use Rattle.rules.specs.Outcome.{Out, done, refused, plus, steps, when, _>>=_, given, choose}
-use Rattle.rules.specs.Text
-use Rattle.rules.specs.Rules.{Env, Cells, Getter, Putter, two, pick, onList, restOf, get, orOld, constant, write, both, under, mkList, mkPair}
-use Rattle.rules.specs.Rules.{stoodFor, putEach, putNode, put}
-use Rattle.rules.specs.Related.{at-behind, at-seam, at-last}
+use Rattle.rules.specs.Semantics
+use Rattle.rules.specs.Counting.{Env, Cells, Getter, Putter, two, pick, onList, restOf, get, orOld, constant, write, both, under, mkList, mkPair}
+use Rattle.rules.specs.Counting.{stoodFor, putEach, putNode, put}
+use Rattle.rules.specs.Laws.Related.{at-behind, at-seam, at-last}
 use Rattle.published.specs.Published.{Merge1, neither, left, right, same, Merge, mEnds, mMore}
 
 -- OUTCOMES: both done in as many steps, and Q; refused alike; or the second refused with 54, no later than the first ends
@@ -155,7 +155,7 @@ PutsBeside p = (n : ℕ) (μ : Env) (σ : List ℕ) (v : Value) (E W W′ : Cell
 module _ (g : Getter) (p : Putter) (ih : PutsBeside p) (root d c : ℕ) (a : Value) where
   each-beside : (n : ℕ) (old l : Values) (E W W′ : Cells) → Merge E W W′
       → Meets (λ (q r : Values × Cells). (q .0 ≡ r .0) × Merge E (q .1) (r .1)) (putEach g p root d c a n old l W) (putEach g p root d c a n old l W′)
-  unfolding Text.putEach
+  unfolding Semantics.putEach
   each-beside n old nil E W W′ m = fine (refl, m)
   each-beside n old (cons v l) E W W′ m = rw (merge-left-length m, merge-length m) (meets-got (stoodFor g d old) λ b.
       meets-bind (ih root (two b a) (two (length E) c) v _ _ _ (merge-new (none ∷ []) (mMore neither mEnds) m)) λ X X′ k.
@@ -164,7 +164,7 @@ module _ (g : Getter) (p : Putter) (ih : PutsBeside p) (root d c : ℕ) (a : Val
 
 module _ (g : Getter) (p : Putter) (ih : PutsBeside p) (sh : Sheet) (μ : Env) (σ : List ℕ) (v : Value) (E W W′ : Cells) (m : Merge E W W′) where
   constant-beside : (u : Value) → Meets (Merge E) (constant v u W) (constant v u W′)
-  unfolding Text.constant
+  unfolding Semantics.constant
   constant-beside u = meets-given 50 (when (sameValue v u)) λ _. fine m
 
   -- what the other wrote is met, and is the same or not
@@ -176,25 +176,25 @@ module _ (g : Getter) (p : Putter) (ih : PutsBeside p) (sh : Sheet) (μ : Env) (
 
   write-beside : (c : ℕ) (x o q : Option Value) → getElem? E c ≡ some x → getElem? W c ≡ some o → getElem? W′ c ≡ some q → Merge1 x o q
       → Meets (Merge E) (write c v W o) (write c v W′ q)
-  unfolding Text.write
+  unfolding Semantics.write
   write-beside c x o q ex eo eq neither = fine (merge-set c m ex right)
   write-beside c x o q ex eo eq (left {v = w}) = write-met c w ex eq (sameValue w v)
   write-beside c x o q ex eo eq (right {v = w}) = meets-given 54 (when (sameValue w v)) λ _. fine m
   write-beside c x o q ex eo eq (same {u = w} h) = meets-given 54 (when (sameValue w v)) λ _. fine m
 
   both-beside : (a b : ℕ) (x y : Value) → Meets (Merge E) (both p μ σ W a x b y) (both p μ σ W′ a x b y)
-  unfolding Text.both
+  unfolding Semantics.both
   both-beside a b x y = meets-bind (ih a μ σ x E W W′ m) λ X X′ k. ih b μ σ y E X X′ k
 
   under-beside : (b s : ℕ) (mk : Value → Value → Option Value) (f r : Value) → Meets (Merge E) (under p μ σ W b v s mk f r) (under p μ σ W′ b v s mk f r)
-  unfolding Text.under
+  unfolding Semantics.under
   under-beside b s mk f r = rw (merge-left-length m, merge-length m)
       (meets-bind (ih b (μ ++ two f r) (σ ++ two (length E) (suc (length E))) v _ _ _ (merge-new (two none none) (mMore neither (mMore neither mEnds)) m))
       λ X X′ k. meets-new 42 (length E) k (at-seam E none none) λ x. meets-new 42 (suc (length E)) k (at-last E none none) λ y.
       meets-given 43 (mk (orOld x f) (orOld y r)) λ u. meets-given 44 (when (decLe (size u) 256)) λ _. ih s μ σ u E _ _ (merge-dropped E (two none none) k))
 
   put-node-beside : (nd : Node) → Meets (Merge E) (putNode g p sh nd μ σ v W) (putNode g p sh nd μ σ v W′)
-  unfolding Text.putNode
+  unfolding Semantics.putNode
   put-node-beside (Var x) = meets-given 42 (getElem? σ x) λ c. meets-cell 42 c m (write-beside c)
   put-node-beside False = constant-beside vfalse
   put-node-beside True = constant-beside vtrue
@@ -218,6 +218,6 @@ module _ (g : Getter) (p : Putter) (ih : PutsBeside p) (sh : Sheet) (μ : Env) (
       meets-bind (each-beside g p ih (getD (sh .sections) sec 0) d c a 1 (old .0) (l .0) E W W′ m) λ q r h. rw (h .0) (ih s μ σ _ E _ _ (h .1))
 
 pub puts-beside : (l : ℕ) (sh : Sheet) → PutsBeside (put l sh)
-unfolding Text.put
+unfolding Semantics.put
 puts-beside zero sh n μ σ v E W W′ m = refuses
 puts-beside (suc l) sh n μ σ v E W W′ m = meets-plus 1 (put-node-beside (get l sh) (put l sh) (puts-beside l sh) sh μ σ v E W W′ m _)

@@ -16,9 +16,9 @@ use Rattle.sheet.specs.Kinds.{formOf, bodyWidth, make, nodeInRange, ofKind, ren
 use Rattle.sheet.specs.Rows.{sheetWritten}
 use Rattle.rules.specs.Outcome.{done, plus, steps, when, mapOut, _>>=_, given, reading}
 use Rattle.rules.specs.Allowance.{cap, within}
-use Rattle.rules.specs.Text
+use Rattle.rules.specs.Semantics
 use Rattle.rules.specs.Answer.{refusal, answer, door, count, newPlan, putWalk, putBytes, putAnswer}
-use Rattle.rules.specs.Written.{bitsOf, bit, took, tookIn, putWritten}
+use Rattle.rules.specs.Bits.{bitsOf, bit, took, tookIn, putWritten}
 use Rattle.rules.specs.Examples.{P, T}
 use Rattle.joined.specs.Joined.{joined}
 use Rattle.joined.specs.Levels.{putFrom}
@@ -49,12 +49,13 @@ twice = record {
 
 -- a put into it
 walk-P : (v : Value) → putFrom 47 only 0 (vfalse ∷ []) v ≡ done (some v ∷ []) 1
-unfolding Text.put Text.putNode Text.write given plus count
+unfolding Semantics.put Semantics.putNode Semantics.write given plus count
 walk-P v = refl
 
 -- the law, whose every hypothesis holds
 pub clashes-T : putAnswer T (0x00 ∷ []) (0x05 ∷ 0x01 ∷ 0x00 ∷ []) 3 4096 65536 ≡ refusal 54
-unfolding putAnswer putBytes putWalk answer door count newPlan within cap plus steps when _>>=_ mapOut given reading Text.orOld Text.write Text.putNode Text.put
+unfolding putAnswer putBytes putWalk answer door count newPlan within cap plus steps when _>>=_ mapOut given reading Semantics.orOld Semantics.write
+    Semantics.putNode Semantics.put
     andThen mapResult orRefuse unless encode flat sameValue onWhole kindOf beginValue read readValue onValue readValues formOf bodyWidth make readNodes
     oneSection ifSection readRecords withNodes readBody nodeInRange nodesInRange rootsInRange inRange readHeader readSheet decLe ℕ-discrete bitsOf bit took
     tookIn putWritten twice

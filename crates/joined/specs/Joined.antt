@@ -17,13 +17,13 @@ use Rattle.sheet.specs.Laws.{Ranges}
 use Rattle.sheet.specs.Ranging.{map-at}
 use Rattle.rules.specs.Outcome.{done, plus, _>>=_, given}
 use Rattle.rules.specs.Allowance.{within}
-use Rattle.rules.specs.AllowanceLaws.{done-within}
-use Rattle.rules.specs.Text
-use Rattle.rules.specs.Rules.{Env, Cells, bounded, get, both, put}
+use Rattle.rules.specs.Laws.Allowances.{done-within}
+use Rattle.rules.specs.Semantics
+use Rattle.rules.specs.Counting.{Env, Cells, bounded, get, both, put}
 use Rattle.rules.specs.Answer.{count, getWalk, putWalk}
-use Rattle.rules.specs.OutcomeLaws.{given-yes}
-use Rattle.rules.specs.Scope.{bind-ext, given-ext}
-use Rattle.rules.specs.Embedding.{Holds, itself}
+use Rattle.rules.specs.Laws.Outcomes.{given-yes}
+use Rattle.rules.specs.Laws.Scope.{bind-ext, given-ext}
+use Rattle.rules.specs.Laws.Embedding.{Holds, itself}
 use Rattle.embedding.specs.Whole.{whole-held}
 use Rattle.embedding.specs.EmbeddingLaws.{get-embedded, put-embedded}
 
@@ -70,13 +70,13 @@ module _ {a b : Sheet} (ra : Ranges a) (rb : Ranges b) where
   -- THE WALKS: a step for the pair, then the first part and the second, with one level less
   pub get-joined : (l : ℕ) (μ : Env)
       → get (suc l) (joined a b) 0 μ ≡ plus 1 (get l a (a .root) μ >>= λ u. get l b (b .root) μ >>= λ v. bounded (pair u v))
-  unfolding Text.get Text.getNode joined
+  unfolding Semantics.get Semantics.getNode joined
   get-joined l μ = ap (plus 1) (bind-ext (get-embedded first-held l (a .root) μ (ra .root)) λ u.
       bind-ext (get-embedded second-held l (b .root) μ (rb .root)) λ v. refl)
 
   pub put-joined : (l : ℕ) (μ : Env) (σ : List ℕ) (v : Value) (W : Cells)
       → put (suc l) (joined a b) 0 μ σ v W ≡ plus 1 (given 51 (asPair v) λ c. put l a (a .root) μ σ (c .0) W >>= λ X. put l b (b .root) μ σ (c .1) X)
-  unfolding Text.put Text.putNode Text.both joined
+  unfolding Semantics.put Semantics.putNode Semantics.both joined
   put-joined l μ σ v W = ap (plus 1) (given-ext 51 (asPair v) λ c. bind-ext (put-embedded first-held l (a .root) μ σ (c .0) W (ra .root)) λ X.
       put-embedded second-held l (b .root) μ σ (c .1) X (rb .root))
 
@@ -95,7 +95,7 @@ module _ {a b : Sheet} (ra : Ranges a) (rb : Ranges b) where
   -- so where both parts read out with 47 levels and the pair fits, the joined sheet gives the pair
   pub get-walk-pair : (allowance : ℕ) (μ : Env) {u v : Value} {s t : ℕ} → get 47 a (a .root) μ ≡ done u s → get 47 b (b .root) μ ≡ done v t
       → size (pair u v) ≤ 256 → 1 + s + t ≤ allowance → getWalk allowance (joined a b) μ ≡ done (pair u v) (1 + s + t)
-  unfolding _>>=_ plus Text.bounded
+  unfolding _>>=_ plus Semantics.bounded
   get-walk-pair allowance μ {u} {v} {s} {t} ea eb fits few =
       let q : (1 + (s + (t + 0))) ≡ 1 + s + t = omega arith in
       get-walk-joined allowance μ ∙ rw (ea, eb, given-yes 44 (decLe (size (pair u v)) 256) {x = done (pair u v) 0} fits, q) (done-within allowance _ _ few)

@@ -17,7 +17,7 @@ use Rattle.sheet.specs.Laws.{Ranges, sheet-ranges}
 use Rattle.sheet.specs.Rows.{sheetWritten}
 use Rattle.rules.specs.Outcome.{plus, mapOut, _>>=_, given, reading}
 use Rattle.rules.specs.Allowance.{within}
-use Rattle.rules.specs.Rules.{bounded, get, put}
+use Rattle.rules.specs.Counting.{bounded, get, put}
 use Rattle.rules.specs.Answer.{count, newPlan, getBytes, putBytes}
 use Rattle.joined.specs.Joined.{joined, get-walk-joined, put-walk-joined}
 use Rattle.sheet.specs.Ranging.{read-back, written-short}

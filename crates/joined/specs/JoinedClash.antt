@@ -12,8 +12,8 @@ use Rattle.value.specs.Views.{asPair}
 use Rattle.sheet.specs.Sheet.{Sheet}
 use Rattle.sheet.specs.Laws.{Ranges}
 use Rattle.rules.specs.Outcome.{Out, done, refused, plus, steps, _>>=_, given}
-use Rattle.rules.specs.AllowanceLaws.{within-yes}
-use Rattle.rules.specs.Rules.{Env, Cells, put}
+use Rattle.rules.specs.Laws.Allowances.{within-yes}
+use Rattle.rules.specs.Counting.{Env, Cells, put}
 use Rattle.rules.specs.Answer.{count, putWalk}
 use Rattle.published.specs.Published.{Merge1, neither, left, right, same, Merge, mEnds, mMore}
 use Rattle.joined.specs.Joined.{joined, put-walk-joined}

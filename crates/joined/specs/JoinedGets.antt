@@ -14,12 +14,12 @@ use Rattle.sheet.specs.Laws.{Ranges, sheet-ranges}
 use Rattle.rules.specs.Numbers.{LEVELS, ALLOWANCE, GET-OUTPUT}
 use Rattle.rules.specs.Outcome.{done, refused, plus, steps, when, mapOut, _>>=_, reading}
 use Rattle.rules.specs.Allowance.{within}
-use Rattle.rules.specs.Rules.{Env, bounded, get}
-use Rattle.rules.specs.AllowanceLaws.{within-yes, done-within, within-done}
-use Rattle.rules.specs.OutcomeLaws.{given-not}
-use Rattle.rules.specs.Text
+use Rattle.rules.specs.Counting.{Env, bounded, get}
+use Rattle.rules.specs.Laws.Allowances.{within-yes, done-within, within-done}
+use Rattle.rules.specs.Laws.Outcomes.{given-not}
+use Rattle.rules.specs.Semantics
 use Rattle.rules.specs.Answer.{answer, refusal, success, door, getWalk, getAnswer}
-use Rattle.rules.specs.AnswerLaws.{Lent, door-open, get-shows, get-answers}
+use Rattle.rules.specs.Laws.Answers.{DoorOpens, door-open, get-shows, get-answers}
 use Rattle.joined.specs.Joined.{joined, get-walk-joined, get-walk-pair}
 use Rattle.joined.specs.Levels.{NoDeeper, done-deep, get-more, get-fewer}
 use Rattle.joined.specs.JoinedPut.{bind-done, plus-done, given-done}
@@ -63,7 +63,7 @@ module _ {s t u : List ℕ} (h : Joins s t u) where
   joined-get-answer plan allowance output scratch = ap (λ o. answer (door GET-OUTPUT output scratch allowance o)) (joined-get h plan allowance)
 
   -- where both walks succeed with 47 levels: the pair, or 44
-  module _ (plan : List ℕ) (allowance output scratch : ℕ) (l : Lent GET-OUTPUT output scratch allowance) {μ : Env} (ep : readPlan (a .k) plan ≡ ok μ)
+  module _ (plan : List ℕ) (allowance output scratch : ℕ) (l : DoorOpens GET-OUTPUT output scratch allowance) {μ : Env} (ep : readPlan (a .k) plan ≡ ok μ)
       {x y : Value} {m n : ℕ} (ex : get 47 a (a .root) μ ≡ done x m) (ey : get 47 b (b .root) μ ≡ done y n) (few : 1 + m + n ≤ allowance) where
     pub joined-get-walks : size (pair x y) ≤ 256 → getAnswer u plan allowance output scratch ≡ success (encode (pair x y)) (1 + m + n)
     unfolding answer reading mapOut
@@ -71,7 +71,7 @@ module _ {s t u : List ℕ} (h : Joins s t u) where
         ∙ rw (ep, sym (get-walk-joined ra rb allowance μ) ∙ get-walk-pair ra rb allowance μ ex ey fits few)
 
     pub joined-get-long : 256 < size (pair x y) → getAnswer u plan allowance output scratch ≡ refusal 44
-    unfolding answer reading mapOut _>>=_ plus Text.bounded steps
+    unfolding answer reading mapOut _>>=_ plus Semantics.bounded steps
     joined-get-long long = joined-get-answer plan allowance output scratch ∙ ap answer (door-open l)
         ∙ rw (
           ep,
@@ -120,7 +120,7 @@ module _ {s t u : List ℕ} (h : Joins s t u) (plan x y : List ℕ) (A B output 
         second-bytes = e .bytes;
       }
 
-  lent : {allowance : ℕ} → 1 + m + n ≤ allowance → allowance ≤ ALLOWANCE → Lent GET-OUTPUT output scratch allowance
+  lent : {allowance : ℕ} → 1 + m + n ≤ allowance → allowance ≤ ALLOWANCE → DoorOpens GET-OUTPUT output scratch allowance
   lent few most =
       let l = get-shows first .0 in record { output-long = l .output-long; scratch-long = l .scratch-long; some-steps = omega arith; few-steps = most }
 
@@ -162,7 +162,7 @@ module _ {s t u : List ℕ} (h : Joins s t u) (plan : List ℕ) (allowance outpu
     pub shallow′ : GetsWithin 47 t plan
 
   -- one part of it, alone
-  module _ (opened : Lent GET-OUTPUT output scratch allowance) (sheet : List ℕ) {sh : Sheet} (es : readSheet sheet ≡ ok sh)
+  module _ (opened : DoorOpens GET-OUTPUT output scratch allowance) (sheet : List ℕ) {sh : Sheet} (es : readSheet sheet ≡ ok sh)
       {μ : Env} (ep : readPlan (sh .k) plan ≡ ok μ) {v : Value} {m : ℕ} (e : get 47 sh (sh .root) μ ≡ done v m) (few : m ≤ allowance) where
     part-answers : getAnswer sheet plan allowance output scratch ≡ success (encode v) m
     part-answers = get-answers opened (record {
@@ -177,11 +177,11 @@ module _ {s t u : List ℕ} (h : Joins s t u) (plan : List ℕ) (allowance outpu
     })
 
   bounded-done : (v : Value) {w : Value} {n : ℕ} → bounded v ≡ done w n → (w ≡ v) × (n ≡ 0)
-  unfolding Text.bounded
+  unfolding Semantics.bounded
   bounded-done v e = let (z, q) = given-done 44 (when (decLe (size v) 256)) _ e in (cc, cc)
 
   pair-got : {μ : Env} {v : Value} {n k : ℕ} {view : List ℕ} → view ≡ encode v → k ≡ 1 + n
-      → Lent GET-OUTPUT output scratch allowance → readPlan (h .first .k) plan ≡ ok μ → n ≤ allowance
+      → DoorOpens GET-OUTPUT output scratch allowance → readPlan (h .first .k) plan ≡ ok μ → n ≤ allowance
       → get 47 (h .first) (h .first .root) μ >>= (λ x. get 47 (h .second) (h .second .root) μ >>= λ y. bounded (pair x y)) ≡ done v n
       → GotBoth view k
   unfolding encode

@@ -11,11 +11,11 @@ use Rattle.sheet.specs.Sheet.{Sheet}
 use Rattle.sheet.specs.Laws.{Ranges}
 use Rattle.rules.specs.Outcome.{Out, done, refused, plus, _>>=_, given}
 use Rattle.rules.specs.Allowance.{within}
-use Rattle.rules.specs.AllowanceLaws.{done-within, within-done}
-use Rattle.rules.specs.Rules.{Env, Cells, put}
+use Rattle.rules.specs.Laws.Allowances.{done-within, within-done}
+use Rattle.rules.specs.Counting.{Env, Cells, put}
 use Rattle.rules.specs.Answer.{count, putWalk}
-use Rattle.rules.specs.Related.{ends, more, all2-length}
-use Rattle.rules.specs.Consistency.{Later}
+use Rattle.rules.specs.Laws.Related.{ends, more, all2-length}
+use Rattle.rules.specs.Laws.Consistency.{Later}
 use Rattle.published.specs.Published.{Over, residual, Put, Merge1, neither, left, right, same, Merge, mEnds, mMore}
 use Rattle.published.specs.PublishedCost.{Cost, putCost}
 use Rattle.published.specs.PublishedCells.{Laid, Joined, seen-later, laid-later}

@@ -18,14 +18,14 @@ use Rattle.sheet.specs.Laws.{Ranges, sheet-ranges}
 use Rattle.rules.specs.Numbers.{LEVELS, ALLOWANCE, PUT-OUTPUT}
 use Rattle.rules.specs.Outcome.{Out, done, refused, plus, steps, mapOut, _>>=_, given, reading}
 use Rattle.rules.specs.Allowance.{within}
-use Rattle.rules.specs.AllowanceLaws.{within-yes, done-within, within-done}
-use Rattle.rules.specs.Text
-use Rattle.rules.specs.Rules.{Env, Cells, orOld, put}
+use Rattle.rules.specs.Laws.Allowances.{within-yes, done-within, within-done}
+use Rattle.rules.specs.Semantics
+use Rattle.rules.specs.Counting.{Env, Cells, orOld, put}
 use Rattle.rules.specs.Answer.{answer, refusal, success, door, count, newPlan, putWalk, putBytes, putAnswer}
-use Rattle.rules.specs.AnswerLaws.{Lent, door-open, PutBack, put-shows, put-answers}
-use Rattle.rules.specs.Trips.{written}
-use Rattle.rules.specs.Written.{bit, took, putWritten}
-use Rattle.rules.specs.WrittenLaws.{bit-cell}
+use Rattle.rules.specs.Laws.Answers.{DoorOpens, door-open, PutBack, put-shows, put-answers}
+use Rattle.rules.specs.Laws.Trips.{put-writes}
+use Rattle.rules.specs.Bits.{bit, took, putWritten}
+use Rattle.rules.specs.Bits.Laws.{bit-cell}
 use Rattle.published.specs.Published.{Merge1, neither, left, right, same}
 use Rattle.joined.specs.Joined.{joined, put-walk-joined}
 use Rattle.joined.specs.Levels.{NoDeeper, done-deep, putFrom, put-more, put-fewer}
@@ -55,7 +55,7 @@ module _ (sheet plan view : List ℕ) (l : ℕ) where
 -- THE NEW PLAN, variable by variable
 
 new-at : (X : Cells) (μ : Env) (i : ℕ) → length X ≡ length μ → getD (newPlan X μ) i vfalse ≡ orOld (getD X i none) (getD μ i vfalse)
-unfolding newPlan Text.orOld
+unfolding newPlan Semantics.orOld
 new-at [] [] i e = refl
 new-at [] (v ∷ μ) i e = absurd (omega arith)
 new-at (o ∷ X) [] i e = absurd (omega arith)
@@ -63,14 +63,14 @@ new-at (o ∷ X) (v ∷ μ) zero e = refl
 new-at (o ∷ X) (v ∷ μ) (suc i) e = new-at X μ i (omega arith)
 
 merged-first : {o p q : Option Value} → Merge1 o p q → (v : Value) → took o ≡ true → orOld q v ≡ orOld o v
-unfolding took Text.orOld
+unfolding took Semantics.orOld
 merged-first neither v e = refl
 merged-first left v e = refl
 merged-first right v e = let z : _≡_ {A = ℕ} 0 1 = cc in absurd (omega arith)
 merged-first (same h) v e = sym h
 
 merged-second : {o p q : Option Value} → Merge1 o p q → (v : Value) → took p ≡ true → orOld q v ≡ orOld p v
-unfolding took Text.orOld
+unfolding took Semantics.orOld
 merged-second neither v e = refl
 merged-second left v e = let z : _≡_ {A = ℕ} 0 1 = cc in absurd (omega arith)
 merged-second right v e = refl
@@ -84,18 +84,18 @@ merged-took right = refl
 merged-took (same h) = refl
 
 or-neither : (o : Option Value) (v : Value) → took o ≡ false → orOld o v ≡ v
-unfolding took Text.orOld
+unfolding took Semantics.orOld
 or-neither none v e = refl
 or-neither (some w) v e = let z : _≡_ {A = ℕ} 0 1 = cc in absurd (omega arith)
 
 -- what a variable that took a view has
 took-some : (o : Option Value) (v : Value) → took o ≡ true → o ≡ some (orOld o v)
-unfolding took Text.orOld
+unfolding took Semantics.orOld
 took-some none v e = let z : _≡_ {A = ℕ} 0 1 = cc in absurd (omega arith)
 took-some (some w) v e = refl
 
 some-took : (o : Option Value) (v w : Value) → o ≡ some w → (took o ≡ true) × (orOld o v ≡ w)
-unfolding took Text.orOld
+unfolding took Semantics.orOld
 some-took o v w e = rw e (refl, refl)
 
 -- the view of a pair is the byte 05, the first part's view, the second's
@@ -147,14 +147,15 @@ module _ {s t u : List ℕ} (h : Joins s t u) where
   plan-from plan e = e
 
   -- an answer from its walk
-  walked : (plan view : List ℕ) (allowance output scratch : ℕ) → Lent PUT-OUTPUT output scratch allowance → {μ : Env} → readPlan (a .k) plan ≡ ok μ
+  walked : (plan view : List ℕ) (allowance output scratch : ℕ) → DoorOpens PUT-OUTPUT output scratch allowance → {μ : Env} → readPlan (a .k) plan ≡ ok μ
       → {vs : List Value} → readView view ≡ ok vs → {o : Out Cells} → putWalk allowance (joined a b) μ (getD vs 0 vfalse) ≡ o
       → putAnswer u plan view allowance output scratch ≡ answer (mapOut (λ X. flat (newPlan X μ)) o)
   unfolding putAnswer putBytes reading
   walked plan view allowance output scratch l ep ev e = ap answer (door-open l) ∙ rw (joined-read h, plan-of plan ep, ev, e)
 
   -- a view that is no pair
-  pub joined-put-51 : (plan view : List ℕ) (allowance output scratch : ℕ) → Lent PUT-OUTPUT output scratch allowance → {μ : Env} → readPlan (a .k) plan ≡ ok μ
+  pub joined-put-51 : (plan view : List ℕ) (allowance output scratch : ℕ) → DoorOpens PUT-OUTPUT output scratch allowance → {μ : Env}
+      → readPlan (a .k) plan ≡ ok μ
       → {vs : List Value} → readView view ≡ ok vs → ((x y : Value) → getD vs 0 vfalse ≡ pair x y → ⊥)
       → putAnswer u plan view allowance output scratch ≡ refusal 51
   unfolding answer mapOut given plus steps
@@ -193,8 +194,8 @@ module _ {s t u : List ℕ} (h : Joins s t u) (plan x y p q : List ℕ) (A B out
   alone =
       let d = put-shows first .1 in
       let e = put-shows second .1 in
-      let wd = written d in
-      let we = written e in
+      let wd = put-writes d in
+      let we = put-writes e in
       let qd : d .sh ≡ h .first = let z = d .sheet-read in let r = h .read-first in cc in
       let qe : e .sh ≡ h .second = let z = e .sheet-read in let r = h .read-second in cc in
       let pd : readPlan (h .first .k) plan ≡ ok (d .μ) = rw qd at (d .plan-read) in
@@ -245,7 +246,7 @@ module _ {s t u : List ℕ} (h : Joins s t u) (plan x y p q : List ℕ) (A B out
           let z = alone .second-new in let e : ν₂ ≡ newPlan (alone .Y) (alone .μ) = cc in
           ap (λ (l : Env). getD l i vfalse) e ∙ new-at (alone .Y) (alone .μ) i (alone .second-cells)
 
-      -- written with two values
+      -- put-writes with two values
       clash-at : Both → (getD ν₁ i vfalse ≡ getD ν₂ i vfalse → ⊥) → Clash (alone .X) (alone .Y)
       clash-at w f = record {
         variable = i;
@@ -263,7 +264,7 @@ module _ {s t u : List ℕ} (h : Joins s t u) (plan x y p q : List ℕ) (A B out
           let (tw, ow) = some-took (getD (alone .Y) i none) (getD (alone .μ) i vfalse) w ew in
           sym ov ∙ sym first-is ∙ f (alone .first-bits i ∙ tv, alone .second-bits i ∙ tw) ∙ second-is ∙ ow
 
-    lent : {allowance : ℕ} → 1 + m + n ≤ allowance → allowance ≤ ALLOWANCE → Lent PUT-OUTPUT output scratch allowance
+    lent : {allowance : ℕ} → 1 + m + n ≤ allowance → allowance ≤ ALLOWANCE → DoorOpens PUT-OUTPUT output scratch allowance
     lent few most =
         let l = put-shows first .0 in
         record { output-long = l .output-long; scratch-long = l .scratch-long; some-steps = omega arith; few-steps = most }
@@ -320,7 +321,7 @@ module _ {s t u : List ℕ} (h : Joins s t u) (plan x y p q : List ℕ) (A B out
           few = few;
           bytes = refl;
         } in
-        let wd = written d in
+        let wd = put-writes d in
         record {
           new = flat (newPlan Z (k .μ));
           succeeds = put-answers (lent few most) d;
@@ -363,7 +364,7 @@ module _ {s t u : List ℕ} (h : Joins s t u) (plan view : List ℕ) (allowance 
     cells : length X ≡ length μ
     bits : (i : ℕ) → bit i (putWritten sheet plan (encode v) allowance) ≡ took (getD X i none)
 
-  module _ (opened : Lent PUT-OUTPUT output scratch allowance) {sheet : List ℕ} {sh : Sheet} (es : readSheet sheet ≡ ok sh)
+  module _ (opened : DoorOpens PUT-OUTPUT output scratch allowance) {sheet : List ℕ} {sh : Sheet} (es : readSheet sheet ≡ ok sh)
       {μ : Env} (ep : readPlan (sh .k) plan ≡ ok μ) {v : Value} (g : Readable v) {X : Cells} {m : ℕ}
       (e : putFrom 47 sh (sh .root) μ v ≡ done X m) (few : m ≤ allowance) where
     part-of : (k : ℕ) → sh .k ≡ k → Part sheet k μ v X m
@@ -380,7 +381,7 @@ module _ {s t u : List ℕ} (h : Joins s t u) (plan view : List ℕ) (allowance 
           few = few;
           bytes = refl;
         } in
-        let w = written d in
+        let w = put-writes d in
         record {
           answers = put-answers opened d;
           shallow = puts-within sheet plan (encode v) 47 es ep (view-back g) e;
@@ -421,7 +422,7 @@ module _ {s t u : List ℕ} (h : Joins s t u) (plan view : List ℕ) (allowance 
       let whole = within-done allowance _ (sym (put-walk-joined (ra h) (rb h) allowance μ v) ∙ e) .0 in
       given-done 51 (asPair v) _ (plus-done 1 _ whole .1) .0
 
-  from-walk : {μ : Env} {v : Value} {Z : Cells} {n : ℕ} → Lent PUT-OUTPUT output scratch allowance → readPlan (h .first .k) plan ≡ ok μ
+  from-walk : {μ : Env} {v : Value} {Z : Cells} {n : ℕ} → DoorOpens PUT-OUTPUT output scratch allowance → readPlan (h .first .k) plan ≡ ok μ
       → Readable v → view ≡ encode v → n ≤ allowance → putWalk allowance (joined (h .first) (h .second)) μ v ≡ done Z n → Apart n
   from-walk {μ} {v} {Z} {n} opened ep g ev few e =
       let (x, y, q) = pair-put μ e in
@@ -435,7 +436,7 @@ module _ {s t u : List ℕ} (h : Joins s t u) (plan view : List ℕ) (allowance 
   unfolding putWalk
   joined-put-apart {n = n} e =
       let (opened, d) = put-shows e in
-      let w = written d in
+      let w = put-writes d in
       let qs : d .sh ≡ joined (h .first) (h .second) = let z = d .sheet-read in let r = joined-read h in cc in
       let walk : put LEVELS (joined (h .first) (h .second)) (joined (h .first) (h .second) .root) (d .μ) (count 0 (length (d .μ)))
       (getD (d .vs) 0 vfalse) (replicate (length (d .μ)) none) ≡ done (d .X) n = rw qs at (d .walk) in

@@ -11,7 +11,7 @@ use Rattle.sheet.specs.Sheet.{Sheet}
 use Rattle.sheet.specs.Laws.{Child, Ranged, Ranges}
 use Rattle.sheet.specs.Rows.{ranged-anew}
 use Rattle.sheet.specs.Ranging.{every-map, children-in, calls-in}
-use Rattle.rules.specs.Embedding.{itself}
+use Rattle.rules.specs.Laws.Embedding.{itself}
 use Rattle.joined.specs.Joined.{nodeBehind, sectionBehind, joined, front-at, behind-at}
 
 -- THE JOINED SHEET

@@ -10,8 +10,8 @@ use Rattle.value.specs.Value.{Value}
 use Rattle.sheet.specs.Sheet.{Sheet}
 use Rattle.rules.specs.Outcome.{Out, done, refused, steps}
 use Rattle.rules.specs.Allowance.{cap, within}
-use Rattle.rules.specs.AllowanceLaws.{done-within, within-done}
-use Rattle.rules.specs.Rules.{Env, Cells, get, put}
+use Rattle.rules.specs.Laws.Allowances.{done-within, within-done}
+use Rattle.rules.specs.Counting.{Env, Cells, get, put}
 use Rattle.rules.specs.Answer.{count}
 use Rattle.published.specs.PublishedCost.{Cost}
 use Rattle.published.specs.PublishedGet.{gets-all, get-counted}

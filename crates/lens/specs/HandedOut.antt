@@ -12,7 +12,7 @@ use Rattle.starts.specs.declared.Loaded.{Loaded}
 use Rattle.starts.specs.Starts.{loadOf, numbers}
 use Rattle.starts.specs.StartsLaws.{load-few}
 use Rattle.rules.specs.Answer.{Answer, refusal, success, putAnswer}
-use Rattle.rules.specs.Written.{putWritten}
+use Rattle.rules.specs.Bits.{putWritten}
 use Rattle.calls.specs.declared.PutReply.{PutReply}
 use Rattle.calls.specs.Calls.{reply, written, cleared, newStarts, newWritten, PutAnswered}
 use Rattle.calls.specs.Small.{Small, small-put}

@@ -1,6 +1,6 @@
 pub mod Packing
 pub mod HandedOut
-pub mod Whys
+pub mod Explanations
 pub mod Tools
 pub mod Readings
 pub mod Version

@@ -2,8 +2,8 @@
 ghost use mathlib.Core.Path.{_≡_};
 ghost use lib.ListN.{length};
 ghost use Rattle.rules.specs.Answer.{getAnswer, putAnswer};
-ghost use Rattle.rules.specs.Written.{putWritten};
-ghost use Rattle.calls.specs.Trips.{Stands, Unmoved};
+ghost use Rattle.rules.specs.Bits.{putWritten};
+ghost use Rattle.calls.specs.Trips.{Consistent, Acceptable};
 ghost use Rattle.calls.specs.Small.{Small};
 ghost use Rattle.lens.specs.Packing.{unpacked, Packed, ReplyPacked};
 ghost use Rattle.lens.specs.HandedOut.{writtenOr, PackedPut};
@@ -35,7 +35,7 @@ pub extern "C" fn lens_get(
 ) -> u64
     ensures { λ r. ⌜ Packed (getAnswer (now (sheet .entry)) (now (plan .entry)) allowance (length (now (out .entry))) (length (now (scratch .entry)))) r
         (now (out .entry)) (now (out .exit)) (now (scratch .entry)) (now (scratch .exit)) ⌝ }
-    ensures { λ r. ⌜ Unmoved (now (sheet .entry)) (now (plan .entry)) (unpacked r) (now (out .exit)) ⌝ }
+    ensures { λ r. ⌜ Acceptable (now (sheet .entry)) (now (plan .entry)) (unpacked r) (now (out .exit)) ⌝ }
 {
     pack(get(sheet, plan, allowance, out, scratch), 0)
 }
@@ -52,7 +52,7 @@ pub extern "C" fn lens_put(
 ) -> u64
     ensures { λ r. ⌜ Packed (putAnswer (now (sheet .entry)) (now (plan .entry)) (now (view .entry)) allowance (length (now (out .entry)))
         (length (now (scratch .entry)))) r (now (out .entry)) (now (out .exit)) (now (scratch .entry)) (now (scratch .exit)) ⌝ }
-    ensures { λ r. ⌜ Stands (now (sheet .entry)) (now (view .entry)) allowance (unpacked r) (now (out .exit)) ⌝ }
+    ensures { λ r. ⌜ Consistent (now (sheet .entry)) (now (view .entry)) allowance (unpacked r) (now (out .exit)) ⌝ }
 {
     let answer = put(sheet, plan, view, allowance, out, scratch);
     let reply = answer.reply;
@@ -73,7 +73,7 @@ pub extern "C" fn lens_put_starts(
     ensures { λ r. ⌜ PackedPut (now (sheet .entry)) (putAnswer (now (sheet .entry)) (now (plan .entry)) (now (view .entry)) allowance
         (length (now (out .entry))) (length (now (scratch .entry)))) r (now (out .entry)) (now (out .exit)) (now (scratch .entry)) (now (scratch .exit))
         (now (starts .entry)) (now (starts .exit)) ⌝ }
-    ensures { λ r. ⌜ Stands (now (sheet .entry)) (now (view .entry)) allowance (unpacked r) (now (out .exit)) ⌝ }
+    ensures { λ r. ⌜ Consistent (now (sheet .entry)) (now (view .entry)) allowance (unpacked r) (now (out .exit)) ⌝ }
 {
     let answer = put(sheet, plan, view, allowance, out, scratch);
     let reply = answer.reply;
@@ -97,7 +97,7 @@ pub extern "C" fn lens_put_written(
     ensures { λ r. ⌜ PackedPut (now (sheet .entry)) (putAnswer (now (sheet .entry)) (now (plan .entry)) (now (view .entry)) allowance
         (length (now (out .entry))) (length (now (scratch .entry)))) r (now (out .entry)) (now (out .exit)) (now (scratch .entry)) (now (scratch .exit))
         (now (starts .entry)) (now (starts .exit)) ⌝ }
-    ensures { λ r. ⌜ Stands (now (sheet .entry)) (now (view .entry)) allowance (unpacked r) (now (out .exit)) ⌝ }
+    ensures { λ r. ⌜ Consistent (now (sheet .entry)) (now (view .entry)) allowance (unpacked r) (now (out .exit)) ⌝ }
     ensures { λ _. ⌜ now (written .exit) ≡ writtenOr (putWritten (now (sheet .entry)) (now (plan .entry)) (now (view .entry)) allowance)
         (putAnswer (now (sheet .entry)) (now (plan .entry)) (now (view .entry)) allowance (length (now (out .entry))) (length (now (scratch .entry))))
         (now (written .entry)) ⌝ }

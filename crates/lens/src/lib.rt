@@ -2,6 +2,7 @@
 //! pointers, and the answer is one number.
 mod answers;
 mod checks;
+mod explanations;
 mod growths;
 mod lookups;
 mod plans;
@@ -9,13 +10,14 @@ mod sheet_texts;
 mod sheets;
 mod texts;
 mod versions;
-mod whys;
 
 pub use answers::lens_get;
 pub use answers::lens_put;
 pub use answers::lens_put_starts;
 pub use answers::lens_put_written;
 pub use checks::lens_check_types;
+pub use explanations::lens_why_get;
+pub use explanations::lens_why_put;
 pub use growths::lens_growth;
 pub use lookups::lens_find;
 pub use lookups::lens_load;
@@ -27,5 +29,3 @@ pub use sheets::lens_number;
 pub use texts::lens_from_json;
 pub use texts::lens_to_json;
 pub use versions::lens_version;
-pub use whys::lens_why_get;
-pub use whys::lens_why_put;

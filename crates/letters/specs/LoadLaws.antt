@@ -14,7 +14,7 @@ use Rattle.sheet.specs.Laws.{sheet-ranges}
 use Rattle.rules.specs.Outcome.{when, given, reading}
 use Rattle.rules.specs.Numbers.{SCRATCH, GET-OUTPUT}
 use Rattle.rules.specs.Answer.{refusal, answer, door, getBytes, getAnswer}
-use Rattle.rules.specs.Refusals.{stated-small, get-refusals}
+use Rattle.rules.specs.Laws.Refusals.{stated-small, get-refusals}
 use Rattle.report.specs.TextLaws.{Below, none, each}
 use Rattle.starts.specs.declared.Loaded.{Loaded}
 use Rattle.starts.specs.Starts.{noStarts, refusedLoad, loaded, loadOf, numbers}

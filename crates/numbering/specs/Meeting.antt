@@ -16,7 +16,7 @@ use Rattle.sheet.specs.Laws.{Child, Ranges}
 use Rattle.sheet.specs.Rows.{Every}
 use Rattle.sheet.specs.Ranging.{every-map, children-in}
 use Rattle.report.specs.Writing.{Wrote}
-use Rattle.rules.specs.ExplainChain.{_∈_, here, there}
+use Rattle.rules.specs.Explain.Chain.{_∈_, here, there}
 use Rattle.numbering.specs.declared.Nodes.{Nodes}
 use Rattle.preorder.specs.Numbering.{gathered, metFrom, nodeOf, roots, order, every-of, roots-in}
 use Rattle.preorder.specs.NumberingLaws.{Once, uses, order-short, meet-next, meet-short}

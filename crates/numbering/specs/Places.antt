@@ -21,8 +21,8 @@ use Rattle.sheet.specs.Ranging.{every-map, map-at, calls-in}
 use Rattle.records.specs.declared.Anew.{Anew}
 use Rattle.records.specs.Anew.{shiftedBy, within, newNode, newSection, recordsOf, named, rootsOf, sectionsOf}
 use Rattle.records.specs.AnewLaws.{listing-same, listing-map, listing-within, shift-at, Renumbers, records-are, roots-written}
-use Rattle.rules.specs.ExplainChain.{_∈_, here, there}
-use Rattle.rules.specs.Embedding.{itself}
+use Rattle.rules.specs.Explain.Chain.{_∈_, here, there}
+use Rattle.rules.specs.Laws.Embedding.{itself}
 use Rattle.numbering.specs.declared.Nodes.{Nodes}
 use Rattle.preorder.specs.Numbering.{nodeOf, roots, order, placeOf, newNumber, numbered, in-at, every-of, place-at, order-in, root-met, children-met, main-met}
 use Rattle.preorder.specs.NumberingLaws.{Once, uses, place-in, place-of, order-once}

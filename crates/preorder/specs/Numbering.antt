@@ -16,10 +16,10 @@ use Rattle.sheet.specs.Kinds.{children, calls, renumber}
 use Rattle.sheet.specs.Sheet.{Sheet}
 use Rattle.sheet.specs.Laws.{Child, Ranges}
 use Rattle.sheet.specs.Rows.{Every}
-use Rattle.rules.specs.Rules.{Env, pick}
-use Rattle.rules.specs.ExplainChain.{_∈_, here, there}
+use Rattle.rules.specs.Counting.{Env, pick}
+use Rattle.rules.specs.Explain.Chain.{_∈_, here, there}
 use Rattle.rules.specs.Answer.{getWalk, putWalk}
-use Rattle.rules.specs.Embedding.{Sent, Holds, itself}
+use Rattle.rules.specs.Laws.Embedding.{Sent, Holds, itself}
 use Rattle.embedding.specs.EmbeddingAnswers.{get-walk-same, put-walk-same}
 use Rattle.sheet.specs.Ranging.{every-map, map-at, children-in, calls-in}
 

@@ -13,9 +13,9 @@ use Rattle.sheet.specs.Sheet.{Sheet, readSheet}
 use Rattle.sheet.specs.Laws.{Ranges, sheet-ranges}
 use Rattle.sheet.specs.Rows.{sheetWritten}
 use Rattle.rules.specs.Answer.{getAnswer, putAnswer}
-use Rattle.rules.specs.Written.{putWritten}
+use Rattle.rules.specs.Bits.{putWritten}
 use Rattle.starts.specs.Starts.{loaded, loadOf}
-use Rattle.rules.specs.Explanation.{whyGet, whyPut}
+use Rattle.rules.specs.Explain.Calls.{whyGet, whyPut}
 use Rattle.embedding.specs.EmbeddingAnswers.{explanationAnew, get-answer-same, put-answer-same, put-written-same, why-get-same, why-put-same}
 use Rattle.sheet.specs.Ranging.{read-back, written-short}
 use Rattle.preorder.specs.Numbering.{newNumber, numbered, main-met, root-numbered, numbered-holds}

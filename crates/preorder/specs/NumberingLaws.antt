@@ -3,7 +3,7 @@ use mathlib.Core.Path.{_≡_, refl, ap, sym, _∙_}
 use mathlib.Core.Logic.{_⊎_, inl, inr}
 use lib.Dec.{eqb}
 use borrow.Author.Tests.{eq-eqb, ne-eqb}
-use Rattle.rules.specs.Rules.{pick}
+use Rattle.rules.specs.Counting.{pick}
 use mathlib.Core.List.{List, [], _∷_, _++_, map, map-append, append-assoc}
 use Prim.Native.Nat.{ℕ, zero, suc, _+_, _≤_, _<_}
 use native.Mathlib.Nat.{zero-add}
@@ -18,8 +18,8 @@ use Rattle.sheet.specs.Sheet.{Sheet}
 use Rattle.sheet.specs.Laws.{Child, Ranged, Ranges}
 use Rattle.sheet.specs.Rows.{Every, ranged-anew, renumbered-children, renumbered-still}
 use Rattle.rules.specs.Answer.{count}
-use Rattle.rules.specs.ExplainChain.{_∈_, here, there}
-use Rattle.rules.specs.Embedding.{Holds, itself}
+use Rattle.rules.specs.Explain.Chain.{_∈_, here, there}
+use Rattle.rules.specs.Laws.Embedding.{Holds, itself}
 use Rattle.sheet.specs.Ranging.{every-map, map-at, children-in, calls-in}
 use Rattle.preorder.specs.Numbering.{gathered, nodeOf, metFrom, roots, order, placeOf, newNumber, numbered, in-front, in-behind, in-either}
 use Rattle.preorder.specs.Numbering.{in-gathered, of-gathered}

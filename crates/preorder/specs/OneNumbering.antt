@@ -14,8 +14,8 @@ use Rattle.sheet.specs.Laws.{Ranges, sheet-ranges}
 use Rattle.sheet.specs.Rows.{Every, sheetWritten, renumbered-alike, renumbered-twice}
 use Rattle.sheet.specs.Written.{Bytes, sheet-written-back}
 use Rattle.rules.specs.Answer.{count}
-use Rattle.rules.specs.ExplainChain.{_∈_, here, there}
-use Rattle.rules.specs.Embedding.{Holds, itself}
+use Rattle.rules.specs.Explain.Chain.{_∈_, here, there}
+use Rattle.rules.specs.Laws.Embedding.{Holds, itself}
 use Rattle.preorder.specs.Numbering.{gathered, nodeOf, metFrom, roots, order, placeOf, newNumber, numbered, every-of, in-rest, place-first}
 use Rattle.preorder.specs.Numbering.{place-later, roots-in}
 use Rattle.preorder.specs.Numbering.{root-met, children-met, main-met}

@@ -9,7 +9,7 @@ use lib.Dec.{leb, eqb}
 use lib.ListN.{length}
 use borrow.Author.Tests.{eq-eqb, ne-eqb, le-leb, lt-leb}
 use Rattle.sheet.specs.Sheet.{Sheet}
-use Rattle.rules.specs.ExplainChain.{_∈_, here, there}
+use Rattle.rules.specs.Explain.Chain.{_∈_, here, there}
 use Rattle.preorder.specs.Numbering.{in-rest}
 use Rattle.preorder.specs.NumberingLaws.{Once, uses}
 

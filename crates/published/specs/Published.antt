@@ -11,8 +11,8 @@ use Rattle.value.specs.Tests.{Passes}
 use Rattle.sheet.specs.declared.Node.{Node}
 use Rattle.sheet.specs.declared.Node.the-variants.{Var, False, True, Empty, Number, Front, Pair, ListCase, TruthCase, Split, Call, Add, Each, Wide}
 use Rattle.sheet.specs.Sheet.{Sheet}
-use Rattle.rules.specs.Rules.{Env, two, pick, restOf, orOld}
-use Rattle.rules.specs.Related.{All2}
+use Rattle.rules.specs.Counting.{Env, two, pick, restOf, orOld}
+use Rattle.rules.specs.Laws.Related.{All2}
 
 -- ENVIRONMENTS. A value environment μ maps the variables in scope, numbered from 0, to values (`Env`)
 

@@ -5,8 +5,8 @@ use mathlib.Core.List.{List, [], _∷_, _++_}
 use Prim.Native.Nat.{ℕ, zero, suc}
 use lib.ListN.{length, take, set, getElem?}
 use Rattle.value.specs.Value.{Value}
-use Rattle.rules.specs.Rules.{Env, Cells, two}
-use Rattle.rules.specs.Related.{
+use Rattle.rules.specs.Counting.{Env, Cells, two}
+use Rattle.rules.specs.Laws.Related.{
   All2,
   ends,
   more,
@@ -22,7 +22,7 @@ use Rattle.rules.specs.Related.{
   at-last,
   at-set,
 }
-use Rattle.rules.specs.Consistency.{Later, later-refl, later-trans}
+use Rattle.rules.specs.Laws.Consistency.{Later, later-refl, later-trans}
 use Rattle.published.specs.Published.{Writes, Over, blank, only, Merge1, neither, left, right, same, Merge, mEnds, mMore}
 
 -- THE DEFINITIONS

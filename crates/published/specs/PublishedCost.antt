@@ -3,8 +3,8 @@ use mathlib.Core.List.{List, [], _∷_}
 use Prim.Native.Nat.{ℕ, _+_, max}
 use Rattle.value.specs.Value.{Value, Values, list, pair, cons, size}
 use Rattle.sheet.specs.Sheet.{Sheet}
-use Rattle.rules.specs.Rules.{Env}
-use Rattle.rules.specs.Related.{All2, ends, more}
+use Rattle.rules.specs.Counting.{Env}
+use Rattle.rules.specs.Laws.Related.{All2, ends, more}
 use Rattle.published.specs.Published.{Writes, Expr, residual, Get, g-var, g-const, g-cons, g-case, g-let, g-pair, g-call, g-add, g-each, g-end, g-next}
 use Rattle.published.specs.Published.{Put, p-var, p-const, p-cons, p-case, p-case-switch, p-let, p-pair, p-call, p-add, p-each, p-end, p-next}
 use Rattle.published.specs.Published.{StoodFor, s-old, s-new}

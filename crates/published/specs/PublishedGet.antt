@@ -15,10 +15,10 @@ use Rattle.sheet.specs.declared.Node.the-variants.{Var, False, True, Empty, Num
 use Rattle.sheet.specs.Sheet.{Sheet}
 use Rattle.rules.specs.Outcome.{Out, done}
 use Rattle.rules.specs.Allowance.{within}
-use Rattle.rules.specs.Text
-use Rattle.rules.specs.Rules.{Env, Getter, two, pick, bounded, tested, getEach, onList, getNode, get}
-use Rattle.rules.specs.OutcomeLaws.{After, fine, stopped, after-map, after-at, as-number, after-plus, after-bind, after-given, after-list}
-use Rattle.rules.specs.AllowanceLaws.{within-done}
+use Rattle.rules.specs.Semantics
+use Rattle.rules.specs.Counting.{Env, Getter, two, pick, bounded, tested, getEach, onList, getNode, get}
+use Rattle.rules.specs.Laws.Outcomes.{After, fine, stopped, after-map, after-at, as-number, after-plus, after-bind, after-given, after-list}
+use Rattle.rules.specs.Laws.Allowances.{within-done}
 use Rattle.published.specs.Published.{
   Pattern,
   pFalse,
@@ -78,18 +78,18 @@ nil-scope d = rw append-nil d
 module _ (sh : Sheet) (g : Getter) (ih : GetsSoundly sh g) where
   -- a branch's result, and its exit condition
   tested-soundly : (t : ℕ) (o : Out Value) {P : Value → Type 0} → After (Unit {0}) (λ v s. P v) o → After (Unit {0}) (λ v s. P v × Passes t v) (tested t o)
-  unfolding Text.tested
+  unfolding Semantics.tested
   tested-soundly t o h = after-bind h λ v s _ d. after-given _ λ p _. fine (d, p)
 
   get-each-sound : (root d : ℕ) (a : Value) (n : ℕ) (ms : Values)
       → After (Unit {0}) (λ ws s. Get sh (two (list ms) a) (members root d) (list ws)) (getEach g root a n ms)
-  unfolding Text.getEach
+  unfolding Semantics.getEach
   get-each-sound root d a n nil = fine g-end
   get-each-sound root d a n (cons m ms) = after-bind (ih root _) λ w s _ h. after-given _ λ _ _.
       after-bind (get-each-sound root d a _ ms) λ ws t _ k. fine (g-next h k)
 
   get-node-sound : (nd : Node) (μ : Env) → After (Unit {0}) (λ v s. Get sh μ (expr nd) v) (getNode g sh nd μ)
-  unfolding Text.getNode Text.bounded
+  unfolding Semantics.getNode Semantics.bounded
   get-node-sound (Var x) μ = after-given _ λ v e. fine (g-var e)
   get-node-sound False μ = fine g-const
   get-node-sound True μ = fine g-const
@@ -116,7 +116,7 @@ module _ (sh : Sheet) (g : Getter) (ih : GetsSoundly sh g) where
       after-bind (get-each-sound _ d a 1 (l .0)) λ ws j _ h. fine (g-each (rw (l .1) at ds) ea h)
 
 pub gets-soundly : (l : ℕ) (sh : Sheet) → GetsSoundly sh (get l sh)
-unfolding Text.get
+unfolding Semantics.get
 gets-soundly zero sh n μ = stopped tt
 gets-soundly (suc l) sh n μ = after-plus 1 (get-node-sound sh (get l sh) (gets-soundly l sh) _ μ)
 
@@ -132,24 +132,24 @@ Cases sh μ v s b₁ b₂ Q = (i : Bool) (v₀ : Value) (μᵢ : Env) (ds : Get 
 
 module _ {l a : ℕ} (sh : Sheet) (g : Getter) (ih : GetsAll l a sh g) where
   bounded-all : (v : Value) → Comes l a (built v) v (bounded v)
-  unfolding Text.bounded
+  unfolding Semantics.bounded
   bounded-all v = up-as (built v) (omega arith) (up-size v λ _. reach refl)
 
   -- a branch's result, and its exit condition
   tested-all : (t n : ℕ) {ν μ : Env} (v : Value) → ν ≡ μ → (d : Get sh ν (residual sh n) v) → Passes t v → Comes l a (getCost d) v (tested t (g n μ))
-  unfolding Text.tested
+  unfolding Semantics.tested
   tested-all t n v e d p = comes-last _ (subst (λ μ. Comes l a (getCost d) v (g n μ)) e (ih n _ v d)) (up-when _ _ p λ _. reach refl)
 
   -- the list so far, with its 02, has n bytes, and the whole list those of u
   get-each-complete : (root d : ℕ) (b u : Value) (n : ℕ) {ms ws : Values} → n ≤ 256 → suc (size u) ≡ n + size (list ws)
       → (h : Get sh (two (list ms) b) (members root d) (list ws)) → Comes l a (getBelow h ⊕ built u) ws (getEach g root b n ms)
-  unfolding Text.getEach getBelow size
+  unfolding Semantics.getEach getBelow size
   get-each-complete root d b u n z e g-end = up-as _ (omega arith) (reach refl)
   get-each-complete root d b u n {ws = cons w ws} z e (g-next h k) = up-as _ (omega arith) (comes-bind _ (ih root _ _ h)
       (up-bytes _ (omega (arith, size-pos (list ws))) λ z′. comes-last _ (get-each-complete root d b u _ z′ (omega arith) k) (reach refl)))
 
   get-node-complete : (nd : Node) (μ : Env) (v : Value) (d : Get sh μ (expr nd) v) → Comes l a (getBelow d) v (getNode g sh nd μ)
-  unfolding Text.getNode asList asPair asTruth onList getBelow
+  unfolding Semantics.getNode asList asPair asTruth onList getBelow
   get-node-complete (Var x) μ v (g-var e) = up-given _ _ e (reach refl)
   get-node-complete False μ v g-const = reach refl
   get-node-complete True μ v g-const = reach refl
@@ -176,7 +176,7 @@ module _ {l a : ℕ} (sh : Sheet) (g : Getter) (ih : GetsAll l a sh g) where
       (up-given _ _ refl (up-given _ _ ea (comes-last _ (get-each-complete _ d b (list ws) 1 (omega arith) (omega arith) h) (reach refl))))
 
 pub gets-all : (l a : ℕ) (sh : Sheet) → GetsAll l a sh (get l sh)
-unfolding Text.get
+unfolding Semantics.get
 gets-all zero a sh n μ v d = stops (omega arith) (deep (omega arith))
 gets-all (suc l) a sh n μ v d = up-enter (get-node-complete sh (get l sh) (gets-all l a sh) _ μ v d)
 

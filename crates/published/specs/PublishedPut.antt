@@ -15,13 +15,13 @@ use Rattle.sheet.specs.declared.Node.the-variants.{Var, False, True, Empty, Num
 use Rattle.sheet.specs.Sheet.{Sheet}
 use Rattle.rules.specs.Outcome.{Out, done, _>>=_, choose}
 use Rattle.rules.specs.Allowance.{within}
-use Rattle.rules.specs.Text
-use Rattle.rules.specs.Rules.{Env, Cells, Getter, Putter, two, pick, onList, restOf, get, orOld, constant, write, both, under, mkList, mkPair}
-use Rattle.rules.specs.Rules.{stoodFor, putEach, putNode, put}
-use Rattle.rules.specs.OutcomeLaws.{After, fine, stopped, after-map, after-at, as-number, after-plus, after-bind, after-given, after-list}
-use Rattle.rules.specs.AllowanceLaws.{within-done}
-use Rattle.rules.specs.Related.{All2, ends, more, all2-at, all2-flip, all2-set}
-use Rattle.rules.specs.Consistency.{Later}
+use Rattle.rules.specs.Semantics
+use Rattle.rules.specs.Counting.{Env, Cells, Getter, Putter, two, pick, onList, restOf, get, orOld, constant, write, both, under, mkList, mkPair}
+use Rattle.rules.specs.Counting.{stoodFor, putEach, putNode, put}
+use Rattle.rules.specs.Laws.Outcomes.{After, fine, stopped, after-map, after-at, as-number, after-plus, after-bind, after-given, after-list}
+use Rattle.rules.specs.Laws.Allowances.{within-done}
+use Rattle.rules.specs.Laws.Related.{All2, ends, more, all2-at, all2-flip, all2-set}
+use Rattle.rules.specs.Laws.Consistency.{Later}
 use Rattle.published.specs.Published.{
   Writes,
   Over,
@@ -269,13 +269,13 @@ module _ {sh : Sheet} {root c : ℕ} {b : Value} {W : Cells} (laid : Laid W (c �
 
 module _ (sh : Sheet) (g : Getter) (gets : GetsSoundly sh g) (p : Putter) (ih : PutsSoundly sh p) where
   stood-sound : (d : ℕ) (old : Values) → After (Unit {0}) (λ m s. StoodFor sh d old m) (stoodFor g d old)
-  unfolding Text.stoodFor onList
+  unfolding Semantics.stoodFor onList
   stood-sound d nil = after-map (gets d []) λ m s h. s-new h
   stood-sound d (cons m old) = fine s-old
 
   put-each-sound : (root d c : ℕ) (b : Value) (n : ℕ) (old vs : Values) (W : Cells) → Laid W (c ∷ []) (b ∷ [])
       → After (Unit {0}) (λ z s. Members sh root d b old vs c W z) (putEach g p root d c b n old vs W)
-  unfolding Text.putEach blank
+  unfolding Semantics.putEach blank
   put-each-sound root d c b n old nil W laid = fine (record { q = none; rel = p-end; joined = joined-blank laid })
   put-each-sound root d c b n old (cons v vs) W laid = after-bind (stood-sound d old) λ m s _ st.
       after-bind (ih root _ _ v _ (laid-member laid m)) λ X t _ w. after-given _ λ o eo. after-given _ λ _ _. let h = member-of laid o w eo in
@@ -287,17 +287,17 @@ module _ (sh : Sheet) (g : Getter) (gets : GetsSoundly sh g) (p : Putter) (ih : 
   Sound e = After (Unit {0}) (λ X s. Written sh μ v e σ W X)
 
   constant-sound : (u : Value) → Sound (const u) (constant v u W)
-  unfolding Text.constant
+  unfolding Semantics.constant
   constant-sound u = after-given _ λ e _. fine (record { ω = blank μ; rel = rw e p-const; joined = joined-blank laid })
 
   write-sound : (x c : ℕ) (m : Value) (o : Option Value) → getElem? μ x ≡ some m → getElem? σ x ≡ some c → getElem? W c ≡ some o → Sound (var x) (write c v W o)
-  unfolding Text.write
+  unfolding Semantics.write
   write-sound x c m none em ec eo = fine (record { ω = only μ x (some v); rel = p-var em; joined = joined-new σ μ x c m em ec v laid eo })
   write-sound x c m (some w) em ec eo = after-given _ λ e _.
       fine (record { ω = only μ x (some v); rel = p-var em; joined = joined-same σ μ x c m em ec v laid (rw e at eo) })
 
   both-sound : (a b : ℕ) (x y : Value) → After (Unit {0}) (λ X s. Twice sh μ x a y b σ W X) (both p μ σ W a x b y)
-  unfolding Text.both
+  unfolding Semantics.both
   both-sound a b x y = after-bind (ih a μ σ x W laid) λ X s _ h. after-map (ih b μ σ y X (laid-later laid (h .joined .later))) λ Y t k.
       let (ω, m) = merge-is (seen-later (h .joined .seen) (k .joined .later)) (k .joined .seen) in record {
         ω₁ = h .ω;
@@ -312,7 +312,7 @@ module _ (sh : Sheet) (g : Getter) (gets : GetsSoundly sh g) (p : Putter) (ih : 
 
   under-sound : (b s : ℕ) (q : Pattern) (mk : Value → Value → Option Value) (f r : Value) → ((x y u : Value) → mk x y ≡ some u → Match q u (two x y))
       → After (Unit {0}) (λ X t. Taken sh μ v q b (two f r) s σ W X) (under p μ σ W b v s mk f r)
-  unfolding Text.under _◁_
+  unfolding Semantics.under _◁_
   under-sound b s q mk f r k = after-bind (ih b _ _ v _ (laid-branch W f r laid)) λ X i _ h. after-given _ λ x′ ex. after-given _ λ y′ ey.
       after-given _ λ u eu. after-given _ λ _ _.
       let (ω, x, y, e, _) = seen-cut σ _ _ (h .joined .seen) in
@@ -339,7 +339,7 @@ module _ (sh : Sheet) (g : Getter) (gets : GetsSoundly sh g) (p : Putter) (ih : 
       }
 
   put-node-sound : (nd : Node) → Sound (expr nd) (putNode g p sh nd μ σ v W)
-  unfolding Text.putNode
+  unfolding Semantics.putNode
   put-node-sound (Var x) = after-given _ λ c ec. after-given _ λ o eo. let (m, em, _) = all2-at x laid ec in write-sound x c m o em ec eo
   put-node-sound False = constant-sound vfalse
   put-node-sound True = constant-sound vtrue
@@ -384,7 +384,7 @@ module _ (sh : Sheet) (g : Getter) (gets : GetsSoundly sh g) (p : Putter) (ih : 
       rw (l .1) (record { ω = ω; rel = p-each (rw (old .1) at ds) ea (w .rel) (h .rel) m; joined = joined-merge j₁ (h .joined) m })
 
 pub puts-soundly : (l : ℕ) (sh : Sheet) → PutsSoundly sh (put l sh)
-unfolding Text.put
+unfolding Semantics.put
 puts-soundly zero sh n μ σ v W h = stopped tt
 puts-soundly (suc l) sh n μ σ v W h = after-plus 1 (put-node-sound sh (get l sh) (gets-soundly l sh) (put l sh) (puts-soundly l sh) μ σ v W h _)
 
@@ -434,7 +434,7 @@ by-case Q (p-case-switch i ds mᵢ q q′ dd mⱼ d o oⱼ r d₀ m) f g =
 
 module _ {l a : ℕ} (sh : Sheet) (g : Getter) (gets : GetsAll l a sh g) (p : Putter) (ih : PutsAll l a sh p) where
   stood-complete : (d : ℕ) {old : Values} {m : Value} (s : StoodFor sh d old m) → Comes l a (stoodCost s) m (stoodFor g d old)
-  unfolding Text.stoodFor onList stoodCost
+  unfolding Semantics.stoodFor onList stoodCost
   stood-complete d s-old = reach refl
   stood-complete d (s-new h) = gets d [] _ h
 
@@ -443,7 +443,7 @@ module _ {l a : ℕ} (sh : Sheet) (g : Getter) (gets : GetsAll l a sh g) (p : Pu
       → Seen (q ∷ []) (c ∷ []) Y → n ≤ 256 → suc (size u) ≡ n + size (list us)
       → (h : Put sh (two (list old) b) (list vs) (members root d) (two (some (list us)) q))
       → UpTo l a (putBelow h ⊕ built u) (λ z. (z .0 ≡ us) × Joined (c ∷ []) W (q ∷ []) (z .1)) (putEach g p root d c b n old vs W)
-  unfolding Text.putEach putBelow size blank
+  unfolding Semantics.putEach putBelow size blank
   put-each-complete root d c b u n W Y laid later seen z e p-end = up-as _ (omega arith) (reach (refl, joined-blank laid))
   put-each-complete root d c b u n W Y laid later seen z e (p-next {m = m} {v = v} {us = us} {o = o} {q₁ = q₁} s h k mg) =
       let ms = mMore mg mEnds in let new = one-behind W o in up-as _ (omega arith) (comes-bind _ (stood-complete d s)
@@ -456,12 +456,12 @@ module _ {l a : ℕ} (sh : Sheet) (g : Getter) (gets : GetsAll l a sh g) (p : Pu
 module _ {l a : ℕ} (sh : Sheet) (g : Getter) (gets : GetsAll l a sh g) (p : Putter) (ih : PutsAll l a sh p)
     (μ : Env) (σ : List ℕ) (W : Cells) (laid : Laid W σ μ) (Y : Cells) (later : Later W Y) where
   constant-all : (v : Value) → UpTo l a free (Joined σ W (blank μ)) (constant v v W)
-  unfolding Text.constant
+  unfolding Semantics.constant
   constant-all v = up-when _ _ refl λ _. reach (joined-blank laid)
 
   write-all : (v : Value) (x c : ℕ) (m : Value) (o : Option Value) → getElem? μ x ≡ some m → getElem? σ x ≡ some c → getElem? W c ≡ some o
       → Seen (only μ x (some v)) σ Y → UpTo l a free (Joined σ W (only μ x (some v))) (write c v W o)
-  unfolding Text.write
+  unfolding Semantics.write
   write-all v x c m none em ec eo s = reach (joined-new σ μ x c m em ec v laid eo)
   write-all v x c m (some w) em ec eo s =
       let (q, eq, h) = all2-at c later eo in let e : w ≡ v = cc (h w refl, seen-only σ μ x c m em ec (some v) s .has v refl) in
@@ -475,7 +475,7 @@ module _ {l a : ℕ} (sh : Sheet) (g : Getter) (gets : GetsAll l a sh g) (p : Pu
 
   both-all : {c : Cost} (n b : ℕ) (x y : Value) (ω₁ ω₂ ω : Writes) → UpTo l a c (Joined σ W ω₁) (p n μ σ x W)
       → (d : Put sh μ y (residual sh b) ω₂) → Merge ω₁ ω₂ ω → Seen ω σ Y → UpTo l a (c ⊕ putCost d) (Joined σ W ω) (both p μ σ W n x b y)
-  unfolding Text.both
+  unfolding Semantics.both
   both-all n b x y ω₁ ω₂ ω k d m s = up-bind _ k λ X j.
       up-map (ih b μ σ y X ω₂ Y (laid-later laid (j .later)) d (j .least Y later (seen-left m s)) (seen-right m s)) λ Z k. joined-merge j k m
 
@@ -483,7 +483,7 @@ module _ {l a : ℕ} (sh : Sheet) (g : Getter) (gets : GetsAll l a sh g) (p : Pu
       (d : Put sh (μ ++ two f r) v (residual sh b) (ω ++ two x y)) → Over ω μ → mk (orOld x f) (orOld y r) ≡ some u
       → (d₀ : Put sh μ u (residual sh s) ω₀) → Merge ω ω₀ ω′ → Seen ω′ σ Y
       → UpTo l a (putCost d ⊕ built u ⊕ putCost d₀) (Joined σ W ω′) (under p μ σ W b v s mk f r)
-  unfolding Text.under
+  unfolding Semantics.under
   under-all v b s mk f r u ω x y ω₀ ω′ d over eu d₀ m h =
       let new = two-behind W x y in
       up-bind _ (ih b _ _ v _ (ω ++ two x y) (Y ++ two x y) (laid-branch W f r laid) d (wider-later new later)
@@ -531,7 +531,7 @@ module _ {l a : ℕ} (sh : Sheet) (g : Getter) (gets : GetsAll l a sh g) (p : Pu
   Puts nd v ω c = UpTo l a c (Joined σ W ω) (putNode g p sh nd μ σ v W)
 
   put-node-complete : (nd : Node) (v : Value) {ω : Writes} (d : Put sh μ v (expr nd) ω) → Seen ω σ Y → Puts nd v ω (putBelow d)
-  unfolding Text.putNode asList asFront asPair asTruth onList putBelow defaultsCost
+  unfolding Semantics.putNode asList asFront asPair asTruth onList putBelow defaultsCost
   put-node-complete (Var x) v (p-var em) h =
       let (c, ec, _) = all2-at x (all2-flip laid) em in let (m, _, t) = all2-at x laid ec in
       up-given _ _ ec (up-given _ _ (t .there) (write-all v x c _ (t .cell) em ec (t .there) h))
@@ -574,7 +574,7 @@ module _ {l a : ℕ} (sh : Sheet) (g : Getter) (gets : GetsAll l a sh g) (p : Pu
       up-given _ _ refl (comes-bind _ (gets s μ _ ds) (up-given _ _ refl (up-given _ _ ea (up-given _ _ ec (each-all s _ d x c _ _ ea ec k d₀ m h)))))
 
 pub puts-all : (l a : ℕ) (sh : Sheet) → PutsAll l a sh (put l sh)
-unfolding Text.put
+unfolding Semantics.put
 puts-all zero a sh n μ σ v W ω Y laid d later h = stops (omega arith) (deep (omega arith))
 puts-all (suc l) a sh n μ σ v W ω Y laid d later h =
     up-enter (put-node-complete sh (get l sh) (gets-all l a sh) (put l sh) (puts-all l a sh) μ σ W laid Y later _ v d h)

@@ -11,10 +11,10 @@ use Rattle.sheet.specs.Sheet.{Sheet}
 use Rattle.rules.specs.Numbers.{LEVELS}
 use Rattle.rules.specs.Outcome.{done}
 use Rattle.rules.specs.Allowance.{within}
-use Rattle.rules.specs.Rules.{Env, Cells, orOld, put}
+use Rattle.rules.specs.Counting.{Env, Cells, orOld, put}
 use Rattle.rules.specs.Answer.{getWalk, count, newPlan, putWalk}
-use Rattle.rules.specs.Related.{ends, more, all2-at, all2-of, all2-length}
-use Rattle.rules.specs.Consistency.{Later}
+use Rattle.rules.specs.Laws.Related.{ends, more, all2-at, all2-of, all2-length}
+use Rattle.rules.specs.Laws.Consistency.{Later}
 use Rattle.published.specs.Published.{Writes, Over, blank, _◁_, residual, Get, Put}
 use Rattle.published.specs.PublishedCost.{getCost, putCost}
 use Rattle.published.specs.PublishedCells.{Laid, Seen, Joined, later-same, blank-at, seen-over}

@@ -11,7 +11,7 @@ use Rattle.sheet.specs.Sheet.{Sheet, readSheet}
 use Rattle.rules.specs.Numbers.{LEVELS, ALLOWANCE, SCRATCH, GET-OUTPUT, PUT-OUTPUT}
 use Rattle.rules.specs.Outcome.{Out, done, refused, when, mapOut, given, reading}
 use Rattle.rules.specs.Allowance.{within}
-use Rattle.rules.specs.Rules.{Env, Cells, get, orOld, put}
+use Rattle.rules.specs.Counting.{Env, Cells, get, orOld, put}
 
 -- a refusal's number in document 01's table, or the bytes at the front of the output and the steps
 pub data Answer : Type 0 where

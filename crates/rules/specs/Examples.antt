@@ -33,8 +33,8 @@ use Rattle.sheet.specs.Sheet.{readNodes, oneSection, ifSection, readRecords, wi
 use Rattle.sheet.specs.Kinds.{formOf, bodyWidth, make, nodeInRange}
 use Rattle.rules.specs.Outcome.{plus, steps, when, _>>=_, mapOut, given, reading, choose}
 use Rattle.rules.specs.Allowance.{cap, within}
-use Rattle.rules.specs.Text
-use Rattle.rules.specs.Rules.{bounded, tested, onList, restOf, getNode, get, orOld, constant, write, both, under, mkList, mkPair, putNode, put}
+use Rattle.rules.specs.Semantics
+use Rattle.rules.specs.Counting.{bounded, tested, onList, restOf, getNode, get, orOld, constant, write, both, under, mkList, mkPair, putNode, put}
 use Rattle.rules.specs.Answer.{Answer, refusal, success, answer, door, getWalk, getBytes, getAnswer, count, newPlan, putWalk, putBytes, putAnswer}
 use Rattle.rules.specs.Numbers.{SCRATCH, PUT-OUTPUT}
 
@@ -102,8 +102,9 @@ rows =
 -- each row has its answer
 pub starred : map run rows ≡ map (λ (r : Row). r .expected) rows
 unfolding rows run call getAnswer getBytes getWalk putAnswer putBytes putWalk answer door count newPlan within cap
-    plus steps when _>>=_ mapOut given reading choose Text.bounded Text.tested onList Text.getNode Text.get Text.orOld Text.constant Text.write Text.both
-    Text.under mkList mkPair Text.putNode Text.put
+    plus steps when _>>=_ mapOut given reading choose Semantics.bounded Semantics.tested onList Semantics.getNode Semantics.get Semantics.orOld
+    Semantics.constant Semantics.write Semantics.both
+    Semantics.under mkList mkPair Semantics.putNode Semantics.put
     andThen mapResult orRefuse unless encode encodes size sizes flat sameValue asList asFront asPair asNumber ifSmall asTruth class table holds passes
     onWhole kindOf makeFront joined makeNumber makeWide makeBody makePair makeRest beginValue beginRest due mayBe beginByte read readValue onValue readValues
     formOf bodyWidth make readNodes oneSection ifSection readRecords withNodes readBody nodeInRange nodesInRange rootsInRange inRange readHeader readSheet
@@ -243,9 +244,10 @@ telling =
 
 pub told-apart : map run telling ≡ map (λ (r : Row). r .expected) telling
 unfolding telling run call getAnswer getBytes getWalk putAnswer putBytes putWalk answer door count newPlan within cap
-    plus steps when _>>=_ mapOut given reading choose Text.bounded Text.tested onList restOf Text.getEach Text.getNode Text.get Text.orOld Text.constant
-    Text.write Text.both
-    Text.under Text.stoodFor Text.putEach mkList mkPair Text.putNode Text.put
+    plus steps when _>>=_ mapOut given reading choose Semantics.bounded Semantics.tested onList restOf Semantics.getEach Semantics.getNode Semantics.get
+    Semantics.orOld Semantics.constant
+    Semantics.write Semantics.both
+    Semantics.under Semantics.stoodFor Semantics.putEach mkList mkPair Semantics.putNode Semantics.put
     andThen mapResult orRefuse unless encode encodes size sizes flat sameValue asList asFront asPair asNumber ifSmall asTruth class table holds passes
     onWhole kindOf makeFront joined makeNumber makeWide makeBody makePair makeRest beginValue beginRest due mayBe beginByte read readValue onValue readValues
     formOf bodyWidth make readNodes oneSection ifSection readRecords withNodes readBody nodeInRange nodesInRange rootsInRange inRange readHeader readSheet

@@ -1,44 +1,49 @@
 -- The explaining reading of get and put: the allowance is paid on entering each node, and a refusal says where it was met.
+pub mod Erasure
+pub mod Calls
+pub mod Examples
+pub mod Chain
+pub mod Nodes
 use mathlib.Core.Option.{Option, none, some}
 use mathlib.Core.List.{List, [], _∷_}
 use Prim.Native.Nat.{ℕ, zero, suc, _+_, _-_}
 use Rattle.value.specs.Value.{Value, Values}
 use Rattle.sheet.specs.declared.Node.{Node}
 use Rattle.sheet.specs.Sheet.{Sheet}
-use Rattle.rules.specs.Text
-use Rattle.rules.specs.Text.{Reading, Env}
+use Rattle.rules.specs.Semantics
+use Rattle.rules.specs.Semantics.{Reading, Env}
 
 -- a refusal's number; the nodes from the one where the walk began down to the one that it was met at, which is at a depth of as many;
 -- and for 54 the node that wrote the variable first
-pub record Why : Type 0 where
+pub record Cause : Type 0 where
   pub code : ℕ
   pub chain : List ℕ
   pub first : Option ℕ
 
 -- what was done or why it was refused, with the steps taken
-pub data Told (A : Type 0) : Type 0 where
-  got : A → ℕ → Told A
-  met : Why → ℕ → Told A
+pub data Exit (A : Type 0) : Type 0 where
+  got : A → ℕ → Exit A
+  met : Cause → ℕ → Exit A
 
 -- for each allowance that is left
 abbrev pub Explained : Type 0 → Type 0
-Explained A = ℕ → Told A
+Explained A = ℕ → Exit A
 
 -- a refusal of the node's own rule: no node below it is named
-abbrev pub own : ℕ → Option ℕ → Why
+abbrev pub own : ℕ → Option ℕ → Cause
 own c w = record { code = c; chain = []; first = w }
 
 -- the node n could not be entered
-abbrev pub barred : ℕ → ℕ → Why
+abbrev pub barred : ℕ → ℕ → Cause
 barred c n = record { code = c; chain = n ∷ []; first = none }
 
 module _ {A : Type 0} where
-  unfoldable pub more : ℕ → Told A → Told A
+  unfoldable pub more : ℕ → Exit A → Exit A
   more s (got a t) = got a (s + t)
   more s (met y t) = met y (s + t)
 
   -- below the node n
-  unfoldable pub below : ℕ → Told A → Told A
+  unfoldable pub below : ℕ → Exit A → Exit A
   below n (got a s) = got a (1 + s)
   below n (met y s) = met (record { code = y .code; chain = n ∷ y .chain; first = y .first }) (1 + s)
 
@@ -52,18 +57,18 @@ module _ {A : Type 0} where
   choice (no p) (no q) x y = λ _. met (own 53 none) 0
 
 -- with so many steps left
-abbrev pub within : {A : Type 0} → ℕ → Explained A → Told A
+abbrev pub within : {A : Type 0} → ℕ → Explained A → Exit A
 within left m = m left
 
 module _ {A B : Type 0} where
-  unfoldable pub follow : Told A → (A → ℕ → Told B) → Told B
+  unfoldable pub follow : Exit A → (A → ℕ → Exit B) → Exit B
   follow (got a s) k = more s (k a s)
   follow (met y s) k = met y s
 
   unfoldable pub next : Explained A → (A → Explained B) → Explained B
   next m f = λ left. follow (m left) λ a s. f a (left - s)
 
-  unfoldable pub wanted : Why → Option A → (A → Explained B) → Explained B
+  unfoldable pub wanted : Cause → Option A → (A → Explained B) → Explained B
   wanted y none f = λ _. met y 0
   wanted y (some a) f = f a
 
@@ -104,53 +109,53 @@ abbrev pub choose : {A P Q : Type 0} → Dec P → Dec Q → Explained A → Exp
 choose p q x y = choice p q x y
 
 abbrev pub Cells : Type 0
-Cells = Text.Cells explaining
+Cells = Semantics.Cells explaining
 
 abbrev pub Getter : Type 0
-Getter = Text.Getter explaining
+Getter = Semantics.Getter explaining
 
 abbrev pub Putter : Type 0
-Putter = Text.Putter explaining
+Putter = Semantics.Putter explaining
 
 abbrev pub bounded : Value → Explained Value
-bounded = Text.bounded explaining
+bounded = Semantics.bounded explaining
 
 abbrev pub tested : ℕ → Explained Value → Explained Value
-tested = Text.tested explaining
+tested = Semantics.tested explaining
 
 abbrev pub getEach : Getter → (root : ℕ) → Value → ℕ → Values → Explained Values
-getEach = Text.getEach explaining
+getEach = Semantics.getEach explaining
 
 abbrev pub getNode : Getter → Sheet → Node → Env → Explained Value
-getNode = Text.getNode explaining
+getNode = Semantics.getNode explaining
 
 abbrev pub get : ℕ → Sheet → Getter
-get = Text.get explaining
+get = Semantics.get explaining
 
 abbrev pub orOld : Option Cell → Value → Value
-orOld = Text.orOld explaining
+orOld = Semantics.orOld explaining
 
 abbrev pub constant : Value → Value → Cells → Explained Cells
-constant = Text.constant explaining
+constant = Semantics.constant explaining
 
 abbrev pub write : ℕ → ℕ → Value → Cells → Option Cell → Explained Cells
-write n = Text.write explaining (explaining .mark n)
+write n = Semantics.write explaining (explaining .mark n)
 
 abbrev pub both : Putter → Env → List ℕ → Cells → ℕ → Value → ℕ → Value → Explained Cells
-both = Text.both explaining
+both = Semantics.both explaining
 
 abbrev pub under : Putter → Env → List ℕ → Cells → ℕ → Value → ℕ → (Value → Value → Option Value) → Value → Value → Explained Cells
-under = Text.under explaining
+under = Semantics.under explaining
 
 abbrev pub stoodFor : Getter → (d : ℕ) → Values → Explained Value
-stoodFor = Text.stoodFor explaining
+stoodFor = Semantics.stoodFor explaining
 
 abbrev pub putEach : Getter → Putter → (root d c : ℕ) → Value → ℕ → Values → Values → Cells → Explained (Values × Cells)
-putEach = Text.putEach explaining
+putEach = Semantics.putEach explaining
 
 -- by the node n
 abbrev pub putNode : ℕ → Getter → Putter → Sheet → Node → Env → List ℕ → Value → Cells → Explained Cells
-putNode n = Text.putNode explaining (explaining .mark n)
+putNode n = Semantics.putNode explaining (explaining .mark n)
 
 abbrev pub put : ℕ → Sheet → Putter
-put = Text.put explaining
+put = Semantics.put explaining

@@ -3,11 +3,11 @@ ghost use mathlib.Core.Path.{_≡_};
 ghost use Prim.Native.Nat.{_+_, _≤_, _<_};
 ghost use lib.ListN.{length, getD};
 ghost use lib.Seq.{paste};
-ghost use Rattle.answer.specs.Answer.{doneAs};
+ghost use Rattle.outcome.specs.Outcome.{doneAs};
 ghost use Rattle.rules.specs.Numbers.{VARIABLES};
 ghost use Rattle.scopes.specs.Scopes.{When, frontTwo, pickedTwo, addedTwo, picked, inRoom, nowhere, noteOf, notedLen, notedBy, slotOf, placeOf};
-use answer::done;
-use answer::refused;
+use outcome::done;
+use outcome::refused;
 
 /// The variables in scope, at most rules::VARIABLES: where each one's bytes start, and how many they are less one.
 pub struct Scope {

@@ -77,23 +77,23 @@ pub record Child (nodes own c : ℕ) : Type 0 where
 
 -- what a number in range is known to be, by its role
 module _ (nodes sections own : ℕ) where
-  abbrev pub Fits : Role → ℕ → Type 0
-  Fits aNode v = Child nodes own v
-  Fits aSection v = v < sections
-  Fits aVariable v = Unit
-  Fits aTest v = v ≤ 6
-  Fits aNumber v = v ≤ 65535
-  Fits aWide v = (65535 < v) × (v ≤ 4294967295)
+  abbrev pub InRange : Role → ℕ → Type 0
+  InRange aNode v = Child nodes own v
+  InRange aSection v = v < sections
+  InRange aVariable v = Unit
+  InRange aTest v = v ≤ 6
+  InRange aNumber v = v ≤ 65535
+  InRange aWide v = (65535 < v) × (v ≤ 4294967295)
 
   abbrev pub AllFit : List Field → Type 0
   AllFit [] = Unit
-  AllFit (f ∷ fs) = Fits (f .role) (f .value) × AllFit fs
+  AllFit (f ∷ fs) = InRange (f .role) (f .value) × AllFit fs
 
   -- and so each number of a node, in body order
   abbrev pub Ranged : Node → Type 0
   Ranged n = AllFit (row n .body)
 
-  in-role : (r : Role) (v : ℕ) → fits nodes sections own r v ≡ true → Fits r v
+  in-role : (r : Role) (v : ℕ) → fits nodes sections own r v ≡ true → InRange r v
   in-role aNode v e =
       let p = and-true (ltb own v) (ltb v nodes) e in
       record { above = ltb-true own v (p .0); inside = ltb-true v nodes (p .1) }

@@ -19,7 +19,7 @@ use Rattle.sheet.specs.Kinds.{place, keep, pick, children, calls, variab
 use Rattle.sheet.specs.Sheet.{Sheet, Records, readNodes, oneSection, ifSection, readRecords, withNodes, readBody, inRange, readHeader, readSheet}
 use Rattle.sheet.specs.Table.{nodeOf, ofForm, ifWhole}
 use Rattle.sheet.specs.Forms.{no-form, fieldsOf, Told, form-told, built, roles-of, row-made}
-use Rattle.sheet.specs.Laws.{Child, Fits, AllFit, Ranged}
+use Rattle.sheet.specs.Laws.{Child, InRange, AllFit, Ranged}
 use Rattle.sheet.specs.declared.Node.{Node}
 
 -- A NODE OF THE SAME KIND, WITH OTHER VALUES
@@ -150,8 +150,8 @@ module _ (φ ψ : ℕ → ℕ) where
     abbrev Sent : List Field → Type 0
     Sent = Named (λ c. Child nodes′ own′ (φ c)) (λ s. ψ s < sections′)
 
-    role-anew : (r : Role) (v : ℕ) (fs : List Field) → Fits nodes sections own r v → Sent ((r of v) ∷ fs)
-        → Fits nodes′ sections′ own′ r (anew φ ψ r v) × Sent fs
+    role-anew : (r : Role) (v : ℕ) (fs : List Field) → InRange nodes sections own r v → Sent ((r of v) ∷ fs)
+        → InRange nodes′ sections′ own′ r (anew φ ψ r v) × Sent fs
     role-anew aNode v fs h s = (s .0 .0, (s .0 .1, s .1))
     role-anew aSection v fs h s = (s .1 .0, (s .0, s .1 .1))
     role-anew aVariable v fs h s = (tt, s)
@@ -241,13 +241,13 @@ renumbered-still φ ψ n c s = renumbered-alike φ ψ (λ x. x) (λ x. x) n c s 
 -- IN RANGE
 
 module _ (nodes sections own : ℕ) where
-  keep-fits : (b : Bool) (q r : Role) (v : ℕ) (xs : List ℕ) → (b ≡ true → q ≡ r) → Fits nodes sections own q v → Every (Fits nodes sections own r) xs
-      → Every (Fits nodes sections own r) (keep b v xs)
+  keep-fits : (b : Bool) (q r : Role) (v : ℕ) (xs : List ℕ) → (b ≡ true → q ≡ r) → InRange nodes sections own q v → Every (InRange nodes sections own r) xs
+      → Every (InRange nodes sections own r) (keep b v xs)
   keep-fits true q r v xs s h e = (rw (s refl) at h, e)
   keep-fits false q r v xs s h e = e
 
   -- each number of a node in range is what its role asks
-  pub pick-fits : (r : Role) (fs : List Field) → AllFit nodes sections own fs → Every (Fits nodes sections own r) (pick r fs)
+  pub pick-fits : (r : Role) (fs : List Field) → AllFit nodes sections own fs → Every (InRange nodes sections own r) (pick r fs)
   pick-fits r [] h = tt
   pick-fits r (f ∷ fs) h = keep-fits (eqb (place (f .role)) (place r)) (f .role) r (f .value) (pick r fs) (same-role (f .role) r) (h .0) (pick-fits r fs (h .1))
 
@@ -260,7 +260,7 @@ module _ (nodes sections own : ℕ) where
   unfolding calls
   calls-inside n h = pick-fits aSection (row n .body) h
 
-  role-fits : (r : Role) (v : ℕ) → Fits nodes sections own r v → fits nodes sections own r v ≡ true
+  role-fits : (r : Role) (v : ℕ) → InRange nodes sections own r v → fits nodes sections own r v ≡ true
   role-fits aNode v h = rw (lt-ltb own v (h .above), lt-ltb v nodes (h .inside))
   role-fits aSection v h = lt-ltb v sections h
   role-fits aVariable v h = refl

@@ -89,7 +89,7 @@ const OUT_OF_RANGE: u8 = 13;
 const NO_NODE: u8 = 14;
 
 // A byte as a number of a node, section or variable.
-fn wide(b: u8) -> usize
+fn extend(b: u8) -> usize
     ensures { λ r. ⌜ r ≡ b ⌝ }
 {
     b as usize
@@ -105,11 +105,11 @@ pub fn record_width(kind: u8) -> usize
     if kind < 0x10 {
         return 0;
     }
-    let k = wide(kind) - 0x10;
+    let k = extend(kind) - 0x10;
     if 14 <= k {
         return 0;
     }
-    wide(WIDTHS[k])
+    extend(WIDTHS[k])
 }
 
 // Byte i of a record; 0 where the bytes end before it.
@@ -126,7 +126,7 @@ fn byte_at(r: &[u8], i: usize) -> u8
 fn at(r: &[u8], i: usize) -> usize
     ensures { λ b. ⌜ b ≡ getD (now (r .entry)) i 0 ⌝ }
 {
-    wide(byte_at(r, i))
+    extend(byte_at(r, i))
 }
 
 // Bytes i and i + 1 of a record as a number, high byte first.
@@ -265,7 +265,7 @@ pub fn part(kind: u8, i: u16) -> u8
     if 8 <= i {
         return 0;
     }
-    let parts = PARTS[wide(kind) - 0x10];
+    let parts = PARTS[extend(kind) - 0x10];
     ((parts >> (4 * (i as u32))) % 16) as u8
 }
 
@@ -297,7 +297,7 @@ pub fn byte_of(s: &[u8], at: u16, i: u16) -> u8
 pub fn number_of(s: &[u8], at: u16, i: u16) -> usize
     ensures { λ r. ⌜ r ≡ getD (now (s .entry)) (at + i) 0 ⌝ }
 {
-    wide(byte_of(s, at, i))
+    extend(byte_of(s, at, i))
 }
 
 /// The value of the constant of four bytes (1D) whose record starts at byte `at` of a sheet: the kind 06, and the record's four.
@@ -443,7 +443,7 @@ pub fn section_root(s: &[u8], i: usize) -> usize
     if s.len() <= at {
         return 0;
     }
-    wide(s[at])
+    extend(s[at])
 }
 
 // The table of a sheet that is refused.
@@ -501,8 +501,8 @@ fn read_sections(s: &[u8]) -> Table
     requires { ⌜ 3 ≤ length (now s) ⌝ }
     ensures { λ r. ⌜ r ≡ tableOf (readBody (drop 1 (now (s .entry)))) ⌝ }
 {
-    let k = wide(s[1]);
-    let root = wide(s[2]);
+    let k = extend(s[1]);
+    let root = extend(s[2]);
     let mut n: usize = 0;
     let mut at: usize = 3;
     while at < s.len() {

@@ -13,7 +13,7 @@ use Rattle.sheet.specs.Sheet.{Sheet}
 use Rattle.sheet.specs.Laws.{Ranges, Child}
 use Rattle.sheet.specs.Rows.{Small, Every}
 use Rattle.rules.specs.Answer.{count}
-use Rattle.rules.specs.Embedding.{itself}
+use Rattle.rules.specs.Laws.Embedding.{itself}
 use Rattle.sheet.specs.Ranging.{children-in}
 use Rattle.preorder.specs.Numbering.{gathered, nodeOf, metFrom, roots, order, newNumber, numbered, met-self}
 use Rattle.preorder.specs.NumberingLaws.{Once, uses, order-short, places-count}

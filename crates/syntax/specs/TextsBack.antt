@@ -10,7 +10,7 @@ use Rattle.sheet.specs.declared.Node.{Node}
 use Rattle.sheet.specs.declared.Node.the-variants.{False}
 use Rattle.sheet.specs.Kinds.{Role, aNode, aSection, aVariable, aTest, aNumber, aWide, Field, row, written}
 use Rattle.sheet.specs.Sheet.{Sheet}
-use Rattle.sheet.specs.Laws.{Fits, AllFit, Ranges}
+use Rattle.sheet.specs.Laws.{InRange, AllFit, Ranges}
 use Rattle.sheet.specs.Rows.{Every, limit, Small, allWritten, rootsWritten, sheetWritten, written-bytes}
 use Rattle.sheet.specs.Written.{Bytes}
 use Rattle.sheet.specs.Ranging.{read-back}
@@ -84,7 +84,7 @@ sheet-met ts = go (textRead (λ w. some 0) ts) refl
 -- ITS BYTES
 
 module _ (S N own : ℕ) (few : N ≤ 200) (few′ : S ≤ 8) where
-  role-small : (r : Role) (v : ℕ) → Keeps S r v → Fits N S own r v → v < limit r
+  role-small : (r : Role) (v : ℕ) → Keeps S r v → InRange N S own r v → v < limit r
   role-small aNode v k f = omega (arith, f .inside)
   role-small aSection v k f = omega arith
   role-small aVariable v k f = k

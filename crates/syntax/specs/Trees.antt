@@ -14,10 +14,10 @@ use Rattle.sheet.specs.declared.Node.{Node}
 use Rattle.sheet.specs.declared.Node.the-variants.{False}
 use Rattle.sheet.specs.Kinds.{Role, aNode, aSection, aVariable, aTest, aNumber, aWide, Field, _of_, row, pick, children}
 use Rattle.sheet.specs.Sheet.{Sheet}
-use Rattle.sheet.specs.Laws.{Child, Fits, AllFit, Ranged, Ranges}
+use Rattle.sheet.specs.Laws.{Child, InRange, AllFit, Ranged, Ranges}
 use Rattle.sheet.specs.Rows.{Every}
 use Rattle.rules.specs.Answer.{count}
-use Rattle.rules.specs.ExplainChain.{_∈_, here, there}
+use Rattle.rules.specs.Explain.Chain.{_∈_, here, there}
 use Rattle.preorder.specs.Numbering.{gathered, nodeOf, metFrom, roots, order, numbered, in-front, in-behind, in-either, every-at, every-of}
 use Rattle.preorder.specs.NumberingLaws.{Once, allChildren, uses, once-both, numbered-still}
 
@@ -115,7 +115,7 @@ module _ (sh : Sheet) where
 
 module _ (S N own : ℕ) where
   role-ranged : (r : Role) (v : ℕ) (fs : List Field) → Keeps S r v → Every (Child N own) (pick aNode ((r of v) ∷ fs))
-      → Fits N S own r v × Every (Child N own) (pick aNode fs)
+      → InRange N S own r v × Every (Child N own) (pick aNode fs)
   role-ranged aNode v fs h s = (s .0, s .1)
   role-ranged aSection v fs h s = (h, s)
   role-ranged aVariable v fs h s = (tt, s)

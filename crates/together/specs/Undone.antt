@@ -15,7 +15,7 @@ use Rattle.shapes.specs.PartsLaws.{same-refl, same-bytes}
 use Rattle.sheet.specs.Sheet.{Sheet, readSheet}
 use Rattle.rules.specs.Numbers.{PUT-OUTPUT}
 use Rattle.rules.specs.Answer.{Answer, refusal, success, getAnswer, putAnswer}
-use Rattle.rules.specs.AnswerLaws.{put-shows}
+use Rattle.rules.specs.Laws.Answers.{put-shows}
 use Rattle.undo.specs.Straight.{Straight}
 use Rattle.undo.specs.Calls.{undo}
 use Rattle.calls.specs.Reply.{Reply, Done, Refused}

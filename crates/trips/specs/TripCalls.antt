@@ -7,8 +7,8 @@ use lib.ListN.{length, take}
 use lib.Seq.{length-take-le}
 use Rattle.rules.specs.Numbers.{ALLOWANCE, FACTOR, GET-OUTPUT, PUT-OUTPUT}
 use Rattle.rules.specs.Answer.{success, getAnswer, putAnswer}
-use Rattle.rules.specs.AnswerLaws.{get-shows, put-shows, get-steps, put-steps}
-use Rattle.rules.specs.Trips.{consistency, acceptability}
+use Rattle.rules.specs.Laws.Answers.{get-shows, put-shows, get-steps, put-steps}
+use Rattle.rules.specs.Laws.Trips.{consistency, acceptability}
 use Rattle.calls.specs.Reply.{Reply, Done, Refused}
 use Rattle.together.specs.declared.Trip.{Trip}
 use Rattle.together.specs.declared.Trip.the-variants.{Stopped}

@@ -12,7 +12,7 @@ use borrow.Author.Tests.{lt-ltb, le-ltb}
 use Rattle.sheet.specs.declared.Node.{Node}
 use Rattle.sheet.specs.declared.Node.the-variants.{Var, False, True, Empty, Number, Front, Pair, ListCase, TruthCase, Split, Call, Add, Each, Wide}
 use Rattle.sheet.specs.Kinds.{children}
-use Rattle.rules.specs.Text.{two}
+use Rattle.rules.specs.Semantics.{two}
 use Rattle.typing.specs.Types.{Ty, truths}
 use Rattle.typing.specs.Fits.{Scope, added}
 use Rattle.typing.specs.Written.{bytesOf, Short}

@@ -17,7 +17,7 @@ use Rattle.sheet.specs.Places.{take-rest, rest-begins}
 use Rattle.typing.specs.Numbers.{LONGEST, PAST}
 use Rattle.typing.specs.Types.{Ty, truths, numbers, lists, pairs}
 use Rattle.typing.specs.Fits.{added}
-use Rattle.rules.specs.Text.{two}
+use Rattle.rules.specs.Semantics.{two}
 use Rattle.typing.specs.Check.{apart, makeList, makePair, also, andThen, Kind, unknown, kindOf, begin, readTypes}
 use Rattle.typing.specs.Written.{bytesOf, Short, Taken, nothing, taken, takes, none-owed, one-back, Names, is-truth, is-number, is-list, is-pair}
 use Rattle.typing.specs.Written.{is-other, names}

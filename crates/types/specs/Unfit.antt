@@ -19,7 +19,7 @@ use Rattle.sheet.specs.Rows.{Every, children-behind}
 use Rattle.sheet.specs.Sheet.{Sheet}
 use Rattle.sheet.specs.Laws.{Child, Ranged, Ranges, Reads}
 use Rattle.sheet.specs.Table.{nodeAt}
-use Rattle.rules.specs.Text.{two}
+use Rattle.rules.specs.Semantics.{two}
 use Rattle.typing.specs.Types.{Ty, truths, lists}
 use Rattle.typing.specs.Fits.{Lent, Scope, nodeOf, typeOf, sectionOf, added, Fits, places, Root, sectionRoots, roots, Placed}
 use Rattle.typing.specs.Check.{apart, found, count, used, refuted, fits?, placed?, rightly?, right?, below, standing, misfits, unfit, lowest}

@@ -11,7 +11,7 @@ ghost use Rattle.types.specs.Slots.{typeLen, partAt, lentBelow, TypesRea
 ghost use Rattle.typing.specs.Types.{Ty};
 ghost use Rattle.typing.specs.Fits.{added};
 ghost use Rattle.typing.specs.Written.{bytesOf, Short};
-ghost use Rattle.rules.specs.Text.{two};
+ghost use Rattle.rules.specs.Semantics.{two};
 ghost use Rattle.shapes.specs.Parts.{sameBytes};
 
 // The most bytes of one type.
@@ -42,7 +42,7 @@ pub struct Lent {
 }
 
 // A start as a number of bytes.
-fn wide(start: u16) -> usize
+fn extend(start: u16) -> usize
     ensures { λ r. ⌜ r ≡ start ⌝ }
 {
     start as usize
@@ -139,8 +139,8 @@ pub fn type_in<'a>(types: &'a [u8], starts: &[u16; 242], slot: usize) -> &'a [u8
     if PAST <= slot {
         return &types[..0];
     }
-    let start = wide(starts[slot]);
-    let end = wide(starts[slot + 1]);
+    let start = extend(starts[slot]);
+    let end = extend(starts[slot + 1]);
     if end < start {
         return &types[..0];
     }

@@ -15,11 +15,11 @@ use Rattle.value.specs.Laws.{Readable, readValues-sound}
 use Rattle.sheet.specs.declared.Node.the-variants.{Wide}
 use Rattle.sheet.specs.Sheet.{Sheet, readSheet}
 use Rattle.sheet.specs.Laws.{sheet-ranges}
-use Rattle.rules.specs.Text
-use Rattle.rules.specs.Text.{Env}
+use Rattle.rules.specs.Semantics
+use Rattle.rules.specs.Semantics.{Env}
 use Rattle.rules.specs.Numbers.{LEVELS}
-use Rattle.rules.specs.Explain.{Why, Told, got, met}
-use Rattle.rules.specs.Explanation.{walked, explained, afterwards, explainGet, explainPut}
+use Rattle.rules.specs.Explain.{Cause, Exit, got, met}
+use Rattle.rules.specs.Explain.Calls.{walked, explained, afterwards, explainGet, explainPut}
 use Rattle.rules.specs.Outcome.{Out, done, refused, when, mapOut, given, reading}
 use Rattle.rules.specs.Answer.{Answer, answer, door, count, getWalk, getBytes, getAnswer, putWalk, putBytes, putAnswer}
 use Rattle.rules.specs.Answer as Answer
@@ -132,19 +132,19 @@ first-readable All.none h = absurd (omega arith)
 first-readable (All.each r rs) h = r
 
 -- a refusal met in the walk, as the judging reading has it: what was judged at the node where it was met, and what is known of both
-pub record Judged-get {sheet types : List ℕ} (p : Passes sheet types) (μ : Env) (allowance : ℕ) (P : ℕ → Type 0) (y : Why) : Type 0 where
+pub record Judged-get {sheet types : List ℕ} (p : Passes sheet types) (μ : Env) (allowance : ℕ) (P : ℕ → Type 0) (y : Cause) : Type 0 where
   pub steps : ℕ
   pub value : Option Value
-  pub judged : Text.get judging LEVELS (p .sh) (p .sh .root) μ allowance ≡ lacks y value steps
+  pub judged : Semantics.get judging LEVELS (p .sh) (p .sh .root) μ allowance ≡ lacks y value steps
   pub facts : Facts (p .sh) P y value
 
-pub record Judged-put {sheet types : List ℕ} (p : Passes sheet types) (μ : Env) (v : Value) (allowance : ℕ) (P : ℕ → Type 0) (y : Why) : Type 0 where
+pub record Judged-put {sheet types : List ℕ} (p : Passes sheet types) (μ : Env) (v : Value) (allowance : ℕ) (P : ℕ → Type 0) (y : Cause) : Type 0 where
   pub steps : ℕ
   pub value : Option Value
-  pub judged : Text.put judging LEVELS (p .sh) (p .sh .root) μ (count 0 (length μ)) v (replicate (length μ) none) allowance ≡ lacks y value steps
+  pub judged : Semantics.put judging LEVELS (p .sh) (p .sh .root) μ (count 0 (length μ)) v (replicate (length μ) none) allowance ≡ lacks y value steps
   pub facts : Facts (p .sh) P y value
 
-explained-met : {A : Type 0} (t : Told A) {y : Why} → explained t ≡ walked y → (s : ℕ) × (t ≡ met y s)
+explained-met : {A : Type 0} (t : Exit A) {y : Cause} → explained t ≡ walked y → (s : ℕ) × (t ≡ met y s)
 unfolding explained
 explained-met (got a s) e = apart (cc)
 explained-met (met x s) {y} e = let q : x ≡ y = cc in (s, ap (λ z. met z s) q)
@@ -178,7 +178,7 @@ module _ {sheet types : List ℕ} (p : Passes sheet types) (w : Bool) (plan : Li
         (λ X s q. plan-bytes _ (put-walk-done (sheet-ranges sheet (p .sheet-is)) (p .passed) wides plan-scoped allowance view-of q))))))
 
     -- why a put is refused
-    pub put-why : {y : Why} → explainPut sheet plan view allowance ≡ walked y → Judged-put p μ (getD vs 0 vfalse) allowance (If w) y
+    pub put-why : {y : Cause} → explainPut sheet plan view allowance ≡ walked y → Judged-put p μ (getD vs 0 vfalse) allowance (If w) y
     unfolding explainPut afterwards
     put-why e = let q = explained-met _ (rw (p .sheet-is, plan-is, view-is) at e) in
         let f = put-explained-met (sheet-ranges sheet (p .sheet-is)) (p .passed) wides plan-scoped allowance view-of (q .1) in
@@ -189,7 +189,7 @@ module _ {sheet types : List ℕ} (p : Passes sheet types) (w : Bool) (plan : Li
     put-not-42 e = never-42 (told-refusal (rw e at put-call)) refl
 
   -- why a get is refused
-  pub get-why : {y : Why} → explainGet sheet plan allowance ≡ walked y → Judged-get p μ allowance (If w) y
+  pub get-why : {y : Cause} → explainGet sheet plan allowance ≡ walked y → Judged-get p μ allowance (If w) y
   unfolding explainGet afterwards
   get-why e = let q = explained-met _ (rw (p .sheet-is, plan-is) at e) in
       let f = get-explained-met (sheet-ranges sheet (p .sheet-is)) (p .passed) wides plan-scoped allowance (q .1) in

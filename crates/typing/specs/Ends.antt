@@ -10,9 +10,9 @@ use Rattle.value.specs.Views.{asList, asFront, asPair, asNumber, asTruth}
 use Rattle.sheet.specs.declared.Node.{Node}
 use Rattle.sheet.specs.declared.Node.the-variants.{Front, Add}
 use Rattle.sheet.specs.Sheet.{Sheet}
-use Rattle.rules.specs.Text.{onList}
-use Rattle.rules.specs.Explain.{Why, own, barred}
-use Rattle.rules.specs.OutcomeLaws.{as-number}
+use Rattle.rules.specs.Semantics.{onList}
+use Rattle.rules.specs.Explain.{Cause, own, barred}
+use Rattle.rules.specs.Laws.Outcomes.{as-number}
 use Rattle.typing.specs.Types.{Ty, truths, numbers, lists, pairs, Of, Each, isFalse, isTrue, isList, isNumber, isWide, isPair, isNil, isCons}
 use Rattle.typing.specs.Fits.{nodeOf}
 use Rattle.typing.specs.Judging.{Judged, has, lacks, Judging, more, below, entered, choice, follow, next, wanted}
@@ -35,30 +35,30 @@ pub data Last (n : ℕ) : List ℕ → Type 0 where
   last : Last n (n ∷ [])
   before : {m : ℕ} {ns : List ℕ} → Last n ns → Last n (m ∷ ns)
 
-pub data Allowed (sh : Sheet) (P : ℕ → Type 0) (y : Why) (v : Option Value) : Type 0 where
+pub data Allowed (sh : Sheet) (P : ℕ → Type 0) (y : Cause) (v : Option Value) : Type 0 where
   plain : Plain (y .code) → Allowed sh P y v
   excused : {n : ℕ} → Last n (y .chain) → Excuse P (nodeOf sh n) (y .code) v → Allowed sh P y v
 
 -- below the node whose rule is followed: its own refusals are named by no node yet
-pub data Inside (sh : Sheet) (P : ℕ → Type 0) (nd : Node) (y : Why) (v : Option Value) : Type 0 where
+pub data Inside (sh : Sheet) (P : ℕ → Type 0) (nd : Node) (y : Cause) (v : Option Value) : Type 0 where
   itself : y .chain ≡ [] → Excuse P nd (y .code) v → Inside sh P nd y v
   further : Allowed sh P y v → Inside sh P nd y v
 
 -- OUTCOMES
 
-pub data Ends {A : Type 0} (R : Why → Option Value → Type 0) (Q : A → Type 0) : Judged A → Type 0 where
+pub data Ends {A : Type 0} (R : Cause → Option Value → Type 0) (Q : A → Type 0) : Judged A → Type 0 where
   well : {a : A} {s : ℕ} → Q a → Ends R Q (has a s)
-  ill : {y : Why} {v : Option Value} {s : ℕ} → R y v → Ends R Q (lacks y v s)
+  ill : {y : Cause} {v : Option Value} {s : ℕ} → R y v → Ends R Q (lacks y v s)
 
 -- under every allowance
-pub record Always {A : Type 0} (R : Why → Option Value → Type 0) (Q : A → Type 0) (m : Judging A) : Type 0 where
+pub record Always {A : Type 0} (R : Cause → Option Value → Type 0) (Q : A → Type 0) (m : Judging A) : Type 0 where
   pub at : (left : ℕ) → Ends R Q (m left)
 
-module _ {A : Type 0} {R : Why → Option Value → Type 0} {Q : A → Type 0} where
+module _ {A : Type 0} {R : Cause → Option Value → Type 0} {Q : A → Type 0} where
   pub gives : {a : A} → Q a → Always R Q (λ _. has a 0)
   gives q = record { at = λ left. well q }
 
-  pub refuses : {y : Why} {v : Option Value} → R y v → Always R Q (λ _. lacks y v 0)
+  pub refuses : {y : Cause} {v : Option Value} → R y v → Always R Q (λ _. lacks y v 0)
   refuses r = record { at = λ left. ill r }
 
   ends-more : (s : ℕ) {t : Judged A} → Ends R Q t → Ends R Q (more s t)
@@ -72,16 +72,16 @@ module _ {A : Type 0} {R : Why → Option Value → Type 0} {Q : A → Type 0} w
   always-list isNil h k = h refl
   always-list (isCons o e) h k = k _ _ o e
 
-  ends-map : {S : Why → Option Value → Type 0} {T : A → Type 0} {t : Judged A} → Ends R Q t → ((y : Why) (v : Option Value) → R y v → S y v)
+  ends-map : {S : Cause → Option Value → Type 0} {T : A → Type 0} {t : Judged A} → Ends R Q t → ((y : Cause) (v : Option Value) → R y v → S y v)
       → ((a : A) → Q a → T a) → Ends S T t
   ends-map (well q) r f = well (f _ q)
   ends-map (ill h) r f = ill (r _ _ h)
 
-  pub always-map : {S : Why → Option Value → Type 0} {T : A → Type 0} {m : Judging A} → Always R Q m → ((y : Why) (v : Option Value) → R y v → S y v)
+  pub always-map : {S : Cause → Option Value → Type 0} {T : A → Type 0} {m : Judging A} → Always R Q m → ((y : Cause) (v : Option Value) → R y v → S y v)
       → ((a : A) → Q a → T a) → Always S T m
   always-map h r f = record { at = λ left. ends-map (h .at left) r f }
 
-module _ {A B : Type 0} {R : Why → Option Value → Type 0} {P : A → Type 0} {Q : B → Type 0} where
+module _ {A B : Type 0} {R : Cause → Option Value → Type 0} {P : A → Type 0} {Q : B → Type 0} where
   ends-follow : {t : Judged A} {f : A → ℕ → Judged B} → Ends R P t → ((a : A) (s : ℕ) → P a → Ends R Q (f a s)) → Ends R Q (follow t f)
   unfolding follow
   ends-follow (well p) j = ends-more _ (j _ _ p)
@@ -91,15 +91,15 @@ module _ {A B : Type 0} {R : Why → Option Value → Type 0} {P : A → Type 0}
   unfolding next
   always-next {m} {f} h j = record { at = λ left. ends-follow (h .at left) λ a s p. j a p .at (left - s) }
 
-module _ {A B : Type 0} {R : Why → Option Value → Type 0} {Q : B → Type 0} where
+module _ {A B : Type 0} {R : Cause → Option Value → Type 0} {Q : B → Type 0} where
   -- it is there
-  pub there-is : (y : Why) (v : Option Value) {o : Option A} {a : A} (f : A → Judging B) → o ≡ some a → Always R Q (f a) → Always R Q (wanted y v o f)
+  pub there-is : (y : Cause) (v : Option Value) {o : Option A} {a : A} (f : A → Judging B) → o ≡ some a → Always R Q (f a) → Always R Q (wanted y v o f)
   unfolding wanted
   there-is y v f e h = rw e h
 
 -- it may be missing, with a plain refusal
 module _ {A B : Type 0} {sh : Sheet} {P : ℕ → Type 0} {nd : Node} {Q : B → Type 0} where
-  pub asked : (y : Why) (v : Option Value) (o : Option A) {f : A → Judging B} → Plain (y .code) → ((a : A) → Always (Inside sh P nd) Q (f a))
+  pub asked : (y : Cause) (v : Option Value) (o : Option A) {f : A → Judging B} → Plain (y .code) → ((a : A) → Always (Inside sh P nd) Q (f a))
       → Always (Inside sh P nd) Q (wanted y v o f)
   unfolding wanted
   asked y v none c h = refuses (further (plain c))
@@ -132,7 +132,7 @@ module _ {A : Type 0} {sh : Sheet} {P : ℕ → Type 0} {Q : A → Type 0} (n : 
 
 -- WHAT A VALUE OF A TYPE IS SEEN AS
 
-module _ {B : Type 0} {R : Why → Option Value → Type 0} {P : ℕ → Type 0} {Q : B → Type 0} (y : Why) (x : Option Value) where
+module _ {B : Type 0} {R : Cause → Option Value → Type 0} {P : ℕ → Type 0} {Q : B → Type 0} (y : Cause) (x : Option Value) where
   pub saw-list : {v : Value} {t : Ty} {f : ((l : Values) × (v ≡ list l)) → Judging B} → Of P (lists t) v
       → ((l : (l : Values) × (v ≡ list l)) → Each P t (l .0) → Always R Q (f l)) → Always R Q (wanted y x (asList v) f)
   unfolding wanted asList
@@ -151,7 +151,7 @@ module _ {B : Type 0} {R : Why → Option Value → Type 0} {P : ℕ → Type 0}
 
 -- an 06 is no number to add to
 module _ {B : Type 0} {sh : Sheet} {P : ℕ → Type 0} {Q : B → Type 0} {m k : ℕ} where
-  pub saw-number : (y : Why) {v : Value} {f : ((n : ℕ) × (v ≡ number n) × (n ≤ 65535)) → Judging B} → y .chain ≡ []
+  pub saw-number : (y : Cause) {v : Value} {f : ((n : ℕ) × (v ≡ number n) × (n ≤ 65535)) → Judging B} → y .chain ≡ []
       → ((w : ℕ) → P w → Excuse P (Add m k) (y .code) (some (wide w))) → Of P numbers v
       → ((n : (n : ℕ) × (v ≡ number n) × (n ≤ 65535)) → Always (Inside sh P (Add m k)) Q (f n))
       → Always (Inside sh P (Add m k)) Q (wanted y (some v) (asNumber v) f)

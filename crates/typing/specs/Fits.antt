@@ -9,7 +9,7 @@ use lib.ListN.{length, getD, getElem?}
 use Rattle.sheet.specs.declared.Node.{Node}
 use Rattle.sheet.specs.declared.Node.the-variants.{Var, False, True, Empty, Number, Front, Pair, ListCase, TruthCase, Split, Call, Add, Each, Wide}
 use Rattle.sheet.specs.Sheet.{Sheet}
-use Rattle.rules.specs.Text.{two}
+use Rattle.rules.specs.Semantics.{two}
 use Rattle.typing.specs.Types.{Ty, truths, numbers, lists, pairs}
 
 -- the types of a section: of its two variables, and of what it gives

@@ -3,14 +3,14 @@ use mathlib.Core.Option.{Option, none, some}
 use mathlib.Core.List.{_∷_}
 use Prim.Native.Nat.{ℕ, zero, suc, _+_, _-_}
 use Rattle.value.specs.Value.{Value}
-use Rattle.rules.specs.Text
-use Rattle.rules.specs.Text.{Reading}
-use Rattle.rules.specs.Explain.{Why, own, barred, Cell}
+use Rattle.rules.specs.Semantics
+use Rattle.rules.specs.Semantics.{Reading}
+use Rattle.rules.specs.Explain.{Cause, own, barred, Cell}
 
 -- what was done, or why it was refused and the value that was judged, with the steps taken
 pub data Judged (A : Type 0) : Type 0 where
   has : A → ℕ → Judged A
-  lacks : Why → Option Value → ℕ → Judged A
+  lacks : Cause → Option Value → ℕ → Judged A
 
 -- for each allowance that is left
 abbrev pub Judging : Type 0 → Type 0
@@ -43,7 +43,7 @@ module _ {A B : Type 0} where
   unfoldable pub next : Judging A → (A → Judging B) → Judging B
   next m f = λ left. follow (m left) λ a s. f a (left - s)
 
-  unfoldable pub wanted : Why → Option Value → Option A → (A → Judging B) → Judging B
+  unfoldable pub wanted : Cause → Option Value → Option A → (A → Judging B) → Judging B
   wanted y v none f = λ _. lacks y v 0
   wanted y v (some a) f = f a
 
@@ -64,10 +64,10 @@ judging = record {
 }
 
 abbrev pub Cells : Type 0
-Cells = Text.Cells judging
+Cells = Semantics.Cells judging
 
 abbrev pub Getter : Type 0
-Getter = Text.Getter judging
+Getter = Semantics.Getter judging
 
 abbrev pub Putter : Type 0
-Putter = Text.Putter judging
+Putter = Semantics.Putter judging

@@ -5,15 +5,15 @@ use mathlib.Core.List.{List}
 use Prim.Native.Nat.{ℕ, zero, suc, _+_, _-_}
 use Rattle.value.specs.Value.{Value}
 use Rattle.sheet.specs.Sheet.{Sheet}
-use Rattle.rules.specs.Text
-use Rattle.rules.specs.Text.{Env}
+use Rattle.rules.specs.Semantics
+use Rattle.rules.specs.Semantics.{Env}
 use Rattle.rules.specs.Explain as Explain
-use Rattle.rules.specs.Explain.{Why, own, barred, Told, got, met, Explained, explaining}
-use Rattle.rules.specs.Embedding.{Relates, itself, cells-same, held-itself, get-held, put-held}
+use Rattle.rules.specs.Explain.{Cause, own, barred, Exit, got, met, Explained, explaining}
+use Rattle.rules.specs.Laws.Embedding.{Relates, itself, cells-same, held-itself, get-held, put-held}
 use Rattle.typing.specs.Judging as Judge
 use Rattle.typing.specs.Judging.{Judged, has, lacks, Judging, judging, Cells}
 
-unfoldable pub drop : {A : Type 0} → Judged A → Told A
+unfoldable pub drop : {A : Type 0} → Judged A → Exit A
 drop (has a s) = got a s
 drop (lacks y v s) = met y s
 
@@ -22,20 +22,20 @@ pub record Same {A : Type 0} (m : Judging A) (o : Explained A) : Type 0 where
 
 -- THE TWO READINGS, of one sheet: the same is told, with h of what was done
 
-data Tells {A B : Type 0} (h : A → B) : Judged A → Told B → Type 0 where
+data Tells {A B : Type 0} (h : A → B) : Judged A → Exit B → Type 0 where
   says : (a : A) (s : ℕ) → Tells h (has a s) (got (h a) s)
-  ends : (y : Why) (v : Option Value) (s : ℕ) → Tells h (lacks y v s) (met y s)
+  ends : (y : Cause) (v : Option Value) (s : ℕ) → Tells h (lacks y v s) (met y s)
 
 record Drops {A B : Type 0} (h : A → B) (m : Judging A) (o : Explained B) : Type 0 where
   at : (left : ℕ) → Tells h (m left) (o left)
 
 module _ {A B : Type 0} {h : A → B} where
-  told-more : (s : ℕ) {m : Judged A} {o : Told B} → Tells h m o → Tells h (Judge.more s m) (Explain.more s o)
+  told-more : (s : ℕ) {m : Judged A} {o : Exit B} → Tells h m o → Tells h (Judge.more s m) (Explain.more s o)
   unfolding Judge.more Explain.more
   told-more s (says a t) = says a (s + t)
   told-more s (ends y v t) = ends y v (s + t)
 
-  told-below : (n : ℕ) {m : Judged A} {o : Told B} → Tells h m o → Tells h (Judge.below n m) (Explain.below n o)
+  told-below : (n : ℕ) {m : Judged A} {o : Exit B} → Tells h m o → Tells h (Judge.below n m) (Explain.below n o)
   unfolding Judge.below Explain.below
   told-below n (says a t) = says a (1 + t)
   told-below n (ends y v t) = ends _ v (1 + t)
@@ -61,20 +61,20 @@ module _ {A B C D : Type 0} {h : A → C} {u : B → D} where
   unfolding Judge.next Explain.next Judge.follow Explain.follow
   drops-bind {m} {o} {k} j e c = record { at = λ left. go left (e .at left) }
     where
-      go : (left : ℕ) {x : Judged A} {y : Told C} → Tells h x y
+      go : (left : ℕ) {x : Judged A} {y : Exit C} → Tells h x y
           → Tells u (Judge.follow x (λ a s. k a (left - s))) (Explain.follow y (λ a s. j a (left - s)))
       go left (says a s) = told-more s (c a .at (left - s))
       go left (ends y v s) = ends y v s
 
 module _ {A B C D : Type 0} (h : A → C) {u : B → D} where
-  drops-given : (y : Why) (o : Option A) (p : Option C) {k : A → Judging B} (j : C → Explained D) → p ≡ Option·map h o
+  drops-given : (y : Cause) (o : Option A) (p : Option C) {k : A → Judging B} (j : C → Explained D) → p ≡ Option·map h o
       → ((a : A) → Drops u (k a) (j (h a))) → Drops u (Judge.wanted y none o k) (Explain.wanted y p j)
   unfolding Judge.wanted Explain.wanted
   drops-given y none p j e k = rw e (record { at = λ left. ends y none 0 })
   drops-given y (some a) p j e k = rw e (k a)
 
 module _ {A B D : Type 0} {u : B → D} where
-  drops-asked : (y : Why) (v : Option Value) (o : Option A) {k : A → Judging B} (j : A → Explained D) → ((a : A) → Drops u (k a) (j a))
+  drops-asked : (y : Cause) (v : Option Value) (o : Option A) {k : A → Judging B} (j : A → Explained D) → ((a : A) → Drops u (k a) (j a))
       → Drops u (Judge.wanted y v o k) (Explain.wanted y o j)
   unfolding Judge.wanted Explain.wanted
   drops-asked y v none j k = record { at = λ left. ends y v 0 }
@@ -98,7 +98,7 @@ dropping = record {
 
 -- done to what was done, h changes nothing
 module _ {A : Type 0} {h : A → A} (e : (a : A) → h a ≡ a) where
-  told-is : {m : Judged A} {o : Told A} → Tells h m o → drop m ≡ o
+  told-is : {m : Judged A} {o : Exit A} → Tells h m o → drop m ≡ o
   unfolding drop
   told-is (says a s) = ap (λ z. got z s) (sym (e a))
   told-is (ends y v s) = refl
@@ -109,12 +109,12 @@ module _ {A : Type 0} {h : A → A} (e : (a : A) → h a ≡ a) where
 abbrev Gets : Judge.Getter → Explain.Getter → Type 0
 Gets g k = (n : ℕ) (μ : Env) → Same (g n μ) (k n μ)
 
-pub get-same : (l : ℕ) (sh : Sheet) → Gets (Text.get judging l sh) (Text.get explaining l sh)
+pub get-same : (l : ℕ) (sh : Sheet) → Gets (Semantics.get judging l sh) (Semantics.get explaining l sh)
 get-same l sh n μ = drops-same (λ a. refl) (get-held dropping (held-itself sh) l n μ tt)
 
 -- the cells of both are the same
 abbrev Puts : Judge.Putter → Explain.Putter → Type 0
 Puts p q = (n : ℕ) (μ : Env) (σ : List ℕ) (v : Value) (W : Cells) → Same (p n μ σ v W) (q n μ σ v W)
 
-pub put-same : (l : ℕ) (sh : Sheet) → Puts (Text.put judging l sh) (Text.put explaining l sh)
+pub put-same : (l : ℕ) (sh : Sheet) → Puts (Semantics.put judging l sh) (Semantics.put explaining l sh)
 put-same l sh n μ σ v W = rw (cells-same W) at (drops-same cells-same (put-held dropping (held-itself sh) l n μ σ v W tt))

@@ -17,7 +17,7 @@ use Rattle.sheet.specs.Laws.{sheet-ranges}
 use Rattle.rules.specs.Numbers.{LEVELS}
 use Rattle.rules.specs.Outcome.{Out, done, refused, steps, when, mapOut, given, reading}
 use Rattle.rules.specs.Allowance.{within, cap}
-use Rattle.rules.specs.Rules.{Env}
+use Rattle.rules.specs.Counting.{Env}
 use Rattle.rules.specs.Answer.{Answer, answer, door, count, newPlan, getWalk, getBytes, getAnswer, putWalk, putBytes, putAnswer}
 use Rattle.rules.specs.Answer as Answer
 use Rattle.typing.specs.Check.{many, lentOf}

@@ -12,10 +12,10 @@ use Rattle.sheet.specs.declared.Node.{Node}
 use Rattle.sheet.specs.declared.Node.the-variants.{Var, False, True, Empty, Number, Front, Pair, ListCase, TruthCase, Split, Call, Add, Each, Wide}
 use Rattle.sheet.specs.Sheet.{Sheet}
 use Rattle.sheet.specs.Laws.{Ranged}
-use Rattle.rules.specs.Text
-use Rattle.rules.specs.Text.{Env, two, pick, restOf, mkList, mkPair}
+use Rattle.rules.specs.Semantics
+use Rattle.rules.specs.Semantics.{Env, two, pick, restOf, mkList, mkPair}
 use Rattle.rules.specs.Explain.{own, Cell}
-use Rattle.rules.specs.Related.{All2, ends, more, all2-map, all2-append, all2-at, all2-flip, all2-length, all2-take, all2-set, at-left, at-behind, at-last}
+use Rattle.rules.specs.Laws.Related.{All2, ends, more, all2-map, all2-append, all2-at, all2-flip, all2-length, all2-take, all2-set, at-left, at-behind, at-last}
 use Rattle.typing.specs.Types.{Ty, lists, pairs, Of, isFalse, isTrue, isList, isNumber, isWide, isPair, isNil, isCons}
 use Rattle.typing.specs.Types as Types
 use Rattle.typing.specs.Fits.{Lent, Scope, nodeOf, rootOf, typeOf, sectionOf, Fits, places, In, here, there, Reached, root, child, section-root, Passed}
@@ -37,25 +37,25 @@ module _ (sh : Sheet) (ts : Lent) (P : ℕ → Type 0) where
 -- GET
 
 module _ {sh : Sheet} {P : ℕ → Type 0} {nd : Node} {t : Ty} where
-  bounded-ends : {v : Value} → Of P t v → Always (Inside sh P nd) (Of P t) (Text.bounded judging v)
-  unfolding Text.bounded
+  bounded-ends : {v : Value} → Of P t v → Always (Inside sh P nd) (Of P t) (Semantics.bounded judging v)
+  unfolding Semantics.bounded
   bounded-ends h = asked (own 44 none) none _ (omega arith) λ _. gives h
 
-  tested-ends : (k : ℕ) {m : Judging Value} → Always (Inside sh P nd) (Of P t) m → Always (Inside sh P nd) (Of P t) (Text.tested judging k m)
-  unfolding Text.tested
+  tested-ends : (k : ℕ) {m : Judging Value} → Always (Inside sh P nd) (Of P t) m → Always (Inside sh P nd) (Of P t) (Semantics.tested judging k m)
+  unfolding Semantics.tested
   tested-ends k h = always-next h λ v o. asked (own 46 none) none _ (omega arith) λ _. gives o
 
   get-each-ends : {u w : Ty} {a : Value} (g : Getter) (root : ℕ) → ((ν : Env) → Scoped P (two u w) ν → Always (Inside sh P nd) (Of P t) (g root ν))
-      → Of P w a → (n : ℕ) (l : Values) → Types.Each P u l → Always (Inside sh P nd) (Types.Each P t) (Text.getEach judging g root a n l)
-  unfolding Text.getEach
+      → Of P w a → (n : ℕ) (l : Values) → Types.Each P u l → Always (Inside sh P nd) (Types.Each P t) (Semantics.getEach judging g root a n l)
+  unfolding Semantics.getEach
   get-each-ends g r₀ h oa n nil isNil = gives isNil
   get-each-ends g r₀ h oa n (cons m r) (isCons om hr) = always-next (h _ (more om (more oa ends))) λ w ow. asked (own 44 none) none _ (omega arith) λ _.
       always-next (get-each-ends g r₀ h oa _ r hr) λ ws hs. gives (isCons ow hs)
 
 module _ (sh : Sheet) (ts : Lent) (P : ℕ → Type 0) (g : Getter) (t : Ty) (Γ : Scope) (μ : Env) (sc : Scoped P Γ μ) (nodes own′ : ℕ) where
   get-node-ends : (nd : Node) → Fits ts nd t Γ → Ranged nodes (length (sh .sections)) own′ nd → ((w : ℕ) → nd ≡ Wide w → P w) → Gets sh ts P nd t Γ g
-      → Always (Inside sh P nd) (Of P t) (Text.getNode judging g sh nd μ)
-  unfolding Text.getNode
+      → Always (Inside sh P nd) (Of P t) (Semantics.getNode judging g sh nd μ)
+  unfolding Semantics.getNode
   get-node-ends (Var x) f r w h = let (v, e, o) = all2-at x sc f in there-is _ _ _ e (gives o)
   get-node-ends False f r w h = gives (rw f isFalse)
   get-node-ends True f r w h = gives (rw f isTrue)
@@ -104,8 +104,8 @@ pub record At (P : ℕ → Type 0) (Θ : List Ty) (Γ : Scope) (μ : Env) (σ : 
   pub values : Scoped P Γ μ
   pub cells : Named Θ Γ σ
 
-old-typed : {P : ℕ → Type 0} {t : Ty} {o : Option Cell} {v : Value} → CellOf P t o → Of P t v → Of P t (Text.orOld judging o v)
-unfolding Text.orOld
+old-typed : {P : ℕ → Type 0} {t : Ty} {o : Option Cell} {v : Value} → CellOf P t o → Of P t v → Of P t (Semantics.orOld judging o v)
+unfolding Semantics.orOld
 old-typed blank h = h
 old-typed (full k) h = k
 
@@ -141,34 +141,34 @@ module _ {P : ℕ → Type 0} {Θ : List Ty} {Γ : Scope} {μ : Env} {σ : List 
 
 module _ (sh : Sheet) (ts : Lent) (P : ℕ → Type 0) (g : Getter) (p : Putter) (t : Ty) (Γ : Scope) (Θ : List Ty) (μ : Env) (σ : List ℕ) (v : Value) (W : Cells)
     (at : At P Θ Γ μ σ) (ov : Of P t v) (hw : Held P Θ W) where
-  constant-ends : (nd : Node) (u : Value) → Always (Inside sh P nd) (Held P Θ) (Text.constant judging v u W)
-  unfolding Text.constant
+  constant-ends : (nd : Node) (u : Value) → Always (Inside sh P nd) (Held P Θ) (Semantics.constant judging v u W)
+  unfolding Semantics.constant
   constant-ends nd u = asked (own 50 none) none _ (omega arith) λ _. gives hw
 
   write-ends : (nd : Node) (n c : ℕ) (o : Option Cell) → getElem? Θ c ≡ some t
-      → Always (Inside sh P nd) (Held P Θ) (Text.write judging (judging .mark n) c v W o)
-  unfolding Text.write
+      → Always (Inside sh P nd) (Held P Θ) (Semantics.write judging (judging .mark n) c v W o)
+  unfolding Semantics.write
   write-ends nd n c none e = gives (all2-flip (all2-set c _ (all2-flip hw) e (full ov)))
   write-ends nd n c (some w) e = asked (own 54 (some (w .by))) none _ (omega arith) λ _. gives hw
 
   both-ends : {nd : Node} → Puts sh ts P nd t Γ p → {a b : ℕ} {x y : Value} → In (a, Γ) (places ts nd t Γ) → In (b, Γ) (places ts nd t Γ)
-      → Of P (typeOf ts a) x → Of P (typeOf ts b) y → Always (Inside sh P nd) (Held P Θ) (Text.both judging p μ σ W a x b y)
-  unfolding Text.both
+      → Of P (typeOf ts a) x → Of P (typeOf ts b) y → Always (Inside sh P nd) (Held P Θ) (Semantics.both judging p μ σ W a x b y)
+  unfolding Semantics.both
   both-ends h i j ox oy = always-next (h .child i at ox hw) λ X hx. h .child j at oy hx
 
   under-ends : {nd : Node} → Puts sh ts P nd t Γ p → {b s : ℕ} (mk : Value → Value → Option Value) {x y : Value} {c d : Ty}
       → In (b, Γ ++ two c d) (places ts nd t Γ) → In (s, Γ) (places ts nd t Γ) → typeOf ts b ≡ t
       → ((x y : Value) → Of P c x → Of P d y → (u : Value) × (mk x y ≡ some u) × Of P (typeOf ts s) u)
-      → Of P c x → Of P d y → Always (Inside sh P nd) (Held P Θ) (Text.under judging p μ σ W b v s mk x y)
-  unfolding Text.under
+      → Of P c x → Of P d y → Always (Inside sh P nd) (Held P Θ) (Semantics.under judging p μ σ W b v s mk x y)
+  unfolding Semantics.under
   under-ends h mk {c} {d} i j e k ox oy = always-next (h .child i (branch-at at hw ox oy) (rw e ov) (all2-append hw (more blank (more blank ends)))) λ X hx.
       let (m, em, om) = all2-at (length W) hx (here-is hw c (d ∷ [])) in let (n, en, on) = all2-at (suc (length W)) hx (next-is hw c d) in
       let (u, eu, ou) = k _ _ (old-typed om ox) (old-typed on oy) in
       there-is _ _ _ em (there-is _ _ _ en (there-is _ _ _ eu (asked (own 44 none) none _ (omega arith) λ _. h .child j at ou (cut hw (two c d) hx))))
 
   stood-ends : {nd : Node} → Gets sh ts P nd t Γ g → {d : ℕ} {u : Ty} → In (d, []) (places ts nd t Γ) → typeOf ts d ≡ u → (old : Values) → Types.Each P u old
-      → Always (Inside sh P nd) (Of P u) (Text.stoodFor judging g d old)
-  unfolding Text.stoodFor
+      → Always (Inside sh P nd) (Of P u) (Semantics.stoodFor judging g d old)
+  unfolding Semantics.stoodFor
   stood-ends h i e old k = always-list k (λ _. rw e at (h .child i ends)) λ m _ om _. gives om
 
 rest-typed : {P : ℕ → Type 0} {t : Ty} {l : Values} → Types.Each P t l → Types.Each P t (restOf l)
@@ -185,13 +185,13 @@ unfolding mkPair
 mk-pair e x y ox oy = (pair x y, refl, rw e (isPair ox oy))
 
 module _ {sh : Sheet} {P : ℕ → Type 0} {nd : Node} (g : Getter) (p : Putter) (root d : ℕ) {u w t : Ty}
-    (stood : (old : Values) → Types.Each P u old → Always (Inside sh P nd) (Of P u) (Text.stoodFor judging g d old))
+    (stood : (old : Values) → Types.Each P u old → Always (Inside sh P nd) (Of P u) (Semantics.stoodFor judging g d old))
     (puts : (ν : Env) (ρ : List ℕ) (z : Value) (Θ : List Ty) (X : Cells) → At P Θ (two u w) ν ρ → Of P t z → Held P Θ X
     → Always (Inside sh P nd) (Held P Θ) (p root ν ρ z X))
     (Θ : List Ty) (c : ℕ) (ec : getElem? Θ c ≡ some w) (a : Value) (oa : Of P w a) where
   put-each-ends : (n : ℕ) (old l : Values) (W : Cells) → Types.Each P u old → Types.Each P t l → Held P Θ W
-      → Always (Inside sh P nd) (λ q. Types.Each P u (q .0) × Held P Θ (q .1)) (Text.putEach judging g p root d c a n old l W)
-  unfolding Text.putEach
+      → Always (Inside sh P nd) (λ q. Types.Each P u (q .0) × Held P Θ (q .1)) (Semantics.putEach judging g p root d c a n old l W)
+  unfolding Semantics.putEach
   put-each-ends n old nil W ho isNil hw = gives (isNil, hw)
   put-each-ends n old (cons v r) W ho (isCons ov hr) hw = always-next (stood old ho) λ m om.
       let at : At P (Θ ++ u ∷ []) (two u w) (two m a) (two (length W) c) = record {
@@ -205,8 +205,8 @@ module _ {sh : Sheet} {P : ℕ → Type 0} {nd : Node} (g : Getter) (p : Putter)
 module _ (sh : Sheet) (ts : Lent) (P : ℕ → Type 0) (g : Getter) (p : Putter) (t : Ty) (Γ : Scope) (Θ : List Ty) (μ : Env) (σ : List ℕ) (v : Value) (W : Cells)
     (at : At P Θ Γ μ σ) (ov : Of P t v) (hw : Held P Θ W) (nodes own′ : ℕ) where
   put-node-ends : (i : ℕ) (nd : Node) → Fits ts nd t Γ → Ranged nodes (length (sh .sections)) own′ nd → Gets sh ts P nd t Γ g → Puts sh ts P nd t Γ p
-      → Always (Inside sh P nd) (Held P Θ) (Text.putNode judging (judging .mark i) g p sh nd μ σ v W)
-  unfolding Text.putNode
+      → Always (Inside sh P nd) (Held P Θ) (Semantics.putNode judging (judging .mark i) g p sh nd μ σ v W)
+  unfolding Semantics.putNode
   put-node-ends i (Var x) f r gs h = let (c, ec, et) = all2-at x (at .cells) f in let (o, eo, _) = all2-at c hw et in
       there-is _ _ _ ec (there-is _ _ _ eo (write-ends sh ts P g p t Γ Θ μ σ v W at ov hw _ i c o et))
   put-node-ends i False f r gs h = constant-ends sh ts P g p t Γ Θ μ σ v W at ov hw _ _
@@ -224,19 +224,19 @@ module _ (sh : Sheet) (ts : Lent) (P : ℕ → Type 0) (g : Getter) (p : Putter)
       let oy′ : Of P (lists (typeOf ts df)) y = rw (f .1, f .0) at oy in saw-list _ _ oy′ λ _ _. full-branch x y ox oy′))
       λ x y ox ey. chosen _ _ (full-branch x (list y) ox (isList ey)) empty
     where
-      empty : Always (Inside sh P (ListCase s e te n tn df dr)) (Held P Θ) (Text.both judging p μ σ W e v s (list nil))
+      empty : Always (Inside sh P (ListCase s e te n tn df dr)) (Held P Θ) (Semantics.both judging p μ σ W e v s (list nil))
       empty = both-ends sh ts P g p t Γ Θ μ σ v W at ov hw h (there here) here (rw (f .2) ov) (rw (f .0) (isList isNil))
 
       branch : In (n, Γ ++ two (typeOf ts df) (lists (typeOf ts df))) (places ts (ListCase s e te n tn df dr) t Γ)
       branch = rw (f .0) (there (there here))
 
       full-branch : (x y : Value) → Of P (typeOf ts df) x → Of P (lists (typeOf ts df)) y
-          → Always (Inside sh P (ListCase s e te n tn df dr)) (Held P Θ) (Text.under judging p μ σ W n v s mkList x y)
+          → Always (Inside sh P (ListCase s e te n tn df dr)) (Held P Θ) (Semantics.under judging p μ σ W n v s mkList x y)
       full-branch x y ox oy = under-ends sh ts P g p t Γ Θ μ σ v W at ov hw h mkList branch here (f .3) (mk-list (f .0)) ox oy
   put-node-ends i (TruthCase s f₁ tf t₁ tt₁) f r gs h = always-next (gs .child here (at .values)) λ o oo. saw-truth _ _ (rw (f .0) at oo) λ b.
       chosen _ _ (side (b .0)) (side (not (b .0)))
     where
-      side : (b : Bool) → Always (Inside sh P (TruthCase s f₁ tf t₁ tt₁)) (Held P Θ) (Text.both judging p μ σ W (pick b f₁ t₁) v s (truth b))
+      side : (b : Bool) → Always (Inside sh P (TruthCase s f₁ tf t₁ tt₁)) (Held P Θ) (Semantics.both judging p μ σ W (pick b f₁ t₁) v s (truth b))
       side false = both-ends sh ts P g p t Γ Θ μ σ v W at ov hw h (there here) here (rw (f .1) ov) (rw (f .0) isFalse)
       side true = both-ends sh ts P g p t Γ Θ μ σ v W at ov hw h (there (there here)) here (rw (f .2) ov) (rw (f .0) isTrue)
   put-node-ends i (Split s b) f r gs h = always-next (gs .child here (at .values)) λ o oo. saw-pair _ _ (rw (f .2) at oo) λ c oa ob.
@@ -264,24 +264,26 @@ module _ (sh : Sheet) (ts : Lent) (P : ℕ → Type 0) (g : Getter) (p : Putter)
 module _ (sh : Sheet) (ts : Lent) (P : ℕ → Type 0) (passed : Passed sh ts)
     (ranged : (n : ℕ) → Ranged (length (sh .nodes)) (length (sh .sections)) n (nodeOf sh n)) (wides : (n w : ℕ) → nodeOf sh n ≡ Wide w → P w) where
   module _ (l : ℕ)
-      (ih : (n : ℕ) (Γ : Scope) (μ : Env) → Reached sh ts n Γ → Scoped P Γ μ → Always (Allowed sh P) (Of P (typeOf ts n)) (Text.get judging l sh n μ)) where
-    gets-below : {n : ℕ} {Γ : Scope} → Reached sh ts n Γ → Gets sh ts P (nodeOf sh n) (typeOf ts n) Γ (Text.get judging l sh)
-    gets-below r = record {
-      child = λ i sc. always-map (ih _ _ _ (child r i) sc) (λ y v h. further h) λ a o. o;
-      root = λ c lt sc. always-map (ih _ _ _ (root (section-root sh ts c lt)) sc) (λ y v h. further h)
-          λ a o. rw (passed _ _ (root (section-root sh ts c lt)) .placed _ (section-root sh ts c lt) refl) at o;
-    }
+      (ih : (n : ℕ) (Γ : Scope) (μ : Env) → Reached sh ts n Γ → Scoped P Γ μ → Always (Allowed sh P) (Of P (typeOf ts n)) (Semantics.get judging l sh n μ))
+    where
+      gets-below : {n : ℕ} {Γ : Scope} → Reached sh ts n Γ → Gets sh ts P (nodeOf sh n) (typeOf ts n) Γ (Semantics.get judging l sh)
+      gets-below r = record {
+        child = λ i sc. always-map (ih _ _ _ (child r i) sc) (λ y v h. further h) λ a o. o;
+        root = λ c lt sc. always-map (ih _ _ _ (root (section-root sh ts c lt)) sc) (λ y v h. further h)
+            λ a o. rw (passed _ _ (root (section-root sh ts c lt)) .placed _ (section-root sh ts c lt) refl) at o;
+      }
 
-  pub get-sound : (l n : ℕ) (Γ : Scope) (μ : Env) → Reached sh ts n Γ → Scoped P Γ μ → Always (Allowed sh P) (Of P (typeOf ts n)) (Text.get judging l sh n μ)
-  unfolding Text.get
+  pub get-sound : (l n : ℕ) (Γ : Scope) (μ : Env) → Reached sh ts n Γ → Scoped P Γ μ
+      → Always (Allowed sh P) (Of P (typeOf ts n)) (Semantics.get judging l sh n μ)
+  unfolding Semantics.get
   get-sound zero n Γ μ r sc = refuses (plain (omega arith))
-  get-sound (suc l) n Γ μ r sc = enters n (get-node-ends sh ts P (Text.get judging l sh) (typeOf ts n) Γ μ sc (length (sh .nodes)) n (nodeOf sh n)
+  get-sound (suc l) n Γ μ r sc = enters n (get-node-ends sh ts P (Semantics.get judging l sh) (typeOf ts n) Γ μ sc (length (sh .nodes)) n (nodeOf sh n)
       (passed n Γ r .fits) (ranged n) (wides n) (gets-below l (get-sound l) r))
 
   module _ (l : ℕ)
       (ih : (n : ℕ) (Γ : Scope) (Θ : List Ty) (μ : Env) (σ : List ℕ) (v : Value) (W : Cells) → Reached sh ts n Γ → At P Θ Γ μ σ → Of P (typeOf ts n) v
-      → Held P Θ W → Always (Allowed sh P) (Held P Θ) (Text.put judging l sh n μ σ v W)) where
-    puts-below : {n : ℕ} {Γ : Scope} → Reached sh ts n Γ → Puts sh ts P (nodeOf sh n) (typeOf ts n) Γ (Text.put judging l sh)
+      → Held P Θ W → Always (Allowed sh P) (Held P Θ) (Semantics.put judging l sh n μ σ v W)) where
+    puts-below : {n : ℕ} {Γ : Scope} → Reached sh ts n Γ → Puts sh ts P (nodeOf sh n) (typeOf ts n) Γ (Semantics.put judging l sh)
     puts-below r = record {
       child = λ i at o h. always-map (ih _ _ _ _ _ _ _ (child r i) at o h) (λ y v h. further h) λ a o. o;
       root = λ c lt at o h. always-map (ih _ _ _ _ _ _ _ (root (section-root sh ts c lt)) at
@@ -290,8 +292,9 @@ module _ (sh : Sheet) (ts : Lent) (P : ℕ → Type 0) (passed : Passed sh ts)
     }
 
   pub put-sound : (l n : ℕ) (Γ : Scope) (Θ : List Ty) (μ : Env) (σ : List ℕ) (v : Value) (W : Cells) → Reached sh ts n Γ → At P Θ Γ μ σ
-      → Of P (typeOf ts n) v → Held P Θ W → Always (Allowed sh P) (Held P Θ) (Text.put judging l sh n μ σ v W)
-  unfolding Text.put
+      → Of P (typeOf ts n) v → Held P Θ W → Always (Allowed sh P) (Held P Θ) (Semantics.put judging l sh n μ σ v W)
+  unfolding Semantics.put
   put-sound zero n Γ Θ μ σ v W r at ov hw = refuses (plain (omega arith))
-  put-sound (suc l) n Γ Θ μ σ v W r at ov hw = enters n (put-node-ends sh ts P (Text.get judging l sh) (Text.put judging l sh) (typeOf ts n) Γ Θ μ σ v W
+  put-sound (suc l) n Γ Θ μ σ v W r at ov hw = enters n (put-node-ends sh ts P (Semantics.get judging l sh) (Semantics.put judging l sh) (typeOf ts n) Γ Θ μ σ
+      v W
       at ov hw (length (sh .nodes)) n n (nodeOf sh n) (passed n Γ r .fits) (ranged n) (gets-below l (get-sound l) r) (puts-below l (put-sound l) r))

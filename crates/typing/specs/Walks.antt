@@ -15,17 +15,17 @@ use Rattle.sheet.specs.declared.Node.{Node}
 use Rattle.sheet.specs.declared.Node.the-variants.{Front, Add, Wide}
 use Rattle.sheet.specs.Sheet.{Sheet}
 use Rattle.sheet.specs.Laws.{Ranges}
-use Rattle.rules.specs.Text
-use Rattle.rules.specs.Text.{Env}
-use Rattle.rules.specs.Rules as Count
-use Rattle.rules.specs.Rules.{counting}
-use Rattle.rules.specs.Explain.{Why, Cell, Told, got, met, explaining}
-use Rattle.rules.specs.ExplainLaws.{forget, strip, value-of, get-erases, put-erases}
-use Rattle.rules.specs.Explanation.{node, strip-blank}
+use Rattle.rules.specs.Semantics
+use Rattle.rules.specs.Semantics.{Env}
+use Rattle.rules.specs.Counting as Count
+use Rattle.rules.specs.Counting.{counting}
+use Rattle.rules.specs.Explain.{Cause, Cell, Exit, got, met, explaining}
+use Rattle.rules.specs.Explain.Erasure.{forget, strip, value-of, get-erases, put-erases}
+use Rattle.rules.specs.Explain.Calls.{node, strip-blank}
 use Rattle.rules.specs.Numbers.{LEVELS}
 use Rattle.rules.specs.Outcome.{Out, done, refused}
 use Rattle.rules.specs.Answer.{getWalk, putWalk, newPlan, count}
-use Rattle.rules.specs.Related.{ends, more, all2-length, at-behind}
+use Rattle.rules.specs.Laws.Related.{ends, more, all2-length, at-behind}
 use Rattle.typing.specs.Types.{Ty, truths, numbers, lists, pairs, Of, Each, isFalse, isTrue, isList, isNumber, isWide, isPair, isNil, isCons}
 use Rattle.typing.specs.Fits.{Lent, nodeOf, typeOf, mainRoot, here, Reached, root, Passed}
 use Rattle.typing.specs.Judging.{Judged, lacks, judging, Cells}
@@ -157,7 +157,7 @@ pub data Permitted (sh : Sheet) (P : ℕ → Type 0) (c : ℕ) : Type 0 where
   plainly : Plain c → Permitted sh P c
   with-excuse : (n : ℕ) {v : Option Value} → Excuse P (nodeOf sh n) c v → Permitted sh P c
 
-permitted : {sh : Sheet} {P : ℕ → Type 0} {y : Why} {v : Option Value} → Allowed sh P y v → Permitted sh P (y .code)
+permitted : {sh : Sheet} {P : ℕ → Type 0} {y : Cause} {v : Option Value} → Allowed sh P y v → Permitted sh P (y .code)
 permitted (plain h) = plainly h
 permitted (excused {n} l x) = with-excuse n x
 
@@ -208,12 +208,12 @@ last-node {n} (before {m} {ns} h) = go m ns h (last-node h)
         rw q (rw z at e)
 
 -- what is known of a refusal in the explaining reading: the node where it was met, and what was judged there
-pub record Facts (sh : Sheet) (P : ℕ → Type 0) (y : Why) (v : Option Value) : Type 0 where
+pub record Facts (sh : Sheet) (P : ℕ → Type 0) (y : Cause) (v : Option Value) : Type 0 where
   pub not-42 : y .code ≡ 42 → ⊥
   pub at-43 : y .code ≡ 43 → Adds P (nodeOf sh (node y)) v
   pub at-51 : y .code ≡ 51 → Adds P (nodeOf sh (node y)) v ⊎ Empties (nodeOf sh (node y)) v
 
-pub facts : {sh : Sheet} {P : ℕ → Type 0} {y : Why} {v : Option Value} → Allowed sh P y v → Facts sh P y v
+pub facts : {sh : Sheet} {P : ℕ → Type 0} {y : Cause} {v : Option Value} → Allowed sh P y v → Facts sh P y v
 facts (plain h) = record { not-42 = h .0; at-43 = λ e. absurd (h .1 e); at-51 = λ e. absurd (h .2 e) }
 facts {sh} {P} {y} {v} (excused l x) = let z : Excuse P (nodeOf sh (node y)) (y .code) v = rw (last-node l) x in
     record { not-42 = excuse-42 x; at-43 = excuse-43 z; at-51 = excuse-51 z }
@@ -232,8 +232,8 @@ plan-blank : {P : ℕ → Type 0} (Γ : List Ty) → Held P Γ (replicate (lengt
 plan-blank [] = ends
 plan-blank (t ∷ Γ) = more blank (plan-blank Γ)
 
-new-cell : {P : ℕ → Type 0} {t : Ty} {o : Option Cell} {v : Value} → CellOf P t o → Of P t v → Of P t (Text.orOld counting (value-of o) v)
-unfolding Text.orOld
+new-cell : {P : ℕ → Type 0} {t : Ty} {o : Option Cell} {v : Value} → CellOf P t o → Of P t v → Of P t (Semantics.orOld counting (value-of o) v)
+unfolding Semantics.orOld
 new-cell blank h = h
 new-cell (full k) h = k
 
@@ -243,28 +243,28 @@ new-typed ends ends = ends
 new-typed (more c h) (more o k) = more (new-cell c o) (new-typed h k)
 
 -- the outcomes of the three readings
-module _ {A : Type 0} {R : Why → Option Value → Type 0} {Q : A → Type 0} where
+module _ {A : Type 0} {R : Cause → Option Value → Type 0} {Q : A → Type 0} where
   -- refused in the explaining reading: what the judging one adds
-  ends-met : {j : Judged A} {t : Told A} {y : Why} {s : ℕ} → Ends R Q j → drop j ≡ t → t ≡ met y s → (v : Option Value) × (j ≡ lacks y v s) × R y v
+  ends-met : {j : Judged A} {t : Exit A} {y : Cause} {s : ℕ} → Ends R Q j → drop j ≡ t → t ≡ met y s → (v : Option Value) × (j ≡ lacks y v s) × R y v
   unfolding drop
   ends-met (well q) e z = apart (cc)
   ends-met {y} {s} (ill {y = x} {v} {s = r} h) e z =
       let a : x ≡ y = cc in let b : r ≡ s = cc in (v, cc, rw a at h)
 
-  ends-got : {j : Judged A} {t : Told A} {a : A} {s : ℕ} → Ends R Q j → drop j ≡ t → t ≡ got a s → Q a
+  ends-got : {j : Judged A} {t : Exit A} {a : A} {s : ℕ} → Ends R Q j → drop j ≡ t → t ≡ got a s → Q a
   unfolding drop
   ends-got {a} (well {a = b} q) e z = let k : b ≡ a = cc in rw k at q
   ends-got (ill h) e z = apart (cc)
 
-module _ {A B : Type 0} {R : Why → Option Value → Type 0} {Q : A → Type 0} where
+module _ {A B : Type 0} {R : Cause → Option Value → Type 0} {Q : A → Type 0} where
   -- and in the counting one
-  ends-refused : (f : A → B) {j : Judged A} {t : Told A} {o : Out B} {c s : ℕ} → Ends R Q j → drop j ≡ t → forget f t ≡ o → o ≡ refused c s
-      → (y : Why) × (v : Option Value) × (y .code ≡ c) × R y v
+  ends-refused : (f : A → B) {j : Judged A} {t : Exit A} {o : Out B} {c s : ℕ} → Ends R Q j → drop j ≡ t → forget f t ≡ o → o ≡ refused c s
+      → (y : Cause) × (v : Option Value) × (y .code ≡ c) × R y v
   unfolding drop forget
   ends-refused f (well q) e i z = let k = ap (forget f) e in apart (cc)
   ends-refused f (ill {y} {v} h) e i z = let k = ap (forget f) e in (y, v, cc, h)
 
-  ends-done : (f : A → B) {j : Judged A} {t : Told A} {o : Out B} {b : B} {s : ℕ} → Ends R Q j → drop j ≡ t → forget f t ≡ o → o ≡ done b s
+  ends-done : (f : A → B) {j : Judged A} {t : Exit A} {o : Out B} {b : B} {s : ℕ} → Ends R Q j → drop j ≡ t → forget f t ≡ o → o ≡ done b s
       → (a : A) × (f a ≡ b) × Q a
   unfolding drop forget
   ends-done f (well {a} q) e i z = let k = ap (forget f) e in (a, cc, q)
@@ -279,12 +279,12 @@ module _ {sh : Sheet} {ts : Lent} {P : ℕ → Type 0} {μ : Env} (rs : Ranges s
   its-type : typeOf ts (sh .root) ≡ ts .view
   its-type = passed (sh .root) (ts .plan) its-root .placed (mainRoot sh ts) here refl
 
-  get-ends : Ends (Allowed sh P) (Of P (ts .view)) (Text.get judging LEVELS sh (sh .root) μ left)
+  get-ends : Ends (Allowed sh P) (Of P (ts .view)) (Semantics.get judging LEVELS sh (sh .root) μ left)
   get-ends = rw its-type at (get-sound sh ts P passed (all-ranged rs) wides LEVELS (sh .root) (ts .plan) μ its-root plan .at left)
 
   -- GET: a list of the view's type, or a refusal of which this is known
-  pub get-explained-met : {y : Why} {s : ℕ} → Text.get explaining LEVELS sh (sh .root) μ left ≡ met y s
-      → (v : Option Value) × (Text.get judging LEVELS sh (sh .root) μ left ≡ lacks y v s) × Facts sh P y v
+  pub get-explained-met : {y : Cause} {s : ℕ} → Semantics.get explaining LEVELS sh (sh .root) μ left ≡ met y s
+      → (v : Option Value) × (Semantics.get judging LEVELS sh (sh .root) μ left ≡ lacks y v s) × Facts sh P y v
   get-explained-met e = let q = ends-met get-ends (get-same LEVELS sh (sh .root) μ .same left) e in (q .0, q .1, facts (q .2))
 
   pub get-walk-refused : {c s : ℕ} → getWalk left sh μ ≡ refused c s → Permitted sh P c
@@ -308,13 +308,14 @@ module _ {sh : Sheet} {ts : Lent} {P : ℕ → Type 0} {μ : Env} (rs : Ranges s
     plan-held = rw (all2-length plan) at (plan-blank {P = P} (ts .plan))
 
     put-ends : Ends (Allowed sh P) (Held P (ts .plan))
-        (Text.put judging LEVELS sh (sh .root) μ (count 0 (length μ)) v (replicate (length μ) none) left)
+        (Semantics.put judging LEVELS sh (sh .root) μ (count 0 (length μ)) v (replicate (length μ) none) left)
     put-ends = put-sound sh ts P passed (all-ranged rs) wides LEVELS (sh .root) (ts .plan) (ts .plan) μ (count 0 (length μ)) v (replicate (length μ) none)
         its-root plan-at (rw its-type view) plan-held .at left
 
-    pub put-explained-met : {y : Why} {s : ℕ}
-        → Text.put explaining LEVELS sh (sh .root) μ (count 0 (length μ)) v (replicate (length μ) none) left ≡ met y s
-        → (u : Option Value) × (Text.put judging LEVELS sh (sh .root) μ (count 0 (length μ)) v (replicate (length μ) none) left ≡ lacks y u s) × Facts sh P y u
+    pub put-explained-met : {y : Cause} {s : ℕ}
+        → Semantics.put explaining LEVELS sh (sh .root) μ (count 0 (length μ)) v (replicate (length μ) none) left ≡ met y s
+        → (u : Option Value) × (Semantics.put judging LEVELS sh (sh .root) μ (count 0 (length μ)) v (replicate (length μ) none) left ≡ lacks y u s) × Facts sh
+        P y u
     put-explained-met e =
         let q = ends-met put-ends (put-same LEVELS sh (sh .root) μ (count 0 (length μ)) v (replicate (length μ) none) .same left) e in
         (q .0, q .1, facts (q .2))

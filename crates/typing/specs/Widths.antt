@@ -14,9 +14,9 @@ use Rattle.sheet.specs.declared.Node.the-variants.{Var, False, True, Empty, Num
 use Rattle.sheet.specs.Sheet.{Sheet}
 use Rattle.sheet.specs.Laws.{Ranged}
 use Rattle.rules.specs.Outcome.{Out, done, refused, plus, _>>=_, given, choose}
-use Rattle.rules.specs.Text
-use Rattle.rules.specs.Text.{two, pick, onList, restOf, mkList, mkPair}
-use Rattle.rules.specs.Rules.{counting, Env, Cells, Getter, Putter, getNode, get, putNode, put}
+use Rattle.rules.specs.Semantics
+use Rattle.rules.specs.Semantics.{two, pick, onList, restOf, mkList, mkPair}
+use Rattle.rules.specs.Counting.{counting, Env, Cells, Getter, Putter, getNode, get, putNode, put}
 use Rattle.typing.specs.Types.{Ty, lists, pairs}
 use Rattle.typing.specs.Fits.{Lent, Scope, nodeOf, rootOf, typeOf, Fits, places, In, here, there, Reached, root, child, section-root, Passed}
 
@@ -100,17 +100,17 @@ module _ (sh : Sheet) (ts : Lent) where
     pub child : {m : ℕ} {Δ : Scope} {ν : Env} → In (m, Δ) (places ts nd t Γ) → length ν ≡ length Δ → Safe Any (g m ν)
     pub root : (c : ℕ) → c < length (sh .sections) → (a b : Value) → Safe Any (g (rootOf sh c) (two a b))
 
-  bounded-safe : (v : Value) → Safe Any (Text.bounded counting v)
-  unfolding Text.bounded
+  bounded-safe : (v : Value) → Safe Any (Semantics.bounded counting v)
+  unfolding Semantics.bounded
   bounded-safe v = safe-given 44 _ (λ e. omega arith) λ _. fine tt
 
-  tested-safe : (k : ℕ) {m : Out Value} → Safe Any m → Safe Any (Text.tested counting k m)
-  unfolding Text.tested
+  tested-safe : (k : ℕ) {m : Out Value} → Safe Any m → Safe Any (Semantics.tested counting k m)
+  unfolding Semantics.tested
   tested-safe k h = safe-bind h λ v _. safe-given 46 _ (λ e. omega arith) λ _. fine tt
 
   get-each-safe : (g : Getter) (k : ℕ) (a : Value) → ((m : Value) → Safe Any (g k (two m a))) → (n : ℕ) (l : Values)
-      → Safe Any (Text.getEach counting g k a n l)
-  unfolding Text.getEach
+      → Safe Any (Semantics.getEach counting g k a n l)
+  unfolding Semantics.getEach
   get-each-safe g k a h n nil = fine tt
   get-each-safe g k a h n (cons m r) =
       safe-bind (h m) λ w _. safe-given 44 _ (λ e. omega arith) λ _. safe-bind (get-each-safe g k a h _ r) λ ws _. fine tt
@@ -120,7 +120,7 @@ module _ (sh : Sheet) (ts : Lent) where
     two-more a b x y = rw (length-append, length-append) (omega arith)
 
     get-node-safe : (nd : Node) → Fits ts nd t Γ → Ranged nodes (length (sh .sections)) own nd → Gets nd t Γ g → Safe Any (getNode g sh nd μ)
-    unfolding Text.getNode
+    unfolding Semantics.getNode
     get-node-safe (Var x) f r h = let (v, e) = at-some Γ μ x w f in safe-there 42 _ _ e (fine tt)
     get-node-safe False f r h = fine tt
     get-node-safe True f r h = fine tt
@@ -158,12 +158,12 @@ module _ (sh : Sheet) (ts : Lent) where
     pub root : (c : ℕ) → c < length (sh .sections) → (a b : Value) {i j : ℕ} {X : Cells} (u : Value) → i < length X → j < length X
         → Safe (Same X) (p (rootOf sh c) (two a b) (two i j) u X)
 
-  constant-safe : (v u : Value) (W : Cells) → Safe (Same W) (Text.constant counting v u W)
-  unfolding Text.constant
+  constant-safe : (v u : Value) (W : Cells) → Safe (Same W) (Semantics.constant counting v u W)
+  unfolding Semantics.constant
   constant-safe v u W = safe-given 50 _ (λ e. omega arith) λ _. fine refl
 
-  write-safe : (c : ℕ) (v : Value) (W : Cells) (o : Option Value) → Safe (Same W) (Text.write counting (λ v. v) c v W o)
-  unfolding Text.write
+  write-safe : (c : ℕ) (v : Value) (W : Cells) (o : Option Value) → Safe (Same W) (Semantics.write counting (λ v. v) c v W o)
+  unfolding Semantics.write
   write-safe c v W none = fine (length-set W c (some v))
   write-safe c v W (some w) = safe-given 54 _ (λ e. omega arith) λ _. fine refl
 
@@ -173,13 +173,13 @@ module _ (sh : Sheet) (ts : Lent) where
     own-child : {m : ℕ} {X : Cells} (u : Value) → In (m, Γ) (places ts nd t Γ) → length X ≡ length W → Safe (Same X) (p m μ σ u X)
     own-child u i l = ps .child u i w w′ (wider (omega arith) k)
 
-    both-safe : {a b : ℕ} (v u : Value) → In (a, Γ) (places ts nd t Γ) → In (b, Γ) (places ts nd t Γ) → Safe (Same W) (Text.both counting p μ σ W a v b u)
-    unfolding Text.both
+    both-safe : {a b : ℕ} (v u : Value) → In (a, Γ) (places ts nd t Γ) → In (b, Γ) (places ts nd t Γ) → Safe (Same W) (Semantics.both counting p μ σ W a v b u)
+    unfolding Semantics.both
     both-safe v u i j = safe-bind (own-child v i refl) λ X l. safe-map (own-child u j l) λ Y q. q ∙ l
 
     under-safe : {b s : ℕ} (x y : Ty) (v : Value) (mk : Value → Value → Option Value) (f r : Value) → In (b, Γ ++ two x y) (places ts nd t Γ)
-        → In (s, Γ) (places ts nd t Γ) → Safe (Same W) (Text.under counting p μ σ W b v s mk f r)
-    unfolding Text.under
+        → In (s, Γ) (places ts nd t Γ) → Safe (Same W) (Semantics.under counting p μ σ W b v s mk f r)
+    unfolding Semantics.under
     under-safe x y v mk f r i j =
         let n = length W in
         let long : length (W ++ two none none) ≡ n + 2 = rw length-append in
@@ -192,14 +192,14 @@ module _ (sh : Sheet) (ts : Lent) where
 
   module _ (g : Getter) (p : Putter) where
     -- what a member stands for
-    stood-safe : (d : ℕ) (old : Values) → Safe Any (g d []) → Safe Any (Text.stoodFor counting g d old)
-    unfolding Text.stoodFor
+    stood-safe : (d : ℕ) (old : Values) → Safe Any (g d []) → Safe Any (Semantics.stoodFor counting g d old)
+    unfolding Semantics.stoodFor
     stood-safe d old h = safe-list old h λ m r. fine tt
 
     put-each-safe : (k d : ℕ) → Safe Any (g d []) → (a : Value)
         → ((m u : Value) (i j : ℕ) (X : Cells) → i < length X → j < length X → Safe (Same X) (p k (two m a) (two i j) u X))
-        → (c n : ℕ) (old l : Values) (W : Cells) → c < length W → Safe (λ q. length (q .1) ≡ length W) (Text.putEach counting g p k d c a n old l W)
-    unfolding Text.putEach
+        → (c n : ℕ) (old l : Values) (W : Cells) → c < length W → Safe (λ q. length (q .1) ≡ length W) (Semantics.putEach counting g p k d c a n old l W)
+    unfolding Semantics.putEach
     put-each-safe k d dh a h c n old nil W lt = fine refl
     put-each-safe k d dh a h c n old (cons v r) W lt =
         let m = length W in
@@ -214,7 +214,7 @@ module _ (sh : Sheet) (ts : Lent) where
       (k : Cells-in (length W) σ) (nodes own : ℕ) where
     put-node-safe : (nd : Node) (v : Value) → Fits ts nd t Γ → Ranged nodes (length (sh .sections)) own nd → Gets nd t Γ g → Puts nd t Γ p
         → Safe (Same W) (putNode g p sh nd μ σ v W)
-    unfolding Text.putNode
+    unfolding Semantics.putNode
     put-node-safe (Var x) v f r gs ps =
         let (c, ec) = at-some Γ σ x w′ f in
         let (o, eo) = inside W c (at-all σ x k ec) in
@@ -234,16 +234,16 @@ module _ (sh : Sheet) (ts : Lent) where
         safe-bind (gs .child (there (there (there (there here)))) refl) λ b _. safe-given 43 _ (λ z. omega arith) λ _. parts a b))
         λ a b. safe-choose _ _ (parts a (list b)) empties
       where
-        empties : Safe (Same W) (Text.both counting p μ σ W e v s (list nil))
+        empties : Safe (Same W) (Semantics.both counting p μ σ W e v s (list nil))
         empties = both-safe g p t Γ μ σ W w w′ k (ListCase s e te n tn df dr) gs ps v (list nil) (there here) here
 
-        parts : (a b : Value) → Safe (Same W) (Text.under counting p μ σ W n v s mkList a b)
+        parts : (a b : Value) → Safe (Same W) (Semantics.under counting p μ σ W n v s mkList a b)
         parts a b = under-safe g p t Γ μ σ W w w′ k (ListCase s e te n tn df dr) gs ps (typeOf ts df) (lists (typeOf ts df)) v mkList a b
             (rw (f .0) (there (there here))) here
     put-node-safe (TruthCase s f₁ tf t₁ tt₁) v f r gs ps = safe-bind (gs .child here w) λ o _. safe-given 43 _ (λ z. omega arith) λ b.
         safe-choose _ _ (side (b .0) (truth (b .0))) (side (not (b .0)) (truth (not (b .0))))
       where
-        side : (b : Bool) (u : Value) → Safe (Same W) (Text.both counting p μ σ W (pick b f₁ t₁) v s u)
+        side : (b : Bool) (u : Value) → Safe (Same W) (Semantics.both counting p μ σ W (pick b f₁ t₁) v s u)
         side false u = both-safe g p t Γ μ σ W w w′ k (TruthCase s f₁ tf t₁ tt₁) gs ps v u (there here) here
         side true u = both-safe g p t Γ μ σ W w w′ k (TruthCase s f₁ tf t₁ tt₁) gs ps v u (there (there here)) here
     put-node-safe (Split s i) v f r gs ps = safe-bind (gs .child here w) λ o _. safe-given 43 _ (λ z. omega arith) λ c.
@@ -269,7 +269,7 @@ module _ (sh : Sheet) (ts : Lent) (passed : Passed sh ts) (ranged : (n : ℕ) �
     gets-below r = record { child = λ i w. ih _ _ _ (child r i) w; root = λ c lt a b. ih _ _ _ (root (section-root sh ts c lt)) refl }
 
   pub get-safe : (l n : ℕ) (Γ : Scope) (μ : Env) → Reached sh ts n Γ → length μ ≡ length Γ → Safe Any (get l sh n μ)
-  unfolding Text.get
+  unfolding Semantics.get
   get-safe zero n Γ μ r w = other {c = 40} (λ e. omega arith)
   get-safe (suc l) n Γ μ r w = safe-plus 1 (get-node-safe sh ts (get l sh) (typeOf ts n) Γ μ w (length (sh .nodes)) n (nodeOf sh n) (passed n Γ r .fits)
       (ranged n) (gets-below l (get-safe l) r))
@@ -284,7 +284,7 @@ module _ (sh : Sheet) (ts : Lent) (passed : Passed sh ts) (ranged : (n : ℕ) �
 
   pub put-safe : (l n : ℕ) (Γ : Scope) (μ : Env) (σ : List ℕ) (v : Value) (W : Cells) → Reached sh ts n Γ → length μ ≡ length Γ → length σ ≡ length Γ
       → Cells-in (length W) σ → Safe (λ Y. length Y ≡ length W) (put l sh n μ σ v W)
-  unfolding Text.put
+  unfolding Semantics.put
   put-safe zero n Γ μ σ v W r w w′ k = other {c = 40} (λ e. omega arith)
   put-safe (suc l) n Γ μ σ v W r w w′ k = safe-plus 1 (put-node-safe sh ts (get l sh) (put l sh) (typeOf ts n) Γ μ σ W w w′ k (length (sh .nodes)) n
       (nodeOf sh n) v (passed n Γ r .fits) (ranged n) (gets-below l (get-safe l) r) (puts-below l (put-safe l) r))

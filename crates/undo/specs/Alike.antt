@@ -19,8 +19,8 @@ use Rattle.sheet.specs.Kinds.{variables}
 use Rattle.sheet.specs.Rows.{Every}
 use Rattle.sheet.specs.Sheet.{Sheet}
 use Rattle.rules.specs.Outcome.{Out, _>>=_, plus, given, choose}
-use Rattle.rules.specs.Text
-use Rattle.rules.specs.Rules.{
+use Rattle.rules.specs.Semantics
+use Rattle.rules.specs.Counting.{
   Env,
   Cells,
   Getter,
@@ -42,20 +42,20 @@ use Rattle.rules.specs.Rules.{
   putNode,
   put,
 }
-use Rattle.rules.specs.OutcomeLaws.{After, fine, stopped, after-map, after-any, after-plus, after-bind, after-given, after-choose, after-list}
+use Rattle.rules.specs.Laws.Outcomes.{After, fine, stopped, after-map, after-any, after-plus, after-bind, after-given, after-choose, after-list}
 
 -- WHICH VARIABLES A SHEET NAMES
 
 -- x is one of these numbers
-pub data Stands (x : ℕ) : List ℕ → Type 0 where
-  here : {l : List ℕ} → Stands x (x ∷ l)
-  there : {y : ℕ} {l : List ℕ} → Stands x l → Stands x (y ∷ l)
+pub data Occurs (x : ℕ) : List ℕ → Type 0 where
+  here : {l : List ℕ} → Occurs x (x ∷ l)
+  there : {y : ℕ} {l : List ℕ} → Occurs x l → Occurs x (y ∷ l)
 
 -- the number x stands as a variable in a record of the sheet. (Behind the last node `getD` finds a constant, which names none)
 abbrev pub Named : Sheet → ℕ → Type 0
-Named sh x = (i : ℕ) × Stands x (variables (getD (sh .nodes) i False))
+Named sh x = (i : ℕ) × Occurs x (variables (getD (sh .nodes) i False))
 
-pub every : (N : ℕ → Type 0) (l : List ℕ) → ((x : ℕ) → Stands x l → N x) → Every N l
+pub every : (N : ℕ → Type 0) (l : List ℕ) → ((x : ℕ) → Occurs x l → N x) → Every N l
 every N [] h = tt
 every N (x ∷ l) h = (h x here, every N l λ y s. h y (there s))
 
@@ -88,33 +88,33 @@ or-none : (a b : Bool) → a || b ≡ false → (a ≡ false) × (b ≡ false)
 or-none true b e = let z : _≡_ {A = ℕ} 0 1 = cc in absurd (omega arith)
 or-none false b e = (refl, e)
 
-stands-true : (x : ℕ) (l : List ℕ) → stands x l ≡ true → Stands x l
+stands-true : (x : ℕ) (l : List ℕ) → stands x l ≡ true → Occurs x l
 unfolding stands
 stands-true x [] e = let z : _≡_ {A = ℕ} 0 1 = cc in absurd (omega arith)
 stands-true x (y ∷ l) e = go (stands-true x l) (or-either (eqb y x) (stands x l) e)
   where
-    go : (stands x l ≡ true → Stands x l) → (eqb y x ≡ true) ⊎ (stands x l ≡ true) → Stands x (y ∷ l)
+    go : (stands x l ≡ true → Occurs x l) → (eqb y x ≡ true) ⊎ (stands x l ≡ true) → Occurs x (y ∷ l)
     go h (inl q) = rw (eqb-true y x q) here
     go h (inr q) = there (h q)
 
-true-stands : {x : ℕ} {l : List ℕ} → Stands x l → stands x l ≡ true
+true-stands : {x : ℕ} {l : List ℕ} → Occurs x l → stands x l ≡ true
 unfolding stands
 true-stands {x} here = rw (eq-eqb x x refl)
 true-stands {x} (there {y} {l} s) = rw (true-stands s) (or-true (eqb y x))
 
 -- it says yes where a record names x
-pub names-true : (x : ℕ) (ns : List Node) → names x ns ≡ true → (i : ℕ) × Stands x (variables (getD ns i False))
+pub names-true : (x : ℕ) (ns : List Node) → names x ns ≡ true → (i : ℕ) × Occurs x (variables (getD ns i False))
 unfolding names
 names-true x [] e = let z : _≡_ {A = ℕ} 0 1 = cc in absurd (omega arith)
 names-true x (n ∷ ns) e = go (names-true x ns) (or-either (stands x (variables n)) (names x ns) e)
   where
-    go : (names x ns ≡ true → (i : ℕ) × Stands x (variables (getD ns i False))) → (stands x (variables n) ≡ true) ⊎ (names x ns ≡ true)
-        → (i : ℕ) × Stands x (variables (getD (n ∷ ns) i False))
+    go : (names x ns ≡ true → (i : ℕ) × Occurs x (variables (getD ns i False))) → (stands x (variables n) ≡ true) ⊎ (names x ns ≡ true)
+        → (i : ℕ) × Occurs x (variables (getD (n ∷ ns) i False))
     go h (inl q) = (0, stands-true x (variables n) q)
     go h (inr q) = let (i, s) = h q in (suc i, s)
 
 -- and no where none does
-pub names-false : (x : ℕ) (ns : List Node) → names x ns ≡ false → (i : ℕ) → Stands x (variables (getD ns i False)) → ⊥
+pub names-false : (x : ℕ) (ns : List Node) → names x ns ≡ false → (i : ℕ) → Occurs x (variables (getD ns i False)) → ⊥
 unfolding names variables stands
 names-false x [] e i s = let q = true-stands s in let z : _≡_ {A = ℕ} 0 1 = cc in omega arith
 names-false x (n ∷ ns) e zero s =
@@ -162,7 +162,7 @@ module _ (N : ℕ → Type 0) where
 
   module _ (g : Getter) (gets : GetsAlike g) (sh : Sheet) (μ ν : Env) (h : SameAt N μ ν) where
     get-node-alike : (nd : Node) → Every N (variables nd) → getNode g sh nd μ ≡ getNode g sh nd ν
-    unfolding Text.getNode variables
+    unfolding Semantics.getNode variables
     get-node-alike (Var x) e = given-ext 42 (h .1 x (e .0)) λ v. refl
     get-node-alike False e = refl
     get-node-alike True e = refl
@@ -180,7 +180,7 @@ module _ (N : ℕ → Type 0) where
     get-node-alike (Each s sec x d) e = bind-ext (gets s μ ν h) λ v. given-ext 43 refl λ l. given-ext 42 (h .1 x (e .0)) λ a. refl
 
   pub get-alike : (l : ℕ) (sh : Sheet) → Covers sh N → GetsAlike (get l sh)
-  unfolding Text.get
+  unfolding Semantics.get
   get-alike zero sh c n μ ν h = refl
   get-alike (suc l) sh c n μ ν h = ap (plus 1) (get-node-alike (get l sh) (get-alike l sh c) sh μ ν h _ (c n))
 
@@ -192,16 +192,16 @@ module _ (N : ℕ → Type 0) where
   module _ (g : Getter) (gets : GetsAlike g) (p : Putter) (puts : PutsAlike p) (sh : Sheet) (μ ν : Env) (h : SameAt N μ ν)
       (σ : List ℕ) (v : Value) (W : Cells) where
     both-alike : (a b : ℕ) (x y : Value) → both p μ σ W a x b y ≡ both p ν σ W a x b y
-    unfolding Text.both
+    unfolding Semantics.both
     both-alike a b x y = bind-ext (puts a μ ν σ x W h) λ X. puts b μ ν σ y X h
 
     under-alike : (b s : ℕ) (mk : Value → Value → Option Value) (f r : Value) → under p μ σ W b v s mk f r ≡ under p ν σ W b v s mk f r
-    unfolding Text.under
+    unfolding Semantics.under
     under-alike b s mk f r = bind-ext (puts b _ _ _ v _ (same-append N μ ν (two f r) h)) λ X. given-ext 42 refl λ x. given-ext 42 refl λ y.
         given-ext 43 refl λ u. given-ext 44 refl λ _. puts s μ ν σ u _ h
 
     put-node-alike : (nd : Node) → Every N (variables nd) → putNode g p sh nd μ σ v W ≡ putNode g p sh nd ν σ v W
-    unfolding Text.putNode variables
+    unfolding Semantics.putNode variables
     put-node-alike (Var x) e = refl
     put-node-alike False e = refl
     put-node-alike True e = refl
@@ -221,7 +221,7 @@ module _ (N : ℕ → Type 0) where
         given-ext 42 refl λ c. bind-ext refl λ q. puts s μ ν σ _ _ h
 
   pub put-alike : (l : ℕ) (sh : Sheet) → Covers sh N → PutsAlike (put l sh)
-  unfolding Text.put
+  unfolding Semantics.put
   put-alike zero sh c n μ ν σ v W h = refl
   put-alike (suc l) sh c n μ ν σ v W h = ap (plus 1)
       (put-node-alike (get l sh) (get-alike l sh c) (put l sh) (put-alike l sh c) sh μ ν h σ v W _ (c n))
@@ -287,7 +287,7 @@ module _ (N : ℕ → Type 0) (c : ℕ) where
 
   module _ (g : Getter) (p : Putter) (ih : PutsSpare p) (root d e : ℕ) (ne : Not c e) (a : Value) where
     each-spares : (n : ℕ) (old l : Values) (W : Cells) → c < length W → After (Unit {0}) (λ q s. Left c W (q .1)) (putEach g p root d e a n old l W)
-    unfolding Text.putEach
+    unfolding Semantics.putEach
     each-spares n old nil W z = fine (left-refl c W)
     each-spares n old (cons v r) W z = after-bind (after-any _ tt) λ (m : Value) i _ _.
         after-bind (ih root _ _ v _ (spares-of N c (each (λ q. omega arith) (each ne none))) (rw length-append (omega arith))) λ X j _ hx.
@@ -300,27 +300,27 @@ module _ (N : ℕ → Type 0) (c : ℕ) where
     Leaves = After (Unit {0}) (λ X s. Left c W X)
 
     constant-spares : (u : Value) → Leaves (constant v u W)
-    unfolding Text.constant
+    unfolding Semantics.constant
     constant-spares u = after-given _ λ _ _. fine (left-refl c W)
 
     write-spares : (e : ℕ) (o : Option Value) → Not c e → Leaves (write e v W o)
-    unfolding Text.write
+    unfolding Semantics.write
     write-spares e none ne = fine (record { many = length-set W e (some v); same = at-other W e c (some v) ne })
     write-spares e (some w) ne = after-given _ λ _ _. fine (left-refl c W)
 
     both-spares : (a b : ℕ) (x y : Value) → Leaves (both p μ σ W a x b y)
-    unfolding Text.both
+    unfolding Semantics.both
     both-spares a b x y = after-bind (ih a μ σ x W sp z) λ X i _ hx. after-map (ih b μ σ y X sp (omega arith)) λ Y j hy. left-trans hx hy
 
     under-spares : (b s : ℕ) (mk : Value → Value → Option Value) (f r : Value) → Leaves (under p μ σ W b v s mk f r)
-    unfolding Text.under
+    unfolding Semantics.under
     under-spares b s mk f r =
         after-bind (ih b _ _ v _ (spares-append N c σ sp (each (λ q. omega arith) (each (λ q. omega arith) none))) (rw length-append (omega arith)))
         λ X i _ hx. after-given _ λ x _. after-given _ λ y _. after-given _ λ u _. after-given _ λ _ _.
         let k = left-inside c W (two none none) X z hx in after-map (ih s μ σ u _ sp (omega arith)) λ Y j hy. left-trans k hy
 
     put-node-spares : (nd : Node) → Every N (variables nd) → Leaves (putNode g p sh nd μ σ v W)
-    unfolding Text.putNode variables
+    unfolding Semantics.putNode variables
     put-node-spares (Var x) e = after-given _ λ d ed. after-given _ λ o _. write-spares d o (sp x d (e .0) ed)
     put-node-spares False e = constant-spares vfalse
     put-node-spares True e = constant-spares vtrue
@@ -344,6 +344,6 @@ module _ (N : ℕ → Type 0) (c : ℕ) where
         after-map (ih s μ σ _ (q .1) sp (omega arith)) λ X t hx. left-trans hq hx
 
   pub put-spares : (l : ℕ) (sh : Sheet) → Covers sh N → PutsSpare (put l sh)
-  unfolding Text.put
+  unfolding Semantics.put
   put-spares zero sh k n μ σ v W sp z = stopped tt
   put-spares (suc l) sh k n μ σ v W sp z = after-plus 1 (put-node-spares (get l sh) (put l sh) (put-spares l sh k) sh μ σ v W sp z _ (k n))

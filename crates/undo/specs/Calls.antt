@@ -21,16 +21,16 @@ use Rattle.sheet.specs.Sheet.{Sheet, readSheet}
 use Rattle.rules.specs.Numbers.{LEVELS, PUT-OUTPUT, SCRATCH, ALLOWANCE}
 use Rattle.rules.specs.Outcome.{Out, done, refused, mapOut, reading}
 use Rattle.rules.specs.Allowance.{within}
-use Rattle.rules.specs.Rules.{Env, Cells, get, put}
+use Rattle.rules.specs.Counting.{Env, Cells, get, put}
 use Rattle.rules.specs.Answer.{Answer, refusal, success, answer, door, getWalk, getBytes, getAnswer, count, newPlan, putWalk, putBytes, putAnswer}
-use Rattle.rules.specs.AllowanceLaws.{within-done, done-within}
-use Rattle.rules.specs.OutcomeLaws.{after-at, after-out, given-yes, given-not}
-use Rattle.rules.specs.AnswerLaws.{PutBack, get-shows, put-shows, put-answers}
-use Rattle.rules.specs.Related.{ends, more}
-use Rattle.rules.specs.Readable.{get-readable}
-use Rattle.rules.specs.Trips.{written}
-use Rattle.rules.specs.Written.{bitsOf, took, tookIn, putWritten}
-use Rattle.undo.specs.Alike.{Stands, here, there, Named, named-covers, SameAt, Spares, get-alike, put-alike, put-spares}
+use Rattle.rules.specs.Laws.Allowances.{within-done, done-within}
+use Rattle.rules.specs.Laws.Outcomes.{after-at, after-out, given-yes, given-not}
+use Rattle.rules.specs.Laws.Answers.{PutBack, get-shows, put-shows, put-answers}
+use Rattle.rules.specs.Laws.Related.{ends, more}
+use Rattle.rules.specs.Laws.Readable.{get-readable}
+use Rattle.rules.specs.Laws.Trips.{put-writes}
+use Rattle.rules.specs.Bits.{bitsOf, took, tookIn, putWritten}
+use Rattle.undo.specs.Alike.{Occurs, here, there, Named, named-covers, SameAt, Spares, get-alike, put-alike, put-spares}
 use Rattle.undo.specs.Straight.{straight, Straight, all-straight, Reached, root, reached-closed}
 use Rattle.undo.specs.Undo.{Alike, undone}
 use Rattle.undo.specs.Plans.{
@@ -81,7 +81,7 @@ taken-back : {sheet plan : List ℕ} {sh : Sheet} → readSheet sheet ≡ ok sh 
     → {edited new : List ℕ} {b n : ℕ} (d : PutBack sheet plan edited b new n) → d .sh ≡ sh → d .μ ≡ μ
     → PutBack sheet new (encode v) b plan n × (putWritten sheet plan edited b ≡ putWritten sheet new (encode v) b)
 taken-back {sheet} {plan} {sh} es st {μ} ep {v} {m} got {edited} {new} {b} {n} d qs qμ =
-    let w = written d in
+    let w = put-writes d in
     let r = readValues-sound 20 (sh .k) plan ep in
     let gv = after-at (rw got at (get-readable LEVELS sh (numbers-fit sheet sh es) (sh .root) μ (r .readable))) in
     let (Y, e, q, t) = walk-back sh st μ (r .readable) v m got (getD (d .vs) 0 vfalse) (w .view-readable .fits) (d .X) n (rw (qs, qμ) at (d .walk))
@@ -201,7 +201,7 @@ pub unnamed-kept : (sheet plan view : List ℕ) (allowance output scratch : ℕ)
     → (x : ℕ) → (Named sh x → ⊥) → getElem? ν x ≡ getElem? μ x
 unnamed-kept sheet plan view allowance output scratch new n e {sh} es {μ} {ν} r q x h =
     let p = put-shows e .1 in
-    let w = written p in
+    let w = put-writes p in
     let qs : p .sh ≡ sh = let z = p .sheet-read in cc in
     let old : p .μ ≡ μ = let z = rw qs at (p .plan-read) in cc in
     let now : newPlan (p .X) (p .μ) ≡ ν = let z = rw qs at (w .new-read) in cc in
@@ -259,11 +259,11 @@ module _ (sheet plan plan′ : List ℕ) {sh : Sheet} (es : readSheet sheet ≡ 
         record {
           first = newPlan X μ;
           second = newPlan X ν;
-          first-read = written p .new-read;
-          second-read = written q .new-read;
-          rest = λ x h. new-same X μ ν x (written p .cells) (same-at .0) (same x h);
-          first-left = left-at sh μ (getD vs 0 vfalse) X n e (written p .cells);
-          second-left = left-at sh ν (getD vs 0 vfalse) X n e′ (written q .cells);
+          first-read = put-writes p .new-read;
+          second-read = put-writes q .new-read;
+          rest = λ x h. new-same X μ ν x (put-writes p .cells) (same-at .0) (same x h);
+          first-left = left-at sh μ (getD vs 0 vfalse) X n e (put-writes p .cells);
+          second-left = left-at sh ν (getD vs 0 vfalse) X n e′ (put-writes q .cells);
         }
 
     walked : (vs : List Value) → readView view ≡ ok vs → (o : Out Cells) → putWalk allowance sh μ (getD vs 0 vfalse) ≡ o
@@ -303,14 +303,14 @@ module _ (sheet plan plan′ : List ℕ) {sh : Sheet} (es : readSheet sheet ≡ 
 
 abbrev pub NamedIn10or1A : Sheet → ℕ → Type 0
 NamedIn10or1A sh x = (i : ℕ) × T (eqb (row (getD (sh .nodes) i False) .kind) 0x10 || eqb (row (getD (sh .nodes) i False) .kind) 0x1A)
-    × Stands x (variables (getD (sh .nodes) i False))
+    × Occurs x (variables (getD (sh .nodes) i False))
 
-stands-some : {x : ℕ} {l : List ℕ} → Stands x l → l ≡ [] → ⊥
+stands-some : {x : ℕ} {l : List ℕ} → Occurs x l → l ≡ [] → ⊥
 stands-some here e = let z : _≡_ {A = ℕ} 0 1 = cc in omega arith
 stands-some (there s) e = let z : _≡_ {A = ℕ} 0 1 = cc in omega arith
 
 -- where there is no 1C, a record that names a variable is a 10 or a 1A
-named-in : (x : ℕ) (nd : Node) → T (straight nd) → Stands x (variables nd) → T (eqb (row nd .kind) 0x10 || eqb (row nd .kind) 0x1A)
+named-in : (x : ℕ) (nd : Node) → T (straight nd) → Occurs x (variables nd) → T (eqb (row nd .kind) 0x10 || eqb (row nd .kind) 0x1A)
 unfolding variables
 named-in x (Var y) st h = tt
 named-in x False st h = absurd (stands-some h refl)

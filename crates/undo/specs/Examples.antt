@@ -31,8 +31,8 @@ use Rattle.sheet.specs.Sheet.{readNodes, oneSection, ifSection, readRecords, wi
 use Rattle.sheet.specs.Kinds.{formOf, bodyWidth, make, nodeInRange}
 use Rattle.rules.specs.Outcome.{plus, steps, when, _>>=_, mapOut, given, reading, choose}
 use Rattle.rules.specs.Allowance.{cap, within}
-use Rattle.rules.specs.Text
-use Rattle.rules.specs.Rules.{onList, restOf, mkList, mkPair}
+use Rattle.rules.specs.Semantics
+use Rattle.rules.specs.Counting.{onList, restOf, mkList, mkPair}
 use Rattle.rules.specs.Answer.{success, answer, door, getWalk, getBytes, getAnswer, count, newPlan, putWalk, putBytes, putAnswer}
 use Rattle.rules.specs.Examples.{Row, gets, puts, call, run}
 
@@ -94,8 +94,9 @@ rows =
 -- steps. The last two: plans that differ only in a variable that stands in a 1C alone
 pub shown : map run rows ≡ map (λ (r : Row). r .expected) rows
 unfolding rows run call getAnswer getBytes getWalk putAnswer putBytes putWalk answer door count newPlan within cap
-    plus steps when _>>=_ mapOut given reading choose Text.bounded Text.tested onList restOf Text.getEach Text.getNode Text.get Text.orOld Text.constant
-    Text.write Text.both Text.under Text.stoodFor Text.putEach mkList mkPair Text.putNode Text.put
+    plus steps when _>>=_ mapOut given reading choose Semantics.bounded Semantics.tested onList restOf Semantics.getEach Semantics.getNode Semantics.get
+    Semantics.orOld Semantics.constant
+    Semantics.write Semantics.both Semantics.under Semantics.stoodFor Semantics.putEach mkList mkPair Semantics.putNode Semantics.put
     andThen mapResult orRefuse unless encode encodes size sizes flat sameValue asList asFront asPair asNumber ifSmall asTruth class table holds passes
     onWhole kindOf makeFront joined makeNumber makeWide makeBody makePair makeRest beginValue beginRest due mayBe beginByte read readValue onValue readValues
     formOf bodyWidth make readNodes oneSection ifSection readRecords withNodes readBody nodeInRange nodesInRange rootsInRange inRange readHeader readSheet

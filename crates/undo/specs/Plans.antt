@@ -15,16 +15,16 @@ use Rattle.value.specs.Laws.{Readable, readValues-back}
 use Rattle.sheet.specs.declared.Node.the-variants.{False, Number, Wide}
 use Rattle.sheet.specs.Sheet.{Sheet, readSheet}
 use Rattle.sheet.specs.Laws.{sheet-ranges}
-use Rattle.rules.specs.Text
-use Rattle.rules.specs.Rules.{Env, Cells, orOld}
+use Rattle.rules.specs.Semantics
+use Rattle.rules.specs.Counting.{Env, Cells, orOld}
 use Rattle.rules.specs.Answer.{count, newPlan}
-use Rattle.rules.specs.Related.{All2, ends, more, at-behind}
-use Rattle.rules.specs.Readable.{WideFits, NumbersFit}
-use Rattle.rules.specs.Consistency.{Reads, or-new}
-use Rattle.rules.specs.Acceptability.{Old, Keeps, free}
+use Rattle.rules.specs.Laws.Related.{All2, ends, more, at-behind}
+use Rattle.rules.specs.Laws.Readable.{WideFits, NumbersFit}
+use Rattle.rules.specs.Laws.Consistency.{Reads, or-new}
+use Rattle.rules.specs.Laws.Acceptability.{Old, Keeps, free}
 use Rattle.undo.specs.Undo.{Alike, or-back}
 
--- Beside Trips.antt of `rules`, which has these for itself: once they are `pub` there, this part goes.
+-- Beside Laws/Trips.antt of `rules`, which has these for itself.
 
 module _ {A B : Type 0} (R : List A → ℕ → B → Type 0) where
   next-cell : (P : List A) (a : A) (xs : List A) (n : ℕ) {ys : List B} → All2 (R ((P ++ a ∷ []) ++ xs)) (count (length (P ++ a ∷ [])) n) ys
@@ -89,7 +89,7 @@ plan-back (more {a = y} {b = v} h k) (more {a = x} e l) = ap₂ (λ x xs. x ∷ 
 
 -- a cell that is not written leaves its variable what it was
 pub new-left : (X : Cells) (μ : Env) (x : ℕ) → length X ≡ length μ → (x < length μ → getElem? X x ≡ some none) → getElem? (newPlan X μ) x ≡ getElem? μ x
-unfolding newPlan Text.orOld
+unfolding newPlan Semantics.orOld
 new-left [] [] x e h = refl
 new-left [] (v ∷ μ) x e h = absurd (omega arith)
 new-left (o ∷ X) [] x e h = absurd (omega arith)

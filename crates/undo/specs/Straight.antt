@@ -12,10 +12,10 @@ use Rattle.sheet.specs.Kinds.{row, children, calls}
 use Rattle.sheet.specs.Rows.{Every}
 use Rattle.sheet.specs.Sheet.{Sheet}
 use Rattle.rules.specs.Outcome.{Out}
-use Rattle.rules.specs.Text
-use Rattle.rules.specs.Rules.{Env, Getter, bounded, getNode, get}
-use Rattle.rules.specs.OutcomeLaws.{After, fine, stopped, after-map, after-plus, after-bind, after-given}
-use Rattle.undo.specs.Alike.{Stands, every}
+use Rattle.rules.specs.Semantics
+use Rattle.rules.specs.Counting.{Env, Getter, bounded, getNode, get}
+use Rattle.rules.specs.Laws.Outcomes.{After, fine, stopped, after-map, after-plus, after-bind, after-given}
+use Rattle.undo.specs.Alike.{Occurs, every}
 
 -- neither 17 nor 18 nor 1C
 abbrev pub straight : Node → Bool
@@ -24,8 +24,8 @@ straight n = not (eqb (row n .kind) 0x17) && not (eqb (row n .kind) 0x18) && not
 -- the nodes that a walk may enter: the root; the children of such a node; and the roots of the sections that it calls
 pub data Reached (sh : Sheet) : ℕ → Type 0 where
   root : Reached sh (sh .root)
-  child : {n c : ℕ} → Reached sh n → Stands c (children (getD (sh .nodes) n False)) → Reached sh c
-  called : {n s : ℕ} → Reached sh n → Stands s (calls (getD (sh .nodes) n False)) → Reached sh (getD (sh .sections) s 0)
+  child : {n c : ℕ} → Reached sh n → Occurs c (children (getD (sh .nodes) n False)) → Reached sh c
+  called : {n s : ℕ} → Reached sh n → Occurs s (calls (getD (sh .nodes) n False)) → Reached sh (getD (sh .sections) s 0)
 
 abbrev pub Straight : Sheet → Type 0
 Straight sh = (n : ℕ) → Reached sh n → T (straight (getD (sh .nodes) n False))
@@ -59,7 +59,7 @@ module _ (P : ℕ → Type 0) where
 
   module _ (g : Getter) (ih : Paced g) (sh : Sheet) (μ : Env) where
     node-paced : (nd : Node) → Closed P sh nd → InStep (getNode g sh nd) (getNode g sh nd μ)
-    unfolding Text.getNode Text.bounded children calls
+    unfolding Semantics.getNode Semantics.bounded children calls
     node-paced (Var x) c = after-given _ λ a _. fine λ ν. after-given _ λ b _. fine refl
     node-paced False c = fine λ ν. fine refl
     node-paced True c = fine λ ν. fine refl
@@ -82,7 +82,7 @@ module _ (P : ℕ → Type 0) where
     node-paced (Each s sec x d) c = absurd (c .kind)
 
   pub get-paced : (l : ℕ) (sh : Sheet) → ((n : ℕ) → P n → Closed P sh (getD (sh .nodes) n False)) → Paced (get l sh)
-  unfolding Text.get
+  unfolding Semantics.get
   get-paced zero sh k n q μ = stopped tt
   get-paced (suc l) sh k n q μ = after-plus 1 (after-map (node-paced (get l sh) (get-paced l sh k) sh μ _ (k n q)) λ v s h. λ ν.
       after-plus 1 (after-map (h ν) λ u t e. omega arith))

@@ -15,10 +15,10 @@ use Rattle.sheet.specs.declared.Node.the-variants.{Var, False, True, Empty, Num
 use Rattle.sheet.specs.Kinds.{children, calls}
 use Rattle.sheet.specs.Sheet.{Sheet}
 use Rattle.rules.specs.Outcome.{Out, done, _>>=_}
-use Rattle.rules.specs.Text
-use Rattle.rules.specs.Rules.{Env, Cells, Getter, Putter, two, bounded, getNode, get, orOld, constant, write, both, under, mkPair, putNode, put}
-use Rattle.rules.specs.Written.{took}
-use Rattle.rules.specs.OutcomeLaws.{
+use Rattle.rules.specs.Semantics
+use Rattle.rules.specs.Counting.{Env, Cells, Getter, Putter, two, bounded, getNode, get, orOld, constant, write, both, under, mkPair, putNode, put}
+use Rattle.rules.specs.Bits.{took}
+use Rattle.rules.specs.Laws.Outcomes.{
   After,
   fine,
   finished,
@@ -33,7 +33,7 @@ use Rattle.rules.specs.OutcomeLaws.{
   given-when,
   given-number,
 }
-use Rattle.rules.specs.Related.{
+use Rattle.rules.specs.Laws.Related.{
   All2,
   ends,
   more,
@@ -49,8 +49,8 @@ use Rattle.rules.specs.Related.{
   at-last,
   at-take,
 }
-use Rattle.rules.specs.Consistency.{Later, Agree, Puts, Lawful, lawful, or-new}
-use Rattle.rules.specs.Acceptability.{Old, Keeps, free, stable}
+use Rattle.rules.specs.Laws.Consistency.{Later, Agree, Puts, Lawful, lawful, or-new}
+use Rattle.rules.specs.Laws.Acceptability.{Old, Keeps, free, stable}
 use Rattle.undo.specs.Straight.{Closed, Paced, get-paced}
 
 -- OF ONE OUTCOME TWO THINGS; AND OF CELLS
@@ -88,7 +88,7 @@ untaken n X = all2-map λ c m r. (r .0, at-take n X c (r .1), r .2)
 
 -- a cell that was written is written with f; one that was not leaves what f was left at
 pub or-back : (x y : Option Value) (f : Value) → ((w : Value) → y ≡ some w → w ≡ f) → took x ≡ took y → orOld y (orOld x f) ≡ f
-unfolding Text.orOld took
+unfolding Semantics.orOld took
 or-back none none f h e = refl
 or-back none (some w) f h e = h w refl
 or-back (some u) none f h e = let z : _≡_ {A = ℕ} 0 1 = cc in absurd (omega arith)
@@ -110,12 +110,12 @@ Undoes P σ ω W o X s = After (Unit {0}) (λ v t. Takes P σ ω W X s v) o
 
 module _ (ω : Env) (c : ℕ) (m : Value) (e : getElem? ω c ≡ some m) (W Z : Cells) (k : Keeps Z ω) (al : Alike W Z) where
   again-new : (u : Value) (o : Option Value) → took none ≡ took o → Again ω (set W c (some u)) 0 (write c m Z o)
-  unfolding Text.write took
+  unfolding Semantics.write took
   again-new u none h = fine (refl, all2-set c (some m) k e (λ w ew. sym (Option·some-injective _ _ ew)), all2-set-both c al refl)
   again-new u (some w) h = let z : _≡_ {A = ℕ} 0 1 = cc in absurd (omega arith)
 
   again-old : (w : Value) (o : Option Value) → took (some w) ≡ took o → ((x : Value) → o ≡ some x → x ≡ m) → Again ω W 0 (write c m Z o)
-  unfolding Text.write took
+  unfolding Semantics.write took
   again-old w none h q = let z : _≡_ {A = ℕ} 0 1 = cc in absurd (omega arith)
   again-old w (some x) h q = given-when _ _ (q x refl) λ _. fine (refl, k, al)
 
@@ -134,7 +134,7 @@ module _ (P : ℕ → Type 0) where
     module _ (sh : Sheet) (μ : Env) (σ : List ℕ) (ω : Env) (u : Value) (W : Cells) (zu : Fits u) (old : Old σ ω μ) (lw : length W ≡ length ω) where
       var-undoes : (x c : ℕ) → getElem? σ x ≡ some c → (o : Option Value) → getElem? W c ≡ some o
           → After (Unit {0}) (Undoes (λ ν. putNode g p sh (Var x) ν σ) σ ω W (getNode g sh (Var x) μ)) (write c u W o)
-      unfolding Text.write Text.getNode Text.putNode
+      unfolding Semantics.write Semantics.getNode Semantics.putNode
       var-undoes x c ec none eo = let (m, em, h) = all2-at x old ec in fine (given-some _ _ em (fine λ ν Z ag k al.
           let (q, eq, t) = all2-at c al eo in given-some _ _ ec (given-some _ _ eq (again-new ω c m (h .0) W Z k al u q t))))
       var-undoes x c ec (some w) eo = let (m, em, h) = all2-at x old ec in after-given _ λ _ _. fine (given-some _ _ em (fine λ ν Z ag k al.
@@ -145,13 +145,13 @@ module _ (P : ℕ → Type 0) where
       constant-undoes : (nd : Node) (v : Value) → getNode g sh nd μ ≡ done v 0
           → ((ν : Env) (Z : Cells) → putNode g p sh nd ν σ v Z ≡ constant v v Z)
           → After (Unit {0}) (Undoes (λ ν. putNode g p sh nd ν σ) σ ω W (getNode g sh nd μ)) (constant u v W)
-      unfolding Text.constant
+      unfolding Semantics.constant
       constant-undoes nd v e h = after-given _ λ _ _. fine (rw e (fine λ ν Z ag k al. rw h (given-when _ _ refl λ _. fine (refl, k, al))))
 
       -- one put after the other, and both again
       both-again : (a b : ℕ) (v w : Value) (X Y : Cells) (i j : ℕ) → Takes (λ ν. p a ν σ) σ ω W X i v → Later X Y → Takes (λ ν. p b ν σ) σ ω X Y j w
           → (ν : Env) (Z : Cells) → Agree σ Y ν → Keeps Z ω → Alike W Z → Again ω Y (i + j) (both p ν σ Z a v b w)
-      unfolding Text.both
+      unfolding Semantics.both
       both-again a b v w X Y i j ha l hb ν Z ag k al = after-bind (ha ν Z (earlier l ag) k al) λ X′ s _ hx.
           after-map (hb ν X′ ag (hx .1) (hx .2)) λ Y′ t hy. (omega (arith, hx .0, hy .0), hy .1, hy .2)
 
@@ -159,7 +159,7 @@ module _ (P : ℕ → Type 0) where
           → ((X Y : Cells) (i j : ℕ) → Undoes (λ ν. p a ν σ) σ ω W (g a μ) X i → Later X Y → Undoes (λ ν. p b ν σ) σ ω X (g b μ) Y j
           → Undoes (λ ν. putNode g p sh nd ν σ) σ ω W (getNode g sh nd μ) Y (i + j))
           → After (Unit {0}) (Undoes (λ ν. putNode g p sh nd ν σ) σ ω W (getNode g sh nd μ)) (both p μ σ W a x b y)
-      unfolding Text.both
+      unfolding Semantics.both
       both-undoes nd a b x y qa qb zx zy k = after-bind (step a qa μ σ ω x W zx old lw) λ X i _ hx.
           after-map (step b qb μ σ ω y X zy old (sym (all2-length (hx .0 .0)) ∙ lw)) λ Y j hy. k X Y i j (hx .1) (hy .0 .0) (hy .1)
 
@@ -173,7 +173,7 @@ module _ (P : ℕ → Type 0) where
           → Later (take (length ω) X) Y → Takes (λ ν. p s ν σ) σ ω (take (length ω) X) Y t (pair f r)
           → (ν : Env) (Z : Cells) → Agree σ Y ν → Keeps Z ω → Alike W Z
           → Again ω Y (j + t) (under p ν σ Z b v s mkPair (orOld x f) (orOld y r))
-      unfolding Text.under mkPair
+      unfolding Semantics.under mkPair
       under-again b s f r v x y X Y j t z ex ey hb l hs ν Z ag k al = rw (all2-length k)
           (after-bind (hb (ν ++ two (orOld x f) (orOld y r)) (Z ++ two none none)
           (all2-append (untaken (length ω) X (earlier l ag)) (more (x, ex, or-new x f) (more (y, ey, or-new y r) ends)))
@@ -189,7 +189,7 @@ module _ (P : ℕ → Type 0) where
       under-undoes : (s b : ℕ) → P s → P b → (f r : Value) (i : ℕ) → g s μ ≡ done (pair f r) i → Fits (pair f r)
           → After (Unit {0}) (λ X t. Undoes (λ ν. putNode g p sh (Split s b) ν σ) σ ω W (getNode g sh (Split s b) μ) X (i + t))
           (under p μ σ W b u s mkPair f r)
-      unfolding Text.under Text.getNode Text.putNode mkPair size asPair
+      unfolding Semantics.under Semantics.getNode Semantics.putNode mkPair size asPair
       under-undoes s b qs qb f r i es z = rw lw
           (after-bind (step b qb _ _ (ω ++ two f r) u (W ++ two none none) zu (deeper f r (omega arith) (omega arith))
           (omega (arith, length-append W (two none none), length-append ω (two f r)))) λ X j _ hx.
@@ -206,7 +206,7 @@ module _ (P : ℕ → Type 0) where
 
       node-undoes : (nd : Node) → Closed P sh nd
           → After (Unit {0}) (Undoes (λ ν. putNode g p sh nd ν σ) σ ω W (getNode g sh nd μ)) (putNode g p sh nd μ σ u W)
-      unfolding Text.getNode Text.putNode size Text.bounded asList asFront asPair asNumber children calls
+      unfolding Semantics.getNode Semantics.putNode size Semantics.bounded asList asFront asPair asNumber children calls
       node-undoes (Var x) c = after-given _ λ d ed. after-given _ λ o eo. var-undoes x d ed o eo
       node-undoes False c = constant-undoes False vfalse refl λ ν Z. refl
       node-undoes True c = constant-undoes True vtrue refl λ ν Z. refl
@@ -243,7 +243,7 @@ fits-got : (l : ℕ) (sh : Sheet) (n : ℕ) (μ : Env) (σ : List ℕ) (ω : Env
 fits-got l sh n μ σ ω old = after-map (stable l sh n μ σ ω old) λ v s h. h .0
 
 pub undone : (P : ℕ → Type 0) (l : ℕ) (sh : Sheet) → ((n : ℕ) → P n → Closed P sh (getD (sh .nodes) n False)) → Undone P (get l sh) (put l sh)
-unfolding Text.get Text.put
+unfolding Semantics.get Semantics.put
 undone P zero sh k n q μ σ ω u W z old lw = stopped tt
 undone P (suc l) sh k n q μ σ ω u W z old lw = after-plus 1 (after-map
     (node-undoes P (get l sh) (put l sh) (lawful l sh) (get-paced P l sh k) (fits-got l sh) (undone P l sh k) sh μ σ ω u W z old lw _ (k n q)) λ X s h.

@@ -11,7 +11,7 @@ use Rattle.value.specs.Reading.{readPlan, readView}
 use Rattle.sheet.specs.Sheet.{Sheet, readSheet}
 use Rattle.rules.specs.Numbers.{ALLOWANCE, SCRATCH}
 use Rattle.rules.specs.Outcome.{Out, done, refused}
-use Rattle.rules.specs.Rules.{Env}
+use Rattle.rules.specs.Counting.{Env}
 use Rattle.rules.specs.Answer.{getWalk}
 use Rattle.undo.specs.Alike.{names}
 

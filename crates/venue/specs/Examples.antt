@@ -32,8 +32,8 @@ use Rattle.sheet.specs.Kinds.{formOf, bodyWidth, make, variables, nodeInRange}
 use Rattle.rules.specs.Numbers.{SCRATCH}
 use Rattle.rules.specs.Outcome.{plus, steps, when, _>>=_, mapOut, given, choose}
 use Rattle.rules.specs.Allowance.{cap, within}
-use Rattle.rules.specs.Text
-use Rattle.rules.specs.Rules.{onList, restOf, mkList, mkPair}
+use Rattle.rules.specs.Semantics
+use Rattle.rules.specs.Counting.{onList, restOf, mkList, mkPair}
 use Rattle.rules.specs.Answer.{getWalk}
 use Rattle.undo.specs.Alike.{stands, names}
 use Rattle.venue.specs.Accepts.{spared, sparedFrom, kept, orCode, result, judgedOf, acceptsOf}
@@ -78,7 +78,7 @@ pub verdicts :
     ∷ []
     ≡ ok true ∷ ok false ∷ ok false ∷ refusal 85 ∷ refusal 30 ∷ refusal 20 ∷ refusal 41 ∷ refusal 3 ∷ []
 unfolding acceptsOf judgedOf spared sparedFrom kept orCode result getWalk within cap stands names both sameBytes
-    plus steps when _>>=_ mapOut given choose Text.bounded Text.tested onList restOf Text.getEach Text.getNode Text.get mkList mkPair
+    plus steps when _>>=_ mapOut given choose Semantics.bounded Semantics.tested onList restOf Semantics.getEach Semantics.getNode Semantics.get mkList mkPair
     andThen mapResult orRefuse unless encode encodes size sizes
     onWhole kindOf makeFront joined makeNumber makeWide makeBody makePair makeRest beginValue beginRest due mayBe beginByte read readValue onValue readValues
     formOf bodyWidth make variables readNodes oneSection ifSection readRecords withNodes readBody nodeInRange nodesInRange rootsInRange inRange readHeader

@@ -18,13 +18,13 @@ use Rattle.value.specs.Laws.{readValues-sound}
 use Rattle.sheet.specs.Sheet.{Sheet, readSheet}
 use Rattle.rules.specs.Numbers.{LEVELS, ALLOWANCE, SCRATCH, GET-OUTPUT}
 use Rattle.rules.specs.Outcome.{Out, done, refused}
-use Rattle.rules.specs.Rules.{Env, get}
+use Rattle.rules.specs.Counting.{Env, get}
 use Rattle.rules.specs.Answer.{success, getWalk, getAnswer, putAnswer}
-use Rattle.rules.specs.AllowanceLaws.{within-done, done-within}
-use Rattle.rules.specs.OutcomeLaws.{after-at}
-use Rattle.rules.specs.AnswerLaws.{get-shows, get-answers, put-shows}
-use Rattle.rules.specs.Readable.{get-readable}
-use Rattle.rules.specs.Trips.{written, consistency}
+use Rattle.rules.specs.Laws.Allowances.{within-done, done-within}
+use Rattle.rules.specs.Laws.Outcomes.{after-at}
+use Rattle.rules.specs.Laws.Answers.{get-shows, get-answers, put-shows}
+use Rattle.rules.specs.Laws.Readable.{get-readable}
+use Rattle.rules.specs.Laws.Trips.{put-writes, consistency}
 use Rattle.undo.specs.Alike.{Named, names, names-true, names-false}
 use Rattle.undo.specs.Plans.{numbers-fit, view-back}
 use Rattle.undo.specs.Calls.{unnamed-kept}
@@ -32,7 +32,7 @@ use Rattle.venue.specs.Accepts.{spared, sparedFrom, kept, orCode, result
 
 -- a new plan stands: the sheet, both plans and the list are read, it reads out to the list under that allowance, and every variable whose number stands as a
 -- variable in no record (10, 1A or 1C) has its old value
-pub record Stands (sheet old view new : List ℕ) (allowance : ℕ) : Type 0 where
+pub record Conforms (sheet old view new : List ℕ) (allowance : ℕ) : Type 0 where
   pub sh : Sheet
   pub sheet-read : readSheet sheet ≡ ok sh
   pub μ : Env
@@ -197,7 +197,7 @@ judged-yes sheet old view new allowance {sh} es {μ} {ν} eo en {v} {n} walk few
     rw (bytes, es, eo, view-back v good, en, walk, done-within allowance v n few, same-refl (encode v), all)
 
 -- what stands gets a yes
-pub yes-when : {sheet old view new : List ℕ} {allowance : ℕ} → Stands sheet old view new allowance → (scratch : ℕ) → SCRATCH ≤ scratch
+pub yes-when : {sheet old view new : List ℕ} {allowance : ℕ} → Conforms sheet old view new allowance → (scratch : ℕ) → SCRATCH ≤ scratch
     → acceptsOf sheet old view new allowance scratch ≡ ok true
 unfolding acceptsOf unless
 yes-when {sheet} {old} {view} {new} {allowance} t scratch long =
@@ -230,7 +230,7 @@ read-85 (refusal d) e = let z : _≡_ {A = ℕ} 0 1 = cc in absurd (omega arith)
 
 -- what gets a yes stands
 pub yes-means : (sheet old view new : List ℕ) (allowance scratch : ℕ) → acceptsOf sheet old view new allowance scratch ≡ ok true
-    → Stands sheet old view new allowance
+    → Conforms sheet old view new allowance
 unfolding acceptsOf judgedOf getWalk
 yes-means sheet old view new allowance scratch e =
     let (_, e₁) = unless-ok _ _ _ e in let (least, e₂) = unless-ok _ _ _ e₁ in let (few, e₃) = unless-ok _ _ _ e₂ in
@@ -258,7 +258,7 @@ yes-means sheet old view new allowance scratch e =
 
 -- and what gets a no does not stand
 pub no-means : (sheet old view new : List ℕ) (allowance scratch : ℕ) → acceptsOf sheet old view new allowance scratch ≡ ok false
-    → Stands sheet old view new allowance → ⊥
+    → Conforms sheet old view new allowance → ⊥
 unfolding acceptsOf
 no-means sheet old view new allowance scratch e t =
     let h = unless-ok _ _ _ e .0 in
@@ -268,10 +268,10 @@ no-means sheet old view new allowance scratch e t =
 -- WHATEVER PUT GIVES under an allowance gets a yes under it
 
 pub put-stands : (sheet plan view : List ℕ) (allowance output scratch : ℕ) (new : List ℕ) (n : ℕ)
-    → putAnswer sheet plan view allowance output scratch ≡ success new n → Stands sheet plan view new allowance
+    → putAnswer sheet plan view allowance output scratch ≡ success new n → Conforms sheet plan view new allowance
 put-stands sheet plan view allowance output scratch new n e =
     let p = put-shows e .1 in
-    let w = written p in
+    let w = put-writes p in
     record {
       sh = p .sh;
       sheet-read = p .sheet-read;

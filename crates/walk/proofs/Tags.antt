@@ -8,10 +8,10 @@ use denote.Enum.Declared.{tagOf}
 use Rattle.shapes.proofs.Shape as shape
 use Rattle.shapes.specs.declared.Shape.{Shape}
 use Rattle.shapes.specs.declared.Shape.the-variants.{Number}
-use Rattle.step.proofs.Branch as branch
-use Rattle.step.specs.declared.Branch.{Branch}
-use Rattle.step.specs.declared.Branch.the-variants.{Plain, Parts, Switch, Refused}
-use Rattle.step.specs.StepLaws.{unfitting}
+use Rattle.decisions.proofs.Branch as branch
+use Rattle.decisions.specs.declared.Branch.{Branch}
+use Rattle.decisions.specs.declared.Branch.the-variants.{Plain, Parts, Switch, Refused}
+use Rattle.decisions.specs.DecisionLaws.{unfitting}
 
 pub not-number : (q : Shape) → OneOf (0 ∷ 1 ∷ 2 ∷ 3 ∷ 5 ∷ 6 ∷ 7 ∷ []) (tagOf shape.the-type q) → (m : ℕ) → q ≡ Number m → ⊥
 not-number q h m e = miss (0 ∷ 1 ∷ 2 ∷ 3 ∷ 5 ∷ 6 ∷ 7 ∷ []) 4 tt (subst (λ (x : Shape). OneOf (0 ∷ 1 ∷ 2 ∷ 3 ∷ 5 ∷ 6 ∷ 7 ∷ []) (tagOf shape.the-type x)) e h)

@@ -1,4 +1,11 @@
 -- Values that stand in the arena, the scope's variables among them, and what a change leaves alone of them.
+pub mod Parts
+pub mod Bytes
+pub mod Cells
+pub mod Compound
+pub mod Shapes
+pub mod Frames
+pub mod CellLaws
 use mathlib.Core.Path.{_≡_, refl, sym, ap, _∙_}
 use mathlib.Core.List.{List, [], _∷_, _++_}
 use Prim.Native.Nat.{ℕ, zero, suc, _+_, _-_, _≤_, _<_}
@@ -14,7 +21,7 @@ use Rattle.rules.specs.Numbers.{STACK, VARIABLES, SLOTS}
 use Rattle.scopes.specs.declared.Scope.{Scope}
 use Rattle.scopes.specs.Scopes.{picked}
 use Rattle.walk.specs.Scope.{pushed, alone, withMember}
-use Rattle.walk.specs.Parts.{part, Kept, part-kept}
+use Rattle.walk.specs.Arena.Parts.{part, SameBelow, part-kept}
 
 -- bytes that a walk at `top` leaves alone: in the plan, or on the stack below `top`
 pub data Below (top start len : ℕ) : Type 0 where
@@ -54,7 +61,7 @@ below-part i n h (inPlan p) = inPlan (omega arith)
 below-part i n h (onStack p q) = onStack (omega arith) (omega arith)
 
 -- a change that leaves the bytes below `top` alone leaves what stands below `top`
-module _ {b a : List ℕ} {top : ℕ} (kept : Kept top b a) (base : STACK ≤ top) (top′ : ℕ) (p : top ≤ top′) where
+module _ {b a : List ℕ} {top : ℕ} (kept : SameBelow top b a) (base : STACK ≤ top) (top′ : ℕ) (p : top ≤ top′) where
   pub held-later : {start len : ℕ} {v : Value} → Held b top start len v → Held a top′ start len v
   held-later {start} {len} h = record {
     place = below-later top′ p (h .place);

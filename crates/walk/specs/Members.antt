@@ -10,10 +10,10 @@ use Rattle.value.specs.Value.{Value, Values, list, nil, cons, encode, encodes, 
 use Rattle.shapes.specs.Parts.{middleOf}
 use Rattle.shapes.specs.PartsLaws.{shape}
 use Rattle.rules.specs.Outcome.{when}
-use Rattle.rules.specs.Text
-use Rattle.rules.specs.Text.{two, restOf}
+use Rattle.rules.specs.Semantics
+use Rattle.rules.specs.Semantics.{two, restOf}
 use Rattle.rules.specs.Explain.{
-  Told,
+  Exit,
   got,
   met,
   Explained,
@@ -36,24 +36,24 @@ use Rattle.rules.specs.Explain.{
 -- OUTCOMES
 
 module _ {A : Type 0} where
-  pub more-more : (i j : ℕ) (t : Told A) → more i (more j t) ≡ more (i + j) t
+  pub more-more : (i j : ℕ) (t : Exit A) → more i (more j t) ≡ more (i + j) t
   unfolding more
   more-more i j (got a s) = ap (got a) (omega arith)
   more-more i j (met y s) = ap (met y) (omega arith)
 
-  pub more-none : (t : Told A) → more 0 t ≡ t
+  pub more-none : (t : Exit A) → more 0 t ≡ t
   unfolding more
   more-none (got a s) = ap (got a) (omega arith)
   more-none (met y s) = ap (met y) (omega arith)
 
 module _ {A B C : Type 0} (k : B → Explained C) where
   -- one after the other, and then a third
-  bind-both : (left : ℕ) (f : A → Explained B) (t : Told A)
+  bind-both : (left : ℕ) (f : A → Explained B) (t : Exit A)
       → follow (follow t (λ a s. f a (left - s))) (λ b s. k b (left - s)) ≡ follow t (λ a s. (f a >>= k) (left - s))
   unfolding next follow more
   bind-both left f (got a s) = go (f a (left - s))
     where
-      go : (t : Told B) → follow (more s t) (λ b n. k b (left - n)) ≡ more s (follow t (λ b n. k b (left - s - n)))
+      go : (t : Exit B) → follow (more s t) (λ b n. k b (left - n)) ≡ more s (follow t (λ b n. k b (left - s - n)))
       go (got b n) = let z : left - (s + n) ≡ left - s - n = omega arith in rw z (sym (more-more s n (k b (left - s - n))))
       go (met y n) = refl
   bind-both left f (met y s) = refl
@@ -83,7 +83,7 @@ module _ {A B C E F : Type 0} {D : A → B → C → Type 0} (m : Explained A) (
       given-bind k c _ _ ∙ ap (given c (o a b)) (fun-ext λ x. given-bind k c′ _ _ ∙ ap (given c′ (q a b x)) (fun-ext λ y. e a b x y))))
 
 module _ {A : Type 0} where
-  unchanged : (left : ℕ) (t : Told A) → follow t (λ a _. got a 0) ≡ t
+  unchanged : (left : ℕ) (t : Exit A) → follow t (λ a _. got a 0) ≡ t
   unfolding follow more
   unchanged left (got a s) = ap (got a) (omega arith)
   unchanged left (met y s) = refl
@@ -161,12 +161,12 @@ longer vs w = omega (arith, sizes-one vs w)
 
 module _ (g : Getter) (root : ℕ) (a : Value) (vs : List Value) where
   pub get-end : getFrom g root a vs nil ≡ give (list (onto vs nil))
-  unfolding getFrom Text.getEach
+  unfolding getFrom Semantics.getEach
   get-end = done-bind nil _
 
   pub get-member : (m : Value) (r : Values) → getFrom g root a vs (cons m r)
       ≡ (g root (two m a) >>= λ w. given 44 (when (decLe (suc (frontSizes vs) + suc (size w)) 256)) λ _. getFrom g root a (vs ++ w ∷ []) r)
-  unfolding getFrom Text.getEach
+  unfolding getFrom Semantics.getEach
   get-member m r = bind-bind _ _ _ ∙ ap (λ (f : Value → Explained Value). g root (two m a) >>= f) (fun-ext λ w. given-bind _ 44 _ _
       ∙ ap (given 44 (when (decLe (suc (frontSizes vs) + suc (size w)) 256))) (fun-ext λ _. bind-bind _ _ _ ∙ rw (longer vs w)
       (ap (λ (f : Values → Explained Value). getEach g root a (suc (frontSizes (vs ++ w ∷ []))) r >>= f)
@@ -189,7 +189,7 @@ module _ (g : Getter) (p : Putter) (root d c : ℕ) (a : Value) (old : Values) (
 
   module _ (vs : List Value) where
     pub put-end : putFrom g p root d c a vs old nil W ≡ give (onto vs nil, W)
-    unfolding putFrom Text.putEach
+    unfolding putFrom Semantics.putEach
     put-end = done-bind (nil, W) _
 
     -- a member and then the others, as one
@@ -201,7 +201,7 @@ module _ (g : Getter) (p : Putter) (root d c : ℕ) (a : Value) (old : Values) (
 
     pub put-member : (v : Value) (r : Values) → putFrom g p root d c a vs old (cons v r) W
         ≡ (putMember g p root d c a (suc (frontSizes vs)) old v W >>= λ q. putFrom g p root d c a (vs ++ q .0 ∷ []) (restOf old) r (q .1))
-    unfolding putFrom putMember both-ways Text.putEach
+    unfolding putFrom putMember both-ways Semantics.putEach
     put-member v r = _∙_ {b = both-ways v r} (through _ _ 42 _ 44 _ _ _ λ m X o _. bind-bind _ _ _ ∙ rw (longer vs (orOld o m))
         (ap (λ (f : (Values × Cells) → Explained (Values × Cells)).
         putEach g p root d c a (suc (frontSizes (vs ++ orOld o m ∷ []))) (restOf old) r (take (length W) X) >>= f)

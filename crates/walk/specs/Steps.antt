@@ -7,11 +7,11 @@ use native.Mathlib.Omega.{arith}
 use Rattle.value.specs.Value.{Value, Values, vfalse}
 use Rattle.sheet.specs.declared.Node.{Node}
 use Rattle.sheet.specs.Sheet.{Sheet}
-use Rattle.rules.specs.Text.{Env}
-use Rattle.rules.specs.Rules
+use Rattle.rules.specs.Semantics.{Env}
+use Rattle.rules.specs.Counting
 use Rattle.rules.specs.Explain.{
-  Why,
-  Told,
+  Cause,
+  Exit,
   got,
   met,
   Explained,
@@ -29,7 +29,7 @@ use Rattle.rules.specs.Explain.{
   putEach,
   putNode,
 }
-use Rattle.rules.specs.ExplainLaws.{strip, erases-few, get-erases, put-erases, get-node-erases, get-each-erases, put-each-erases, put-node-erases}
+use Rattle.rules.specs.Explain.Erasure.{strip, erases-few, get-erases, put-erases, get-node-erases, get-each-erases, put-each-erases, put-node-erases}
 
 pub record Frugal {A : Type 0} (m : Explained A) : Type 0 where
   pub few : (left : ℕ) {a : A} {s : ℕ} → within left m ≡ got a s → s ≤ left
@@ -38,11 +38,11 @@ module _ {A : Type 0} where
   pub frugal-give : (a : A) → Frugal (give a)
   frugal-give a = record { few = λ left {s = s} e. let z : 0 ≡ s = cc in omega arith }
 
-  pub frugal-met : (y : Why) → Frugal {A = A} (λ _. met y 0)
+  pub frugal-met : (y : Cause) → Frugal {A = A} (λ _. met y 0)
   frugal-met y = record { few = λ left e. absurd (let z : _≡_ {A = ℕ} 0 1 = cc in omega arith) }
 
 module _ {B : Type 0} where
-  more-few : (k left : ℕ) (t : Told B) {b : B} {s : ℕ} → k ≤ left → ((n : ℕ) → t ≡ got b n → n ≤ left - k) → more k t ≡ got b s → s ≤ left
+  more-few : (k left : ℕ) (t : Exit B) {b : B} {s : ℕ} → k ≤ left → ((n : ℕ) → t ≡ got b n → n ≤ left - k) → more k t ≡ got b s → s ≤ left
   unfolding more
   more-few k left (got c n) {b} {s} h f e =
       let z : k + n ≡ s = cc in
@@ -56,11 +56,11 @@ module _ {A B : Type 0} where
   unfolding next follow
   frugal-next {m} {f} h k = record { few = λ left e. go left (m left) refl e }
     where
-      go : (left : ℕ) (t : Told A) → m left ≡ t → {b : B} {s : ℕ} → follow t (λ a s. f a (left - s)) ≡ got b s → s ≤ left
+      go : (left : ℕ) (t : Exit A) → m left ≡ t → {b : B} {s : ℕ} → follow t (λ a s. f a (left - s)) ≡ got b s → s ≤ left
       go left (got a s) d e = more-few s left (f a (left - s)) (h .few left d) (λ _ q. k a .few (left - s) q) e
       go left (met y s) d e = absurd (let z : _≡_ {A = ℕ} 0 1 = cc in omega arith)
 
-  pub frugal-given : (y : Why) (o : Option A) {f : A → Explained B} → ((a : A) → Frugal (f a)) → Frugal (wanted y o f)
+  pub frugal-given : (y : Cause) (o : Option A) {f : A → Explained B} → ((a : A) → Frugal (f a)) → Frugal (wanted y o f)
   unfolding wanted
   frugal-given y none h = frugal-met y
   frugal-given y (some a) h = h a
@@ -82,9 +82,9 @@ module _ (l : ℕ) (sh : Sheet) where
   pub put-each-frugal : (root d c : ℕ) (a : Value) (n : ℕ) (old us : Values) (X : Cells) → Frugal (putEach (get l sh) (put l sh) root d c a n old us X)
   put-each-frugal root d c a n old us X = record {
     few = λ left e. erases-few (λ t. (t .0, strip (t .1)))
-        (put-each-erases _ _ (get-erases l sh) _ (Rules.put l sh) (put-erases l sh) sh [] [] vfalse [] root d c a n old us X) e;
+        (put-each-erases _ _ (get-erases l sh) _ (Counting.put l sh) (put-erases l sh) sh [] [] vfalse [] root d c a n old us X) e;
   }
 
   pub put-node-frugal : (n : ℕ) (nd : Node) (μ : Env) (σ : List ℕ) (v : Value) (W : Cells) → Frugal (putNode n (get l sh) (put l sh) sh nd μ σ v W)
   put-node-frugal n nd μ σ v W =
-      record { few = λ left e. erases-few strip (put-node-erases _ _ (get-erases l sh) _ (Rules.put l sh) (put-erases l sh) sh μ σ v W n nd) e }
+      record { few = λ left e. erases-few strip (put-node-erases _ _ (get-erases l sh) _ (Counting.put l sh) (put-erases l sh) sh μ σ v W n nd) e }

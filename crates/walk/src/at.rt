@@ -1,20 +1,20 @@
 //! Where a walk is: how deep, how many steps it has left, where the stack goes on, and how many cells there are; and the node that it is in.
 ghost use mathlib.Core.Path.{_≡_};
 ghost use Prim.Native.Nat.{_+_, _≤_};
-ghost use Rattle.answer.specs.Answer.{lenOf, startOf, stepsOf};
+ghost use Rattle.outcome.specs.Outcome.{lenOf, startOf, stepsOf};
 ghost use Rattle.rules.specs.Numbers.{SCRATCH, VARIABLES};
-ghost use Rattle.walk.specs.Places.{belowOf, raisedOf, afterOf, behindOf, withCellOf, widerOf};
-use answer::len_of;
-use answer::start_of;
-use answer::steps_of;
+ghost use Rattle.walk.specs.Moves.{belowOf, raisedOf, afterOf, behindOf, withCellOf, withTwoCellsOf};
+use outcome::len_of;
+use outcome::start_of;
+use outcome::steps_of;
 
 /// Where the record of each node starts in the sheet.
 pub type Table = [u16; 200];
 
 /// The node that a walk is in: its number, the byte of the sheet at which its record starts, and its kind byte.
-pub struct Own {
+pub struct Record {
     pub node: usize,
-    pub n: u16,
+    pub place: u16,
     pub kind: u8,
 }
 
@@ -97,9 +97,9 @@ impl At {
     }
 
     /// With two cells more.
-    pub fn wider(self) -> At
+    pub fn with_two_cells(self) -> At
         requires { ⌜ self .cells + 2 ≤ VARIABLES ⌝ }
-        ensures { λ r. ⌜ r ≡ widerOf self ⌝ }
+        ensures { λ r. ⌜ r ≡ withTwoCellsOf self ⌝ }
     {
         At {
             levels: self.levels,

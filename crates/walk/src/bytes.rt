@@ -3,8 +3,8 @@ ghost use Prim.Native.Nat.{_+_, _≤_, _<_};
 ghost use mathlib.Core.Path.{_≡_};
 ghost use lib.ListN.{length, drop};
 ghost use lib.Seq.{paste};
-ghost use Rattle.walk.specs.Parts.{Copied, CopiedIn};
-ghost use Rattle.walk.specs.Cells.{rebuiltIn};
+ghost use Rattle.walk.specs.Arena.Parts.{Copied, CopiedIn};
+ghost use Rattle.walk.specs.Arena.Cells.{rebuiltIn};
 
 // Copies n bytes of the arena down: from the first on.
 fn copy_down(arena: &mut [u8], from: usize, to: usize, n: usize)

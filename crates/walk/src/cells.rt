@@ -1,6 +1,6 @@
 //! The cells of the plan's variables: cell i for variable i.
 ghost use Prim.Native.Nat.{_≤_};
-ghost use Rattle.walk.specs.Gather.{Counted};
+ghost use Rattle.walk.specs.Call.Gather.{Counted};
 
 /// The cells of k variables.
 pub fn first_cells(k: usize) -> [u8; rules::VARIABLES]

@@ -1,11 +1,11 @@
 //! Where a refusal was met: how many nodes its chain has, and the node that wrote first.
 ghost use mathlib.Core.Path.{_≡_};
 ghost use Prim.Native.Nat.{_≤_};
-ghost use Rattle.answer.specs.Answer.{lenOf, startOf};
+ghost use Rattle.outcome.specs.Outcome.{lenOf, startOf};
 ghost use Rattle.rules.specs.Numbers.{CHAIN-MAX};
-ghost use Rattle.walk.specs.Whys.{nowhere};
-use answer::len_of;
-use answer::start_of;
+ghost use Rattle.walk.specs.Call.Explained.{nowhere};
+use outcome::len_of;
+use outcome::start_of;
 
 /// Where a refusal was met: how many nodes its chain has, which then stand from byte 65,487 of the arena on, the root first, none of a refusal
 /// from before the walk; and one more than the number of the node that wrote first, or 0.

@@ -1,20 +1,20 @@
 //! Get: the value of a node. It stands in the plan, or on the stack from the top on, or below the top where it was already. A node's record
-//! starts at byte `n` of the sheet; lent are the sheet, the `table` of where its records start, and the arena.
+//! starts at byte `place` of the sheet; lent are the sheet, the `table` of where its records start, and the arena.
 ghost use mathlib.Core.Path.{_≡_};
 ghost use Prim.Native.Nat.{_+_, _*_, _≤_, _<_};
 ghost use lib.ListN.{length, getD};
 ghost use lib.Seq.{paste};
-ghost use Rattle.answer.specs.Answer.{doneAs};
+ghost use Rattle.outcome.specs.Outcome.{doneAs};
 ghost use Rattle.sheet.specs.Wide.{wideBytes};
 ghost use Rattle.rules.specs.Numbers.{SCRATCH};
-ghost use Rattle.walk.specs.Gets.{Ready, Gives, KindAsked, KindTells, enter};
-ghost use Rattle.walk.specs.GetReady.{Sized};
-ghost use Rattle.walk.specs.GetTwo.{Two};
-ghost use Rattle.walk.specs.GetCase.{Case, testOf};
-ghost use Rattle.walk.specs.GetLeaf.{Childless, numbered};
-ghost use Rattle.walk.specs.GetMembers.{MembersAsked, MembersTold};
+ghost use Rattle.walk.specs.Get.{Ready, GetShows, KindAsked, KindTells, enter};
+ghost use Rattle.walk.specs.Get.Requires.{Sized};
+ghost use Rattle.walk.specs.Get.Two.{Two};
+ghost use Rattle.walk.specs.Get.Case.{Case, testOf};
+ghost use Rattle.walk.specs.Get.Leaf.{Childless, numbered};
+ghost use Rattle.walk.specs.Get.Members.{MembersAsked, MembersTold};
 use crate::at::At;
-use crate::at::Own;
+use crate::at::Record;
 use crate::at::Table;
 use crate::got::added;
 use crate::got::bring;
@@ -23,24 +23,27 @@ use crate::got::judge;
 use crate::got::middle_at;
 use crate::got::shape_at;
 use crate::scope::with_two;
-use answer::done;
-use answer::is_refused;
-use answer::later;
-use answer::len_of;
-use answer::refused;
-use answer::start_of;
-use answer::steps_of;
 use arena::leave;
-use step::Branch;
+use decisions::Branch;
+use outcome::done;
+use outcome::is_refused;
+use outcome::later;
+use outcome::len_of;
+use outcome::refused;
+use outcome::start_of;
+use outcome::steps_of;
 use scopes::Scope;
 
 // The number of a constant (14).
-fn get_number(sheet: &[u8], arena: &mut [u8], n: u16, top: usize) -> usize
+fn get_number(sheet: &[u8], arena: &mut [u8], place: u16, top: usize) -> usize
     requires { ⌜ (top + 3 ≤ length (now arena)) × (top < SCRATCH) ⌝ }
     ensures { λ r. ⌜ (now (arena .exit) ≡ numbered (now (arena .entry)) top
-        (256 * getD (now (sheet .entry)) (n + 1) 0 + getD (now (sheet .entry)) (n + 2) 0)) × (r ≡ doneAs top 3 0) ⌝ }
+        (256 * getD (now (sheet .entry)) (place + 1) 0 + getD (now (sheet .entry)) (place + 2) 0)) × (r ≡ doneAs top 3 0) ⌝ }
 {
-    let number = value::number(sheet::byte_of(sheet, n, 1), sheet::byte_of(sheet, n, 2));
+    let number = value::number(
+        sheet::byte_of(sheet, place, 1),
+        sheet::byte_of(sheet, place, 2),
+    );
     arena[top] = 4;
     arena[top + 1] = value::high(number);
     arena[top + 2] = value::low(number);
@@ -48,17 +51,24 @@ fn get_number(sheet: &[u8], arena: &mut [u8], n: u16, top: usize) -> usize
 }
 
 // The number of a constant of four bytes (1D).
-fn get_wide(sheet: &[u8], arena: &mut [u8], n: u16, top: usize) -> usize
+fn get_wide(sheet: &[u8], arena: &mut [u8], place: u16, top: usize) -> usize
     requires { ⌜ (top + 5 ≤ length (now arena)) × (top < SCRATCH) ⌝ }
-    ensures { λ r. ⌜ (now (arena .exit) ≡ paste (now (arena .entry)) top (wideBytes (now (sheet .entry)) n) 5) × (r ≡ doneAs top 5 0) ⌝ }
+    ensures { λ r. ⌜ (now (arena .exit) ≡ paste (now (arena .entry)) top (wideBytes (now (sheet .entry)) place) 5) × (r ≡ doneAs top 5 0) ⌝ }
 {
-    let number = sheet::wide_bytes(sheet, n);
+    let number = sheet::wide_bytes(sheet, place);
     scopes::store(arena, top, &number);
     done(top, 5, 0)
 }
 
 // A variable (10), False, True or the empty list (11 to 13), which are one byte each, or a number (14).
-fn get_leaf(sheet: &[u8], table: &Table, arena: &mut [u8], scope: Scope, own: Own, at: At) -> usize
+fn get_leaf(
+    sheet: &[u8],
+    table: &Table,
+    arena: &mut [u8],
+    scope: Scope,
+    own: Record,
+    at: At,
+) -> usize
     requires { ⌜ KindAsked (now sheet) (now table) (now arena) scope own at ⌝ }
     requires { ⌜ Childless (own .kind) ⌝ }
     ensures { λ r. ⌜ KindTells (now (sheet .entry)) (now (arena .entry)) (now (arena .exit)) scope own at r ⌝ }
@@ -66,10 +76,10 @@ fn get_leaf(sheet: &[u8], table: &Table, arena: &mut [u8], scope: Scope, own: Ow
     let kind = own.kind;
     let top = at.top;
     if kind == 0x10 {
-        return scopes::variable(scope, sheet::number_of(sheet, own.n, 1));
+        return scopes::variable(scope, sheet::number_of(sheet, own.place, 1));
     }
     if kind == 0x14 {
-        return get_number(sheet, arena, own.n, top);
+        return get_number(sheet, arena, own.place, top);
     }
     arena[top] = kind - 0x11;
     done(top, 1, 0)
@@ -85,17 +95,17 @@ pub fn get_node(
     at: At,
 ) -> usize
     requires { ⌜ Ready (now sheet) (now table) (now arena) scope (at .top) (at .levels) (at .left) (enter node) ⌝ }
-    ensures { λ r. ⌜ Gives (now (arena .entry)) (now (arena .exit)) (now (sheet .entry)) scope (at .top) (at .top) (at .left) r (at .levels) (enter node) ⌝ }
+    ensures { λ r. ⌜ GetShows (now (arena .entry)) (now (arena .exit)) (now (sheet .entry)) scope (at .top) (at .top) (at .left) r (at .levels) (enter node) ⌝ }
     ensures { λ r. ⌜ Sized (at .top) (at .left) (at .levels) r ⌝ }
 {
-    let code = step::entry(at.levels, at.left);
+    let code = decisions::entry(at.levels, at.left);
     if code != 0 {
         return leave(arena, refused(code), node, at.levels);
     }
-    let n = table[node];
+    let place = table[node];
     let below = at.below();
-    let kind = sheet::byte_of(sheet, n, 0);
-    let own = Own { node, n, kind };
+    let kind = sheet::byte_of(sheet, place, 0);
+    let own = Record { node, place, kind };
     if kind < 0x15 {
         let got = get_leaf(sheet, table, arena, scope, own, below);
         return leave(arena, got, node, at.levels);
@@ -122,67 +132,81 @@ pub fn get_node(
     }
     // 1D: no other kind is left
     let top = below.top;
-    let got = get_wide(sheet, arena, n, top);
+    let got = get_wide(sheet, arena, place, top);
     leave(arena, got, node, at.levels)
 }
 
 // A front (15) or a pair (16).
-fn get_two(sheet: &[u8], table: &Table, arena: &mut [u8], scope: Scope, own: Own, at: At) -> usize
+fn get_two(
+    sheet: &[u8],
+    table: &Table,
+    arena: &mut [u8],
+    scope: Scope,
+    own: Record,
+    at: At,
+) -> usize
     requires { ⌜ KindAsked (now sheet) (now table) (now arena) scope own at ⌝ }
     requires { ⌜ Two (own .kind) ⌝ }
     ensures { λ r. ⌜ KindTells (now (sheet .entry)) (now (arena .entry)) (now (arena .exit)) scope own at r ⌝ }
 {
     let top = at.top;
-    let made = step::made(own.kind);
+    let made = decisions::made(own.kind);
     arena[top] = made;
     let one = at.raised(1);
-    let first = sheet::number_of(sheet, own.n, 1);
+    let first = sheet::number_of(sheet, own.place, 1);
     let got = get_node(sheet, table, arena, scope, first, one);
     let a = bring(arena, got, one.top);
     if is_refused(a) {
         return a;
     }
     let two = one.behind(a);
-    let second = sheet::number_of(sheet, own.n, 2);
+    let second = sheet::number_of(sheet, own.place, 2);
     let got = get_node(sheet, table, arena, scope, second, two);
     let b = bring(arena, got, two.top);
     joined(arena, made, top, a, b)
 }
 
 // The test of the branch whose node is byte `i` of a case's record. A split has none: 0 says yes to anything.
-fn test_of(sheet: &[u8], n: u16, kind: u8, i: u16) -> u8
+fn test_of(sheet: &[u8], place: u16, kind: u8, i: u16) -> u8
     requires { ⌜ i ≤ 4 ⌝ }
-    ensures { λ r. ⌜ r ≡ testOf kind (now (sheet .entry)) n i ⌝ }
+    ensures { λ r. ⌜ r ≡ testOf kind (now (sheet .entry)) place i ⌝ }
 {
     if kind == 0x19 {
         return 0;
     }
-    sheet::byte_of(sheet, n, i + 1)
+    sheet::byte_of(sheet, place, i + 1)
 }
 
 // A list case (17), a truth case (18) or a split (19): the subject, and then the branch that it fits.
-fn get_case(sheet: &[u8], table: &Table, arena: &mut [u8], scope: Scope, own: Own, at: At) -> usize
+fn get_case(
+    sheet: &[u8],
+    table: &Table,
+    arena: &mut [u8],
+    scope: Scope,
+    own: Record,
+    at: At,
+) -> usize
     requires { ⌜ KindAsked (now sheet) (now table) (now arena) scope own at ⌝ }
     requires { ⌜ Case (own .kind) ⌝ }
     ensures { λ r. ⌜ KindTells (now (sheet .entry)) (now (arena .entry)) (now (arena .exit)) scope own at r ⌝ }
 {
-    let subject = sheet::number_of(sheet, own.n, 1);
+    let subject = sheet::number_of(sheet, own.place, 1);
     let got = get_node(sheet, table, arena, scope, subject, at);
     if is_refused(got) {
         return got;
     }
     let to = at.behind(got);
     let top = at.top;
-    match step::fits(own.kind, shape_at(arena, got)) {
+    match decisions::fits(own.kind, shape_at(arena, got)) {
         Branch::Plain(i, _) => {
-            let node = sheet::number_of(sheet, own.n, i);
-            let test = test_of(sheet, own.n, own.kind, i);
+            let node = sheet::number_of(sheet, own.place, i);
+            let test = test_of(sheet, own.place, own.kind, i);
             let branch = get_node(sheet, table, arena, scope, node, to);
             later(judge(arena, branch, test, top), steps_of(got))
         }
         Branch::Parts(i, mid) => {
-            let node = sheet::number_of(sheet, own.n, i);
-            let test = test_of(sheet, own.n, own.kind, i);
+            let node = sheet::number_of(sheet, own.place, i);
+            let test = test_of(sheet, own.place, own.kind, i);
             let inner = with_two(scope, start_of(got) + 1, mid - 1, len_of(got) - mid);
             let branch = get_node(sheet, table, arena, inner, node, to);
             later(judge(arena, branch, test, top), steps_of(got))
@@ -192,13 +216,20 @@ fn get_case(sheet: &[u8], table: &Table, arena: &mut [u8], scope: Scope, own: Ow
 }
 
 // A call (1A): the section's root, with the caller's two variables alone.
-fn get_call(sheet: &[u8], table: &Table, arena: &mut [u8], scope: Scope, own: Own, at: At) -> usize
+fn get_call(
+    sheet: &[u8],
+    table: &Table,
+    arena: &mut [u8],
+    scope: Scope,
+    own: Record,
+    at: At,
+) -> usize
     requires { ⌜ KindAsked (now sheet) (now table) (now arena) scope own at ⌝ }
     requires { ⌜ own .kind ≡ 0x1A ⌝ }
     ensures { λ r. ⌜ KindTells (now (sheet .entry)) (now (arena .entry)) (now (arena .exit)) scope own at r ⌝ }
 {
-    let x = sheet::number_of(sheet, own.n, 2);
-    let y = sheet::number_of(sheet, own.n, 3);
+    let x = sheet::number_of(sheet, own.place, 2);
+    let y = sheet::number_of(sheet, own.place, 3);
     let count = scope.count as usize;
     if count <= x {
         return refused(42);
@@ -206,24 +237,31 @@ fn get_call(sheet: &[u8], table: &Table, arena: &mut [u8], scope: Scope, own: Ow
     if count <= y {
         return refused(42);
     }
-    let root = sheet::section_root(sheet, sheet::number_of(sheet, own.n, 1));
+    let root = sheet::section_root(sheet, sheet::number_of(sheet, own.place, 1));
     let inner = scopes::section(scope, x, y);
     get_node(sheet, table, arena, inner, root, at)
 }
 
 // An amount added (1B).
-fn get_add(sheet: &[u8], table: &Table, arena: &mut [u8], scope: Scope, own: Own, at: At) -> usize
+fn get_add(
+    sheet: &[u8],
+    table: &Table,
+    arena: &mut [u8],
+    scope: Scope,
+    own: Record,
+    at: At,
+) -> usize
     requires { ⌜ KindAsked (now sheet) (now table) (now arena) scope own at ⌝ }
     requires { ⌜ own .kind ≡ 0x1B ⌝ }
     ensures { λ r. ⌜ KindTells (now (sheet .entry)) (now (arena .entry)) (now (arena .exit)) scope own at r ⌝ }
 {
     let top = at.top;
-    let node = sheet::number_of(sheet, own.n, 1);
+    let node = sheet::number_of(sheet, own.place, 1);
     let got = get_node(sheet, table, arena, scope, node, at);
     let a = bring(arena, got, top);
     let amount = value::number(
-        sheet::byte_of(sheet, own.n, 2),
-        sheet::byte_of(sheet, own.n, 3),
+        sheet::byte_of(sheet, own.place, 2),
+        sheet::byte_of(sheet, own.place, 3),
     );
     added(arena, a, amount, top)
 }
@@ -260,7 +298,7 @@ fn get_members(
         let one = to.raised(1);
         let got = get_node(sheet, table, arena, inner, root, one);
         let a = bring(arena, got, one.top);
-        let front = step::fronted(a, top - base, top);
+        let front = decisions::fronted(a, top - base, top);
         if is_refused(front) {
             return front;
         }
@@ -273,25 +311,32 @@ fn get_members(
 }
 
 // Each (1C): the subject, a list, and then the list of what the section gives for its members.
-fn get_each(sheet: &[u8], table: &Table, arena: &mut [u8], scope: Scope, own: Own, at: At) -> usize
+fn get_each(
+    sheet: &[u8],
+    table: &Table,
+    arena: &mut [u8],
+    scope: Scope,
+    own: Record,
+    at: At,
+) -> usize
     requires { ⌜ KindAsked (now sheet) (now table) (now arena) scope own at ⌝ }
     requires { ⌜ own .kind ≡ 0x1C ⌝ }
     ensures { λ r. ⌜ KindTells (now (sheet .entry)) (now (arena .entry)) (now (arena .exit)) scope own at r ⌝ }
 {
-    let subject = sheet::number_of(sheet, own.n, 1);
+    let subject = sheet::number_of(sheet, own.place, 1);
     let got = get_node(sheet, table, arena, scope, subject, at);
     if is_refused(got) {
         return got;
     }
     let start = start_of(got);
-    if step::unfit(3, arena[start]) {
+    if decisions::unfit(3, arena[start]) {
         return refused(43);
     }
-    let x = sheet::number_of(sheet, own.n, 3);
+    let x = sheet::number_of(sheet, own.place, 3);
     if scope.count as usize <= x {
         return refused(42);
     }
-    let root = sheet::section_root(sheet, sheet::number_of(sheet, own.n, 2));
+    let root = sheet::section_root(sheet, sheet::number_of(sheet, own.place, 2));
     let end = start + len_of(got);
     let to = at.behind(got);
     let list = get_members(sheet, table, arena, scope, x, root, start, end, to);

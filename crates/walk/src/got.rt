@@ -3,20 +3,20 @@ ghost use mathlib.Core.Path.{_≡_};
 ghost use mathlib.Core.Bool.{false};
 ghost use Prim.Native.Nat.{_+_, _-_, _≤_, _<_};
 ghost use lib.ListN.{length};
-ghost use Rattle.answer.specs.Answer.{isRefusal, lenOf, startOf};
+ghost use Rattle.outcome.specs.Outcome.{isRefusal, lenOf, startOf};
 ghost use Rattle.shapes.specs.Parts.{shapeOf, middleOf, passesBytes};
-ghost use Rattle.walk.specs.Parts.{part};
-ghost use Rattle.walk.specs.GetAt.{Movable, Brought};
-ghost use Rattle.walk.specs.GetBranch.{Judgeable, Judged};
-ghost use Rattle.walk.specs.GetTwo.{Joinable, Joined};
-ghost use Rattle.walk.specs.GetAdd.{Addable, Added};
+ghost use Rattle.walk.specs.Arena.Parts.{part};
+ghost use Rattle.walk.specs.Get.Top.{Movable, Brought};
+ghost use Rattle.walk.specs.Get.Branch.{Judgeable, Judged};
+ghost use Rattle.walk.specs.Get.Two.{Joinable, Joined};
+ghost use Rattle.walk.specs.Get.Add.{Addable, Added};
 use crate::bytes::copy;
-use answer::done;
-use answer::is_refused;
-use answer::len_of;
-use answer::refused;
-use answer::start_of;
-use answer::steps_of;
+use outcome::done;
+use outcome::is_refused;
+use outcome::len_of;
+use outcome::refused;
+use outcome::start_of;
+use outcome::steps_of;
 use shapes::Shape;
 
 /// The shape of a value that was got.
@@ -92,7 +92,7 @@ pub fn joined(arena: &[u8], kind: u8, top: usize, first: usize, second: usize) -
     }
     let f = len_of(first);
     let mid = top + 1 + f;
-    if step::unfit(kind, arena[mid]) {
+    if decisions::unfit(kind, arena[mid]) {
         return refused(43);
     }
     let len = 1 + f + len_of(second);

@@ -1,4 +1,4 @@
-//! Put: a view put back into a node, with what was written in the arena's slots. A node's record starts at byte `n` of the sheet; lent are,
+//! Put: a view put back into a node, with what was written in the arena's slots. A node's record starts at byte `place` of the sheet; lent are,
 //! beside what a get is lent, the `slots` and the `cells`.
 ghost use mathlib.Core.Path.{_≡_};
 ghost use mathlib.Core.List.{[], _∷_};
@@ -8,16 +8,16 @@ ghost use Rattle.value.specs.Value.{Value, vfalse};
 ghost use Rattle.shapes.specs.Parts.{sameBytes};
 ghost use Rattle.sheet.specs.Wide.{wideBytes};
 ghost use Rattle.rules.specs.Numbers.{CHAIN};
-ghost use Rattle.answer.specs.Answer.{lenOf};
-ghost use Rattle.step.specs.Step.{judged, madeOf};
-ghost use Rattle.walk.specs.Cells.{Shown};
-ghost use Rattle.walk.specs.GetTwo.{Two};
-ghost use Rattle.walk.specs.GetCase.{Case};
-ghost use Rattle.walk.specs.GetLeaf.{Childless};
-ghost use Rattle.walk.specs.Puts.{
+ghost use Rattle.outcome.specs.Outcome.{lenOf};
+ghost use Rattle.decisions.specs.Decisions.{judged, madeOf};
+ghost use Rattle.walk.specs.Arena.Cells.{Shown};
+ghost use Rattle.walk.specs.Get.Two.{Two};
+ghost use Rattle.walk.specs.Get.Case.{Case};
+ghost use Rattle.walk.specs.Get.Leaf.{Childless};
+ghost use Rattle.walk.specs.Put.{
   Ready,
   Inner,
-  Gives,
+  PutShows,
   Few,
   Any,
   PartsAt,
@@ -33,13 +33,13 @@ ghost use Rattle.walk.specs.Puts.{
   rebuiltOf,
   switchAt,
 };
-ghost use Rattle.walk.specs.PutLeaf.{numberBytes};
-ghost use Rattle.walk.specs.PutUnder.{gotParts};
-ghost use Rattle.walk.specs.PutSwitch.{BothAsked, Sees, DefaultsAsked, Defaults};
-ghost use Rattle.walk.specs.PutMember.{StoodAsked, Stood, MembersAsked, MemberTold};
-ghost use Rattle.walk.specs.PutMembers.{SomeList, MembersTold};
+ghost use Rattle.walk.specs.Put.Leaf.{numberBytes};
+ghost use Rattle.walk.specs.Put.Under.{gotParts};
+ghost use Rattle.walk.specs.Put.Switch.{BothAsked, Sees, DefaultsAsked, Defaults};
+ghost use Rattle.walk.specs.Put.Member.{StoodAsked, Stood, MembersAsked, MemberTold};
+ghost use Rattle.walk.specs.Put.Members.{SomeList, MembersTold};
 use crate::at::At;
-use crate::at::Own;
+use crate::at::Record;
 use crate::at::Table;
 use crate::bytes::copy;
 use crate::bytes::fill;
@@ -51,17 +51,17 @@ use crate::scope::member;
 use crate::scope::none;
 use crate::scope::single;
 use crate::scope::with_two;
-use answer::done;
-use answer::is_refused;
-use answer::later;
-use answer::len_of;
-use answer::refused;
-use answer::start_of;
-use answer::steps_of;
 use arena::leave;
 use arena::write;
-use step::Apart;
-use step::Branch;
+use decisions::Apart;
+use decisions::Branch;
+use outcome::done;
+use outcome::is_refused;
+use outcome::later;
+use outcome::len_of;
+use outcome::refused;
+use outcome::start_of;
+use outcome::steps_of;
 use scopes::Scope;
 use shapes::Shape;
 
@@ -112,7 +112,7 @@ fn parts_of(kind: u8, branch: usize, subject: usize, got: usize, mid: usize) -> 
     ensures { λ r. ⌜ r ≡ gotParts (madeOf kind) branch subject got mid ⌝ }
 {
     Parts {
-        kind: step::made(kind),
+        kind: decisions::made(kind),
         branch,
         subject,
         start: start_of(got) + 1,
@@ -122,19 +122,22 @@ fn parts_of(kind: u8, branch: usize, subject: usize, got: usize, mid: usize) -> 
 }
 
 // A constant number (14) must equal the view.
-fn put_number(sheet: &[u8], n: u16, view: &[u8]) -> usize
-    ensures { λ r. ⌜ r ≡ judged 50 (sameBytes (now (view .entry)) (numberBytes (now (sheet .entry)) n)) ⌝ }
+fn put_number(sheet: &[u8], place: u16, view: &[u8]) -> usize
+    ensures { λ r. ⌜ r ≡ judged 50 (sameBytes (now (view .entry)) (numberBytes (now (sheet .entry)) place)) ⌝ }
 {
-    let number = value::number(sheet::byte_of(sheet, n, 1), sheet::byte_of(sheet, n, 2));
-    step::put_number(number, view)
+    let number = value::number(
+        sheet::byte_of(sheet, place, 1),
+        sheet::byte_of(sheet, place, 2),
+    );
+    decisions::put_number(number, view)
 }
 
 // A constant number of four bytes (1D) must equal the view.
-fn put_wide(sheet: &[u8], n: u16, view: &[u8]) -> usize
-    ensures { λ r. ⌜ r ≡ judged 50 (sameBytes (now (view .entry)) (wideBytes (now (sheet .entry)) n)) ⌝ }
+fn put_wide(sheet: &[u8], place: u16, view: &[u8]) -> usize
+    ensures { λ r. ⌜ r ≡ judged 50 (sameBytes (now (view .entry)) (wideBytes (now (sheet .entry)) place)) ⌝ }
 {
-    let number = sheet::wide_bytes(sheet, n);
-    step::put_bytes(&number, view)
+    let number = sheet::wide_bytes(sheet, place);
+    decisions::put_bytes(&number, view)
 }
 
 // A constant (11 to 14) must equal the view; a variable (10) takes it.
@@ -145,7 +148,7 @@ fn put_leaf(
     slots: &mut Slots,
     scope: Scope,
     cells: &Cells,
-    own: Own,
+    own: Record,
     view: &[u8],
     at: At,
 ) -> usize
@@ -156,12 +159,12 @@ fn put_leaf(
 {
     let kind = own.kind;
     if kind == 0x14 {
-        return put_number(sheet, own.n, view);
+        return put_number(sheet, own.place, view);
     }
     if kind != 0x10 {
-        return step::put_constant(kind - 0x11, view);
+        return decisions::put_constant(kind - 0x11, view);
     }
-    let x = sheet::number_of(sheet, own.n, 1);
+    let x = sheet::number_of(sheet, own.place, 1);
     let count = scope.count as usize;
     if count <= x {
         return refused(42);
@@ -187,14 +190,14 @@ pub fn put_node(
         (now (view .entry)) at r (enter node) ⌝ }
     ensures { λ r. ⌜ Few (at .left) r ⌝ }
 {
-    let code = step::entry(at.levels, at.left);
+    let code = decisions::entry(at.levels, at.left);
     if code != 0 {
         return leave(arena, refused(code), node, at.levels);
     }
-    let n = table[node];
+    let place = table[node];
     let to = at.below();
-    let kind = sheet::byte_of(sheet, n, 0);
-    let own = Own { node, n, kind };
+    let kind = sheet::byte_of(sheet, place, 0);
+    let own = Record { node, place, kind };
     if kind < 0x15 {
         let put = put_leaf(sheet, table, arena, slots, scope, cells, own, view, to);
         return leave(arena, put, node, at.levels);
@@ -220,7 +223,7 @@ pub fn put_node(
         return leave(arena, put, node, at.levels);
     }
     // 1D: no other kind is left
-    let put = put_wide(sheet, n, view);
+    let put = put_wide(sheet, place, view);
     leave(arena, put, node, at.levels)
 }
 
@@ -261,7 +264,7 @@ fn put_two(
     slots: &mut Slots,
     scope: Scope,
     cells: &Cells,
-    own: Own,
+    own: Record,
     view: &[u8],
     at: At,
 ) -> usize
@@ -270,18 +273,18 @@ fn put_two(
     ensures { λ r. ⌜ KindTells (now (sheet .entry)) (now (arena .entry)) (now (arena .exit)) (now (slots .entry)) (now (slots .exit)) scope (now (cells .entry))
         own (now (view .entry)) at r ⌝ }
 {
-    let Apart::At(mid) = step::take_apart(own.kind, shapes::shape_of(view)) else {
+    let Apart::At(mid) = decisions::take_apart(own.kind, shapes::shape_of(view)) else {
         return refused(51);
     };
     let left = shapes::first_part(view, mid);
     let right = shapes::second_part(view, mid);
-    let a = sheet::number_of(sheet, own.n, 1);
+    let a = sheet::number_of(sheet, own.place, 1);
     let one = put_node(sheet, table, arena, slots, scope, cells, a, left, at);
     if is_refused(one) {
         return one;
     }
     let then = at.after(one);
-    let b = sheet::number_of(sheet, own.n, 2);
+    let b = sheet::number_of(sheet, own.place, 2);
     let two = put_node(sheet, table, arena, slots, scope, cells, b, right, then);
     later(two, steps_of(one))
 }
@@ -311,7 +314,7 @@ fn put_under(
     let inner = with_two(scope, parts.start, parts.first, parts.second);
     let mut more = *cells;
     scopes::add_cells(&mut more, scope.count as usize, c);
-    let to = at.wider();
+    let to = at.with_two_cells();
     let branch = parts.branch;
     let one = put_node(sheet, table, arena, slots, inner, &more, branch, view, to);
     if is_refused(one) {
@@ -336,7 +339,7 @@ fn put_rebuilt(
     requires { ⌜ Ready (now sheet) (now table) (now arena) (now slots) Any scope (now cells) (at .cells) (at .cells + 2) (at .top) (at .levels) (at .left)
         (rebuiltOf parts vfalse vfalse) ⌝ }
     requires { ⌜ SomeParts (now arena) (at .top) (parts .start) (parts .first) (parts .second) ⌝ }
-    ensures { λ r. ⌜ ((f u : Value) → PartsAt (now (arena .entry)) (at .top) (parts .start) (parts .first) (parts .second) f u → Gives (now (arena .entry))
+    ensures { λ r. ⌜ ((f u : Value) → PartsAt (now (arena .entry)) (at .top) (parts .start) (parts .first) (parts .second) f u → PutShows (now (arena .entry))
         (now (arena .exit)) (now (slots .entry)) (now (slots .exit)) (now (sheet .entry)) Any scope (now (cells .entry)) (at .cells) (at .cells + 2)
         (at .top) (at .left) r (at .levels) (rebuiltOf parts f u)) ⌝ }
     ensures { λ r. ⌜ Few (at .left) r ⌝ }
@@ -347,7 +350,7 @@ fn put_rebuilt(
     let f = scopes::place_of(slots[c], c, start, first);
     let r = scopes::place_of(slots[c + 1], c + 1, start + first, parts.second);
     let rest = r.start;
-    if step::unfit(parts.kind, arena[rest]) {
+    if decisions::unfit(parts.kind, arena[rest]) {
         return refused(43);
     }
     let size = 1 + f.len + r.len;
@@ -377,7 +380,7 @@ fn put_case(
     slots: &mut Slots,
     scope: Scope,
     cells: &Cells,
-    own: Own,
+    own: Record,
     view: &[u8],
     at: At,
 ) -> usize
@@ -386,17 +389,17 @@ fn put_case(
     ensures { λ r. ⌜ KindTells (now (sheet .entry)) (now (arena .entry)) (now (arena .exit)) (now (slots .entry)) (now (slots .exit)) scope (now (cells .entry))
         own (now (view .entry)) at r ⌝ }
 {
-    let subject = sheet::number_of(sheet, own.n, 1);
+    let subject = sheet::number_of(sheet, own.place, 1);
     let got = get_node(sheet, table, arena, scope, subject, at);
     if is_refused(got) {
         return got;
     }
     let to = at.behind(got);
-    let first = sheet::byte_of(sheet, own.n, 3);
-    let second = sheet::byte_of(sheet, own.n, 5);
-    match step::takes(own.kind, shape_at(arena, got), first, second, view) {
+    let first = sheet::byte_of(sheet, own.place, 3);
+    let second = sheet::byte_of(sheet, own.place, 5);
+    match decisions::takes(own.kind, shape_at(arena, got), first, second, view) {
         Branch::Plain(i, byte) => {
-            let branch = sheet::number_of(sheet, own.n, i);
+            let branch = sheet::number_of(sheet, own.place, i);
             let by = Plain {
                 branch,
                 subject,
@@ -406,13 +409,23 @@ fn put_case(
             later(put, steps_of(got))
         }
         Branch::Parts(i, mid) => {
-            let branch = sheet::number_of(sheet, own.n, i);
+            let branch = sheet::number_of(sheet, own.place, i);
             let parts = parts_of(own.kind, branch, subject, got, mid);
             let put = put_under(sheet, table, arena, slots, scope, cells, parts, view, to);
             later(put, steps_of(got))
         }
         Branch::Switch => {
-            let put = put_switch(sheet, table, arena, slots, scope, cells, own.n, view, to);
+            let put = put_switch(
+                sheet,
+                table,
+                arena,
+                slots,
+                scope,
+                cells,
+                own.place,
+                view,
+                to,
+            );
             later(put, steps_of(got))
         }
         Branch::Refused(code) => refused(code),
@@ -421,26 +434,33 @@ fn put_case(
 
 // The default first and the default rest of a list case, got in the scope `seen`, one after the other from the top on. The answer has the
 // length of the first for its start.
-fn two_defaults(sheet: &[u8], table: &Table, arena: &mut [u8], seen: Scope, n: u16, at: At) -> usize
-    requires { ⌜ BothAsked (now sheet) (now table) (now arena) seen n (at .top) (at .levels) (at .left) ⌝ }
-    ensures { λ r. ⌜ Defaults (now (sheet .entry)) n (Sees (now (arena .entry)) seen (at .top)) (now (arena .entry)) (now (arena .exit)) (at .top)
+fn two_defaults(
+    sheet: &[u8],
+    table: &Table,
+    arena: &mut [u8],
+    seen: Scope,
+    place: u16,
+    at: At,
+) -> usize
+    requires { ⌜ BothAsked (now sheet) (now table) (now arena) seen place (at .top) (at .levels) (at .left) ⌝ }
+    ensures { λ r. ⌜ Defaults (now (sheet .entry)) place (Sees (now (arena .entry)) seen (at .top)) (now (arena .entry)) (now (arena .exit)) (at .top)
         (at .levels) (at .left) r ⌝ }
 {
-    let first = sheet::number_of(sheet, n, 6);
+    let first = sheet::number_of(sheet, place, 6);
     let got = get_node(sheet, table, arena, seen, first, at);
     let a = bring(arena, got, at.top);
     if is_refused(a) {
         return a;
     }
     let two = at.behind(a);
-    let rest = sheet::number_of(sheet, n, 7);
+    let rest = sheet::number_of(sheet, place, 7);
     let got = get_node(sheet, table, arena, seen, rest, two);
     let b = bring(arena, got, two.top);
     if is_refused(b) {
         return b;
     }
     let mid = two.top;
-    if step::unfit(3, arena[mid]) {
+    if decisions::unfit(3, arena[mid]) {
         return refused(43);
     }
     done(len_of(a), len_of(b), steps_of(a) + steps_of(b))
@@ -448,9 +468,9 @@ fn two_defaults(sheet: &[u8], table: &Table, arena: &mut [u8], seen: Scope, n: u
 
 // The defaults of a list case, got in a scope of one variable, the view: it stands at the top while they are got behind it, and then they are
 // brought down to where it stood.
-fn defaults(sheet: &[u8], table: &Table, arena: &mut [u8], n: u16, view: &[u8], at: At) -> usize
-    requires { ⌜ DefaultsAsked (now sheet) (now table) (now arena) (now view) n (at .top) (at .levels) (at .left) ⌝ }
-    ensures { λ r. ⌜ Defaults (now (sheet .entry)) n (Shown (now (view .entry))) (now (arena .entry)) (now (arena .exit)) (at .top) (at .levels) (at .left)
+fn defaults(sheet: &[u8], table: &Table, arena: &mut [u8], place: u16, view: &[u8], at: At) -> usize
+    requires { ⌜ DefaultsAsked (now sheet) (now table) (now arena) (now view) place (at .top) (at .levels) (at .left) ⌝ }
+    ensures { λ r. ⌜ Defaults (now (sheet .entry)) place (Shown (now (view .entry))) (now (arena .entry)) (now (arena .exit)) (at .top) (at .levels) (at .left)
         r ⌝ }
 {
     let top = at.top;
@@ -458,7 +478,7 @@ fn defaults(sheet: &[u8], table: &Table, arena: &mut [u8], n: u16, view: &[u8], 
     scopes::store(arena, top, view);
     let seen = single(top, len);
     let to = at.raised(len);
-    let got = two_defaults(sheet, table, arena, seen, n, to);
+    let got = two_defaults(sheet, table, arena, seen, place, to);
     if is_refused(got) {
         return got;
     }
@@ -475,24 +495,24 @@ fn put_switch(
     slots: &mut Slots,
     scope: Scope,
     cells: &Cells,
-    n: u16,
+    place: u16,
     view: &[u8],
     at: At,
 ) -> usize
-    requires { ⌜ TaskAsked (now sheet) (now table) (now arena) (now slots) scope (now cells) (now view) at (switchAt (now sheet) n) ⌝ }
+    requires { ⌜ TaskAsked (now sheet) (now table) (now arena) (now slots) scope (now cells) (now view) at (switchAt (now sheet) place) ⌝ }
     requires { ⌜ Inner scope (at .cells) (at .levels) ⌝ }
     requires { ⌜ at .top + 512 + 513 * at .levels ≤ CHAIN ⌝ }
     ensures { λ r. ⌜ TaskTells (now (sheet .entry)) (now (arena .entry)) (now (arena .exit)) (now (slots .entry)) (now (slots .exit)) scope (now (cells .entry))
-        (now (view .entry)) at r (switchAt (now (sheet .entry)) n) ⌝ }
+        (now (view .entry)) at r (switchAt (now (sheet .entry)) place) ⌝ }
 {
-    let got = defaults(sheet, table, arena, n, view, at);
+    let got = defaults(sheet, table, arena, place, view, at);
     if is_refused(got) {
         return got;
     }
     let first = start_of(got);
     let second = len_of(got);
-    let branch = sheet::number_of(sheet, n, 4);
-    let subject = sheet::number_of(sheet, n, 1);
+    let branch = sheet::number_of(sheet, place, 4);
+    let subject = sheet::number_of(sheet, place, 1);
     let parts = Parts {
         kind: 3,
         branch,
@@ -515,7 +535,7 @@ fn put_call(
     slots: &mut Slots,
     scope: Scope,
     cells: &Cells,
-    own: Own,
+    own: Record,
     view: &[u8],
     at: At,
 ) -> usize
@@ -524,8 +544,8 @@ fn put_call(
     ensures { λ r. ⌜ KindTells (now (sheet .entry)) (now (arena .entry)) (now (arena .exit)) (now (slots .entry)) (now (slots .exit)) scope (now (cells .entry))
         own (now (view .entry)) at r ⌝ }
 {
-    let x = sheet::number_of(sheet, own.n, 2);
-    let y = sheet::number_of(sheet, own.n, 3);
+    let x = sheet::number_of(sheet, own.place, 2);
+    let y = sheet::number_of(sheet, own.place, 3);
     let count = scope.count as usize;
     if count <= x {
         return refused(42);
@@ -533,7 +553,7 @@ fn put_call(
     if count <= y {
         return refused(42);
     }
-    let root = sheet::section_root(sheet, sheet::number_of(sheet, own.n, 1));
+    let root = sheet::section_root(sheet, sheet::number_of(sheet, own.place, 1));
     let inner = scopes::section(scope, x, y);
     let two = scopes::pick_cells(cells, x, y);
     put_node(sheet, table, arena, slots, inner, &two, root, view, at)
@@ -547,7 +567,7 @@ fn put_add(
     slots: &mut Slots,
     scope: Scope,
     cells: &Cells,
-    own: Own,
+    own: Record,
     view: &[u8],
     at: At,
 ) -> usize
@@ -560,15 +580,15 @@ fn put_add(
         return refused(51);
     };
     let amount = value::number(
-        sheet::byte_of(sheet, own.n, 2),
-        sheet::byte_of(sheet, own.n, 3),
+        sheet::byte_of(sheet, own.place, 2),
+        sheet::byte_of(sheet, own.place, 3),
     );
     if m < amount {
         return refused(52);
     }
     let rest = m - amount;
     let less = [4, value::high(rest), value::low(rest)];
-    let node = sheet::number_of(sheet, own.n, 1);
+    let node = sheet::number_of(sheet, own.place, 1);
     put_node(sheet, table, arena, slots, scope, cells, node, &less, at)
 }
 
@@ -635,7 +655,7 @@ fn put_one(
     }
     let now = scopes::place_of(slots[cell], cell, start, len);
     let size = 1 + now.len;
-    if step::overlong(built, size) {
+    if decisions::overlong(built, size) {
         return refused(44);
     }
     whole[built] = 3;
@@ -708,7 +728,7 @@ fn put_each(
     slots: &mut Slots,
     scope: Scope,
     cells: &Cells,
-    own: Own,
+    own: Record,
     view: &[u8],
     at: At,
 ) -> usize
@@ -717,25 +737,25 @@ fn put_each(
     ensures { λ r. ⌜ KindTells (now (sheet .entry)) (now (arena .entry)) (now (arena .exit)) (now (slots .entry)) (now (slots .exit)) scope (now (cells .entry))
         own (now (view .entry)) at r ⌝ }
 {
-    if step::unfit(3, view[0]) {
+    if decisions::unfit(3, view[0]) {
         return refused(51);
     }
-    let subject = sheet::number_of(sheet, own.n, 1);
+    let subject = sheet::number_of(sheet, own.place, 1);
     let got = get_node(sheet, table, arena, scope, subject, at);
     if is_refused(got) {
         return got;
     }
     let old = start_of(got);
-    if step::unfit(3, arena[old]) {
+    if decisions::unfit(3, arena[old]) {
         return refused(43);
     }
-    let x = sheet::number_of(sheet, own.n, 3);
+    let x = sheet::number_of(sheet, own.place, 3);
     let count = scope.count as usize;
     if count <= x {
         return refused(42);
     }
-    let root = sheet::section_root(sheet, sheet::number_of(sheet, own.n, 2));
-    let default = sheet::number_of(sheet, own.n, 4);
+    let root = sheet::section_root(sheet, sheet::number_of(sheet, own.place, 2));
+    let default = sheet::number_of(sheet, own.place, 4);
     let by = Members {
         subject,
         x,

@@ -14,10 +14,10 @@ use Rattle.value.specs.Reading.{readPlan, readView}
 use Rattle.sheet.specs.Sheet.{Sheet, readSheet}
 use Rattle.rules.specs.Numbers.{SCRATCH}
 use Rattle.rules.specs.Outcome.{Out, done, refused, reading, mapOut}
-use Rattle.rules.specs.Rules.{Env}
+use Rattle.rules.specs.Counting.{Env}
 use Rattle.rules.specs.Answer.{getWalk, getBytes}
 use Rattle.rules.specs.Nodes.{everywhere, among-all}
-use Rattle.rules.specs.Refusals.{table, Lists, lDone, lRefused, lists-get-bytes}
+use Rattle.rules.specs.Laws.Refusals.{table, Lists, lDone, lRefused, lists-get-bytes}
 use Rattle.venue.specs.Accepts.{kept, orCode, result, judgedOf, acceptsOf}
 use Rattle.accepts.specs.declared.Verdict.{Verdict}
 use Rattle.accepts.specs.declared.Verdict.the-variants.{Yes, No, Refused}
@@ -31,7 +31,7 @@ use Rattle.words.specs.declared.fields.Taken.the-variants.{Whole, Cut}
 use Rattle.words.specs.Format.{two, part, fieldsOf, sheetOf, planOf, viewOf}
 use Rattle.letters.specs.Small.{Small, no, small-number, small-unless, small-then, small-sheet, small-view, small-plan}
 use Rattle.walking.specs.Endings.{Ending, says, yesLine, judges, checksBy, checks, outputAfter, scratchAfter}
-use Rattle.walking.specs.WhyLaws.{Explained}
+use Rattle.walking.specs.ExplanationLaws.{Explained}
 
 -- HOW LONG IT IS
 

@@ -9,10 +9,10 @@ use Rattle.rules.specs.Numbers.{SCRATCH, PUT-OUTPUT}
 use Rattle.value.specs.Result.{Result, ok, refusal}
 use Rattle.rules.specs.Answer.{Answer, success, putAnswer}
 use Rattle.rules.specs.Answer as Answer
-use Rattle.rules.specs.Explanation.{Explanation, whyGet, whyPut}
+use Rattle.rules.specs.Explain.Calls.{Explanation, whyGet, whyPut}
 use Rattle.calls.specs.Reply.{Reply, Done, Refused}
 use Rattle.calls.specs.Calls.{written, cleared, newStarts, newWritten}
-use Rattle.calls.specs.Whys.{whyCleared}
+use Rattle.calls.specs.Explain.{whyCleared}
 use Rattle.venue.specs.Accepts.{acceptsOf}
 use Rattle.accepts.specs.Accepts.{cleared as judgedCleared}
 use Rattle.report.specs.Text.{hexOf, decimalOf, refusalLine, okLine}
@@ -26,7 +26,7 @@ use Rattle.words.specs.declared.Job.{Job}
 use Rattle.words.specs.declared.Job.the-variants.{Get, Put, Other}
 use Rattle.words.specs.Format.{two, part, sheetOf, planOf, viewOf, jobOf, jobNumber}
 use Rattle.words.specs.Answers.{bitsWord}
-use Rattle.walking.specs.Why.{whyLine}
+use Rattle.walking.specs.Explanations.{whyLine}
 
 -- what an input comes to: the line, and the call on output and scratch that was made for it, or on scratch alone, where one was
 pub data Call : Type 0 where

@@ -1,5 +1,5 @@
-pub mod Why
+pub mod Explanations
 pub mod Endings
 pub mod PutLaws
-pub mod WhyLaws
+pub mod ExplanationLaws
 pub mod CheckLaws

@@ -1,4 +1,4 @@
--- The numbers of the programs' input and of the line of `tools`, by the names that the code has for them (INPUT of src/lib.rt, LINE of crate tool).
+-- The numbers of the programs' input and of the line of `tools`, by the names that the code has for them (INPUT of src/lib.rt, LINE of crate command).
 use Prim.Native.Nat.{ℕ}
 
 -- the bytes of an input, at most

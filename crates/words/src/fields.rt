@@ -19,7 +19,7 @@ pub enum Taken {
     Cut,
 }
 
-fn wide(b: u8) -> u32
+fn extend(b: u8) -> u32
     ensures { λ r. ⌜ (r ≡ b) × (r < 256) ⌝ }
 {
     b as u32
@@ -84,7 +84,7 @@ pub fn take_fields(input: &[u8]) -> Taken
     if input.len() < 8 + sheet + plan {
         return Taken::Cut;
     }
-    let allowance = 65536 * wide(input[1]) + 256 * wide(input[2]) + wide(input[3]);
+    let allowance = 65536 * extend(input[1]) + 256 * extend(input[2]) + extend(input[3]);
     Taken::Whole(Fields {
         allowance,
         sheet,

@@ -1,7 +1,7 @@
 -- `accepts` meets its contract: refused at the door, or judged behind it. Assumes nothing.
 use native.Mathlib.Omega.{arith}
 use lib.ListN.{length}
-use Rattle.rules.specs.AnswerLaws.{Lent}
+use Rattle.rules.specs.Laws.Answers.{DoorOpens}
 use Rattle.calls.specs.Buffers.{cleared-whole}
 use Rattle.arena.specs.Door.{door-lent}
 use Rattle.accepts.specs.Calls.{shut-told, behind}
@@ -20,7 +20,7 @@ abbrev told : tie.After-clear-arg → tie.After-judged
 told c = c .before .before .before
 
 -- what is lent behind the door
-lent : (c : tie.Else1) → let a = entry (c .before) .args in Lent 0 0 (length (a .scratch .now)) (a .allowance)
+lent : (c : tie.Else1) → let a = entry (c .before) .args in DoorOpens 0 0 (length (a .scratch .now)) (a .allowance)
 lent c = door-lent (c .before .side-door .ensures) (c .if1 .left)
 
 -- NEEDS

@@ -1,7 +1,7 @@
 -- `judged` meets its contract: what each reader refuses, and what the list and both plans say. Assumes nothing.
 use Rattle.rules.specs.Numbers.{SCRATCH}
-use Rattle.walk.specs.Entry.{Free, sheet-refusal}
-use Rattle.walk.specs.PutEntry.{Viewed, viewed, view-refused}
+use Rattle.walk.specs.Call.{Free, sheet-refusal}
+use Rattle.walk.specs.Call.Put.{Viewed, viewed, view-refused}
 use Rattle.accepts.specs.Marks.{Readied}
 use Rattle.accepts.specs.Calls.{
   ready,

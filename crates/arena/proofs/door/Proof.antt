@@ -1,6 +1,6 @@
 -- `door` meets its contract: a return for each refusal, and one where it opens. Assumes nothing.
 use native.Mathlib.Omega.{arith}
-use Rattle.rules.specs.AnswerLaws.{door-scratch, door-none, door-over}
+use Rattle.rules.specs.Laws.Answers.{door-scratch, door-none, door-over}
 use Rattle.arena.specs.Door.{shut-is, shut-open}
 use Rattle.arena.proofs.door.Statement.{statement}
 use Rattle.arena.proofs.door.Tie as tie

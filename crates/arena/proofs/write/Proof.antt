@@ -6,9 +6,9 @@ use Prim.Native.Nat.{ℕ, _+_, _-_, _*_, _≤_}
 use lib.ListN.{getD, length, set, take, drop}
 use lib.Seq.{paste}
 use Rattle.shapes.specs.Parts.{sameBytes}
-use Rattle.answer.specs.Answer.{refusedBy}
+use Rattle.outcome.specs.Outcome.{refusedBy}
 use Rattle.scopes.specs.Scopes.{notedLen, notedBy}
-use Rattle.step.specs.Step.{judged}
+use Rattle.decisions.specs.Decisions.{judged}
 use Rattle.scopes.specs.Scopes.{slotOf}
 use Rattle.arena.specs.Writing.{Takes, not-taken, taken-first, taken-again}
 use borrow.Author.Needs.{needs}

@@ -1,7 +1,7 @@
 -- `answered` meets its contract: a walk that refused, or one that is done. Assumes nothing.
 use mathlib.Core.Path.{sym, _∙_}
 use Rattle.calls.specs.Buffers.{cleared-whole}
-use Rattle.calls.specs.Told.{kept-refused, fits-done, copied-done}
+use Rattle.calls.specs.Output.{kept-refused, room-done, copied-done}
 use borrow.Author.Needs.{needs}
 use Rattle.calls.proofs.answered.Statement.{statement}
 use Rattle.calls.proofs.answered.Tie as tie
@@ -12,7 +12,7 @@ entry c = c .before .before .before .before .before .before .before
 
 -- NEEDS
 given-requires : tie.Need-given-requires
-given-requires c κs = let p = entry c .pre in (p .0, fits-done (c .before .before .before .walked2 .given .1) _ _ (p .1))
+given-requires c κs = let p = entry c .pre in (p .0, room-done (c .before .before .before .walked2 .given .1) _ _ (p .1))
 
 returns : tie.Need-returns
 returns c =

@@ -1,7 +1,7 @@
 -- `door` meets its contract: refused for the output, or else what the walk's door says. Assumes nothing.
 use mathlib.Core.Path.{_∙_}
 use native.Mathlib.Omega.{arith}
-use Rattle.rules.specs.AnswerLaws.{door-output}
+use Rattle.rules.specs.Laws.Answers.{door-output}
 use Rattle.arena.specs.Door.{shut-is, past-output}
 use borrow.Author.Needs.{needs}
 use Rattle.calls.proofs.door.Statement.{statement}

@@ -1,9 +1,9 @@
 -- `get` meets its contract: refused at the door, or answered behind it by the walk. Assumes nothing.
 use lib.ListN.{length}
 use Rattle.rules.specs.Numbers.{GET-OUTPUT}
-use Rattle.rules.specs.AnswerLaws.{Lent}
+use Rattle.rules.specs.Laws.Answers.{DoorOpens}
 use Rattle.arena.specs.Door.{door-lent}
-use Rattle.calls.specs.Trips.{with-unmoved}
+use Rattle.calls.specs.Trips.{with-acceptable}
 use Rattle.calls.specs.WalkCalls.{get-behind, call-shut, call-fits, call-told}
 use borrow.Author.Needs.{needs}
 use Rattle.calls.proofs.get.Statement.{statement}
@@ -20,12 +20,12 @@ abbrev walked : tie.After-answered-arg2 → tie.After-get
 walked c = c .before .before .before .before
 
 -- what is lent behind the door
-lent : (c : tie.Else1) → let a = entry (c .before) .args in Lent GET-OUTPUT (length (a .out .now)) (length (a .scratch .now)) (a .allowance)
+lent : (c : tie.Else1) → let a = entry (c .before) .args in DoorOpens GET-OUTPUT (length (a .out .now)) (length (a .scratch .now)) (a .allowance)
 lent c = door-lent (c .before .door .ensures) (c .if1 .left)
 
 -- NEEDS
 returns : tie.Need-returns
-returns c = with-unmoved _ _ _ _ _ (call-shut (get-behind _ _ _ _ _) (c .before .door .ensures) (c .if1 .taken))
+returns c = with-acceptable _ _ _ _ _ (call-shut (get-behind _ _ _ _ _) (c .before .door .ensures) (c .if1 .taken))
 
 answered-requires : tie.Need-answered-requires
 answered-requires c κs =
@@ -38,7 +38,7 @@ returns-2 c =
     let r = c .before .before .before .before in
     let w = walked (r .before) in
     let t = r .answered .ensures in
-    with-unmoved _ _ _ _ _ (call-told (get-behind _ _ _ _ _) (lent (opened w)) (w .get .ensures .0) (t .0) (t .1) (t .2))
+    with-acceptable _ _ _ _ _ (call-told (get-behind _ _ _ _ _) (lent (opened w)) (w .get .ensures .0) (t .0) (t .1) (t .2))
 
 pub get-spec : {M : Type 1} → statement M
 get-spec = tie.close (tie.spec (λ c κs. search needs) returns (λ c κs. search needs) answered-requires (λ c. search needs) (λ c. search needs) returns-2)

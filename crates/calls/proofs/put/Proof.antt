@@ -2,9 +2,9 @@
 use mathlib.Core.Path.{_∙_}
 use lib.ListN.{length}
 use Rattle.rules.specs.Numbers.{PUT-OUTPUT}
-use Rattle.rules.specs.AnswerLaws.{Lent}
+use Rattle.rules.specs.Laws.Answers.{DoorOpens}
 use Rattle.arena.specs.Door.{door-lent}
-use Rattle.calls.specs.Trips.{with-stands}
+use Rattle.calls.specs.Trips.{with-consistent}
 use Rattle.calls.specs.WalkCalls.{put-behind, none-refused, clear-refused, call-shut, call-fits, call-told, call-starts, call-written}
 use borrow.Author.Needs.{needs}
 use Rattle.calls.proofs.put.Statement.{statement}
@@ -21,14 +21,14 @@ abbrev walked : tie.After-answered-arg2 → tie.After-put
 walked c = c .before .before .before .before
 
 -- what is lent behind the door
-lent : (c : tie.Else1) → let a = entry (c .before) .args in Lent PUT-OUTPUT (length (a .out .now)) (length (a .scratch .now)) (a .allowance)
+lent : (c : tie.Else1) → let a = entry (c .before) .args in DoorOpens PUT-OUTPUT (length (a .out .now)) (length (a .scratch .now)) (a .allowance)
 lent c = door-lent (c .before .door .ensures) (c .if1 .left)
 
 -- NEEDS
 returns : tie.Need-returns
 returns c =
     let s = call-shut (put-behind _ _ _ _ _ _) (c .before .before .door .ensures) (c .before .if1 .taken) in
-    with-stands _ _ _ _ _ _ s (c .none .ensures ∙ none-refused _ _ (s .answer)) (clear-refused _ _ _ _ _ (s .answer))
+    with-consistent _ _ _ _ _ _ s (c .none .ensures ∙ none-refused _ _ (s .answer)) (clear-refused _ _ _ _ _ (s .answer))
 
 answered-requires : tie.Need-answered-requires
 answered-requires c κs =
@@ -44,7 +44,7 @@ returns-2 c =
     let p = w .put .ensures in
     let l = lent (opened w) in
     let b = put-behind _ _ _ _ _ _ in
-    with-stands _ _ _ _ _ _ (call-told b l (p .0) (t .0) (t .1) (t .2)) (p .1 .0 ∙ call-starts b l (p .0) _)
+    with-consistent _ _ _ _ _ _ (call-told b l (p .0) (t .0) (t .1) (t .2)) (p .1 .0 ∙ call-starts b l (p .0) _)
     (p .1 .1 .0 ∙ call-written b l (p .0) _ _ _ _)
 
 pub put-spec : {M : Type 1} → statement M

@@ -22,9 +22,9 @@ returns-3 c = sym (part-past _ _ (c .if3 .taken))
 returns-4 : tie.Need-returns-4
 returns-4 c =
     let a = c .before .before .before .before .args in
-    let w = c .wide .result in
-    let e : 16 + (w - 16) ≡ a .kind = omega (arith, c .wide .ensures) in
-    sym (part-at (w - 16) (a .i) (omega (arith, c .wide .ensures)) (omega arith)) ∙ ap (λ (k : ℕ). partAt k (a .i)) e
+    let w = c .extend .result in
+    let e : 16 + (w - 16) ≡ a .kind = omega (arith, c .extend .ensures) in
+    sym (part-at (w - 16) (a .i) (omega (arith, c .extend .ensures)) (omega arith)) ∙ ap (λ (k : ℕ). partAt k (a .i)) e
 
 pub part-spec : {M : Type 1} → statement M
 part-spec = tie.close (tie.spec returns returns-2 returns-3 (λ c κs. search needs) (λ c. search needs) (λ c. search needs) (λ c. search needs)

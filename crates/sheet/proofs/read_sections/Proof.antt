@@ -12,22 +12,22 @@ Inv-loop s k root n₀ at₀ n at = Header s k root × Run s n at
 abbrev μ-loop : tie.MeasureT-loop
 μ-loop s k root n₀ at₀ n at = length s - at
 
-shared-slice-read-wide : tie.Need-shared-slice-read-wide Inv-loop μ-loop
-shared-slice-read-wide c = search needs
+shared-slice-read-extend : tie.Need-shared-slice-read-extend Inv-loop μ-loop
+shared-slice-read-extend c = search needs
 
-wide-requires : tie.Need-wide-requires Inv-loop μ-loop
-wide-requires c κs = search needs
+extend-requires : tie.Need-extend-requires Inv-loop μ-loop
+extend-requires c κs = search needs
 
-shared-slice-read-wide-2 : tie.Need-shared-slice-read-wide-2 Inv-loop μ-loop
-shared-slice-read-wide-2 c = search needs
+shared-slice-read-extend-2 : tie.Need-shared-slice-read-extend-2 Inv-loop μ-loop
+shared-slice-read-extend-2 c = search needs
 
-wide-requires-2 : tie.Need-wide-requires-2 Inv-loop μ-loop
-wide-requires-2 c κs = search needs
+extend-requires-2 : tie.Need-extend-requires-2 Inv-loop μ-loop
+extend-requires-2 c κs = search needs
 
 loop-holds : tie.Need-loop-holds Inv-loop μ-loop
 loop-holds c = (
   whole-header (c .before .before .before .before .before .args .s .now) (c .before .before .before .before .before .pre)
-      (c .before .before .wide .ensures) (c .wide2 .ensures),
+      (c .before .before .extend .ensures) (c .extend2 .ensures),
   run-none (c .before .before .before .before .before .args .s .now),
 )
 
@@ -88,10 +88,10 @@ read-sections-spec =
     (tie.spec
     Inv-loop
     μ-loop
-    shared-slice-read-wide
-    wide-requires
-    shared-slice-read-wide-2
-    wide-requires-2
+    shared-slice-read-extend
+    extend-requires
+    shared-slice-read-extend-2
+    extend-requires-2
     loop-holds
     shared-slice-read-if1
     read-nodes-requires

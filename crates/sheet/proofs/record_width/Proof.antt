@@ -14,27 +14,27 @@ returns : tie.Need-returns
 unfolding kindWidth formWidth
 returns c = ap formWidth (sym (no-form (c .before .args .kind) (inl (c .if1 .taken))))
 
-wide-requires : tie.Need-wide-requires
-wide-requires c κs = search needs
+extend-requires : tie.Need-extend-requires
+extend-requires c κs = search needs
 
 sub-k : tie.Need-sub-k
 sub-k c = search needs
 
 returns-2 : tie.Need-returns-2
 unfolding kindWidth formWidth
-returns-2 c = ap formWidth (sym (no-form (c .before .before .before .args .kind) (inr (omega (arith, c .before .wide .ensures)))))
+returns-2 c = ap formWidth (sym (no-form (c .before .before .before .args .kind) (inr (omega (arith, c .before .extend .ensures)))))
 
-array-read-wide : tie.Need-array-read-wide
-array-read-wide c = search needs
+array-read-extend : tie.Need-array-read-extend
+array-read-extend c = search needs
 
-wide-requires-2 : tie.Need-wide-requires-2
-wide-requires-2 c κs = search needs
+extend-requires-2 : tie.Need-extend-requires-2
+extend-requires-2 c κs = search needs
 
 returns-3 : tie.Need-returns-3
 unfolding formWidth bodyWidth
 returns-3 c =
-    let e : 16 + (c .before .before .wide .result - 16) ≡ c .before .before .before .before .args .kind = omega (arith, c .before .before .wide .ensures) in
-    c .wide2 .ensures ∙ sym (kind-width (c .before .before .wide .result - 16)) ∙ ap kindWidth e
+    let e : 16 + (c .before .before .extend .result - 16) ≡ c .before .before .before .before .args .kind = omega (arith, c .before .before .extend .ensures) in
+    c .extend2 .ensures ∙ sym (kind-width (c .before .before .extend .result - 16)) ∙ ap kindWidth e
 
 pub record-width-spec : {M : Type 1} → statement M
-record-width-spec = tie.close (tie.spec returns wide-requires sub-k returns-2 array-read-wide wide-requires-2 returns-3)
+record-width-spec = tie.close (tie.spec returns extend-requires sub-k returns-2 array-read-extend extend-requires-2 returns-3)

@@ -21,17 +21,17 @@ returns-2 : tie.Need-returns-2
 unfolding sectionAt
 returns-2 c = sym (List·getD-eq-default (c .before .before .before .args .s .now) 0 (omega arith))
 
-shared-slice-read-wide : tie.Need-shared-slice-read-wide
-shared-slice-read-wide c = search needs
+shared-slice-read-extend : tie.Need-shared-slice-read-extend
+shared-slice-read-extend c = search needs
 
-wide-requires : tie.Need-wide-requires
-wide-requires c κs = search needs
+extend-requires : tie.Need-extend-requires
+extend-requires c κs = search needs
 
 returns-3 : tie.Need-returns-3
 unfolding sectionAt
-returns-3 c = c .wide .ensures
+returns-3 c = c .extend .ensures
 
 pub section-root-spec : {M : Type 1} → statement M
 section-root-spec =
     tie.close
-    (tie.spec returns mul-at add-at returns-2 shared-slice-read-wide wide-requires returns-3)
+    (tie.spec returns mul-at add-at returns-2 shared-slice-read-extend extend-requires returns-3)

@@ -3,7 +3,7 @@
 use mathlib.Core.Path.{refl}
 use Prim.Native.Nat.{_≤_, _<_, _-_}
 use native.Mathlib.Omega.{arith}
-use Rattle.walk.specs.Gather.{Gathered, gathered-none, gather-fits, grown-more, gathered-all}
+use Rattle.walk.specs.Call.Gather.{Gathered, gathered-none, gather-fits, grown-more, gathered-all}
 use borrow.Author.Needs.{needs}
 use Rattle.walk.proofs.gather.Statement.{statement}
 use Rattle.walk.proofs.gather.Tie as tie

@@ -6,9 +6,9 @@ use denote.Ref.{now}
 use lib.ListN.{length}
 use lib.Seq.{length-take-le}
 use Rattle.rules.specs.Numbers.{SCRATCH}
-use Rattle.rules.specs.AnswerLaws.{Lent}
+use Rattle.rules.specs.Laws.Answers.{DoorOpens}
 use Rattle.arena.specs.Door.{door-lent, door-shut}
-use Rattle.walk.specs.Entry.{
+use Rattle.walk.specs.Call.{
   TableRead,
   table-read,
   call-shut,
@@ -24,7 +24,7 @@ use Rattle.walk.specs.Entry.{
   explain-sheet-refused,
   explain-plan-refused,
 }
-use Rattle.walk.specs.Whys.{unread-walked, unread-met, unmet-shut, unmet, explains-whole}
+use Rattle.walk.specs.Call.Explained.{unread-walked, unread-met, unmet-shut, unmet, explains-whole}
 use borrow.Author.Needs.{needs}
 use Rattle.walk.proofs.get.Statement.{statement}
 use Rattle.walk.proofs.get.Tie as tie
@@ -43,7 +43,7 @@ abbrev of-plan : tie.After-of-spans → tie.Else3
 of-plan c = c .before
 
 -- WHAT IS KNOWN THERE
-lent : (c : tie.Else1) → let a = entry (c .before) .args in Lent 0 0 (length (now (a .arena))) (a .allowance)
+lent : (c : tie.Else1) → let a = entry (c .before) .args in DoorOpens 0 0 (length (now (a .arena))) (a .allowance)
 lent c = door-lent (c .before .door .ensures) (c .if1 .left)
 
 table : (c : tie.Else2) → TableRead (now (entry (opened c .before) .args .sheet)) (c .before .before .read-sheet .result)

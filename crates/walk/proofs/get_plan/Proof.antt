@@ -1,8 +1,8 @@
 -- `get_plan` meets its contract.
 -- Assumes nothing.
 use mathlib.Core.Path.{sym, _∙_}
-use Rattle.walk.specs.GetAt.{movable}
-use Rattle.walk.specs.Entry.{plan-fits, plan-ready, few-met, get-met, get-unmet, get-refused, get-done}
+use Rattle.walk.specs.Get.Top.{movable}
+use Rattle.walk.specs.Call.{plan-fits, plan-ready, few-met, get-met, get-unmet, get-refused, get-done}
 use borrow.Author.Needs.{needs}
 use Rattle.walk.proofs.get_plan.Statement.{statement}
 use Rattle.walk.proofs.get_plan.Tie as tie

@@ -6,12 +6,12 @@ use denote.Ref.{now}
 use lib.ListN.{length}
 use lib.Seq.{length-take-le}
 use Rattle.rules.specs.Numbers.{SCRATCH}
-use Rattle.rules.specs.AnswerLaws.{Lent}
+use Rattle.rules.specs.Laws.Answers.{DoorOpens}
 use Rattle.arena.specs.Door.{door-lent, door-shut}
-use Rattle.walk.specs.Entry.{TableRead, table-read, call-shut, call-refused, call-done, sheet-refusal, plan-refusal, plan-values, all-read, planned}
-use Rattle.walk.specs.NewStarts.{walked-is, met-is, none-with, starts-whole}
-use Rattle.walk.specs.Bits.{none-set}
-use Rattle.walk.specs.PutEntry.{
+use Rattle.walk.specs.Call.{TableRead, table-read, call-shut, call-refused, call-done, sheet-refusal, plan-refusal, plan-values, all-read, planned}
+use Rattle.walk.specs.Call.NewStarts.{walked-is, met-is, none-with, starts-whole}
+use Rattle.walk.specs.Call.Bits.{none-set}
+use Rattle.walk.specs.Call.Put.{
   put-all-read,
   viewed,
   view-refused,
@@ -22,7 +22,7 @@ use Rattle.walk.specs.PutEntry.{
   explain-plan-refused,
   explain-view-refused,
 }
-use Rattle.walk.specs.Whys.{unmet-shut, unmet, explains-whole}
+use Rattle.walk.specs.Call.Explained.{unmet-shut, unmet, explains-whole}
 use borrow.Author.Needs.{needs}
 use Rattle.walk.proofs.put.Statement.{statement}
 use Rattle.walk.proofs.put.Tie as tie
@@ -44,7 +44,7 @@ abbrev of-view : tie.After-of-spans → tie.Else4
 of-view c = c .before
 
 -- WHAT IS KNOWN THERE
-lent : (c : tie.Else1) → let a = entry (c .before) .args in Lent 0 0 (length (now (a .arena))) (a .allowance)
+lent : (c : tie.Else1) → let a = entry (c .before) .args in DoorOpens 0 0 (length (now (a .arena))) (a .allowance)
 lent c = door-lent (c .before .door .ensures) (c .if1 .left)
 
 table : (c : tie.Else2) → TableRead (now (entry (opened c .before) .args .sheet)) (c .before .before .read-sheet .result)

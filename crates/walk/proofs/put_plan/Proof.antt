@@ -2,11 +2,11 @@
 -- Assumes nothing.
 use mathlib.Core.Bool.{false}
 use mathlib.Core.Path.{_≡_, refl, sym, _∙_}
-use Rattle.answer.specs.Answer.{isRefusal}
-use Rattle.walk.specs.Entry.{plan-fits}
-use Rattle.walk.specs.NewStarts.{walked-is, met-is, none-with}
-use Rattle.walk.specs.Bits.{none-set}
-use Rattle.walk.specs.PutEntry.{few-variables, put-ready, put-placed, put-refused, put-met, few-met, put-unmet, put-done, put-starts, put-written}
+use Rattle.outcome.specs.Outcome.{isRefusal}
+use Rattle.walk.specs.Call.{plan-fits}
+use Rattle.walk.specs.Call.NewStarts.{walked-is, met-is, none-with}
+use Rattle.walk.specs.Call.Bits.{none-set}
+use Rattle.walk.specs.Call.Put.{few-variables, put-ready, put-placed, put-refused, put-met, few-met, put-unmet, put-done, put-starts, put-written}
 use borrow.Author.Needs.{needs}
 use Rattle.walk.proofs.put_plan.Statement.{statement}
 use Rattle.walk.proofs.put_plan.Tie as tie

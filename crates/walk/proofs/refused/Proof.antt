@@ -1,7 +1,7 @@
 -- `refused` meets its contract. Assumes nothing.
 use mathlib.Core.Path.{ap}
 use Rattle.walk.specs.declared.Reply.the-variants.{Refused}
-use Rattle.walk.specs.NewStarts.{refusedPut}
+use Rattle.walk.specs.Call.NewStarts.{refusedPut}
 use borrow.Author.Needs.{needs}
 use Rattle.walk.proofs.refused.Statement.{statement}
 use Rattle.walk.proofs.refused.Tie as tie

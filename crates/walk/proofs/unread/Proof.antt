@@ -1,7 +1,7 @@
 -- `unread` meets its contract. Assumes nothing.
 use mathlib.Core.Path.{ap}
 use Rattle.walk.specs.declared.Reply.the-variants.{Refused}
-use Rattle.walk.specs.Whys.{refusedGet}
+use Rattle.walk.specs.Call.Explained.{refusedGet}
 use borrow.Author.Needs.{needs}
 use Rattle.walk.proofs.unread.Statement.{statement}
 use Rattle.walk.proofs.unread.Tie as tie

@@ -1,6 +1,6 @@
 -- `explained` meets its contract: a walk that is done, or one that refused. Assumes nothing.
 use mathlib.Core.Path.{_∙_}
-use Rattle.calls.specs.WhyCalls.{told-done, told-refused}
+use Rattle.calls.specs.Explain.Calls.{told-done, told-refused}
 use borrow.Author.Needs.{needs}
 use Rattle.calls.proofs.why.explained.Statement.{statement}
 use Rattle.calls.proofs.why.explained.Tie as tie

@@ -1,6 +1,6 @@
 -- `refused` meets its contract: no node, or the chain copied out of scratch. Assumes nothing.
 use mathlib.Core.Path.{_∙_}
-use Rattle.calls.specs.WhyCalls.{met-none, met-some}
+use Rattle.calls.specs.Explain.Calls.{met-none, met-some}
 use borrow.Author.Needs.{needs}
 use Rattle.calls.proofs.why.refused.Statement.{statement}
 use Rattle.calls.proofs.why.refused.Tie as tie

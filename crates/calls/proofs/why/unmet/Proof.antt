@@ -1,6 +1,6 @@
 -- `unmet` meets its contract. Assumes nothing.
 use borrow.Author.Needs.{needs}
-use Rattle.calls.specs.Whys.{unmet}
+use Rattle.calls.specs.Explain.{unmet}
 use Rattle.calls.proofs.why.unmet.Statement.{statement}
 use Rattle.calls.proofs.why.unmet.Tie as tie
 

@@ -109,7 +109,9 @@ pub read-spec : {M : Type 1} → statement M
 read-spec =
     tie.close
     (tie.spec
-    (λ c. search needs) (λ c. search needs) (λ c. search needs) (λ c. search needs) (λ c. search needs) (λ c. search needs) pass-requires (λ c κs. search needs) returns
+    (λ c. search needs) (λ c. search needs) (λ c. search needs) (λ c. search needs) (λ c. search needs) (λ c. search needs) pass-requires
+    (λ c κs. search needs) returns
     add-titles array-share-prefix-titles slice-aggregate-pass-6 (λ c. search needs) (λ c. search needs) (λ c. search needs) (λ c. search needs)
-    pass-requires-2 (λ c κs. search needs) returns-2 mul-front add-front array-share-prefix-front slice-aggregate-write (λ c. search needs) write-requires same-length
+    pass-requires-2 (λ c κs. search needs) returns-2 mul-front add-front array-share-prefix-front slice-aggregate-write (λ c. search needs) write-requires
+    same-length
     returns-3)

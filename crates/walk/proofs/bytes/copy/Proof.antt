@@ -1,7 +1,7 @@
 -- `copy` meets its contract.
 -- Assumes nothing.
 use native.Mathlib.Omega.{arith}
-use Rattle.walk.specs.Parts.{copied-same}
+use Rattle.walk.specs.Arena.Parts.{copied-same}
 use borrow.Author.Needs.{needs}
 use Rattle.walk.proofs.bytes.copy.Statement.{statement}
 use Rattle.walk.proofs.bytes.copy.Tie as tie

@@ -3,7 +3,7 @@
 use borrow.Author.Needs.{needs}
 use Prim.Native.Nat.{_≤_, _-_}
 use native.Mathlib.Omega.{arith}
-use Rattle.walk.specs.Parts.{Copying, copying-none, copying-more, copying-all}
+use Rattle.walk.specs.Arena.Parts.{Copying, copying-none, copying-more, copying-all}
 use Rattle.walk.proofs.bytes.copy_down.Statement.{statement}
 use Rattle.walk.proofs.bytes.copy_down.Tie as tie
 

@@ -4,7 +4,7 @@ use borrow.Author.Needs.{needs}
 use Prim.Native.Nat.{_≤_, _-_}
 use native.Mathlib.Omega.{arith}
 use lib.ListN.{length}
-use Rattle.walk.specs.Parts.{CopyingIn, copying-in-none, copying-in-more, copying-in-all}
+use Rattle.walk.specs.Arena.Parts.{CopyingIn, copying-in-none, copying-in-more, copying-in-all}
 use Rattle.walk.proofs.bytes.copy_in.Statement.{statement}
 use Rattle.walk.proofs.bytes.copy_in.Tie as tie
 

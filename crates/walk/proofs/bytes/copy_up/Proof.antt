@@ -2,7 +2,7 @@
 -- Assumes nothing.
 use Prim.Native.Nat.{_≤_}
 use native.Mathlib.Omega.{arith}
-use Rattle.walk.specs.Parts.{CopyingUp, copying-up-none, copying-up-more, copying-up-all}
+use Rattle.walk.specs.Arena.Parts.{CopyingUp, copying-up-none, copying-up-more, copying-up-all}
 use Rattle.walk.proofs.bytes.copy_up.Statement.{statement}
 use Rattle.walk.proofs.bytes.copy_up.Tie as tie
 

@@ -7,7 +7,7 @@ use native.Mathlib.Omega.{arith}
 use denote.Ref.{now}
 use lib.ListN.{drop, length-set}
 use lib.Seq.{paste}
-use Rattle.walk.specs.Cells.{rebuiltIn}
+use Rattle.walk.specs.Arena.Cells.{rebuiltIn}
 use borrow.Author.Needs.{needs}
 use Rattle.walk.proofs.bytes.rebuild.Statement.{statement}
 use Rattle.walk.proofs.bytes.rebuild.Tie as tie

@@ -4,7 +4,7 @@ use mathlib.Core.Path.{refl}
 use Prim.Native.Nat.{_≤_, _-_}
 use native.Mathlib.Omega.{arith}
 use Rattle.walk.specs.Scope.{spanning-none, spanning-more}
-use Rattle.walk.specs.Gather.{Counted}
+use Rattle.walk.specs.Call.Gather.{Counted}
 use Rattle.walk.proofs.cells.first_cells.Statement.{statement}
 use Rattle.walk.proofs.cells.first_cells.Tie as tie
 

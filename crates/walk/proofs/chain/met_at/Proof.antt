@@ -2,7 +2,7 @@
 use mathlib.Core.Path.{ap₂}
 use native.Mathlib.Omega.{arith}
 use Prim.Native.Nat.{ℕ}
-use Rattle.answer.specs.Answer.{start-small}
+use Rattle.outcome.specs.Outcome.{start-small}
 use borrow.Author.Needs.{needs}
 use Rattle.walk.proofs.chain.met_at.Statement.{statement}
 use Rattle.walk.proofs.chain.met_at.Tie as tie

@@ -1,6 +1,6 @@
 -- `nowhere` meets its contract. Assumes nothing.
 use mathlib.Core.Path.{refl}
-use Rattle.walk.specs.Whys.{nowhere}
+use Rattle.walk.specs.Call.Explained.{nowhere}
 use Rattle.walk.proofs.chain.nowhere.Statement.{statement}
 use Rattle.walk.proofs.chain.nowhere.Tie as tie
 

@@ -2,7 +2,7 @@
 -- Assumes nothing.
 use mathlib.Core.Path.{refl}
 use native.Mathlib.Omega.{arith}
-use Rattle.walk.specs.GetLeaf.{var-told, constant-told, number-told}
+use Rattle.walk.specs.Get.Leaf.{var-told, constant-told, number-told}
 use borrow.Author.Needs.{needs}
 use Rattle.walk.proofs.getter.get_leaf.Statement.{statement}
 use Rattle.walk.proofs.getter.get_leaf.Tie as tie

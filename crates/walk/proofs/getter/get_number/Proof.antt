@@ -3,7 +3,7 @@
 use mathlib.Core.Path.{refl}
 use native.Mathlib.Omega.{arith}
 use lib.ListN.{length-set}
-use Rattle.walk.specs.GetLeaf.{sum-as}
+use Rattle.walk.specs.Get.Leaf.{sum-as}
 use borrow.Author.Needs.{needs}
 use Rattle.walk.proofs.getter.get_number.Statement.{statement}
 use Rattle.walk.proofs.getter.get_number.Tie as tie

@@ -7,7 +7,7 @@ use native.Mathlib.Omega.{arith}
 use lib.ListN.{length}
 use lib.Seq.{paste}
 use Rattle.value.specs.Value.{encode}
-use Rattle.walk.specs.CellLaws.{filled}
+use Rattle.walk.specs.Arena.CellLaws.{filled}
 use Rattle.sheet.specs.Wide.{wideBytes}
 use borrow.Author.Needs.{needs}
 use Rattle.walk.proofs.getter.get_wide.Statement.{statement}
@@ -34,7 +34,7 @@ same-length : tie.Need-same-length
 unfolding encode
 same-length c =
     let e = start (made c) in
-    let f = filled (e .args .arena .now) (wideBytes (e .args .sheet .now) (e .args .n)) (e .args .top) (omega (arith, e .pre .0)) in
+    let f = filled (e .args .arena .now) (wideBytes (e .args .sheet .now) (e .args .place)) (e .args .top) (omega (arith, e .pre .0)) in
     ap length (returns c .0) ∙ f .below .long
 
 pub get-wide-spec : {M : Type 1} → statement M

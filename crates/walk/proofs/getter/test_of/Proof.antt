@@ -1,7 +1,7 @@
 -- `test_of` meets its contract.
 -- Assumes nothing.
 use mathlib.Core.Path.{_∙_}
-use Rattle.walk.specs.GetCase.{test-none, test-there}
+use Rattle.walk.specs.Get.Case.{test-none, test-there}
 use borrow.Author.Needs.{needs}
 use Rattle.walk.proofs.getter.test_of.Statement.{statement}
 use Rattle.walk.proofs.getter.test_of.Tie as tie

@@ -3,7 +3,7 @@
 use mathlib.Core.Path.{refl, sym, _∙_}
 use native.Mathlib.Omega.{arith}
 use lib.ListN.{length-set}
-use Rattle.walk.specs.GetAdd.{passed-on, other, over, sums}
+use Rattle.walk.specs.Get.Add.{passed-on, other, over, sums}
 use Rattle.walk.proofs.Tags.{not-number}
 use borrow.Author.Needs.{needs}
 use Rattle.walk.proofs.got.added.Statement.{statement}

@@ -2,8 +2,8 @@
 -- Assumes nothing.
 use mathlib.Core.Path.{refl, sym, _∙_}
 use native.Mathlib.Omega.{arith}
-use Rattle.answer.specs.Answer.{len-small, steps-small}
-use Rattle.walk.specs.GetTwo.{passed-on, unfit, long, fits}
+use Rattle.outcome.specs.Outcome.{len-small, steps-small}
+use Rattle.walk.specs.Get.Two.{passed-on, unfit, long, fits}
 use borrow.Author.Needs.{needs}
 use Rattle.walk.proofs.got.joined.Statement.{statement}
 use Rattle.walk.proofs.got.joined.Tie as tie

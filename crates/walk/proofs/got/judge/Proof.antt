@@ -5,8 +5,8 @@ use mathlib.Core.Path.{_≡_, refl, sym, _∙_}
 use native.Mathlib.Omega.{arith}
 use Prim.Native.Nat.{_-_}
 use borrow.Author.Tests.{not-true, not-false}
-use Rattle.answer.specs.Answer.{isRefusal, lenOf, startOf, len-small, start-small}
-use Rattle.walk.specs.GetBranch.{says-part, passed-on, fails, stays, moves}
+use Rattle.outcome.specs.Outcome.{isRefusal, lenOf, startOf, len-small, start-small}
+use Rattle.walk.specs.Get.Branch.{says-part, passed-on, fails, stays, moves}
 use borrow.Author.Needs.{needs}
 use Rattle.walk.proofs.got.judge.Statement.{statement}
 use Rattle.walk.proofs.got.judge.Tie as tie

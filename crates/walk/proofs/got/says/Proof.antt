@@ -1,6 +1,6 @@
 -- `says` meets its contract: the test 0 says yes to anything. Assumes nothing.
 use mathlib.Core.Path.{sym}
-use Rattle.walk.specs.GetBranch.{says-any}
+use Rattle.walk.specs.Get.Branch.{says-any}
 use borrow.Author.Needs.{needs}
 use Rattle.walk.proofs.got.says.Statement.{statement}
 use Rattle.walk.proofs.got.says.Tie as tie

@@ -3,7 +3,7 @@
 use mathlib.Core.Path.{_≡_}
 use native.Mathlib.Omega.{arith}
 use Prim.Native.Nat.{_+_, _-_}
-use Rattle.answer.specs.Answer.{lenOf, startOf}
+use Rattle.outcome.specs.Outcome.{lenOf, startOf}
 use borrow.Author.Needs.{needs}
 use Rattle.walk.proofs.got.shape_at.Statement.{statement}
 use Rattle.walk.proofs.got.shape_at.Tie as tie

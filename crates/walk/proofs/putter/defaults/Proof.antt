@@ -5,9 +5,9 @@ use mathlib.Core.Bool.{false}
 use Prim.Native.Nat.{ℕ, _+_}
 use native.Mathlib.Omega.{arith}
 use lib.ListN.{length}
-use Rattle.answer.specs.Answer.{isRefusal}
+use Rattle.outcome.specs.Outcome.{isRefusal}
 use Rattle.walk.specs.declared.at.At.{At as Where}
-use Rattle.walk.specs.PutSwitch.{
+use Rattle.walk.specs.Put.Switch.{
   Sees,
   Defaults,
   view-some,
@@ -41,7 +41,7 @@ view-stands : (c : tie.After-store) → c .store .last .0 ≡ stored (entry c .p
 view-stands c = let w = entry c .pre in c .store .ensures .inside (omega (arith, w .long, w .room, view-short w))
 
 told : (c : tie.After-two-defaults) → let e = entry (shown c) in let w = e .pre in let at = e .args .at in let top = at .top + length (e .args .view .now) in
-    Defaults (e .args .sheet .now) (e .args .n) (Sees (stored w) (seen w) top) (stored w) (c .two-defaults .last .1 .1 .0) top (at .levels) (at .left)
+    Defaults (e .args .sheet .now) (e .args .place) (Sees (stored w) (seen w) top) (stored w) (c .two-defaults .last .1 .1 .0) top (at .levels) (at .left)
     (c .two-defaults .result)
 told c = let r = c .before .before in defaults-as (view-stands (shown c)) (r .before .single .ensures) (r .raised .ensures) (c .two-defaults .ensures)
 

@@ -1,8 +1,8 @@
 -- `parts_of` meets its contract.
 -- Assumes nothing.
 use native.Mathlib.Omega.{arith}
-use Rattle.answer.specs.Answer.{start-small}
-use Rattle.walk.specs.PutUnder.{got-parts}
+use Rattle.outcome.specs.Outcome.{start-small}
+use Rattle.walk.specs.Put.Under.{got-parts}
 use borrow.Author.Needs.{needs}
 use Rattle.walk.proofs.putter.parts_of.Statement.{statement}
 use Rattle.walk.proofs.putter.parts_of.Tie as tie

@@ -4,8 +4,8 @@ use mathlib.Core.Path.{_≡_, ap}
 use native.Mathlib.Omega.{arith}
 use Prim.Native.Nat.{ℕ, _-_}
 use lib.ListN.{getD}
-use Rattle.walk.specs.PutLeaf.{constant-told, number-told, var-42, var-writable, var-told, Writable, writable-as, write-as, write-by}
-use Rattle.walk.specs.GetEnter.{node-few}
+use Rattle.walk.specs.Put.Leaf.{constant-told, number-told, var-42, var-writable, var-told, Writable, writable-as, write-as, write-by}
+use Rattle.walk.specs.Get.Enter.{node-few}
 use borrow.Author.Needs.{needs}
 use Rattle.walk.proofs.putter.put_leaf.Statement.{statement}
 use Rattle.walk.proofs.putter.put_leaf.Tie as tie

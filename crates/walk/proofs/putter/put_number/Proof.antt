@@ -1,6 +1,6 @@
 -- `put_number` meets its contract.
 -- Assumes nothing.
-use Rattle.walk.specs.GetLeaf.{sum-as}
+use Rattle.walk.specs.Get.Leaf.{sum-as}
 use borrow.Author.Needs.{needs}
 use Rattle.walk.proofs.putter.put_number.Statement.{statement}
 use Rattle.walk.proofs.putter.put_number.Tie as tie

@@ -2,9 +2,9 @@
 -- Assumes nothing.
 use borrow.Author.Needs.{needs}
 use native.Mathlib.Omega.{arith}
-use Rattle.walk.specs.Gets.{ready-scope, as-scope}
+use Rattle.walk.specs.Get.{ready-scope, as-scope}
 use Rattle.walk.specs.Arena.{below-ends}
-use Rattle.walk.specs.PutMember.{old-stood, default-asks, default-stood}
+use Rattle.walk.specs.Put.Member.{old-stood, default-asks, default-stood}
 use Rattle.walk.proofs.putter.stood_for.Statement.{statement}
 use Rattle.walk.proofs.putter.stood_for.Tie as tie
 

@@ -5,14 +5,14 @@ use native.Mathlib.Omega.{arith}
 use Prim.Native.Nat.{ℕ, _+_, _-_}
 use mathlib.Core.Bool.{false}
 use lib.ListN.{getD}
-use Rattle.answer.specs.Answer.{isRefusal, startOf, lenOf, stepsOf, steps-small}
-use Rattle.step.specs.Step.{unfitRest}
+use Rattle.outcome.specs.Outcome.{isRefusal, startOf, lenOf, stepsOf, steps-small}
+use Rattle.decisions.specs.Decisions.{unfitRest}
 use Rattle.walk.specs.declared.at.At.{At as Where}
-use Rattle.walk.specs.Places.{topAfter, top-above}
-use Rattle.walk.specs.Gets.{ready-as, gives-as}
-use Rattle.walk.specs.GetReady.{sized-as}
-use Rattle.walk.specs.GetAt.{AtTop, movable, at-top, brought-as}
-use Rattle.walk.specs.PutSwitch.{
+use Rattle.walk.specs.Moves.{topAfter, top-above}
+use Rattle.walk.specs.Get.{ready-as, shows-as}
+use Rattle.walk.specs.Get.Requires.{sized-as}
+use Rattle.walk.specs.Get.Top.{AtTop, movable, at-top, brought-as}
+use Rattle.walk.specs.Put.Switch.{
   default-here,
   rest-here,
   default-asks₁,
@@ -48,11 +48,11 @@ both c = c .before .before .before .before
 
 -- WHAT IS KNOWN THERE
 value : (c : tie.After-bring)
-    → let e = entry (one c) in AtTop (default-here (e .pre)) (c .bring .last .0) (c .bring .result) (getD (e .args .sheet .now) (e .args .n + 6) 0)
+    → let e = entry (one c) in AtTop (default-here (e .pre)) (c .bring .last .0) (c .bring .result) (getD (e .args .sheet .now) (e .args .place + 6) 0)
 value c =
     let g = one c in
     at-top (default-asks₁ (entry g .pre))
-    (gives-as {at = entry g .args .at} refl refl (g .before .before .number-of .ensures) (g .get-node .ensures .0))
+    (shows-as {at = entry g .args .at} refl refl (g .before .before .number-of .ensures) (g .get-node .ensures .0))
     (g .get-node .ensures .1) (c .bring .ensures)
 
 done : (c : tie.Else1) → isRefusal (first c .bring .result) ≡ false
@@ -79,14 +79,15 @@ past c =
     c .behind .ensures ∙ ap (λ (i : ℕ). record { levels = at .levels; left = at .left - stepsOf a; top = i; cells = at .cells }) e
 
 second : (c : tie.After-bring2) → let b = first (there (two c)) in let e = entry (one b) in
-    AtTop (rest-here (e .pre) (b .bring .last .0) (b .bring .result)) (c .bring2 .last .0) (c .bring2 .result) (getD (e .args .sheet .now) (e .args .n + 7) 0)
+    AtTop (rest-here (e .pre) (b .bring .last .0) (b .bring .result)) (c .bring2 .last .0) (c .bring2 .result)
+    (getD (e .args .sheet .now) (e .args .place + 7) 0)
 second c =
     let g = two c in
     let i = there g in
     let b = first i in
     let p = past (g .before .before .before) in
     at-top (default-asks₂ (entry (one b) .pre) (value b) (done i))
-    (gives-as p refl (g .before .before .number-of2 .ensures) (g .get-node2 .ensures .0))
+    (shows-as p refl (g .before .before .number-of2 .ensures) (g .get-node2 .ensures .0))
     (sized-as p (g .get-node2 .ensures .1)) (brought-as p (c .bring2 .ensures))
 
 -- the second's kind byte

@@ -21,7 +21,7 @@ returns-3 c =
     let plan = high .before .before .before in
     let sheet = plan .before .before in
     fields-whole _ (sheet .number-at .ensures .0) (omega arith) (plan .number-at2 .ensures .0) (omega arith)
-    (omega (arith, high .wide .ensures .0, middle .wide2 .ensures .0, c .wide3 .ensures .0))
+    (omega (arith, high .extend .ensures .0, middle .extend2 .ensures .0, c .extend3 .ensures .0))
 
 pub take-fields-spec : {M : Type 1} → statement M
 take-fields-spec = tie.close (tie.spec (λ c κs. search needs) (λ c. search needs) returns (λ c. search needs) (λ c κs. search needs) (λ c. search needs)

@@ -2,8 +2,8 @@
 -- Assumes nothing.
 use mathlib.Core.Path.{_∙_}
 use native.Mathlib.Omega.{arith}
-use Rattle.answer.specs.Answer.{lenOf, startOf, len-small, start-small}
-use Rattle.walk.specs.Places.{top-below, top-above}
+use Rattle.outcome.specs.Outcome.{lenOf, startOf, len-small, start-small}
+use Rattle.walk.specs.Moves.{top-below, top-above}
 use borrow.Author.Needs.{needs}
 use Rattle.walk.proofs.at.At.behind.Statement.{statement}
 use Rattle.walk.proofs.at.At.behind.Tie as tie

@@ -4,10 +4,10 @@ use borrow.Author.Needs.{needs}
 use Prim.Native.Nat.{ℕ, _+_, _-_}
 use native.Mathlib.Omega.{arith}
 use lib.ListN.{getD}
-use Rattle.walk.specs.Gets.{here, ready-node, as-node}
-use Rattle.walk.specs.GetAt.{AtTop, movable, at-top}
-use Rattle.walk.specs.GetLeaf.{sum-as}
-use Rattle.walk.specs.GetAdd.{add-asks, addable, add-told}
+use Rattle.walk.specs.Get.{here, ready-node, as-node}
+use Rattle.walk.specs.Get.Top.{AtTop, movable, at-top}
+use Rattle.walk.specs.Get.Leaf.{sum-as}
+use Rattle.walk.specs.Get.Add.{add-asks, addable, add-told}
 use Rattle.walk.proofs.getter.get_add.Reads as get-add
 use Rattle.walk.proofs.getter.+get_add+get_call+get_case+get_each+get_members+get_node+get_two as cycle
 use cycle.Lts-get_add as lts
@@ -28,7 +28,7 @@ module _ (t : ℕ) where
 
   -- WHAT IS KNOWN THERE: the value stands at the top
   value : (c : At lts.After-bring)
-      → let e = entry (got c) in AtTop (here (e .pre .1 .0)) (c .bring .last .0) (c .bring .result) (getD (e .args .sheet .now) (e .args .own .n + 1) 0)
+      → let e = entry (got c) in AtTop (here (e .pre .1 .0)) (c .bring .last .0) (c .bring .result) (getD (e .args .sheet .now) (e .args .own .place + 1) 0)
   value c =
       let g = got c in
       let w = entry g .pre in

@@ -5,12 +5,12 @@ use mathlib.Core.Path.{_≡_, ap, ap₂, _∙_}
 use Prim.Native.Nat.{ℕ, _+_, _-_, _<_}
 use native.Mathlib.Omega.{arith}
 use Rattle.rules.specs.Numbers.{VARIABLES}
-use Rattle.walk.specs.Gets.{here, ready-scope, as-scope}
+use Rattle.walk.specs.Get.{here, ready-scope, as-scope}
 use lib.ListN.{getD}
 use Rattle.sheet.specs.Table.{sectionAt}
 use Rattle.scopes.specs.Scopes.{picked}
 use Rattle.scopes.specs.ScopesLaws.{in-room}
-use Rattle.walk.specs.GetCall.{Looked, call-42₁, call-42₂, call-asks, call-told}
+use Rattle.walk.specs.Get.Call.{Looked, call-42₁, call-42₂, call-asks, call-told}
 use Rattle.walk.proofs.getter.get_call.Reads as get-call
 use Rattle.walk.proofs.getter.+get_add+get_call+get_case+get_each+get_members+get_node+get_two as cycle
 use cycle.Lts-get_call as lts
@@ -34,7 +34,7 @@ module _ (t : ℕ) where
 
   -- WHAT IS KNOWN THERE
   looked : (c : At lts.After-section-root) → let e = entry (in-scope c) in
-      Looked (here (e .pre .1 .0)) (e .args .own .kind) (e .args .own .n) (c .section-root .result)
+      Looked (here (e .pre .1 .0)) (e .args .own .kind) (e .args .own .place) (c .section-root .result)
   looked c =
       let i = in-scope c in
       let w = entry i .pre in
@@ -62,7 +62,8 @@ module _ (t : ℕ) where
   few c = let w = entry c .pre .1 .0 in (omega (arith, w .variables, c .before .if1 .left), omega (arith, w .variables, c .if2 .left))
 
   section-is : (c : At lts.After-section) → let i = in-scope (found c) in let e = entry i in
-      c .section .result ≡ picked (e .args .scope) (getD (e .args .sheet .now) (e .args .own .n + 2) 0) (getD (e .args .sheet .now) (e .args .own .n + 3) 0)
+      c .section .result ≡ picked (e .args .scope) (getD (e .args .sheet .now) (e .args .own .place + 2) 0)
+      (getD (e .args .sheet .now) (e .args .own .place + 3) 0)
   section-is c =
       let i = in-scope (found c) in
       c .section .ensures ∙ ap₂ (picked (entry i .args .scope)) (in-room (few i .0) ∙ i .before .before .before .before .number-of .ensures)

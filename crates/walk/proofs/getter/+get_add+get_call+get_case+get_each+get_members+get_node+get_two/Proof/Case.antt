@@ -4,16 +4,16 @@ use borrow.Author.Needs.{needs}
 use mathlib.Core.Path.{_≡_, refl, sym, ap₂, _∙_}
 use Prim.Native.Nat.{ℕ, _+_, _-_, _≤_}
 use native.Mathlib.Omega.{arith}
-use Rattle.answer.specs.Answer.{isRefusal, startOf, lenOf, start-small, later-as}
+use Rattle.outcome.specs.Outcome.{isRefusal, startOf, lenOf, start-small, later-as}
 use mathlib.Core.Bool.{false}
-use Rattle.step.specs.Step.{fitOf}
-use Rattle.step.specs.StepLaws.{fits-as, plain-low, parts-low, fits-refused}
+use Rattle.decisions.specs.Decisions.{fitOf}
+use Rattle.decisions.specs.DecisionLaws.{fits-as, plain-low, parts-low, fits-refused}
 use Rattle.rules.specs.Numbers.{VARIABLES}
-use Rattle.walk.specs.Gets.{here, levels-as, ready-node, as-node, ready-as, gives-as}
+use Rattle.walk.specs.Get.{here, levels-as, ready-node, as-node, ready-as, shows-as}
 use Rattle.walk.specs.Scope.{withTwo, Stored, stored-as}
-use Rattle.walk.specs.GetBranch.{judgeable, judged-as}
-use Rattle.walk.specs.GetCase.{Subject, subject-asks, subject-refused, plain-asks, plain-told, parts-stored, parts-asks, parts-told, none-told}
-use Rattle.step.proofs.Tags.{is-unfitting}
+use Rattle.walk.specs.Get.Branch.{judgeable, judged-as}
+use Rattle.walk.specs.Get.Case.{Subject, subject-asks, subject-refused, plain-asks, plain-told, parts-stored, parts-asks, parts-told, none-told}
+use Rattle.decisions.proofs.Tags.{is-unfitting}
 use Rattle.walk.proofs.getter.get_case.Reads as get-case
 use Rattle.walk.proofs.getter.+get_add+get_call+get_case+get_each+get_members+get_node+get_two as cycle
 use cycle.Lts-get_case as lts
@@ -52,7 +52,7 @@ module _ (t : ℕ) where
   done c = sym (c .before .is-refused .ensures) ∙ c .if1 .left
 
   subject : (c : At lts.After-shape-at) → let g = got (there (beyond c)) in let e = entry g in
-      Subject (here (e .pre .1 .0)) (e .args .own .kind) (e .args .own .n) (g .get-node .result) (g .get-node .last .1 .1 .0) (c .shape-at .result)
+      Subject (here (e .pre .1 .0)) (e .args .own .kind) (e .args .own .place) (g .get-node .result) (g .get-node .last .1 .1 .0) (c .shape-at .result)
   subject c =
       let i = there (beyond c) in
       let g = got i in
@@ -119,7 +119,7 @@ module _ (t : ℕ) where
       let s = shaped (plain n) in
       let e = n .before .before .i .given .1 in
       plain-told (subject s) (fits-as (told (plain n)) e) (sym e ∙ told (plain n))
-      (gives-as (beyond s .behind .ensures) refl (n .number-of2 .ensures) (g .get-node2 .ensures .0))
+      (shows-as (beyond s .behind .ensures) refl (n .number-of2 .ensures) (g .get-node2 .ensures .0))
       (judged-as (g .before .before .test-of .ensures) (c .before .before .before .before .judge .ensures))
       (later-as _ (c .before .steps-of .ensures) (c .later .ensures))
 
@@ -181,7 +181,7 @@ module _ (t : ℕ) where
       let s = shaped (parts n) in
       let e = n .before .before .i2 .given .1 in
       parts-told (subject s) (fits-as (told (parts n)) e) (sym e ∙ told (parts n))
-      (gives-as (beyond s .behind .ensures) (inner-is w) (n .number-of3 .ensures) (g .get-node3 .ensures .0))
+      (shows-as (beyond s .behind .ensures) (inner-is w) (n .number-of3 .ensures) (g .get-node3 .ensures .0))
       (judged-as (w .before .before .before .test-of2 .ensures) (c .before .before .before .before .judge2 .ensures))
       (later-as _ (c .before .steps-of2 .ensures) (c .later2 .ensures))
 

@@ -2,23 +2,23 @@
 -- measure); and the places of its code with these claims.
 -- Assumes nothing.
 use Prim.Native.Nat.{ℕ}
-use Rattle.answer.proofs.done.Reads as done
-use Rattle.answer.proofs.is_refused.Reads as is-refused
-use Rattle.answer.proofs.later.Reads as later
-use Rattle.answer.proofs.len_of.Reads as len-of
-use Rattle.answer.proofs.refused.Reads as refused
-use Rattle.answer.proofs.start_of.Reads as start-of
-use Rattle.answer.proofs.steps_of.Reads as steps-of
+use Rattle.outcome.proofs.done.Reads as done
+use Rattle.outcome.proofs.is_refused.Reads as is-refused
+use Rattle.outcome.proofs.later.Reads as later
+use Rattle.outcome.proofs.len_of.Reads as len-of
+use Rattle.outcome.proofs.refused.Reads as refused
+use Rattle.outcome.proofs.start_of.Reads as start-of
+use Rattle.outcome.proofs.steps_of.Reads as steps-of
 use Rattle.arena.proofs.leave.Reads as leave
 use Rattle.sheet.proofs.byte_of.Reads as byte-of
 use Rattle.sheet.proofs.number_of.Reads as number-of
 use Rattle.sheet.proofs.section_root.Reads as section-root
-use Rattle.step.proofs.entry.Reads as entry
-use Rattle.step.proofs.fits.Reads as fits
-use Rattle.step.proofs.fronted.Reads as fronted
-use Rattle.step.proofs.made.Reads as made
+use Rattle.decisions.proofs.entry.Reads as entry
+use Rattle.decisions.proofs.fits.Reads as fits
+use Rattle.decisions.proofs.fronted.Reads as fronted
+use Rattle.decisions.proofs.made.Reads as made
 use Rattle.scopes.proofs.section.Reads as section
-use Rattle.step.proofs.unfit.Reads as unfit
+use Rattle.decisions.proofs.unfit.Reads as unfit
 use Rattle.value.proofs.number.Reads as number
 use Rattle.walk.proofs.at.At.behind.Reads as behind
 use Rattle.walk.proofs.at.At.below.Reads as below

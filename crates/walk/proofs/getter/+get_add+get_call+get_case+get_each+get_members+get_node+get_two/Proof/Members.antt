@@ -7,15 +7,15 @@ use mathlib.Core.Bool.{false}
 use Prim.Native.Nat.{ℕ, _+_, _-_, _≤_, _<_}
 use native.Mathlib.Omega.{arith}
 use lib.ListN.{length, getD, set}
-use Rattle.answer.specs.Answer.{isRefusal}
+use Rattle.outcome.specs.Outcome.{isRefusal}
 use Rattle.rules.specs.Numbers.{SCRATCH}
-use Rattle.walk.specs.Parts.{Marked, marked}
+use Rattle.walk.specs.Arena.Parts.{Marked, marked}
 use Rattle.walk.specs.Scope.{TwoOf, renewed, withMember, two-at-first, two-again, two-member}
-use Rattle.walk.specs.Gets.{levels-as, ready-as, gives-as}
-use Rattle.walk.specs.GetReady.{sized-as}
-use Rattle.walk.specs.GetAt.{AtTop, movable, at-top, brought-as}
-use Rattle.walk.specs.GetMembers.{Building, members-here, building-none, rest-inside, members-end}
-use Rattle.walk.specs.GetTurn.{Turning, Fronted, fronted-by, member-there, turn-here, turn-asks, turn-refused, turn-steps, turn-done}
+use Rattle.walk.specs.Get.{levels-as, ready-as, shows-as}
+use Rattle.walk.specs.Get.Requires.{sized-as}
+use Rattle.walk.specs.Get.Top.{AtTop, movable, at-top, brought-as}
+use Rattle.walk.specs.Get.Members.{Building, members-here, building-none, rest-inside, members-end}
+use Rattle.walk.specs.Get.Turn.{Turning, Fronted, fronted-by, member-there, turn-here, turn-asks, turn-refused, turn-steps, turn-done}
 use Rattle.walk.proofs.getter.get_members.Reads as get-members
 use Rattle.walk.proofs.getter.get_members.Kinds as kinds
 use Rattle.walk.proofs.getter.+get_add+get_call+get_case+get_each+get_members+get_node+get_two as cycle
@@ -92,7 +92,7 @@ module _ (t : ℕ) where
       let g = one c in
       let r = up g in
       let m = measured r in
-      at-top (turn-asks (turning m) (mark 3 (turn m))) (gives-as (r .raised .ensures) (inner r) refl (g .get-node .ensures .0))
+      at-top (turn-asks (turning m) (mark 3 (turn m))) (shows-as (r .raised .ensures) (inner r) refl (g .get-node .ensures .0))
       (sized-as (r .raised .ensures) (g .get-node .ensures .1)) (brought-as (r .raised .ensures) (c .bring .ensures))
 
   there : (c : At lts.Else2) → isRefusal (judged c .fronted .result) ≡ false

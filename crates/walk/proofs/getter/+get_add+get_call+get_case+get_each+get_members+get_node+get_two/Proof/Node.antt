@@ -7,16 +7,16 @@ use Prim.Native.Nat.{ℕ, _+_, _*_, _≤_, _<_}
 use lib.ListN.{getD}
 use Rattle.rules.specs.Numbers.{CHAIN}
 use native.Mathlib.Omega.{arith}
-use Rattle.step.specs.StepLaws.{entered as both-left}
+use Rattle.decisions.specs.DecisionLaws.{entered as both-left}
 use Rattle.arena.specs.Chain.{leftAs, chained}
-use Rattle.walk.specs.Said.{left-as, left-by}
-use Rattle.walk.specs.declared.at.Own.{Own}
-use Rattle.walk.specs.Gets.{enter, Gives, KindAsked, KindTells, levels-as}
-use Rattle.walk.specs.GetReady.{Sized, sized}
-use Rattle.walk.specs.GetLeaf.{wide-told}
-use Rattle.walk.specs.GetTwo.{Two, two-kind}
-use Rattle.walk.specs.GetCase.{Case, case-kind}
-use Rattle.walk.specs.GetEnter.{Entered, entry-code, enter-refused, node-few, its-kind, body-ready, body-told, own-as, told-as}
+use Rattle.walk.specs.Decoded.{left-as, left-by}
+use Rattle.walk.specs.declared.at.Record.{Record}
+use Rattle.walk.specs.Get.{enter, GetShows, KindAsked, KindTells, levels-as}
+use Rattle.walk.specs.Get.Requires.{Sized, sized}
+use Rattle.walk.specs.Get.Leaf.{wide-told}
+use Rattle.walk.specs.Get.Two.{Two, two-kind}
+use Rattle.walk.specs.Get.Case.{Case, case-kind}
+use Rattle.walk.specs.Get.Enter.{Entered, entry-code, enter-refused, node-few, its-kind, body-ready, body-told, own-as, told-as}
 use Rattle.walk.proofs.getter.get_node.Reads as get-node
 use Rattle.walk.proofs.getter.+get_add+get_call+get_case+get_each+get_members+get_node+get_two as cycle
 use cycle.Lts-get_node as lts
@@ -45,8 +45,8 @@ module _ (t : ℕ) where
       let d = left (allowed c) in
       record { asked = start (allowed c) .pre .1; deep = d .0; paid = d .1; kind = c .byte-of .ensures }
 
-  abbrev its : At lts.After-byte-of → Own
-  its c = let a = start (allowed c) .args in record { node = a .node; n = getD (a .table .now) (a .node) 0; kind = c .byte-of .result }
+  abbrev its : At lts.After-byte-of → Record
+  its c = let a = start (allowed c) .args in record { node = a .node; place = getD (a .table .now) (a .node) 0; kind = c .byte-of .result }
 
   -- what the function of its kind is asked: it is deeper, and the record is of that kind
   deeper : (c : At lts.After-byte-of) → 3 * c .before .below .result .levels + 2 < t
@@ -66,7 +66,7 @@ module _ (t : ℕ) where
   told : (c : At lts.After-byte-of) {m a : List ℕ} {g r : ℕ} → let s = start (allowed c) .args in
       KindTells (s .sheet .now) (s .arena .now) m (s .scope) (its c) (c .before .below .result) g
       → (r ≡ leftAs g) × (a ≡ chained m g (s .node) (s .at .levels))
-      → Gives (s .arena .now) a (s .sheet .now) (s .scope) (s .at .top) (s .at .top) (s .at .left) r (s .at .levels) (enter (s .node))
+      → GetShows (s .arena .now) a (s .sheet .now) (s .scope) (s .at .top) (s .at .top) (s .at .left) r (s .at .levels) (enter (s .node))
       × Sized (s .at .top) (s .at .left) (s .at .levels) r
   told c g o = let b = outside (start (allowed c)) in body-told (entered c) (told-as (c .before .below .ensures) g) (left-by (b .0) (b .1) o)
 

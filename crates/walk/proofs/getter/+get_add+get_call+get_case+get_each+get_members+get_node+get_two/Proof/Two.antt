@@ -5,15 +5,15 @@ use mathlib.Core.Path.{_≡_, refl, sym, ap, _∙_}
 use Prim.Native.Nat.{ℕ, _+_, _-_}
 use native.Mathlib.Omega.{arith}
 use lib.ListN.{getD, set}
-use Rattle.answer.specs.Answer.{isRefusal, startOf, lenOf, stepsOf}
+use Rattle.outcome.specs.Outcome.{isRefusal, startOf, lenOf, stepsOf}
 use mathlib.Core.Bool.{false}
-use Rattle.walk.specs.Places.{topAfter, top-above, behindOf}
+use Rattle.walk.specs.Moves.{topAfter, top-above, behindOf}
 use Rattle.walk.specs.declared.at.At.{At as Where}
-use Rattle.walk.specs.Parts.{marked-by}
-use Rattle.walk.specs.Gets.{here, levels-as, ready-as, gives-as}
-use Rattle.walk.specs.GetReady.{sized-as}
-use Rattle.walk.specs.GetAt.{AtTop, movable, at-top, brought-as}
-use Rattle.walk.specs.GetTwo.{TwoAsked, one-here, two-here, one-asks, one-refused, two-asks, joinable, joined-as, two-told}
+use Rattle.walk.specs.Arena.Parts.{marked-by}
+use Rattle.walk.specs.Get.{here, levels-as, ready-as, shows-as}
+use Rattle.walk.specs.Get.Requires.{sized-as}
+use Rattle.walk.specs.Get.Top.{AtTop, movable, at-top, brought-as}
+use Rattle.walk.specs.Get.Two.{TwoAsked, one-here, two-here, one-asks, one-refused, two-asks, joinable, joined-as, two-told}
 use Rattle.walk.proofs.getter.get_two.Reads as get-two
 use Rattle.walk.proofs.getter.+get_add+get_call+get_case+get_each+get_members+get_node+get_two as cycle
 use cycle.Lts-get_two as lts
@@ -46,17 +46,17 @@ module _ (t : ℕ) where
 
   -- WHAT IS KNOWN THERE: the kind byte is written; the first value stands behind it; the second behind that
   asked : (c : At lts.After-raised) → let e = entry c in let a = e .args in
-      TwoAsked (here (e .pre .1 .0)) (a .own .kind) (a .own .n) (set (a .arena .now) (a .at .top) (c .before .made .result))
+      TwoAsked (here (e .pre .1 .0)) (a .own .kind) (a .own .place) (set (a .arena .now) (a .at .top) (c .before .made .result))
   asked c =
       let e = entry c in
       record { asked = e .pre .1 .0; two = e .pre .1 .1; marked = marked-by (c .before .made .ensures) (omega (arith, e .pre .1 .0 .long, e .pre .1 .0 .room)) }
 
   value : (c : At lts.After-bring) → let r = up (one c) in let e = entry r in
-      AtTop (one-here (asked r)) (c .bring .last .0) (c .bring .result) (getD (e .args .sheet .now) (e .args .own .n + 1) 0)
+      AtTop (one-here (asked r)) (c .bring .last .0) (c .bring .result) (getD (e .args .sheet .now) (e .args .own .place + 1) 0)
   value c =
       let g = one c in
       let r = up g in
-      at-top (one-asks (asked r)) (gives-as (r .raised .ensures) refl (g .before .before .number-of .ensures) (g .get-node .ensures .0))
+      at-top (one-asks (asked r)) (shows-as (r .raised .ensures) refl (g .before .before .number-of .ensures) (g .get-node .ensures .0))
       (sized-as (r .raised .ensures) (g .get-node .ensures .1))
       (brought-as (r .raised .ensures) (c .bring .ensures))
 
@@ -83,13 +83,13 @@ module _ (t : ℕ) where
 
   second : (c : At lts.After-bring2) → let b = first (there (two c)) in let r = up (one b) in let e = entry r in
       AtTop (two-here (asked r) (b .bring .last .0) (b .bring .result)) (c .bring2 .last .0) (c .bring2 .result)
-      (getD (e .args .sheet .now) (e .args .own .n + 2) 0)
+      (getD (e .args .sheet .now) (e .args .own .place + 2) 0)
   second c =
       let g = two c in
       let i = there g in
       let b = first i in
       at-top (two-asks (asked (up (one b))) (value b) (done i))
-      (gives-as (past (g .before .before .before)) refl (g .before .before .number-of2 .ensures) (g .get-node2 .ensures .0))
+      (shows-as (past (g .before .before .before)) refl (g .before .before .number-of2 .ensures) (g .get-node2 .ensures .0))
       (sized-as (past (g .before .before .before)) (g .get-node2 .ensures .1)) (brought-as (past (g .before .before .before)) (c .bring2 .ensures))
 
   -- NEEDS

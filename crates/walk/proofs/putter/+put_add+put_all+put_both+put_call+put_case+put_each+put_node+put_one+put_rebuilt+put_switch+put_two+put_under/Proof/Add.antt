@@ -8,10 +8,10 @@ use mathlib.Core.List.{[], _∷_}
 use Prim.Native.Nat.{_/_, _%_}
 use Rattle.shapes.specs.Parts.{shapeOf}
 use Rattle.shapes.specs.declared.Shape.the-variants.{Number}
-use Rattle.walk.specs.GetLeaf.{sum-as}
-use Rattle.walk.specs.GetAdd.{amountAt}
-use Rattle.walk.specs.PutReady.{ready-as, gives-as, ready-view, gives-view}
-use Rattle.walk.specs.PutAdd.{add-51, add-52, lessView, add-asks, add-told}
+use Rattle.walk.specs.Get.Leaf.{sum-as}
+use Rattle.walk.specs.Get.Add.{amountAt}
+use Rattle.walk.specs.Put.Requires.{ready-as, shows-as, ready-view, gives-view}
+use Rattle.walk.specs.Put.Add.{add-51, add-52, lessView, add-asks, add-told}
 use Rattle.walk.proofs.Tags.{not-number}
 use Rattle.walk.proofs.putter.put_add.Reads as put-add
 use Rattle.walk.proofs.putter.+put_add+put_all+put_both+put_call+put_case+put_each+put_node+put_one+put_rebuilt+put_switch+put_two+put_under as cycle
@@ -41,7 +41,7 @@ module _ (t : ℕ) where
   numbered : (c : At lts.After-known-told) → Number (c .before .m .given .0 .0) ≡ shapeOf (entry c .args .view .now)
   numbered c = sym (c .before .m .given .1) ∙ c .before .before .before .shape-of .ensures
 
-  amount : (c : At lts.After-number) → let e = entry (number-is c) in c .number .result ≡ amountAt (e .args .sheet .now) (e .args .own .n)
+  amount : (c : At lts.After-number) → let e = entry (number-is c) in c .number .result ≡ amountAt (e .args .sheet .now) (e .args .own .place)
   amount c = sum-as (c .number .ensures) (c .before .before .byte-of .ensures) (c .before .byte-of2 .ensures)
 
   less : (c : At lts.After-low) → let r = read (enough c) in let n = number-is r in
@@ -84,7 +84,7 @@ module _ (t : ℕ) where
       let n = number-is r in
       let e = entry n in
       add-told (e .pre .1 .0) (e .pre .1 .1) (numbered n) (omega (arith, amount r, i .if1 .left))
-      (gives-view (less l) (gives-as {at = e .args .at} refl refl refl (c .before .before .before .before .before .before .number-of .ensures)
+      (gives-view (less l) (shows-as {at = e .args .at} refl refl refl (c .before .before .before .before .before .before .number-of .ensures)
       (c .before .before .put-node .ensures .0)))
 
 pub put-add-met : {M : Type 1} (t : ℕ) → lts.Closed (add-claims t) (AtMeasure (kind put-add.Pre) t) put-add.Post M

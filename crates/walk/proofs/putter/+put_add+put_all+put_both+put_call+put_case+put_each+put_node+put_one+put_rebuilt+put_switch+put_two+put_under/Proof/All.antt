@@ -8,13 +8,13 @@ use Prim.Native.Nat.{ℕ, _+_, _-_}
 use native.Mathlib.Omega.{arith}
 use lib.ListN.{take, drop, length, length-drop, length-set}
 use lib.Seq.{take-all}
-use Rattle.answer.specs.Answer.{isRefusal, startOf, start-small, len-small}
+use Rattle.outcome.specs.Outcome.{isRefusal, startOf, start-small, len-small}
 use Rattle.shapes.specs.Parts.{shapeOf, middleOf, firstPart}
 use Rattle.walk.specs.declared.putter.Members.{Members}
-use Rattle.walk.specs.Gets.{levels-as}
-use Rattle.walk.specs.PutReady.{ready-at, gives-at}
-use Rattle.walk.specs.PutMember.{MemberTold}
-use Rattle.walk.specs.PutMembers.{
+use Rattle.walk.specs.Get.{levels-as}
+use Rattle.walk.specs.Put.Requires.{ready-at, gives-at}
+use Rattle.walk.specs.Put.Member.{MemberTold}
+use Rattle.walk.specs.Put.Members.{
   Turned,
   turned-none,
   Looping,

@@ -5,10 +5,10 @@ use mathlib.Core.Path.{_≡_, sym, _∙_}
 use Prim.Native.Nat.{ℕ, _-_}
 use native.Mathlib.Omega.{arith}
 use mathlib.Core.Bool.{false}
-use Rattle.answer.specs.Answer.{isRefusal, later-as}
-use Rattle.walk.specs.Gets.{levels-as}
-use Rattle.walk.specs.PutReady.{ready-at, gives-at, few-at}
-use Rattle.walk.specs.PutTwo.{both-asks₁, both-refused, both-asks₂, both-told}
+use Rattle.outcome.specs.Outcome.{isRefusal, later-as}
+use Rattle.walk.specs.Get.{levels-as}
+use Rattle.walk.specs.Put.Requires.{ready-at, gives-at, few-at}
+use Rattle.walk.specs.Put.Two.{both-asks₁, both-refused, both-asks₂, both-told}
 use Rattle.walk.proofs.putter.put_both.Reads as put-both
 use Rattle.walk.proofs.putter.+put_add+put_all+put_both+put_call+put_case+put_each+put_node+put_one+put_rebuilt+put_switch+put_two+put_under as cycle
 use cycle.Lts-put_both as lts

@@ -8,11 +8,11 @@ use lib.ListN.{getD}
 use Rattle.sheet.specs.Table.{sectionAt}
 use Rattle.scopes.specs.Scopes.{picked, pickedTwo}
 use Rattle.rules.specs.Numbers.{VARIABLES}
-use Rattle.walk.specs.Cells.{Shown}
+use Rattle.walk.specs.Arena.Cells.{Shown}
 use Rattle.scopes.specs.ScopesLaws.{in-room}
-use Rattle.walk.specs.Puts.{put-here}
-use Rattle.walk.specs.PutReady.{ready-as, gives-as}
-use Rattle.walk.specs.PutCall.{PutLooked, call-42₁, call-42₂, call-asks, call-told}
+use Rattle.walk.specs.Put.{put-here}
+use Rattle.walk.specs.Put.Requires.{ready-as, shows-as}
+use Rattle.walk.specs.Put.Call.{PutLooked, call-42₁, call-42₂, call-asks, call-told}
 use Rattle.walk.proofs.putter.put_call.Reads as put-call
 use Rattle.walk.proofs.putter.+put_add+put_all+put_both+put_call+put_case+put_each+put_node+put_one+put_rebuilt+put_switch+put_two+put_under as cycle
 use cycle.Lts-put_call as lts
@@ -36,7 +36,7 @@ module _ (t : ℕ) where
 
   -- WHAT IS KNOWN THERE
   looked : (c : At lts.After-section-root) → let e = entry (in-scope c) in PutLooked (put-here (e .pre .1 .0)) (Shown (e .args .view .now)) (e .args .own .node)
-      (e .args .own .kind) (e .args .own .n) (c .section-root .result)
+      (e .args .own .kind) (e .args .own .place) (c .section-root .result)
   looked c =
       let i = in-scope c in
       let w = entry i .pre in
@@ -52,14 +52,15 @@ module _ (t : ℕ) where
   few c = let w = entry c .pre .1 .0 in (omega (arith, w .variables, c .before .if1 .left), omega (arith, w .variables, c .if2 .left))
 
   section-is : (c : At lts.After-section) → let i = in-scope (found c) in let e = entry i in
-      c .section .result ≡ picked (e .args .scope) (getD (e .args .sheet .now) (e .args .own .n + 2) 0) (getD (e .args .sheet .now) (e .args .own .n + 3) 0)
+      c .section .result ≡ picked (e .args .scope) (getD (e .args .sheet .now) (e .args .own .place + 2) 0)
+      (getD (e .args .sheet .now) (e .args .own .place + 3) 0)
   section-is c =
       let i = in-scope (found c) in
       c .section .ensures ∙ ap₂ (picked (entry i .args .scope)) (in-room (few i .0) ∙ i .before .before .before .before .number-of .ensures)
       (in-room (few i .1) ∙ i .before .before .before .number-of2 .ensures)
 
   cells-are : (c : At lts.After-pick-cells) → let a = entry (in-scope (found (c .before))) .args in
-      c .pick-cells .result ≡ pickedTwo (a .cells .now) (getD (a .sheet .now) (a .own .n + 2) 0) (getD (a .sheet .now) (a .own .n + 3) 0)
+      c .pick-cells .result ≡ pickedTwo (a .cells .now) (getD (a .sheet .now) (a .own .place + 2) 0) (getD (a .sheet .now) (a .own .place + 3) 0)
   cells-are c =
       let i = in-scope (found (c .before)) in
       c .pick-cells .ensures .inside (few i) ∙ ap₂ (pickedTwo (entry i .args .cells .now)) (i .before .before .before .before .number-of .ensures)
@@ -89,7 +90,7 @@ module _ (t : ℕ) where
       let p = c .before .before .before .before .before .before in
       let s = p .before in
       call-told (looked (found s))
-      (gives-as {at = entry (in-scope (found s)) .args .at} refl (section-is s) (cells-are p) refl (c .before .before .put-node .ensures .0))
+      (shows-as {at = entry (in-scope (found s)) .args .at} refl (section-is s) (cells-are p) refl (c .before .before .put-node .ensures .0))
 
 pub put-call-met : {M : Type 1} (t : ℕ) → lts.Closed (call-claims t) (AtMeasure (kind put-call.Pre) t) put-call.Post M
 put-call-met t = lts.spec (call-claims t) (AtMeasure (kind put-call.Pre) t) put-call.Post

@@ -6,18 +6,18 @@ use Prim.Native.Nat.{ℕ, _+_}
 use native.Mathlib.Omega.{arith}
 use mathlib.Core.Bool.{false}
 use lib.ListN.{getD}
-use Rattle.answer.specs.Answer.{isRefusal, later-as}
+use Rattle.outcome.specs.Outcome.{isRefusal, later-as}
 use Rattle.shapes.specs.Parts.{passesBytes}
-use Rattle.step.specs.Step.{takeOf, madeOf}
-use Rattle.step.specs.StepLaws.{took}
-use Rattle.step.specs.declared.Branch.{Branch}
-use Rattle.walk.specs.Gets.{levels-as, ready-node, as-node}
-use Rattle.walk.specs.Puts.{put-here}
-use Rattle.walk.specs.PutReady.{ready-at, gives-at, inner-at}
-use Rattle.walk.specs.PutTwo.{pair-ready, pair-told}
-use Rattle.walk.specs.PutUnder.{gotParts, some-at, under-ready, under-as}
-use Rattle.walk.specs.PutSwitch.{switch-room}
-use Rattle.walk.specs.PutCase.{
+use Rattle.decisions.specs.Decisions.{takeOf, madeOf}
+use Rattle.decisions.specs.DecisionLaws.{took}
+use Rattle.decisions.specs.declared.Branch.{Branch}
+use Rattle.walk.specs.Get.{levels-as, ready-node, as-node}
+use Rattle.walk.specs.Put.{put-here}
+use Rattle.walk.specs.Put.Requires.{ready-at, gives-at, inner-at}
+use Rattle.walk.specs.Put.Two.{pair-ready, pair-told}
+use Rattle.walk.specs.Put.Under.{gotParts, some-at, under-ready, under-as}
+use Rattle.walk.specs.Put.Switch.{switch-room}
+use Rattle.walk.specs.Put.Case.{
   PutSubject,
   subject-asks,
   subject-refused,
@@ -69,7 +69,7 @@ module _ (t : ℕ) where
   done c = sym (c .before .is-refused .ensures) ∙ c .if1 .left
 
   subject : (c : At lts.After-takes) {d : Branch} → c .takes .result ≡ d → let s = c .before in let g = got (there (beyond c)) in let e = entry g in
-      PutSubject (put-here (e .pre .1 .0)) (e .args .view .now) (e .args .own .node) (e .args .own .kind) (e .args .own .n) (g .get-node .result)
+      PutSubject (put-here (e .pre .1 .0)) (e .args .view .now) (e .args .own .node) (e .args .own .kind) (e .args .own .place) (g .get-node .result)
       (g .get-node .last .1 .1 .0) (s .shape-at .result) d
   subject c {d} is =
       let s = c .before in
@@ -143,7 +143,7 @@ module _ (t : ℕ) where
 
   parts-are : (c : At lts.After-parts-of) → let n = c .before in let g = got (there (beyond (parted n))) in let a = entry g .args in
       let i = n .before .before .i2 .given .0 in
-      c .parts-of .result ≡ gotParts (madeOf (a .own .kind)) (getD (a .sheet .now) (a .own .n + i .0) 0) (getD (a .sheet .now) (a .own .n + 1) 0)
+      c .parts-of .result ≡ gotParts (madeOf (a .own .kind)) (getD (a .sheet .now) (a .own .place + i .0) 0) (getD (a .sheet .now) (a .own .place + 1) 0)
       (g .get-node .result) (i .1 .0)
   parts-are c =
       let n = c .before in

@@ -2,27 +2,27 @@
 -- measure); and the places of its code with these claims.
 -- Assumes nothing.
 use Prim.Native.Nat.{ℕ}
-use Rattle.answer.proofs.done.Reads as done
-use Rattle.answer.proofs.is_refused.Reads as is-refused
-use Rattle.answer.proofs.later.Reads as later
-use Rattle.answer.proofs.len_of.Reads as len-of
-use Rattle.answer.proofs.refused.Reads as refused
-use Rattle.answer.proofs.start_of.Reads as start-of
-use Rattle.answer.proofs.steps_of.Reads as steps-of
+use Rattle.outcome.proofs.done.Reads as done
+use Rattle.outcome.proofs.is_refused.Reads as is-refused
+use Rattle.outcome.proofs.later.Reads as later
+use Rattle.outcome.proofs.len_of.Reads as len-of
+use Rattle.outcome.proofs.refused.Reads as refused
+use Rattle.outcome.proofs.start_of.Reads as start-of
+use Rattle.outcome.proofs.steps_of.Reads as steps-of
 use Rattle.arena.proofs.leave.Reads as leave
 use Rattle.sheet.proofs.byte_of.Reads as byte-of
 use Rattle.sheet.proofs.number_of.Reads as number-of
 use Rattle.sheet.proofs.section_root.Reads as section-root
 use Rattle.scopes.proofs.add_cells.Reads as add-cells
-use Rattle.step.proofs.entry.Reads as entry
+use Rattle.decisions.proofs.entry.Reads as entry
 use Rattle.scopes.proofs.member_cells.Reads as member-cells
-use Rattle.step.proofs.overlong.Reads as overlong
+use Rattle.decisions.proofs.overlong.Reads as overlong
 use Rattle.scopes.proofs.pick_cells.Reads as pick-cells
 use Rattle.scopes.proofs.place_of.Reads as place-of
 use Rattle.scopes.proofs.section.Reads as section
-use Rattle.step.proofs.take_apart.Reads as take-apart
-use Rattle.step.proofs.takes.Reads as takes
-use Rattle.step.proofs.unfit.Reads as unfit
+use Rattle.decisions.proofs.take_apart.Reads as take-apart
+use Rattle.decisions.proofs.takes.Reads as takes
+use Rattle.decisions.proofs.unfit.Reads as unfit
 use Rattle.shapes.proofs.first_part.Reads as first-part
 use Rattle.value.proofs.high.Reads as high
 use Rattle.value.proofs.low.Reads as low
@@ -34,7 +34,7 @@ use Rattle.walk.proofs.at.At.after.Reads as after
 use Rattle.walk.proofs.at.At.behind.Reads as behind
 use Rattle.walk.proofs.at.At.below.Reads as below
 use Rattle.walk.proofs.at.At.raised.Reads as raised
-use Rattle.walk.proofs.at.At.wider.Reads as wider
+use Rattle.walk.proofs.at.At.with_two_cells.Reads as with-two-cells
 use Rattle.walk.proofs.at.At.with_cell.Reads as with-cell
 use Rattle.walk.proofs.bytes.fill.Reads as fill
 use Rattle.walk.proofs.bytes.rebuild.Reads as rebuild
@@ -339,8 +339,8 @@ under-claims t = (
   with-two.Learnt,
   add-cells.Asked,
   add-cells.Learnt,
-  wider.Asked,
-  wider.Learnt,
+  with-two-cells.Asked,
+  with-two-cells.Learnt,
   BelowMeasure node t,
   put-node.Post,
   is-refused.Asked,

@@ -6,14 +6,14 @@ use mathlib.Core.Bool.{false}
 use Prim.Native.Nat.{ℕ, _-_}
 use native.Mathlib.Omega.{arith}
 use lib.ListN.{getD}
-use Rattle.answer.specs.Answer.{startOf, later-as}
+use Rattle.outcome.specs.Outcome.{startOf, later-as}
 use Rattle.sheet.specs.Table.{sectionAt}
-use Rattle.step.specs.Step.{unfitRest}
+use Rattle.decisions.specs.Decisions.{unfitRest}
 use Rattle.walk.specs.declared.putter.Members.{Members}
-use Rattle.walk.specs.Gets.{levels-as, ready-node, as-node}
-use Rattle.walk.specs.Puts.{put-here}
-use Rattle.walk.specs.PutMembers.{asked-as, told-as}
-use Rattle.walk.specs.PutEach.{
+use Rattle.walk.specs.Get.{levels-as, ready-node, as-node}
+use Rattle.walk.specs.Put.{put-here}
+use Rattle.walk.specs.Put.Members.{asked-as, told-as}
+use Rattle.walk.specs.Put.Each.{
   view-some,
   each-51,
   each-asks,
@@ -74,7 +74,7 @@ module _ (t : ℕ) where
   view-list c = sym (c .before .unfit .ensures) ∙ c .if1 .left
 
   subject : (c : At lts.Else2) → let g = got c in let e = entry (listed g) in
-      EachPut (put-here (e .pre .1 .0)) (e .args .view .now) (e .args .own .node) (e .args .own .kind) (e .args .own .n) (g .get-node .result)
+      EachPut (put-here (e .pre .1 .0)) (e .args .view .now) (e .args .own .node) (e .args .own .kind) (e .args .own .place) (g .get-node .result)
       (g .get-node .last .1 .1 .0)
   subject c =
       let g = got c in
@@ -94,7 +94,7 @@ module _ (t : ℕ) where
       ap (λ (i : ℕ). unfitRest 3 (getD a i 0)) (sym (c .before .before .before .start-of .ensures)) ∙ sym (c .before .unfit2 .ensures) ∙ c .if3 .left
 
   ready : (c : At lts.After-section-root) → let g = got (there (fitting (inside c))) in let e = entry (listed g) in
-      EachListed (put-here (e .pre .1 .0)) (e .args .view .now) (e .args .own .node) (e .args .own .kind) (e .args .own .n) (g .get-node .result)
+      EachListed (put-here (e .pre .1 .0)) (e .args .view .now) (e .args .own .node) (e .args .own .kind) (e .args .own .place) (g .get-node .result)
       (g .get-node .last .1 .1 .0) (c .section-root .result)
   ready c =
       let i = inside c in

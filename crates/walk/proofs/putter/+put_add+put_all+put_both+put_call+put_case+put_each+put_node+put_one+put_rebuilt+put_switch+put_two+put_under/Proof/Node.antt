@@ -7,19 +7,19 @@ use Prim.Native.Nat.{ℕ, _+_, _*_, _≤_, _<_}
 use lib.ListN.{getD}
 use Rattle.rules.specs.Numbers.{CHAIN}
 use native.Mathlib.Omega.{arith}
-use Rattle.step.specs.StepLaws.{entered as both-left}
+use Rattle.decisions.specs.DecisionLaws.{entered as both-left}
 use Rattle.arena.specs.Chain.{leftAs, chained}
-use Rattle.walk.specs.Said.{left-as, left-by}
-use Rattle.walk.specs.declared.at.Own.{Own}
-use Rattle.walk.specs.Gets.{levels-as}
-use Rattle.walk.specs.GetTwo.{Two, two-kind}
-use Rattle.walk.specs.GetCase.{Case, case-kind}
-use Rattle.walk.specs.GetEnter.{entry-code, node-few}
-use Rattle.walk.specs.Puts.{enter, Few, KindAsked, KindTells, TaskTells}
-use Rattle.walk.specs.PutReady.{few, gives-at}
-use Rattle.walk.specs.PutEnter.{PutEntered, enter-refused, its-kind, body-ready, body-told, own-as}
-use Rattle.walk.specs.PutLeaf.{wide-told}
-use Rattle.walk.specs.Cells.{Shown}
+use Rattle.walk.specs.Decoded.{left-as, left-by}
+use Rattle.walk.specs.declared.at.Record.{Record}
+use Rattle.walk.specs.Get.{levels-as}
+use Rattle.walk.specs.Get.Two.{Two, two-kind}
+use Rattle.walk.specs.Get.Case.{Case, case-kind}
+use Rattle.walk.specs.Get.Enter.{entry-code, node-few}
+use Rattle.walk.specs.Put.{enter, Few, KindAsked, KindTells, TaskTells}
+use Rattle.walk.specs.Put.Requires.{few, gives-at}
+use Rattle.walk.specs.Put.Enter.{PutEntered, enter-refused, its-kind, body-ready, body-told, own-as}
+use Rattle.walk.specs.Put.Leaf.{wide-told}
+use Rattle.walk.specs.Arena.Cells.{Shown}
 use Rattle.walk.proofs.putter.put_node.Reads as put-node
 use Rattle.walk.proofs.putter.+put_add+put_all+put_both+put_call+put_case+put_each+put_node+put_one+put_rebuilt+put_switch+put_two+put_under as cycle
 use cycle.Lts-put_node as lts
@@ -50,8 +50,8 @@ module _ (t : ℕ) where
       let d = left (allowed c) in
       record { asked = start (allowed c) .pre .1; deep = d .0; paid = d .1; kind = c .byte-of .ensures }
 
-  abbrev its : At lts.After-byte-of → Own
-  its c = let a = start (allowed c) .args in record { node = a .node; n = getD (a .table .now) (a .node) 0; kind = c .byte-of .result }
+  abbrev its : At lts.After-byte-of → Record
+  its c = let a = start (allowed c) .args in record { node = a .node; place = getD (a .table .now) (a .node) 0; kind = c .byte-of .result }
 
   -- what the function of its kind is asked: it is deeper, and the record is of that kind
   deeper : (c : At lts.After-byte-of) → 8 * c .before .below .result .levels + 4 < t

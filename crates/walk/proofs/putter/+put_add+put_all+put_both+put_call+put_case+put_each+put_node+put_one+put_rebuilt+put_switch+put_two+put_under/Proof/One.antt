@@ -9,19 +9,19 @@ use mathlib.Core.List.{List}
 use lib.ListN.{getD, drop, length, length-drop, length-set}
 use lib.Seq.{take-all}
 use borrow.Author.Tests.{ltb-true, ltb-false}
-use Rattle.answer.specs.Answer.{isRefusal, doneAs, startOf, lenOf, stepsOf, steps-small}
+use Rattle.outcome.specs.Outcome.{isRefusal, doneAs, startOf, lenOf, stepsOf, steps-small}
 use Rattle.shapes.specs.Parts.{shapeOf, middleOf}
 use Rattle.scopes.specs.Scopes.{frontTwo, placeOf}
 use Rattle.rules.specs.Numbers.{VARIABLES}
 use Rattle.walk.specs.declared.at.At.{At as Where}
-use Rattle.walk.specs.Places.{behindOf, withCellOf}
+use Rattle.walk.specs.Moves.{behindOf, withCellOf}
 use Rattle.walk.specs.Scope.{withMember}
 use Rattle.walk.specs.Arena.{below-ends}
-use Rattle.walk.specs.Cells.{Shown}
-use Rattle.walk.specs.Gets.{levels-as}
-use Rattle.walk.specs.Puts.{enter, put-there, PutTold, Few}
-use Rattle.walk.specs.PutReady.{ready-as, gives-as, few-at}
-use Rattle.walk.specs.PutMember.{
+use Rattle.walk.specs.Arena.Cells.{Shown}
+use Rattle.walk.specs.Get.{levels-as}
+use Rattle.walk.specs.Put.{enter, put-there, PutTold, Few}
+use Rattle.walk.specs.Put.Requires.{ready-as, shows-as, few-at}
+use Rattle.walk.specs.Put.Member.{
   MemberStood,
   member-here,
   stood-asked,
@@ -117,7 +117,7 @@ module _ (t : ℕ) where
       (c .put-node .result) (enter (a .turn .by .root))
   told c =
       let w = tried c in
-      gives-as (place-is w) (member-is (scoped (deeper w))) (cells-are (deeper w)) refl (c .put-node .ensures .0)
+      shows-as (place-is w) (member-is (scoped (deeper w))) (cells-are (deeper w)) refl (c .put-node .ensures .0)
 
   put-done : (c : At lts.Else2) → isRefusal (was-put c .put-node .result) ≡ false
   put-done c = sym (c .before .is-refused2 .ensures) ∙ c .if2 .left

@@ -6,11 +6,11 @@ use Prim.Native.Nat.{ℕ, _+_, _-_, _≤_}
 use native.Mathlib.Omega.{arith}
 use mathlib.Core.Bool.{false}
 use lib.ListN.{getD}
-use Rattle.step.specs.Step.{unfitRest}
+use Rattle.decisions.specs.Decisions.{unfitRest}
 use Rattle.rules.specs.Numbers.{VARIABLES}
-use Rattle.walk.specs.Puts.{put-there}
-use Rattle.walk.specs.PutReady.{few}
-use Rattle.walk.specs.PutRebuilt.{Rebuilding, parts-end, rebuilt-places, rebuilt-43, rebuilt-44, rebuilt-long, rebuilt-asks, rebuilt-told}
+use Rattle.walk.specs.Put.{put-there}
+use Rattle.walk.specs.Put.Requires.{few}
+use Rattle.walk.specs.Put.Rebuilt.{Rebuilding, parts-end, rebuilt-places, rebuilt-43, rebuilt-44, rebuilt-long, rebuilt-asks, rebuilt-told}
 use Rattle.walk.proofs.putter.put_rebuilt.Reads as put-rebuilt
 use Rattle.walk.proofs.putter.+put_add+put_all+put_both+put_call+put_case+put_each+put_node+put_one+put_rebuilt+put_switch+put_two+put_under as cycle
 use cycle.Lts-put_rebuilt as lts

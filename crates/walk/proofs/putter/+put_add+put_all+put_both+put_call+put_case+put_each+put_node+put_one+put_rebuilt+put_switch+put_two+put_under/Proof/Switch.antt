@@ -5,15 +5,15 @@ use mathlib.Core.Path.{_≡_, sym, ap, ap₂, _∙_}
 use Prim.Native.Nat.{ℕ, _+_, _-_}
 use native.Mathlib.Omega.{arith}
 use mathlib.Core.Bool.{false}
-use Rattle.answer.specs.Answer.{isRefusal, startOf, lenOf, stepsOf, later-as}
+use Rattle.outcome.specs.Outcome.{isRefusal, startOf, lenOf, stepsOf, later-as}
 use Rattle.walk.specs.declared.at.At.{At as Where}
 use Rattle.walk.specs.declared.putter.Parts.{Parts}
-use Rattle.walk.specs.Places.{raisedOf}
-use Rattle.walk.specs.Gets.{levels-as}
-use Rattle.walk.specs.Puts.{put-there}
-use Rattle.walk.specs.PutReady.{few, inner-at}
-use Rattle.walk.specs.PutUnder.{parts-as, some-at, under-ready, under-as}
-use Rattle.walk.specs.PutSwitch.{Switching, defaults-asked, switch-refused, switch-parts, switch-under, switch-told}
+use Rattle.walk.specs.Moves.{raisedOf}
+use Rattle.walk.specs.Get.{levels-as}
+use Rattle.walk.specs.Put.{put-there}
+use Rattle.walk.specs.Put.Requires.{few, inner-at}
+use Rattle.walk.specs.Put.Under.{parts-as, some-at, under-ready, under-as}
+use Rattle.walk.specs.Put.Switch.{Switching, defaults-asked, switch-refused, switch-parts, switch-under, switch-told}
 use Rattle.walk.proofs.putter.put_switch.Reads as put-switch
 use Rattle.walk.proofs.putter.+put_add+put_all+put_both+put_call+put_case+put_each+put_node+put_one+put_rebuilt+put_switch+put_two+put_under as cycle
 use cycle.Lts-put_switch as lts
@@ -42,7 +42,7 @@ module _ (t : ℕ) where
   named c = c .before .before
 
   -- WHAT IS KNOWN THERE
-  switching : (c : At lts.Start) → Switching (put-there (c .pre .1 .0)) (c .args .view .now) (c .args .n)
+  switching : (c : At lts.Start) → Switching (put-there (c .pre .1 .0)) (c .args .view .now) (c .args .place)
   switching c = record { asked = c .pre .1 .0; inner = c .pre .1 .1 .0; room = c .pre .1 .1 .1 }
 
   done : (c : At lts.Else1) → isRefusal (got c .defaults .result) ≡ false

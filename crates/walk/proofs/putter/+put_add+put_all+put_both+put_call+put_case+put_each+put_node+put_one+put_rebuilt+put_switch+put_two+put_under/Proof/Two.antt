@@ -6,13 +6,13 @@ use Prim.Native.Nat.{ℕ, _+_, _-_}
 use native.Mathlib.Omega.{arith}
 use mathlib.Core.Bool.{false}
 use lib.ListN.{getD}
-use Rattle.answer.specs.Answer.{isRefusal, later-as}
-use Rattle.step.specs.Step.{apartOf}
-use Rattle.walk.specs.Cells.{Shown}
-use Rattle.walk.specs.Gets.{levels-as}
-use Rattle.walk.specs.Puts.{enter, put-here, PutTold}
-use Rattle.walk.specs.PutReady.{ready-as, gives-as, few-at}
-use Rattle.walk.specs.PutTwo.{TakenApart, two-51, two-asks, right-view, two-told, both-asks₁, both-refused, both-asks₂, both-told}
+use Rattle.outcome.specs.Outcome.{isRefusal, later-as}
+use Rattle.decisions.specs.Decisions.{apartOf}
+use Rattle.walk.specs.Arena.Cells.{Shown}
+use Rattle.walk.specs.Get.{levels-as}
+use Rattle.walk.specs.Put.{enter, put-here, PutTold}
+use Rattle.walk.specs.Put.Requires.{ready-as, shows-as, few-at}
+use Rattle.walk.specs.Put.Two.{TakenApart, two-51, two-asks, right-view, two-told, both-asks₁, both-refused, both-asks₂, both-told}
 use Rattle.walk.proofs.putter.put_two.Reads as put-two
 use Rattle.walk.proofs.putter.+put_add+put_all+put_both+put_call+put_case+put_each+put_node+put_one+put_rebuilt+put_switch+put_two+put_under as cycle
 use cycle.Lts-put_two as lts
@@ -36,7 +36,7 @@ module _ (t : ℕ) where
 
   -- WHAT IS KNOWN THERE
   apart : (c : At lts.After-second-part) → let e = entry c in
-      TakenApart (put-here (e .pre .1 .0)) (e .args .view .now) (e .args .own .node) (e .args .own .kind) (e .args .own .n)
+      TakenApart (put-here (e .pre .1 .0)) (e .args .view .now) (e .args .own .node) (e .args .own .kind) (e .args .own .place)
       (c .before .before .before .mid .given .0 .0) (c .before .first-part .result .now) (c .second-part .result .now)
   apart c =
       let e = entry c in
@@ -55,8 +55,8 @@ module _ (t : ℕ) where
   told : (c : At lts.After-put-node) → let s = parts c in let e = entry s in
       PutTold (put-here (e .pre .1 .0)) (Shown (s .before .first-part .result .now)) (c .put-node .last .1 .1 .0) (c .put-node .last .1 .1 .1 .0)
       (c .put-node .result)
-      (enter (getD (e .args .sheet .now) (e .args .own .n + 1) 0))
-  told c = gives-as {at = entry (parts c) .args .at} refl refl refl (c .before .before .before .number-of .ensures) (c .put-node .ensures .0)
+      (enter (getD (e .args .sheet .now) (e .args .own .place + 1) 0))
+  told c = shows-as {at = entry (parts c) .args .at} refl refl refl (c .before .before .before .number-of .ensures) (c .put-node .ensures .0)
 
   -- NEEDS
   returns : At lts.Need-returns
@@ -102,7 +102,7 @@ module _ (t : ℕ) where
       let s = apart (parts p) in
       let e = c .before .before .before .before .before .before .before .before .after .ensures in
       let o = c .before .before .before .before .put-node2 .ensures in
-      let g = gives-as e refl refl (c .before .before .before .before .before .before .before .number-of2 .ensures) (o .0) in
+      let g = shows-as e refl refl (c .before .before .before .before .before .before .before .number-of2 .ensures) (o .0) in
       two-told s (both-told (two-asks s) (told p) (done i) (p .put-node .ensures .1) (few-at e (o .1)) g
       (later-as _ (c .before .steps-of .ensures) (c .later .ensures)))
 

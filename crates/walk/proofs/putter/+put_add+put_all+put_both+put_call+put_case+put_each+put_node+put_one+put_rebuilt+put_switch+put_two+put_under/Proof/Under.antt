@@ -5,14 +5,14 @@ use mathlib.Core.Path.{_≡_, refl, sym, _∙_}
 use Prim.Native.Nat.{ℕ, _+_, _-_, _≤_}
 use native.Mathlib.Omega.{arith}
 use mathlib.Core.Bool.{false}
-use Rattle.answer.specs.Answer.{isRefusal, later-as}
+use Rattle.outcome.specs.Outcome.{isRefusal, later-as}
 use Rattle.scopes.specs.Scopes.{addedTwo}
 use Rattle.rules.specs.Numbers.{VARIABLES}
-use Rattle.walk.specs.Cells.{Shown}
-use Rattle.walk.specs.Gets.{levels-as}
-use Rattle.walk.specs.Puts.{enter, put-there, PutTold, Few}
-use Rattle.walk.specs.PutReady.{ready-as, gives-as, few-at}
-use Rattle.walk.specs.PutUnder.{
+use Rattle.walk.specs.Arena.Cells.{Shown}
+use Rattle.walk.specs.Get.{levels-as}
+use Rattle.walk.specs.Put.{enter, put-there, PutTold, Few}
+use Rattle.walk.specs.Put.Requires.{ready-as, shows-as, few-at}
+use Rattle.walk.specs.Put.Under.{
   Under,
   inner-here,
   under-stored,
@@ -43,10 +43,10 @@ module _ (t : ℕ) where
   abbrev scoped : At lts.After-add-cells → At lts.After-with-two
   scoped c = c .before .before .before .before
 
-  abbrev deeper : At lts.After-wider → At lts.After-add-cells
+  abbrev deeper : At lts.After-with-two-cells → At lts.After-add-cells
   deeper c = c .before
 
-  abbrev made : At lts.After-put-node → At lts.After-wider
+  abbrev made : At lts.After-put-node → At lts.After-with-two-cells
   made c = c .before .before .before .before
 
   abbrev one : At lts.Else1 → At lts.After-put-node
@@ -70,10 +70,10 @@ module _ (t : ℕ) where
   told c =
       let w = made c in
       let s = scoped (deeper w) in
-      gives-as (w .wider .ensures) (s .with-two .ensures) (cells-are (deeper w)) refl (c .put-node .ensures .0)
+      shows-as (w .with-two-cells .ensures) (s .with-two .ensures) (cells-are (deeper w)) refl (c .put-node .ensures .0)
 
   few : (c : At lts.After-put-node) → Few (entry (scoped (deeper (made c))) .args .at .left) (c .put-node .result)
-  few c = few-at (made c .wider .ensures) (c .put-node .ensures .1)
+  few c = few-at (made c .with-two-cells .ensures) (c .put-node .ensures .1)
 
   done : (c : At lts.Else1) → isRefusal (one c .put-node .result) ≡ false
   done c = sym (c .before .is-refused .ensures) ∙ c .if1 .left
@@ -97,15 +97,15 @@ module _ (t : ℕ) where
   with-two-requires : At lts.Need-with-two-requires
   with-two-requires c κs = under-stored (asked (c .before .before .before))
 
-  wider-requires : At lts.Need-wider-requires
-  wider-requires c κs = room (entry (scoped c)) .0
+  with-two-cells-requires : At lts.Need-with-two-cells-requires
+  with-two-cells-requires c κs = room (entry (scoped c)) .0
 
   put-node-requires : At lts.Need-put-node-requires
   put-node-requires c κs =
       let w = c .before .before .before in
       let s = scoped (deeper w) in
-      let l = levels-as (w .wider .ensures) in
-      (omega (arith, entry s .pre .0), ready-as (w .wider .ensures) (s .with-two .ensures) (cells-are (deeper w)) refl (under-asks₁ (asked (entry s))))
+      let l = levels-as (w .with-two-cells .ensures) in
+      (omega (arith, entry s .pre .0), ready-as (w .with-two-cells .ensures) (s .with-two .ensures) (cells-are (deeper w)) refl (under-asks₁ (asked (entry s))))
 
   returns : At lts.Need-returns
   returns c =
@@ -136,7 +136,7 @@ module _ (t : ℕ) where
 pub put-under-met : {M : Type 1} (t : ℕ) → lts.Closed (under-claims t) (AtMeasure under t) put-under.Post M
 put-under-met t = lts.spec (under-claims t) (AtMeasure under t) put-under.Post
     (mul-slots t) (element-write-slots t) (add-slots t) (mul-slots-2 t) (element-write-slots-2 t) (with-two-requires t) (λ c. search needs)
-    (λ c κs. search needs) (wider-requires t) (put-node-requires t) (λ c κs. search needs)
+    (λ c κs. search needs) (with-two-cells-requires t) (put-node-requires t) (λ c κs. search needs)
     (λ c. let p = entry t (scoped t (deeper t (made t (c .before .before .before .before)))) .pre .1 .1 .1 in returns t c _ _ (p .parts) .frame .long)
     (returns t) (after-requires t)
     (put-rebuilt-requires t) (λ c κs. search needs) (λ c κs. search needs)
