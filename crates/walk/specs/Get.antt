@@ -27,7 +27,7 @@ use Rattle.rules.specs.Numbers.{ALLOWANCE, SCRATCH, STACK, CHAIN}
 use Rattle.scopes.specs.declared.Scope.{Scope}
 use Rattle.walk.specs.Decoded.{decoded}
 use Rattle.walk.specs.declared.at.At.{At}
-use Rattle.walk.specs.declared.at.Record.{Record}
+use Rattle.walk.specs.declared.at.Pos.{Pos}
 use Rattle.walk.specs.Arena.Parts.{SameBelow}
 use Rattle.walk.specs.Arena.{Held, Scoped}
 use Rattle.walk.specs.Members.{getFrom}
@@ -84,11 +84,11 @@ pub record GetShows (b a s : List ℕ) (sc : Scope) (from top left r l : ℕ) (t
   pub told : (sh : Sheet) → readSheet s ≡ ok sh → (μ : Env) → Scoped b sc from μ → Represents (GotAt a top) (decoded a l r) left (run l sh t μ)
 
 -- THE CONTRACT of the functions of the kinds, for the node o at a place
-abbrev pub KindAsked : (s table a : List ℕ) → Scope → Record → At → Type 0
-KindAsked s table a sc o at = Ready s table a sc (at .top) (suc (at .levels)) (suc (at .left)) (own (o .kind) s (o .place))
+abbrev pub KindAsked : (s table a : List ℕ) → Scope → Pos → At → Type 0
+KindAsked s table a sc o at = Ready s table a sc (at .top) (suc (at .levels)) (suc (at .left)) (own (o .kind) s (o .from))
 
-abbrev pub KindTells : (s b a : List ℕ) → Scope → Record → At → ℕ → Type 0
-KindTells s b a sc o at r = GetShows b a s sc (at .top) (at .top) (at .left) r (at .levels) (own (o .kind) s (o .place))
+abbrev pub KindTells : (s b a : List ℕ) → Scope → Pos → At → ℕ → Type 0
+KindTells s b a sc o at r = GetShows b a s sc (at .top) (at .top) (at .left) r (at .levels) (own (o .kind) s (o .from))
 
 -- WHERE A FUNCTION OF A KIND IS: what it is lent, and its place
 

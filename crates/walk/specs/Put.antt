@@ -33,7 +33,7 @@ use Rattle.rules.specs.Numbers.{ALLOWANCE, SCRATCH, STACK, CHAIN, VARIABLES}
 use Rattle.scopes.specs.declared.Scope.{Scope}
 use Rattle.walk.specs.Decoded.{decoded}
 use Rattle.walk.specs.declared.at.At.{At}
-use Rattle.walk.specs.declared.at.Record.{Record}
+use Rattle.walk.specs.declared.at.Pos.{Pos}
 use Rattle.walk.specs.declared.putter.Parts.{Parts}
 use Rattle.walk.specs.Arena.{Scoped, Held}
 use Rattle.walk.specs.Represents.{Represents}
@@ -165,12 +165,12 @@ abbrev pub TaskTells : (s b a slots slots′ : List ℕ) → Scope → (cells vi
 TaskTells s b a slots slots′ sc cells view at r t =
     PutShows b a slots slots′ s (Shown view) sc cells (at .cells) (at .cells) (at .top) (at .left) r (at .levels) t
 
-abbrev pub KindAsked : (s table a slots : List ℕ) → Scope → List ℕ → Record → List ℕ → At → Type 0
+abbrev pub KindAsked : (s table a slots : List ℕ) → Scope → List ℕ → Pos → List ℕ → At → Type 0
 KindAsked s table a slots sc cells o view at = Ready s table a slots (Shown view) sc cells (at .cells) (at .cells) (at .top) (suc (at .levels))
-    (suc (at .left)) (own (o .node) (o .kind) s (o .place))
+    (suc (at .left)) (own (o .node) (o .kind) s (o .from))
 
-abbrev pub KindTells : (s b a slots slots′ : List ℕ) → Scope → List ℕ → Record → List ℕ → At → ℕ → Type 0
-KindTells s b a slots slots′ sc cells o view at r = TaskTells s b a slots slots′ sc cells view at r (own (o .node) (o .kind) s (o .place))
+abbrev pub KindTells : (s b a slots slots′ : List ℕ) → Scope → List ℕ → Pos → List ℕ → At → ℕ → Type 0
+KindTells s b a slots slots′ sc cells o view at r = TaskTells s b a slots slots′ sc cells view at r (own (o .node) (o .kind) s (o .from))
 
 -- WHERE A FUNCTION OF PUT IS: what it is lent, and its place
 

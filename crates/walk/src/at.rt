@@ -12,9 +12,9 @@ use outcome::steps_of;
 pub type Table = [u16; 200];
 
 /// The node that a walk is in: its number, the byte of the sheet at which its record starts, and its kind byte.
-pub struct Record {
+pub struct Pos {
     pub node: usize,
-    pub place: u16,
+    pub from: u16,
     pub kind: u8,
 }
 

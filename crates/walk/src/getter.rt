@@ -14,7 +14,7 @@ ghost use Rattle.walk.specs.Get.Case.{Case, testOf};
 ghost use Rattle.walk.specs.Get.Leaf.{Childless, numbered};
 ghost use Rattle.walk.specs.Get.Members.{MembersAsked, MembersTold};
 use crate::at::At;
-use crate::at::Record;
+use crate::at::Pos;
 use crate::at::Table;
 use crate::got::added;
 use crate::got::bring;
@@ -61,14 +61,7 @@ fn get_wide(sheet: &[u8], arena: &mut [u8], place: u16, top: usize) -> usize
 }
 
 // A variable (10), False, True or the empty list (11 to 13), which are one byte each, or a number (14).
-fn get_leaf(
-    sheet: &[u8],
-    table: &Table,
-    arena: &mut [u8],
-    scope: Scope,
-    own: Record,
-    at: At,
-) -> usize
+fn get_leaf(sheet: &[u8], table: &Table, arena: &mut [u8], scope: Scope, own: Pos, at: At) -> usize
     requires { ⌜ KindAsked (now sheet) (now table) (now arena) scope own at ⌝ }
     requires { ⌜ Childless (own .kind) ⌝ }
     ensures { λ r. ⌜ KindTells (now (sheet .entry)) (now (arena .entry)) (now (arena .exit)) scope own at r ⌝ }
@@ -76,10 +69,10 @@ fn get_leaf(
     let kind = own.kind;
     let top = at.top;
     if kind == 0x10 {
-        return scopes::variable(scope, sheet::number_of(sheet, own.place, 1));
+        return scopes::variable(scope, sheet::number_of(sheet, own.from, 1));
     }
     if kind == 0x14 {
-        return get_number(sheet, arena, own.place, top);
+        return get_number(sheet, arena, own.from, top);
     }
     arena[top] = kind - 0x11;
     done(top, 1, 0)
@@ -102,10 +95,10 @@ pub fn get_node(
     if code != 0 {
         return leave(arena, refused(code), node, at.levels);
     }
-    let place = table[node];
+    let from = table[node];
     let below = at.below();
-    let kind = sheet::byte_of(sheet, place, 0);
-    let own = Record { node, place, kind };
+    let kind = sheet::byte_of(sheet, from, 0);
+    let own = Pos { node, from, kind };
     if kind < 0x15 {
         let got = get_leaf(sheet, table, arena, scope, own, below);
         return leave(arena, got, node, at.levels);
@@ -132,19 +125,12 @@ pub fn get_node(
     }
     // 1D: no other kind is left
     let top = below.top;
-    let got = get_wide(sheet, arena, place, top);
+    let got = get_wide(sheet, arena, from, top);
     leave(arena, got, node, at.levels)
 }
 
 // A front (15) or a pair (16).
-fn get_two(
-    sheet: &[u8],
-    table: &Table,
-    arena: &mut [u8],
-    scope: Scope,
-    own: Record,
-    at: At,
-) -> usize
+fn get_two(sheet: &[u8], table: &Table, arena: &mut [u8], scope: Scope, own: Pos, at: At) -> usize
     requires { ⌜ KindAsked (now sheet) (now table) (now arena) scope own at ⌝ }
     requires { ⌜ Two (own .kind) ⌝ }
     ensures { λ r. ⌜ KindTells (now (sheet .entry)) (now (arena .entry)) (now (arena .exit)) scope own at r ⌝ }
@@ -153,14 +139,14 @@ fn get_two(
     let made = decisions::made(own.kind);
     arena[top] = made;
     let one = at.raised(1);
-    let first = sheet::number_of(sheet, own.place, 1);
+    let first = sheet::number_of(sheet, own.from, 1);
     let got = get_node(sheet, table, arena, scope, first, one);
     let a = bring(arena, got, one.top);
     if is_refused(a) {
         return a;
     }
     let two = one.behind(a);
-    let second = sheet::number_of(sheet, own.place, 2);
+    let second = sheet::number_of(sheet, own.from, 2);
     let got = get_node(sheet, table, arena, scope, second, two);
     let b = bring(arena, got, two.top);
     joined(arena, made, top, a, b)
@@ -178,19 +164,12 @@ fn test_of(sheet: &[u8], place: u16, kind: u8, i: u16) -> u8
 }
 
 // A list case (17), a truth case (18) or a split (19): the subject, and then the branch that it fits.
-fn get_case(
-    sheet: &[u8],
-    table: &Table,
-    arena: &mut [u8],
-    scope: Scope,
-    own: Record,
-    at: At,
-) -> usize
+fn get_case(sheet: &[u8], table: &Table, arena: &mut [u8], scope: Scope, own: Pos, at: At) -> usize
     requires { ⌜ KindAsked (now sheet) (now table) (now arena) scope own at ⌝ }
     requires { ⌜ Case (own .kind) ⌝ }
     ensures { λ r. ⌜ KindTells (now (sheet .entry)) (now (arena .entry)) (now (arena .exit)) scope own at r ⌝ }
 {
-    let subject = sheet::number_of(sheet, own.place, 1);
+    let subject = sheet::number_of(sheet, own.from, 1);
     let got = get_node(sheet, table, arena, scope, subject, at);
     if is_refused(got) {
         return got;
@@ -199,14 +178,14 @@ fn get_case(
     let top = at.top;
     match decisions::fits(own.kind, shape_at(arena, got)) {
         Branch::Plain(i, _) => {
-            let node = sheet::number_of(sheet, own.place, i);
-            let test = test_of(sheet, own.place, own.kind, i);
+            let node = sheet::number_of(sheet, own.from, i);
+            let test = test_of(sheet, own.from, own.kind, i);
             let branch = get_node(sheet, table, arena, scope, node, to);
             later(judge(arena, branch, test, top), steps_of(got))
         }
         Branch::Parts(i, mid) => {
-            let node = sheet::number_of(sheet, own.place, i);
-            let test = test_of(sheet, own.place, own.kind, i);
+            let node = sheet::number_of(sheet, own.from, i);
+            let test = test_of(sheet, own.from, own.kind, i);
             let inner = with_two(scope, start_of(got) + 1, mid - 1, len_of(got) - mid);
             let branch = get_node(sheet, table, arena, inner, node, to);
             later(judge(arena, branch, test, top), steps_of(got))
@@ -216,20 +195,13 @@ fn get_case(
 }
 
 // A call (1A): the section's root, with the caller's two variables alone.
-fn get_call(
-    sheet: &[u8],
-    table: &Table,
-    arena: &mut [u8],
-    scope: Scope,
-    own: Record,
-    at: At,
-) -> usize
+fn get_call(sheet: &[u8], table: &Table, arena: &mut [u8], scope: Scope, own: Pos, at: At) -> usize
     requires { ⌜ KindAsked (now sheet) (now table) (now arena) scope own at ⌝ }
     requires { ⌜ own .kind ≡ 0x1A ⌝ }
     ensures { λ r. ⌜ KindTells (now (sheet .entry)) (now (arena .entry)) (now (arena .exit)) scope own at r ⌝ }
 {
-    let x = sheet::number_of(sheet, own.place, 2);
-    let y = sheet::number_of(sheet, own.place, 3);
+    let x = sheet::number_of(sheet, own.from, 2);
+    let y = sheet::number_of(sheet, own.from, 3);
     let count = scope.count as usize;
     if count <= x {
         return refused(42);
@@ -237,31 +209,24 @@ fn get_call(
     if count <= y {
         return refused(42);
     }
-    let root = sheet::section_root(sheet, sheet::number_of(sheet, own.place, 1));
+    let root = sheet::section_root(sheet, sheet::number_of(sheet, own.from, 1));
     let inner = scopes::section(scope, x, y);
     get_node(sheet, table, arena, inner, root, at)
 }
 
 // An amount added (1B).
-fn get_add(
-    sheet: &[u8],
-    table: &Table,
-    arena: &mut [u8],
-    scope: Scope,
-    own: Record,
-    at: At,
-) -> usize
+fn get_add(sheet: &[u8], table: &Table, arena: &mut [u8], scope: Scope, own: Pos, at: At) -> usize
     requires { ⌜ KindAsked (now sheet) (now table) (now arena) scope own at ⌝ }
     requires { ⌜ own .kind ≡ 0x1B ⌝ }
     ensures { λ r. ⌜ KindTells (now (sheet .entry)) (now (arena .entry)) (now (arena .exit)) scope own at r ⌝ }
 {
     let top = at.top;
-    let node = sheet::number_of(sheet, own.place, 1);
+    let node = sheet::number_of(sheet, own.from, 1);
     let got = get_node(sheet, table, arena, scope, node, at);
     let a = bring(arena, got, top);
     let amount = value::number(
-        sheet::byte_of(sheet, own.place, 2),
-        sheet::byte_of(sheet, own.place, 3),
+        sheet::byte_of(sheet, own.from, 2),
+        sheet::byte_of(sheet, own.from, 3),
     );
     added(arena, a, amount, top)
 }
@@ -311,19 +276,12 @@ fn get_members(
 }
 
 // Each (1C): the subject, a list, and then the list of what the section gives for its members.
-fn get_each(
-    sheet: &[u8],
-    table: &Table,
-    arena: &mut [u8],
-    scope: Scope,
-    own: Record,
-    at: At,
-) -> usize
+fn get_each(sheet: &[u8], table: &Table, arena: &mut [u8], scope: Scope, own: Pos, at: At) -> usize
     requires { ⌜ KindAsked (now sheet) (now table) (now arena) scope own at ⌝ }
     requires { ⌜ own .kind ≡ 0x1C ⌝ }
     ensures { λ r. ⌜ KindTells (now (sheet .entry)) (now (arena .entry)) (now (arena .exit)) scope own at r ⌝ }
 {
-    let subject = sheet::number_of(sheet, own.place, 1);
+    let subject = sheet::number_of(sheet, own.from, 1);
     let got = get_node(sheet, table, arena, scope, subject, at);
     if is_refused(got) {
         return got;
@@ -332,11 +290,11 @@ fn get_each(
     if decisions::unfit(3, arena[start]) {
         return refused(43);
     }
-    let x = sheet::number_of(sheet, own.place, 3);
+    let x = sheet::number_of(sheet, own.from, 3);
     if scope.count as usize <= x {
         return refused(42);
     }
-    let root = sheet::section_root(sheet, sheet::number_of(sheet, own.place, 2));
+    let root = sheet::section_root(sheet, sheet::number_of(sheet, own.from, 2));
     let end = start + len_of(got);
     let to = at.behind(got);
     let list = get_members(sheet, table, arena, scope, x, root, start, end, to);

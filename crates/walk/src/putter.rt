@@ -39,7 +39,7 @@ ghost use Rattle.walk.specs.Put.Switch.{BothAsked, Sees, DefaultsAsked, 
 ghost use Rattle.walk.specs.Put.Member.{StoodAsked, Stood, MembersAsked, MemberTold};
 ghost use Rattle.walk.specs.Put.Members.{SomeList, MembersTold};
 use crate::at::At;
-use crate::at::Record;
+use crate::at::Pos;
 use crate::at::Table;
 use crate::bytes::copy;
 use crate::bytes::fill;
@@ -148,7 +148,7 @@ fn put_leaf(
     slots: &mut Slots,
     scope: Scope,
     cells: &Cells,
-    own: Record,
+    own: Pos,
     view: &[u8],
     at: At,
 ) -> usize
@@ -159,12 +159,12 @@ fn put_leaf(
 {
     let kind = own.kind;
     if kind == 0x14 {
-        return put_number(sheet, own.place, view);
+        return put_number(sheet, own.from, view);
     }
     if kind != 0x10 {
         return decisions::put_constant(kind - 0x11, view);
     }
-    let x = sheet::number_of(sheet, own.place, 1);
+    let x = sheet::number_of(sheet, own.from, 1);
     let count = scope.count as usize;
     if count <= x {
         return refused(42);
@@ -194,10 +194,10 @@ pub fn put_node(
     if code != 0 {
         return leave(arena, refused(code), node, at.levels);
     }
-    let place = table[node];
+    let from = table[node];
     let to = at.below();
-    let kind = sheet::byte_of(sheet, place, 0);
-    let own = Record { node, place, kind };
+    let kind = sheet::byte_of(sheet, from, 0);
+    let own = Pos { node, from, kind };
     if kind < 0x15 {
         let put = put_leaf(sheet, table, arena, slots, scope, cells, own, view, to);
         return leave(arena, put, node, at.levels);
@@ -223,7 +223,7 @@ pub fn put_node(
         return leave(arena, put, node, at.levels);
     }
     // 1D: no other kind is left
-    let put = put_wide(sheet, place, view);
+    let put = put_wide(sheet, from, view);
     leave(arena, put, node, at.levels)
 }
 
@@ -264,7 +264,7 @@ fn put_two(
     slots: &mut Slots,
     scope: Scope,
     cells: &Cells,
-    own: Record,
+    own: Pos,
     view: &[u8],
     at: At,
 ) -> usize
@@ -278,13 +278,13 @@ fn put_two(
     };
     let left = shapes::first_part(view, mid);
     let right = shapes::second_part(view, mid);
-    let a = sheet::number_of(sheet, own.place, 1);
+    let a = sheet::number_of(sheet, own.from, 1);
     let one = put_node(sheet, table, arena, slots, scope, cells, a, left, at);
     if is_refused(one) {
         return one;
     }
     let then = at.after(one);
-    let b = sheet::number_of(sheet, own.place, 2);
+    let b = sheet::number_of(sheet, own.from, 2);
     let two = put_node(sheet, table, arena, slots, scope, cells, b, right, then);
     later(two, steps_of(one))
 }
@@ -380,7 +380,7 @@ fn put_case(
     slots: &mut Slots,
     scope: Scope,
     cells: &Cells,
-    own: Record,
+    own: Pos,
     view: &[u8],
     at: At,
 ) -> usize
@@ -389,17 +389,17 @@ fn put_case(
     ensures { λ r. ⌜ KindTells (now (sheet .entry)) (now (arena .entry)) (now (arena .exit)) (now (slots .entry)) (now (slots .exit)) scope (now (cells .entry))
         own (now (view .entry)) at r ⌝ }
 {
-    let subject = sheet::number_of(sheet, own.place, 1);
+    let subject = sheet::number_of(sheet, own.from, 1);
     let got = get_node(sheet, table, arena, scope, subject, at);
     if is_refused(got) {
         return got;
     }
     let to = at.behind(got);
-    let first = sheet::byte_of(sheet, own.place, 3);
-    let second = sheet::byte_of(sheet, own.place, 5);
+    let first = sheet::byte_of(sheet, own.from, 3);
+    let second = sheet::byte_of(sheet, own.from, 5);
     match decisions::takes(own.kind, shape_at(arena, got), first, second, view) {
         Branch::Plain(i, byte) => {
-            let branch = sheet::number_of(sheet, own.place, i);
+            let branch = sheet::number_of(sheet, own.from, i);
             let by = Plain {
                 branch,
                 subject,
@@ -409,23 +409,13 @@ fn put_case(
             later(put, steps_of(got))
         }
         Branch::Parts(i, mid) => {
-            let branch = sheet::number_of(sheet, own.place, i);
+            let branch = sheet::number_of(sheet, own.from, i);
             let parts = parts_of(own.kind, branch, subject, got, mid);
             let put = put_under(sheet, table, arena, slots, scope, cells, parts, view, to);
             later(put, steps_of(got))
         }
         Branch::Switch => {
-            let put = put_switch(
-                sheet,
-                table,
-                arena,
-                slots,
-                scope,
-                cells,
-                own.place,
-                view,
-                to,
-            );
+            let put = put_switch(sheet, table, arena, slots, scope, cells, own.from, view, to);
             later(put, steps_of(got))
         }
         Branch::Refused(code) => refused(code),
@@ -535,7 +525,7 @@ fn put_call(
     slots: &mut Slots,
     scope: Scope,
     cells: &Cells,
-    own: Record,
+    own: Pos,
     view: &[u8],
     at: At,
 ) -> usize
@@ -544,8 +534,8 @@ fn put_call(
     ensures { λ r. ⌜ KindTells (now (sheet .entry)) (now (arena .entry)) (now (arena .exit)) (now (slots .entry)) (now (slots .exit)) scope (now (cells .entry))
         own (now (view .entry)) at r ⌝ }
 {
-    let x = sheet::number_of(sheet, own.place, 2);
-    let y = sheet::number_of(sheet, own.place, 3);
+    let x = sheet::number_of(sheet, own.from, 2);
+    let y = sheet::number_of(sheet, own.from, 3);
     let count = scope.count as usize;
     if count <= x {
         return refused(42);
@@ -553,7 +543,7 @@ fn put_call(
     if count <= y {
         return refused(42);
     }
-    let root = sheet::section_root(sheet, sheet::number_of(sheet, own.place, 1));
+    let root = sheet::section_root(sheet, sheet::number_of(sheet, own.from, 1));
     let inner = scopes::section(scope, x, y);
     let two = scopes::pick_cells(cells, x, y);
     put_node(sheet, table, arena, slots, inner, &two, root, view, at)
@@ -567,7 +557,7 @@ fn put_add(
     slots: &mut Slots,
     scope: Scope,
     cells: &Cells,
-    own: Record,
+    own: Pos,
     view: &[u8],
     at: At,
 ) -> usize
@@ -580,15 +570,15 @@ fn put_add(
         return refused(51);
     };
     let amount = value::number(
-        sheet::byte_of(sheet, own.place, 2),
-        sheet::byte_of(sheet, own.place, 3),
+        sheet::byte_of(sheet, own.from, 2),
+        sheet::byte_of(sheet, own.from, 3),
     );
     if m < amount {
         return refused(52);
     }
     let rest = m - amount;
     let less = [4, value::high(rest), value::low(rest)];
-    let node = sheet::number_of(sheet, own.place, 1);
+    let node = sheet::number_of(sheet, own.from, 1);
     put_node(sheet, table, arena, slots, scope, cells, node, &less, at)
 }
 
@@ -728,7 +718,7 @@ fn put_each(
     slots: &mut Slots,
     scope: Scope,
     cells: &Cells,
-    own: Record,
+    own: Pos,
     view: &[u8],
     at: At,
 ) -> usize
@@ -740,7 +730,7 @@ fn put_each(
     if decisions::unfit(3, view[0]) {
         return refused(51);
     }
-    let subject = sheet::number_of(sheet, own.place, 1);
+    let subject = sheet::number_of(sheet, own.from, 1);
     let got = get_node(sheet, table, arena, scope, subject, at);
     if is_refused(got) {
         return got;
@@ -749,13 +739,13 @@ fn put_each(
     if decisions::unfit(3, arena[old]) {
         return refused(43);
     }
-    let x = sheet::number_of(sheet, own.place, 3);
+    let x = sheet::number_of(sheet, own.from, 3);
     let count = scope.count as usize;
     if count <= x {
         return refused(42);
     }
-    let root = sheet::section_root(sheet, sheet::number_of(sheet, own.place, 2));
-    let default = sheet::number_of(sheet, own.place, 4);
+    let root = sheet::section_root(sheet, sheet::number_of(sheet, own.from, 2));
+    let default = sheet::number_of(sheet, own.from, 4);
     let by = Members {
         subject,
         x,

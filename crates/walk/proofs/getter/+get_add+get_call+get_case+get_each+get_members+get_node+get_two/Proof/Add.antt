@@ -28,7 +28,7 @@ module _ (t : ℕ) where
 
   -- WHAT IS KNOWN THERE: the value stands at the top
   value : (c : At lts.After-bring)
-      → let e = entry (got c) in AtTop (here (e .pre .1 .0)) (c .bring .last .0) (c .bring .result) (getD (e .args .sheet .now) (e .args .own .place + 1) 0)
+      → let e = entry (got c) in AtTop (here (e .pre .1 .0)) (c .bring .last .0) (c .bring .result) (getD (e .args .sheet .now) (e .args .own .from + 1) 0)
   value c =
       let g = got c in
       let w = entry g .pre in

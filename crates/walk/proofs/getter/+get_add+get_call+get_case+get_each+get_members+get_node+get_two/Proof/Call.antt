@@ -34,7 +34,7 @@ module _ (t : ℕ) where
 
   -- WHAT IS KNOWN THERE
   looked : (c : At lts.After-section-root) → let e = entry (in-scope c) in
-      Looked (here (e .pre .1 .0)) (e .args .own .kind) (e .args .own .place) (c .section-root .result)
+      Looked (here (e .pre .1 .0)) (e .args .own .kind) (e .args .own .from) (c .section-root .result)
   looked c =
       let i = in-scope c in
       let w = entry i .pre in
@@ -62,8 +62,8 @@ module _ (t : ℕ) where
   few c = let w = entry c .pre .1 .0 in (omega (arith, w .variables, c .before .if1 .left), omega (arith, w .variables, c .if2 .left))
 
   section-is : (c : At lts.After-section) → let i = in-scope (found c) in let e = entry i in
-      c .section .result ≡ picked (e .args .scope) (getD (e .args .sheet .now) (e .args .own .place + 2) 0)
-      (getD (e .args .sheet .now) (e .args .own .place + 3) 0)
+      c .section .result ≡ picked (e .args .scope) (getD (e .args .sheet .now) (e .args .own .from + 2) 0)
+      (getD (e .args .sheet .now) (e .args .own .from + 3) 0)
   section-is c =
       let i = in-scope (found c) in
       c .section .ensures ∙ ap₂ (picked (entry i .args .scope)) (in-room (few i .0) ∙ i .before .before .before .before .number-of .ensures)

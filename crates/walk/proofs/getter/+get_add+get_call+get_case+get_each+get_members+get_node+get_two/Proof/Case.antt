@@ -52,7 +52,7 @@ module _ (t : ℕ) where
   done c = sym (c .before .is-refused .ensures) ∙ c .if1 .left
 
   subject : (c : At lts.After-shape-at) → let g = got (there (beyond c)) in let e = entry g in
-      Subject (here (e .pre .1 .0)) (e .args .own .kind) (e .args .own .place) (g .get-node .result) (g .get-node .last .1 .1 .0) (c .shape-at .result)
+      Subject (here (e .pre .1 .0)) (e .args .own .kind) (e .args .own .from) (g .get-node .result) (g .get-node .last .1 .1 .0) (c .shape-at .result)
   subject c =
       let i = there (beyond c) in
       let g = got i in

@@ -71,7 +71,7 @@ module _ (t : ℕ) where
   done c = sym (c .before .is-refused .ensures) ∙ c .if1 .left
 
   subject : (c : At lts.Else1) → let g = got c in let e = entry g in
-      EachGot (here (e .pre .1 .0)) (e .args .own .kind) (e .args .own .place) (g .get-node .result) (g .get-node .last .1 .1 .0)
+      EachGot (here (e .pre .1 .0)) (e .args .own .kind) (e .args .own .from) (g .get-node .result) (g .get-node .last .1 .1 .0)
   subject c =
       let g = got c in
       record {
@@ -90,7 +90,7 @@ module _ (t : ℕ) where
       ap (λ (i : ℕ). unfitRest 3 (getD (g .last .1 .1 .0) i 0)) (sym (c .before .before .start-of .ensures)) ∙ sym (c .unfit .ensures) ∙ e
 
   listed : (c : At lts.After-section-root) → let g = got (there (fit (in-scope (found c)))) in let e = entry g in
-      Listed (here (e .pre .1 .0)) (e .args .own .kind) (e .args .own .place) (g .get-node .result) (g .get-node .last .1 .1 .0) (c .section-root .result)
+      Listed (here (e .pre .1 .0)) (e .args .own .kind) (e .args .own .from) (g .get-node .result) (g .get-node .last .1 .1 .0) (c .section-root .result)
   listed c =
       let i = found c in
       let f = in-scope i in
@@ -111,7 +111,7 @@ module _ (t : ℕ) where
   told : (c : At lts.After-get-members) → let s = beyond (made c) in let g = got (there (fit (in-scope (found s)))) in let e = entry g in
       let r = g .get-node .result in
       TellsMembers (behind-here (here (e .pre .1 .0)) (g .get-node .last .1 .1 .0) r) (c .get-members .last .1 .1 .0) (c .get-members .result)
-      (getD (e .args .sheet .now) (e .args .own .place + 3) 0) (s .section-root .result) (startOf r) (startOf r + lenOf r)
+      (getD (e .args .sheet .now) (e .args .own .from + 3) 0) (s .section-root .result) (startOf r) (startOf r + lenOf r)
   told c =
       let b = made c in
       let i = found (beyond b) in

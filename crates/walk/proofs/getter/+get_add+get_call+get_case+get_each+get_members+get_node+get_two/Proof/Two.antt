@@ -46,13 +46,13 @@ module _ (t : ℕ) where
 
   -- WHAT IS KNOWN THERE: the kind byte is written; the first value stands behind it; the second behind that
   asked : (c : At lts.After-raised) → let e = entry c in let a = e .args in
-      TwoAsked (here (e .pre .1 .0)) (a .own .kind) (a .own .place) (set (a .arena .now) (a .at .top) (c .before .made .result))
+      TwoAsked (here (e .pre .1 .0)) (a .own .kind) (a .own .from) (set (a .arena .now) (a .at .top) (c .before .made .result))
   asked c =
       let e = entry c in
       record { asked = e .pre .1 .0; two = e .pre .1 .1; marked = marked-by (c .before .made .ensures) (omega (arith, e .pre .1 .0 .long, e .pre .1 .0 .room)) }
 
   value : (c : At lts.After-bring) → let r = up (one c) in let e = entry r in
-      AtTop (one-here (asked r)) (c .bring .last .0) (c .bring .result) (getD (e .args .sheet .now) (e .args .own .place + 1) 0)
+      AtTop (one-here (asked r)) (c .bring .last .0) (c .bring .result) (getD (e .args .sheet .now) (e .args .own .from + 1) 0)
   value c =
       let g = one c in
       let r = up g in
@@ -83,7 +83,7 @@ module _ (t : ℕ) where
 
   second : (c : At lts.After-bring2) → let b = first (there (two c)) in let r = up (one b) in let e = entry r in
       AtTop (two-here (asked r) (b .bring .last .0) (b .bring .result)) (c .bring2 .last .0) (c .bring2 .result)
-      (getD (e .args .sheet .now) (e .args .own .place + 2) 0)
+      (getD (e .args .sheet .now) (e .args .own .from + 2) 0)
   second c =
       let g = two c in
       let i = there g in

@@ -41,7 +41,7 @@ module _ (t : ℕ) where
   numbered : (c : At lts.After-known-told) → Number (c .before .m .given .0 .0) ≡ shapeOf (entry c .args .view .now)
   numbered c = sym (c .before .m .given .1) ∙ c .before .before .before .shape-of .ensures
 
-  amount : (c : At lts.After-number) → let e = entry (number-is c) in c .number .result ≡ amountAt (e .args .sheet .now) (e .args .own .place)
+  amount : (c : At lts.After-number) → let e = entry (number-is c) in c .number .result ≡ amountAt (e .args .sheet .now) (e .args .own .from)
   amount c = sum-as (c .number .ensures) (c .before .before .byte-of .ensures) (c .before .byte-of2 .ensures)
 
   less : (c : At lts.After-low) → let r = read (enough c) in let n = number-is r in

@@ -36,7 +36,7 @@ module _ (t : ℕ) where
 
   -- WHAT IS KNOWN THERE
   looked : (c : At lts.After-section-root) → let e = entry (in-scope c) in PutLooked (put-here (e .pre .1 .0)) (Shown (e .args .view .now)) (e .args .own .node)
-      (e .args .own .kind) (e .args .own .place) (c .section-root .result)
+      (e .args .own .kind) (e .args .own .from) (c .section-root .result)
   looked c =
       let i = in-scope c in
       let w = entry i .pre in
@@ -52,15 +52,15 @@ module _ (t : ℕ) where
   few c = let w = entry c .pre .1 .0 in (omega (arith, w .variables, c .before .if1 .left), omega (arith, w .variables, c .if2 .left))
 
   section-is : (c : At lts.After-section) → let i = in-scope (found c) in let e = entry i in
-      c .section .result ≡ picked (e .args .scope) (getD (e .args .sheet .now) (e .args .own .place + 2) 0)
-      (getD (e .args .sheet .now) (e .args .own .place + 3) 0)
+      c .section .result ≡ picked (e .args .scope) (getD (e .args .sheet .now) (e .args .own .from + 2) 0)
+      (getD (e .args .sheet .now) (e .args .own .from + 3) 0)
   section-is c =
       let i = in-scope (found c) in
       c .section .ensures ∙ ap₂ (picked (entry i .args .scope)) (in-room (few i .0) ∙ i .before .before .before .before .number-of .ensures)
       (in-room (few i .1) ∙ i .before .before .before .number-of2 .ensures)
 
   cells-are : (c : At lts.After-pick-cells) → let a = entry (in-scope (found (c .before))) .args in
-      c .pick-cells .result ≡ pickedTwo (a .cells .now) (getD (a .sheet .now) (a .own .place + 2) 0) (getD (a .sheet .now) (a .own .place + 3) 0)
+      c .pick-cells .result ≡ pickedTwo (a .cells .now) (getD (a .sheet .now) (a .own .from + 2) 0) (getD (a .sheet .now) (a .own .from + 3) 0)
   cells-are c =
       let i = in-scope (found (c .before)) in
       c .pick-cells .ensures .inside (few i) ∙ ap₂ (pickedTwo (entry i .args .cells .now)) (i .before .before .before .before .number-of .ensures)

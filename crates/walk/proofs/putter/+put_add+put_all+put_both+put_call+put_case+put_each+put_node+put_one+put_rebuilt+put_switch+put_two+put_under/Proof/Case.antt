@@ -69,7 +69,7 @@ module _ (t : ℕ) where
   done c = sym (c .before .is-refused .ensures) ∙ c .if1 .left
 
   subject : (c : At lts.After-takes) {d : Branch} → c .takes .result ≡ d → let s = c .before in let g = got (there (beyond c)) in let e = entry g in
-      PutSubject (put-here (e .pre .1 .0)) (e .args .view .now) (e .args .own .node) (e .args .own .kind) (e .args .own .place) (g .get-node .result)
+      PutSubject (put-here (e .pre .1 .0)) (e .args .view .now) (e .args .own .node) (e .args .own .kind) (e .args .own .from) (g .get-node .result)
       (g .get-node .last .1 .1 .0) (s .shape-at .result) d
   subject c {d} is =
       let s = c .before in
@@ -143,7 +143,7 @@ module _ (t : ℕ) where
 
   parts-are : (c : At lts.After-parts-of) → let n = c .before in let g = got (there (beyond (parted n))) in let a = entry g .args in
       let i = n .before .before .i2 .given .0 in
-      c .parts-of .result ≡ gotParts (madeOf (a .own .kind)) (getD (a .sheet .now) (a .own .place + i .0) 0) (getD (a .sheet .now) (a .own .place + 1) 0)
+      c .parts-of .result ≡ gotParts (madeOf (a .own .kind)) (getD (a .sheet .now) (a .own .from + i .0) 0) (getD (a .sheet .now) (a .own .from + 1) 0)
       (g .get-node .result) (i .1 .0)
   parts-are c =
       let n = c .before in

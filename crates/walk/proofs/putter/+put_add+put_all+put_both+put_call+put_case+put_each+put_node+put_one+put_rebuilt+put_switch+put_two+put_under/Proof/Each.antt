@@ -74,7 +74,7 @@ module _ (t : ℕ) where
   view-list c = sym (c .before .unfit .ensures) ∙ c .if1 .left
 
   subject : (c : At lts.Else2) → let g = got c in let e = entry (listed g) in
-      EachPut (put-here (e .pre .1 .0)) (e .args .view .now) (e .args .own .node) (e .args .own .kind) (e .args .own .place) (g .get-node .result)
+      EachPut (put-here (e .pre .1 .0)) (e .args .view .now) (e .args .own .node) (e .args .own .kind) (e .args .own .from) (g .get-node .result)
       (g .get-node .last .1 .1 .0)
   subject c =
       let g = got c in
@@ -94,7 +94,7 @@ module _ (t : ℕ) where
       ap (λ (i : ℕ). unfitRest 3 (getD a i 0)) (sym (c .before .before .before .start-of .ensures)) ∙ sym (c .before .unfit2 .ensures) ∙ c .if3 .left
 
   ready : (c : At lts.After-section-root) → let g = got (there (fitting (inside c))) in let e = entry (listed g) in
-      EachListed (put-here (e .pre .1 .0)) (e .args .view .now) (e .args .own .node) (e .args .own .kind) (e .args .own .place) (g .get-node .result)
+      EachListed (put-here (e .pre .1 .0)) (e .args .view .now) (e .args .own .node) (e .args .own .kind) (e .args .own .from) (g .get-node .result)
       (g .get-node .last .1 .1 .0) (c .section-root .result)
   ready c =
       let i = inside c in

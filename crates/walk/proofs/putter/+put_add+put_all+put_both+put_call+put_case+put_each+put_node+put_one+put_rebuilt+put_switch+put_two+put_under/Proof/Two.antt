@@ -36,7 +36,7 @@ module _ (t : ℕ) where
 
   -- WHAT IS KNOWN THERE
   apart : (c : At lts.After-second-part) → let e = entry c in
-      TakenApart (put-here (e .pre .1 .0)) (e .args .view .now) (e .args .own .node) (e .args .own .kind) (e .args .own .place)
+      TakenApart (put-here (e .pre .1 .0)) (e .args .view .now) (e .args .own .node) (e .args .own .kind) (e .args .own .from)
       (c .before .before .before .mid .given .0 .0) (c .before .first-part .result .now) (c .second-part .result .now)
   apart c =
       let e = entry c in
@@ -55,7 +55,7 @@ module _ (t : ℕ) where
   told : (c : At lts.After-put-node) → let s = parts c in let e = entry s in
       PutTold (put-here (e .pre .1 .0)) (Shown (s .before .first-part .result .now)) (c .put-node .last .1 .1 .0) (c .put-node .last .1 .1 .1 .0)
       (c .put-node .result)
-      (enter (getD (e .args .sheet .now) (e .args .own .place + 1) 0))
+      (enter (getD (e .args .sheet .now) (e .args .own .from + 1) 0))
   told c = shows-as {at = entry (parts c) .args .at} refl refl refl (c .before .before .before .number-of .ensures) (c .put-node .ensures .0)
 
   -- NEEDS
