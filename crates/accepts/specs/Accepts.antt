@@ -5,7 +5,7 @@ use mathlib.Core.List.{List}
 use Prim.Native.Nat.{ℕ}
 use lib.Dec.{leb}
 use Rattle.value.specs.Result.{Result, ok, refusal}
-use Rattle.calls.specs.Buffers.{zeroed}
+use Rattle.buffers.specs.Buffers.{zeroed}
 use Rattle.calls.specs.Calls.{afterRefusal}
 use Rattle.accepts.specs.declared.Verdict.{Verdict}
 use Rattle.accepts.specs.declared.Verdict.the-variants.{Yes, No, Refused}

@@ -29,7 +29,7 @@ use Rattle.walk.specs.declared.Reply.{Reply}
 use Rattle.walk.specs.declared.Reply.the-variants.{Done as Reply·Done, Refused as Reply·Refused}
 use Rattle.walk.specs.Call.{Says, says-done, says-refused, Free, get-sheet-refused, get-plan-refused}
 use Rattle.walk.specs.Call.Put.{put-view-refused}
-use Rattle.calls.specs.Buffers.{zeroed}
+use Rattle.buffers.specs.Buffers.{zeroed}
 use Rattle.calls.specs.Calls.{afterRefusal}
 use Rattle.calls.specs.CallLaws.{zeros-same}
 use Rattle.arena.specs.Door.{shut, shut-is, shut-open}

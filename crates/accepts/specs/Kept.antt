@@ -16,12 +16,12 @@ use Rattle.value.specs.Laws.{readValues-sound}
 use Rattle.value.specs.Spans.{spans}
 use Rattle.value.specs.SpansLaws.{span-is, span-inside}
 use Rattle.value.specs.declared.Spans.{Spans}
-use Rattle.sheet.specs.declared.Node.{Node}
-use Rattle.sheet.specs.declared.Node.the-variants.{False}
+use Rattle.node.specs.declared.Node.{Node}
+use Rattle.node.specs.declared.Node.the-variants.{False}
 use Rattle.sheet.specs.declared.Table.{Table}
-use Rattle.sheet.specs.Kinds.{variables}
+use Rattle.node.specs.Kinds.{variables}
 use Rattle.sheet.specs.Sheet.{Sheet, readSheet}
-use Rattle.sheet.specs.Table.{nodeAt}
+use Rattle.node.specs.Decoding.{nodeAt}
 use Rattle.sheet.specs.Laws.{Reads}
 use Rattle.rules.specs.Counting.{Env}
 use Rattle.undo.specs.Alike.{names}

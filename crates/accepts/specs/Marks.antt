@@ -11,12 +11,12 @@ use lib.Dec.{eqb, ltb}
 use lib.ListN.{length, getD, drop, set, replicate, drop-of-length-le, length-set}
 use lib.Seq.{drop-cons, getD-set-same, getD-set-other}
 use Rattle.value.specs.Result.{ok}
-use Rattle.sheet.specs.declared.Node.{Node}
-use Rattle.sheet.specs.declared.Node.the-variants.{False, Var, Call, Each}
+use Rattle.node.specs.declared.Node.{Node}
+use Rattle.node.specs.declared.Node.the-variants.{False, Var, Call, Each}
 use Rattle.sheet.specs.declared.Table.{Table}
-use Rattle.sheet.specs.Kinds.{variables}
+use Rattle.node.specs.Kinds.{variables}
 use Rattle.sheet.specs.Sheet.{Sheet, readSheet}
-use Rattle.sheet.specs.Table.{nodeAt}
+use Rattle.node.specs.Decoding.{nodeAt}
 use Rattle.sheet.specs.Laws.{Reads}
 use Rattle.undo.specs.Alike.{stands, names}
 

@@ -1,7 +1,7 @@
 //! Plans made by a venue's own system (document 02, request 10): a finished new plan that comes with the list is judged by the rules.
 ghost use mathlib.Core.Path.{_≡_};
 ghost use lib.ListN.{length};
-ghost use Rattle.sheet.specs.Kinds.{variables};
+ghost use Rattle.node.specs.Kinds.{variables};
 ghost use Rattle.shapes.specs.Parts.{sameBytes};
 ghost use Rattle.rules.specs.Laws.Answers.{DoorOpens};
 ghost use Rattle.walk.specs.Call.{Free};
@@ -11,7 +11,7 @@ ghost use Rattle.accepts.specs.Accepts.{yesNo, verdict, Accepted};
 ghost use Rattle.accepts.specs.Calls.{Built, listedOf};
 ghost use Rattle.accepts.specs.Kept.{Within, spanOf, Plans, KeptAs};
 ghost use Rattle.accepts.specs.Marks.{Readied, markedOne, markedAll, Marks};
-use sheet::Node;
+use node::Node;
 use sheet::Table;
 use value::Spans;
 use walk::Reply;
@@ -60,7 +60,7 @@ fn named(sheet: &[u8], table: Table) -> [u8; 16]
     let mut i = 0;
     while i < table.nodes {
         let at = table.starts[i] as usize;
-        mark_node(&mut marks, sheet::node_at(sheet, at));
+        mark_node(&mut marks, node::node_at(sheet, at));
         i += 1;
     }
     marks
@@ -182,6 +182,6 @@ pub fn accepts(
         return Verdict::Refused(refusal);
     }
     let verdict = judged(sheet, old, view, new, steps_allowed, scratch);
-    calls::clear(scratch);
+    buffers::clear(scratch);
     verdict
 }

@@ -14,7 +14,7 @@ use Rattle.rules.specs.Answer.{Answer, refusal, success, answer, door}
 use Rattle.rules.specs.Laws.Answers.{DoorOpens, door-open}
 use Rattle.rules.specs.Laws.Refusals.{Lists, lRefused, listed-above}
 use Rattle.calls.specs.Reply.{Reply, Done, Refused}
-use Rattle.calls.specs.Buffers.{zeros, zeroed}
+use Rattle.buffers.specs.Buffers.{zeros, zeroed}
 use Rattle.arena.specs.Door.{shut, Door, opens, shuts, door-cases}
 use Rattle.calls.specs.Calls.{reply, written, cleared, afterRefusal, Answered}
 

@@ -11,7 +11,7 @@ use Rattle.starts.specs.declared.Starts.{Starts}
 use Rattle.starts.specs.Starts.{noStarts, loadOf}
 use Rattle.calls.specs.declared.PutReply.{PutReply}
 use Rattle.calls.specs.Reply.{Reply, Done, Refused}
-use Rattle.calls.specs.Buffers.{zeroed}
+use Rattle.buffers.specs.Buffers.{zeroed}
 
 -- a refusal is its number; a success is how many bytes and how many steps
 unfoldable pub reply : Answer → Reply

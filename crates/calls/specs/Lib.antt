@@ -1,5 +1,4 @@
 pub mod Reply
-pub mod Buffers
 pub mod Calls
 pub mod CallLaws
 pub mod Trips
@@ -8,4 +7,3 @@ pub mod Output
 pub mod WalkCalls
 pub mod StartsLaws
 pub mod BitsLaws
-pub mod Explain

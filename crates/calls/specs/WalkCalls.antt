@@ -13,7 +13,7 @@ use Rattle.rules.specs.Laws.Refusals.{Lists, lists-get-bytes, lists-put-bytes}
 use Rattle.starts.specs.Starts.{noStarts, loadOf}
 use Rattle.walk.specs.Call.{Says, says-done, says-refused, WalkCall}
 use Rattle.calls.specs.Reply.{Reply, Done, Refused}
-use Rattle.calls.specs.Buffers.{zeroed}
+use Rattle.buffers.specs.Buffers.{zeroed}
 use Rattle.arena.specs.Door.{shut}
 use Rattle.walk.specs.Call.NewStarts.{newStarts as Walk·newStarts}
 use Rattle.walk.specs.Call.Bits.{newWritten as Walk·newWritten}

@@ -1,27 +1,20 @@
-//! What callers call: get and put on lent buffers, and why they are refused.
+//! What callers call: get and put on lent buffers.
 ghost use mathlib.Core.Path.{_≡_};
 ghost use Prim.Native.Nat.{_+_, _≤_, min};
 ghost use lib.ListN.{length, drop};
 ghost use lib.Seq.{paste};
 ghost use Rattle.rules.specs.Numbers.{SCRATCH, STACK};
 ghost use Rattle.rules.specs.Answer.{getAnswer, putAnswer};
-ghost use Rattle.calls.specs.Buffers.{zeros, zeroed};
+ghost use Rattle.buffers.specs.Buffers.{zeros, zeroed};
 ghost use Rattle.calls.specs.Calls.{Answered, PutAnswered};
 ghost use Rattle.arena.specs.Door.{shut};
 ghost use Rattle.calls.specs.Reply.{Done, Refused};
 ghost use Rattle.calls.specs.Output.{HasRoom, outputOf};
 ghost use Rattle.calls.specs.Trips.{Consistent, Acceptable};
-
-mod buffers;
-mod why;
-
-use crate::buffers::copy_out;
-pub use buffers::clear;
+use buffers::clear;
+use buffers::copy_out;
 use starts::Starts;
 pub use walk::Reply;
-pub use why::Explanation;
-pub use why::why_get;
-pub use why::why_put;
 
 /// What a put answers: the reply, where the values of its new plan start, and which plan variables took a view, bit i for
 /// variable i, also where its value is the old one. With a refusal there is no start, and no bit is set.

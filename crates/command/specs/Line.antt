@@ -6,8 +6,8 @@ use Prim.Native.Nat.{ℕ}
 use lib.Dec.{leb, eqb}
 use lib.ListN.{length, getD, drop}
 use Rattle.report.specs.Text.{refusalLine}
-use Rattle.words.specs.Numbers.{INPUT}
-use Rattle.words.specs.Format.{fieldsOf}
+use Rattle.inputs.specs.Numbers.{INPUT}
+use Rattle.inputs.specs.Format.{fieldsOf}
 use Rattle.letters.specs.Letters.{letterLine}
 use Rattle.walking.specs.Endings.{Ending, says, puts, whys, checks, outputAfter, scratchAfter}
 

@@ -8,7 +8,7 @@ use borrow.Author.Tests.{lt-leb}
 use lib.ListN.{length, take}
 use lib.Seq.{length-take-le, take-all}
 use Rattle.report.specs.Text.{refusalLine}
-use Rattle.words.specs.Numbers.{INPUT}
+use Rattle.inputs.specs.Numbers.{INPUT}
 use Rattle.walking.specs.Endings.{Ending, says}
 use Rattle.command.specs.Line.{toolEnding, toolLine}
 

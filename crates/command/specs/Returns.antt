@@ -6,8 +6,9 @@ use Prim.Native.Nat.{ℕ, _≤_}
 use borrow.Author.Tests.{le-leb, ne-eqb}
 use lib.ListN.{length, getD, drop}
 use Rattle.report.specs.Writing.{Front, wrote-front}
-use Rattle.words.specs.Numbers.{INPUT, LINE}
-use Rattle.words.specs.Format.{fieldsOf}
+use Rattle.inputs.specs.Numbers.{INPUT}
+use Rattle.words.specs.Numbers.{LINE}
+use Rattle.inputs.specs.Format.{fieldsOf}
 use Rattle.letters.specs.Letters.{letterLine}
 use Rattle.walking.specs.Endings.{Ending, says, puts, whys, checks, Ended}
 use Rattle.walking.specs.PutLaws.{ended-as}

@@ -18,10 +18,10 @@ pub fn line(
     ensures { λ r. ⌜ Front (toolLine (now (input .entry))) (now (text .entry)) (now (text .exit)) r ⌝ }
     ensures { λ _. ⌜ BuffersAfter (now (input .entry)) (now (out .entry)) (now (out .exit)) (now (scratch .entry)) (now (scratch .exit)) ⌝ }
 {
-    if words::INPUT < input.len() {
+    if inputs::INPUT < input.len() {
         return report::refusal(text, 0, 61);
     }
-    let letter = words::byte_at(input, 0);
+    let letter = inputs::byte_at(input, 0);
     match letter {
         0x53 => put_line(input, false, out, scratch, text),
         0x57 => put_line(input, true, out, scratch, text),

@@ -2,8 +2,9 @@
 use mathlib.Core.Path.{_≡_}
 use Prim.Native.Nat.{ℕ, _<_}
 use lib.ListN.{length, getD}
-use Rattle.sheet.specs.declared.Node.the-variants.{False}
-use Rattle.sheet.specs.Kinds.{children, calls, renumber}
+use Rattle.node.specs.declared.Node.the-variants.{False}
+use Rattle.node.specs.Kinds.{children, calls}
+use Rattle.sheet.specs.Renumbering.{renumber}
 use Rattle.sheet.specs.Sheet.{Sheet}
 use Rattle.sheet.specs.Laws.{Child, Ranges}
 use Rattle.sheet.specs.Ranging.{every-map, children-in, calls-in}

@@ -1,8 +1,8 @@
 //! Calls in turn on a job: a list put back and read out again, a list read out and put back, or an edit that is taken back.
 ghost use Rattle.io.specs.Counts.{Counts};
+use inputs::Fields;
+use inputs::Job;
 use trips::Trip;
-use words::Fields;
-use words::Job;
 
 // Both calls of a job with these fields: a put and then a get, or a get and then a put.
 fn both(bytes: &[u8], put: bool, f: Fields) -> Trip {
@@ -11,9 +11,9 @@ fn both(bytes: &[u8], put: bool, f: Fields) -> Trip {
     let mut scratch = io::large_buffer();
     if put {
         return trips::put_then_get(
-            words::sheet_of(bytes, f),
-            words::plan_of(bytes, f),
-            words::view_of(bytes, f),
+            inputs::sheet_of(bytes, f),
+            inputs::plan_of(bytes, f),
+            inputs::view_of(bytes, f),
             f.allowance,
             &mut first,
             &mut second,
@@ -21,8 +21,8 @@ fn both(bytes: &[u8], put: bool, f: Fields) -> Trip {
         );
     }
     trips::get_then_put(
-        words::sheet_of(bytes, f),
-        words::plan_of(bytes, f),
+        inputs::sheet_of(bytes, f),
+        inputs::plan_of(bytes, f),
         f.allowance,
         &mut first,
         &mut second,
@@ -31,7 +31,7 @@ fn both(bytes: &[u8], put: bool, f: Fields) -> Trip {
 }
 
 fn trip_of(bytes: &[u8]) -> Trip {
-    match words::parse(bytes) {
+    match inputs::parse(bytes) {
         Job::Get(f) => both(bytes, false, f),
         Job::Put(f) => both(bytes, true, f),
         Job::Other => Trip::Stopped(60),
@@ -45,9 +45,9 @@ fn undone(bytes: &[u8], f: Fields) -> Trip {
     let mut out = io::buffer();
     let mut scratch = io::large_buffer();
     trips::put_and_undo(
-        words::sheet_of(bytes, f),
-        words::plan_of(bytes, f),
-        words::view_of(bytes, f),
+        inputs::sheet_of(bytes, f),
+        inputs::plan_of(bytes, f),
+        inputs::view_of(bytes, f),
         f.allowance,
         f.allowance,
         &mut list,
@@ -58,7 +58,7 @@ fn undone(bytes: &[u8], f: Fields) -> Trip {
 }
 
 fn undo_of(bytes: &[u8]) -> Trip {
-    match words::parse(bytes) {
+    match inputs::parse(bytes) {
         Job::Put(f) => undone(bytes, f),
         _ => Trip::Stopped(60),
     }

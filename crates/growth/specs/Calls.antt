@@ -13,8 +13,8 @@ use Rattle.value.specs.Value.{Value, vfalse, size, encode, flat}
 use Rattle.value.specs.Reading.{readPlan}
 use Rattle.value.specs.Encoding.{size-encode}
 use Rattle.value.specs.Laws.{readValues-sound}
-use Rattle.sheet.specs.declared.Node.{Node}
-use Rattle.sheet.specs.declared.Node.the-variants.{False}
+use Rattle.node.specs.declared.Node.{Node}
+use Rattle.node.specs.declared.Node.the-variants.{False}
 use Rattle.sheet.specs.Sheet.{Sheet, readSheet}
 use Rattle.sheet.specs.Laws.{sheet-ranges}
 use Rattle.rules.specs.Numbers.{LEVELS}

@@ -4,7 +4,7 @@ use mathlib.Core.List.{List, [], _∷_}
 use Prim.Native.Nat.{ℕ}
 use Rattle.value.specs.Result.{ok, refusal, andThen, mapResult, orRefuse, unless}
 use Rattle.sheet.specs.Sheet.{readNodes, oneSection, ifSection, readRecords, withNodes, readBody, nodesInRange, rootsInRange, inRange, readHeader, readSheet}
-use Rattle.sheet.specs.Kinds.{formOf, bodyWidth, make, children, variables, nodeInRange}
+use Rattle.node.specs.Kinds.{formOf, bodyWidth, make, children, variables, nodeInRange}
 use Rattle.growth.specs.Growth.{allPlain, own, cappedFrom, capped, growthOf}
 
 -- pairs of one node twice, one below the other: variable 1 is entered 256 times, and 512 times

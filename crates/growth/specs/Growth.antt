@@ -5,9 +5,9 @@ use Prim.Native.Nat.{ℕ, zero, suc, _+_, _-_, min}
 use lib.Dec.{leb, ltb, eqb}
 use lib.ListN.{length, getD}
 use Rattle.value.specs.Result.{Result, ok, andThen, unless}
-use Rattle.sheet.specs.declared.Node.{Node}
-use Rattle.sheet.specs.declared.Node.the-variants.{False}
-use Rattle.sheet.specs.Kinds.{row, children, variables}
+use Rattle.node.specs.declared.Node.{Node}
+use Rattle.node.specs.declared.Node.the-variants.{False}
+use Rattle.node.specs.Kinds.{row, children, variables}
 use Rattle.sheet.specs.Sheet.{Sheet, readSheet}
 
 -- 10 to 16, 1B and 1D

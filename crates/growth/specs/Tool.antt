@@ -10,12 +10,13 @@ use lib.ListN.{length, getD, drop, set, replicate, drop-of-length-le, length-set
 use lib.Seq.{drop-cons, getD-set-same, getD-set-other}
 use borrow.Author.Tests.{eq-eqb, ne-eqb, lt-ltb, le-ltb, lt-leb, le-leb}
 use Rattle.value.specs.Result.{Result, ok, refusal, andThen, unless}
-use Rattle.sheet.specs.declared.Node.{Node}
-use Rattle.sheet.specs.declared.Node.the-variants.{False, Var, Front, Pair, Add}
+use Rattle.node.specs.declared.Node.{Node}
+use Rattle.node.specs.declared.Node.the-variants.{False, Var, Front, Pair, Add}
 use Rattle.sheet.specs.declared.Table.{Table}
-use Rattle.sheet.specs.Kinds.{children, variables}
+use Rattle.node.specs.Kinds.{children, variables}
 use Rattle.sheet.specs.Sheet.{Sheet, readSheet}
-use Rattle.sheet.specs.Table.{nodeAt, tableOf}
+use Rattle.node.specs.Decoding.{nodeAt}
+use Rattle.sheet.specs.Table.{tableOf}
 use Rattle.sheet.specs.Laws.{Reads, table-refused, table-reads}
 use Rattle.growth.specs.declared.Growing.{Growing}
 use Rattle.growth.specs.declared.Growing.the-variants.{Times, Refused}

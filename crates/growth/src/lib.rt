@@ -4,7 +4,7 @@ ghost use Prim.Native.Nat.{_+_, min};
 ghost use lib.ListN.{getD};
 ghost use Rattle.growth.specs.Growth.{plain, growthOf};
 ghost use Rattle.growth.specs.Tool.{told, Readied, AllJudged, OneCounted, Counted};
-use sheet::Node;
+use node::Node;
 use sheet::Table;
 
 /// How often the records of a variable are entered; or a refusal's number.
@@ -40,7 +40,7 @@ fn all_plain(sheet: &[u8], table: Table) -> bool
     let mut i = 0;
     while i < table.nodes {
         let at = table.starts[i] as usize;
-        if !is_plain(sheet::node_at(sheet, at)) {
+        if !is_plain(node::node_at(sheet, at)) {
             return false;
         }
         i += 1;
@@ -94,7 +94,7 @@ fn count(sheet: &[u8], table: Table, variable: usize) -> u16
     while 0 < i {
         i -= 1;
         let at = table.starts[i] as usize;
-        counts[i] = count_of(sheet::node_at(sheet, at), variable, &counts);
+        counts[i] = count_of(node::node_at(sheet, at), variable, &counts);
     }
     let root = table.root;
     counts[root]

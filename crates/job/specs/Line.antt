@@ -11,10 +11,10 @@ use Rattle.calls.specs.Reply.{Reply, Done, Refused}
 use Rattle.calls.specs.Calls.{written, cleared}
 use Rattle.report.specs.Text.{refusalLine, successLine}
 use Rattle.report.specs.Writing.{Front}
-use Rattle.words.specs.Numbers.{INPUT}
-use Rattle.words.specs.declared.Job.{Job}
-use Rattle.words.specs.declared.Job.the-variants.{Get, Put, Other}
-use Rattle.words.specs.Format.{sheetOf, planOf, viewOf, jobOf, jobNumber}
+use Rattle.inputs.specs.Numbers.{INPUT}
+use Rattle.inputs.specs.declared.Job.{Job}
+use Rattle.inputs.specs.declared.Job.the-variants.{Get, Put, Other}
+use Rattle.inputs.specs.Format.{sheetOf, planOf, viewOf, jobOf, jobNumber}
 
 -- the most bytes of a line, by the name that the code has for it (src/lib.rt)
 abbrev pub LINE : ℕ

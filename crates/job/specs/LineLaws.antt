@@ -18,11 +18,11 @@ use Rattle.calls.specs.Small.{Small, small-get, small-put}
 use Rattle.report.specs.Text.{refusalLine, successLine}
 use Rattle.report.specs.TextLaws.{refusal-length, success-length}
 use Rattle.report.specs.Writing.{Wrote, Front, wrote-front, wrote-text}
-use Rattle.words.specs.Numbers.{INPUT}
-use Rattle.words.specs.declared.fields.Fields.{Fields}
-use Rattle.words.specs.declared.Job.{Job}
-use Rattle.words.specs.declared.Job.the-variants.{Get, Put, Other}
-use Rattle.words.specs.Format.{sheetOf, planOf, viewOf, jobOf}
+use Rattle.inputs.specs.Numbers.{INPUT}
+use Rattle.inputs.specs.declared.fields.Fields.{Fields}
+use Rattle.inputs.specs.declared.Job.{Job}
+use Rattle.inputs.specs.declared.Job.the-variants.{Get, Put, Other}
+use Rattle.inputs.specs.Format.{sheetOf, planOf, viewOf, jobOf}
 use Rattle.job.specs.Line.{LINE, answerOf, jobAnswer, answerLine, jobLine, replyLine, Printed, clearedBy, BuffersAfter}
 
 -- HOW LONG A LINE IS

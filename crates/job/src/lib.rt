@@ -5,11 +5,11 @@ ghost use Rattle.report.specs.Writing.{Wrote, Front};
 ghost use Rattle.job.specs.Line.{jobLine, replyLine, Printed, BuffersAfter};
 ghost use Rattle.calls.specs.CallLaws.{Within};
 use calls::Reply;
-use words::INPUT;
-use words::Job;
-use words::plan_of;
-use words::sheet_of;
-use words::view_of;
+use inputs::INPUT;
+use inputs::Job;
+use inputs::plan_of;
+use inputs::sheet_of;
+use inputs::view_of;
 
 /// The most bytes of a line: `ok`, steps of 7 digits, 4,096 bytes in hexadecimal, spaces and a line feed.
 pub const LINE: usize = 8_204;
@@ -72,7 +72,7 @@ pub fn line(
     if INPUT < input.len() {
         return report::refusal(text, 0, 61);
     }
-    match words::parse(input) {
+    match inputs::parse(input) {
         Job::Get(f) => get_line(
             sheet_of(input, f),
             plan_of(input, f),

@@ -7,13 +7,14 @@ use native.Mathlib.Omega.{arith}
 use lib.ListN.{length, getD}
 use Rattle.value.specs.Result.{ok}
 use Rattle.report.specs.Writing.{Wrote, wrote-then, wrote-text}
-use Rattle.sheet.specs.declared.Node.{Node}
-use Rattle.sheet.specs.declared.Node.the-variants.{False}
+use Rattle.node.specs.declared.Node.{Node}
+use Rattle.node.specs.declared.Node.the-variants.{False}
 use Rattle.sheet.specs.declared.Table.{Table}
-use Rattle.sheet.specs.Kinds.{children, calls, renumber, written}
+use Rattle.node.specs.Kinds.{children, calls, written}
+use Rattle.sheet.specs.Renumbering.{renumber}
 use Rattle.sheet.specs.Sheet.{Sheet, readSheet}
 use Rattle.sheet.specs.Table.{tableOf, sectionAt}
-use Rattle.sheet.specs.Forms.{listing}
+use Rattle.node.specs.Forms.{listing}
 use Rattle.sheet.specs.Laws.{Child, Ranges, sheet-ranges, section-read}
 use Rattle.sheet.specs.Rows.{allWritten, sheetWritten}
 use Rattle.sheet.specs.Written.{Bytes}

@@ -9,10 +9,11 @@ use native.Mathlib.Decide.{decLe, ℕ-discrete}
 use Rattle.value.specs.Result.{ok, andThen, mapResult, orRefuse, unless}
 use Rattle.value.specs.Value.{Value, vfalse, vtrue, encode, flat, sameValue}
 use Rattle.value.specs.Reading.{onWhole, kindOf, beginValue, read, readValue, onValue, readValues}
-use Rattle.sheet.specs.declared.Node.the-variants.{Var}
+use Rattle.node.specs.declared.Node.the-variants.{Var}
 use Rattle.sheet.specs.Sheet.{Sheet, readNodes, oneSection, ifSection, readRecords, withNodes, readBody, nodesInRange, rootsInRange, inRange, readHeader}
 use Rattle.sheet.specs.Sheet.{readSheet}
-use Rattle.sheet.specs.Kinds.{formOf, bodyWidth, make, nodeInRange, ofKind, renumber, written}
+use Rattle.node.specs.Kinds.{formOf, bodyWidth, make, nodeInRange, written}
+use Rattle.sheet.specs.Renumbering.{ofKind, renumber}
 use Rattle.sheet.specs.Rows.{sheetWritten}
 use Rattle.rules.specs.Outcome.{done, plus, steps, when, mapOut, _>>=_, given, reading}
 use Rattle.rules.specs.Allowance.{cap, within}

@@ -10,8 +10,8 @@ use lib.ListN.{length, getD, replicate, length-map, List·getD-append}
 use lib.Seq.{getD-append-add}
 use Rattle.value.specs.Value.{Value, pair, size}
 use Rattle.value.specs.Views.{asPair}
-use Rattle.sheet.specs.declared.Node.the-variants.{Pair, False}
-use Rattle.sheet.specs.Kinds.{renumber}
+use Rattle.node.specs.declared.Node.the-variants.{Pair, False}
+use Rattle.sheet.specs.Renumbering.{renumber}
 use Rattle.sheet.specs.Sheet.{Sheet}
 use Rattle.sheet.specs.Laws.{Ranges}
 use Rattle.sheet.specs.Ranging.{map-at}

@@ -4,7 +4,8 @@ use mathlib.Core.List.{List, [], _∷_}
 use Prim.Native.Nat.{ℕ}
 use Rattle.value.specs.Result.{ok, refusal, andThen, mapResult, orRefuse, unless}
 use Rattle.sheet.specs.Sheet.{readNodes, oneSection, ifSection, readRecords, withNodes, readBody, nodesInRange, rootsInRange, inRange, readHeader, readSheet}
-use Rattle.sheet.specs.Kinds.{formOf, bodyWidth, make, nodeInRange, ofKind, renumber, written}
+use Rattle.node.specs.Kinds.{formOf, bodyWidth, make, nodeInRange, written}
+use Rattle.sheet.specs.Renumbering.{ofKind, renumber}
 use Rattle.sheet.specs.Rows.{sheetWritten}
 use Rattle.rules.specs.Examples.{P, T}
 use Rattle.joined.specs.Joined.{joined}

@@ -6,10 +6,10 @@ use native.Mathlib.Omega.{arith}
 use lib.ListN.{length, drop}
 use Rattle.rules.specs.Numbers.{CHAIN-MAX}
 use Rattle.rules.specs.Explain.Calls.{Explanation, success, before, walked, whyGet, whyPut}
-use Rattle.calls.specs.declared.why.Explanation.{Explanation as WhyReply}
-use Rattle.calls.specs.Explain.{unmet, toldAs, whyCleared, WhyAnswered}
-use Rattle.calls.specs.Explain.Calls.{nodes-long}
-use Rattle.calls.specs.Explain.Laws.{Proper, firsts-back, why-few, why-get-proper, why-put-proper}
+use Rattle.explaining.specs.declared.Explanation.{Explanation as WhyReply}
+use Rattle.explaining.specs.Explain.{unmet, toldAs, whyCleared, WhyAnswered}
+use Rattle.explaining.specs.Explain.Calls.{nodes-long}
+use Rattle.explaining.specs.Explain.Laws.{Proper, firsts-back, why-few, why-get-proper, why-put-proper}
 use Rattle.packing.specs.Numbers.{WhyPacked}
 use Rattle.packing.specs.HandedOut.{handed}
 

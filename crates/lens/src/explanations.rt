@@ -4,9 +4,9 @@ ghost use lib.ListN.{length};
 ghost use Rattle.rules.specs.Explain.Calls.{whyGet, whyPut};
 ghost use Rattle.packing.specs.Numbers.{WhyPacked};
 ghost use Rattle.lens.specs.Explanations.{nodesOver, WhyHanded};
-use calls::Explanation;
-use calls::why_get;
-use calls::why_put;
+use explaining::Explanation;
+use explaining::why_get;
+use explaining::why_put;
 use packing::hand_nodes;
 use packing::pack_why;
 

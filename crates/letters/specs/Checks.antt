@@ -13,7 +13,7 @@ use Rattle.sheet.specs.Laws.{sheet-ranges}
 use Rattle.report.specs.Text.{words, refusalLine, okLine}
 use Rattle.report.specs.TextLaws.{ok-length}
 use Rattle.words.specs.Numbers.{LINE}
-use Rattle.words.specs.Format.{two, part}
+use Rattle.inputs.specs.Format.{two, part}
 use Rattle.words.specs.Answers.{nodeLine}
 use Rattle.typing.specs.Check.{Verdict, passes, refused, refusedAt, lentOf, check}
 use Rattle.typing.specs.CheckLaws.{Says, all-right, used-twice, not-right}

@@ -9,7 +9,8 @@ use borrow.Author.Tests.{ne-eqb}
 use lib.Dec.{eqb}
 use lib.ListN.{length, getD}
 use Rattle.report.specs.Text.{refusalLine}
-use Rattle.words.specs.Numbers.{INPUT, LINE}
+use Rattle.inputs.specs.Numbers.{INPUT}
+use Rattle.words.specs.Numbers.{LINE}
 use Rattle.letters.specs.Lookups.{loadLine, valueLine}
 use Rattle.letters.specs.LookupLaws.{fits-refusal, fits-load, fits-value}
 use Rattle.letters.specs.Sheets.{numberLine, joinLine}

@@ -16,9 +16,11 @@ use Rattle.starts.specs.declared.Found.the-variants.{At, Refused}
 use Rattle.starts.specs.Starts.{loadOf, numbers, proper, standsAt, findOf, partOf}
 use Rattle.starts.specs.Lookup.{length-firsts, proper-is}
 use Rattle.starts.specs.StartsLaws.{load-few}
-use Rattle.words.specs.Numbers.{INPUT, LINE}
-use Rattle.words.specs.Format.{two, part}
-use Rattle.words.specs.Starts.{startsIn, kept, kept-all}
+use Rattle.inputs.specs.Numbers.{INPUT}
+use Rattle.words.specs.Numbers.{LINE}
+use Rattle.inputs.specs.Format.{two, part}
+use Rattle.inputs.specs.Starts.{startsIn}
+use Rattle.words.specs.Starts.{kept, kept-all}
 use Rattle.letters.specs.Lookups.{loadedLine, loadLine, foundLine, valueLine}
 use Rattle.letters.specs.LoadLaws.{load-small}
 

@@ -9,8 +9,8 @@ use Rattle.starts.specs.declared.Loaded.{Loaded}
 use Rattle.starts.specs.declared.Found.{Found}
 use Rattle.starts.specs.declared.Found.the-variants.{At, Refused}
 use Rattle.starts.specs.Starts.{loadOf, numbers, findOf, partOf}
-use Rattle.words.specs.Format.{two, part}
-use Rattle.words.specs.Starts.{startsIn}
+use Rattle.inputs.specs.Format.{two, part}
+use Rattle.inputs.specs.Starts.{startsIn}
 
 -- L: a sheet behind its length in two bytes, then a plan: the starts of the plan's values
 

@@ -10,7 +10,7 @@ use lib.ListN.{length, take, drop, length-append}
 use lib.Seq.{take-append-seam}
 use Rattle.report.specs.Text.{hexOf, words, decimalOf, refusalLine, okLine}
 use Rattle.report.specs.TextLaws.{hex-length, ok-length, decimal-length}
-use Rattle.words.specs.Format.{two, part}
+use Rattle.inputs.specs.Format.{two, part}
 use Rattle.words.specs.Answers.{noLine, nodeLine}
 use Rattle.value.specs.Result.{Result, ok, refusal}
 use Rattle.words.specs.Numbers.{LINE}

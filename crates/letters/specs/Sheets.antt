@@ -5,7 +5,7 @@ use Prim.Native.Nat.{ℕ, _+_}
 use lib.Dec.{leb}
 use lib.ListN.{length, drop}
 use Rattle.report.specs.Text.{hexOf, refusalLine, okLine}
-use Rattle.words.specs.Format.{two, part}
+use Rattle.inputs.specs.Format.{two, part}
 use Rattle.words.specs.Answers.{nodeLine}
 use Rattle.preorder.specs.NumberAnswer.{Answer, done, refused, twice, numberAnswer}
 use Rattle.join.specs.JoinAnswer.{joinAnswer}

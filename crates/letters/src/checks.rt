@@ -7,13 +7,13 @@ use types::Checked;
 pub fn types_line(input: &[u8], text: &mut [u8]) -> usize
     ensures { λ r. ⌜ Wrote (typesLine (now (input .entry))) 0 (now (text .entry)) (now (text .exit)) r ⌝ }
 {
-    let sheet = words::number_at(input, 1);
+    let sheet = inputs::number_at(input, 1);
     if input.len() < 3 + sheet {
         return report::refusal(text, 0, 60);
     }
     let answer = types::check(
-        words::part_at(input, 3, sheet),
-        words::rest_from(input, 3 + sheet),
+        inputs::part_at(input, 3, sheet),
+        inputs::rest_from(input, 3 + sheet),
     );
     match answer {
         Checked::Passes => report::bytes(text, 0, b"ok\n"),

@@ -21,8 +21,8 @@ pub fn growth_line(input: &[u8], text: &mut [u8]) -> usize
     if input.len() < 2 {
         return report::refusal(text, 0, 60);
     }
-    let variable = words::byte_at(input, 1) as usize;
-    match growth::growth(words::rest_from(input, 2), variable) {
+    let variable = inputs::byte_at(input, 1) as usize;
+    match growth::growth(inputs::rest_from(input, 2), variable) {
         Growing::Times(n) => times_line(n as usize, text),
         Growing::Refused(c) => report::refusal(text, 0, c as usize),
     }

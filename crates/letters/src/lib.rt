@@ -2,7 +2,8 @@
 ghost use Prim.Native.Nat.{_≤_};
 ghost use lib.ListN.{length};
 ghost use Rattle.report.specs.Writing.{Wrote};
-ghost use Rattle.words.specs.Numbers.{INPUT, LINE};
+ghost use Rattle.inputs.specs.Numbers.{INPUT};
+ghost use Rattle.words.specs.Numbers.{LINE};
 ghost use Rattle.letters.specs.Letters.{letterLine};
 
 mod checks;
@@ -18,7 +19,7 @@ pub fn line(input: &[u8], text: &mut [u8]) -> usize
     ensures { λ r. ⌜ Wrote (letterLine (now (input .entry))) 0 (now (text .entry)) (now (text .exit)) r ⌝ }
     ensures { λ _. ⌜ (length (now (input .entry)) ≤ INPUT → length (letterLine (now (input .entry))) ≤ LINE) ⌝ }
 {
-    let letter = words::byte_at(input, 0);
+    let letter = inputs::byte_at(input, 0);
     match letter {
         0x4C => lookups::load_line(input, text),
         0x56 => lookups::value_line(input, text),

@@ -31,9 +31,9 @@ pub fn made_line(made: Made, out: &[u8], plain: bool, text: &mut [u8]) -> usize
     match made {
         Made::Done(n) => {
             if plain {
-                return plain_line(words::part_at(out, 0, n), text);
+                return plain_line(inputs::part_at(out, 0, n), text);
             }
-            part_line(words::part_at(out, 0, n), text)
+            part_line(inputs::part_at(out, 0, n), text)
         }
         Made::Refused(c) => report::refusal(text, 0, c as usize),
     }

@@ -8,13 +8,13 @@ use starts::Found;
 pub fn load_line(input: &[u8], text: &mut [u8]) -> usize
     ensures { λ r. ⌜ Wrote (loadLine (now (input .entry))) 0 (now (text .entry)) (now (text .exit)) r ⌝ }
 {
-    let sheet = words::number_at(input, 1);
+    let sheet = inputs::number_at(input, 1);
     if input.len() < 3 + sheet {
         return report::refusal(text, 0, 60);
     }
     let loaded = starts::load(
-        words::part_at(input, 3, sheet),
-        words::rest_from(input, 3 + sheet),
+        inputs::part_at(input, 3, sheet),
+        inputs::rest_from(input, 3 + sheet),
     );
     if loaded.refusal != 0 {
         return report::refusal(text, 0, loaded.refusal as usize);
@@ -28,14 +28,14 @@ pub fn load_line(input: &[u8], text: &mut [u8]) -> usize
 pub fn value_line(input: &[u8], text: &mut [u8]) -> usize
     ensures { λ r. ⌜ Wrote (valueLine (now (input .entry))) 0 (now (text .entry)) (now (text .exit)) r ⌝ }
 {
-    let count = words::byte_at(input, 2);
+    let count = inputs::byte_at(input, 2);
     let behind = 3 + 2 * (count as usize);
     if input.len() < behind {
         return report::refusal(text, 0, 60);
     }
-    let plan = words::rest_from(input, behind);
-    let starts = words::starts_in(input);
-    let variable = words::byte_at(input, 1) as usize;
+    let plan = inputs::rest_from(input, behind);
+    let starts = inputs::starts_in(input);
+    let variable = inputs::byte_at(input, 1) as usize;
     match starts::find(starts, plan.len(), variable) {
         Found::At { start: _, end: _ } => { part_line(starts::part(starts, plan, variable), text) }
         Found::Refused(c) => report::refusal(text, 0, c as usize),

@@ -26,8 +26,8 @@ pub fn read_line(input: &[u8], text: &mut [u8]) -> usize
     ensures { λ _. ⌜ length (readLine (now (input .entry))) ≤ LINE ⌝ }
 {
     let mut sheet = [0u8; parsing::OUTPUT];
-    match parsing::read(words::rest_from(input, 1), &mut sheet) {
-        Reading::Done(n) => part_line(words::part_at(&sheet, 0, n), text),
+    match parsing::read(inputs::rest_from(input, 1), &mut sheet) {
+        Reading::Done(n) => part_line(inputs::part_at(&sheet, 0, n), text),
         Reading::Refused(c) => report::refusal(text, 0, c as usize),
         Reading::At {
             refusal,
@@ -42,6 +42,6 @@ pub fn print_line(input: &[u8], text: &mut [u8]) -> usize
     ensures { λ r. ⌜ Wrote (printLine (now (input .entry))) 0 (now (text .entry)) (now (text .exit)) r ⌝ }
 {
     let mut out = [0u8; printing::OUTPUT];
-    let reply = printing::print(words::rest_from(input, 1), &mut out);
+    let reply = printing::print(inputs::rest_from(input, 1), &mut out);
     numbered_line(reply, &out, text)
 }

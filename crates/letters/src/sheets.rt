@@ -11,7 +11,7 @@ pub fn numbered_line(reply: Numbered, out: &[u8], text: &mut [u8]) -> usize
     ensures { λ r. ⌜ Wrote (numberReply reply (now (out .entry))) 0 (now (text .entry)) (now (text .exit)) r ⌝ }
 {
     match reply {
-        Numbered::Done(n) => part_line(words::part_at(out, 0, n), text),
+        Numbered::Done(n) => part_line(inputs::part_at(out, 0, n), text),
         Numbered::Refused(c) => report::refusal(text, 0, c as usize),
         Numbered::Twice(n) => words::node_line(text, 81, n),
     }
@@ -22,7 +22,7 @@ pub fn number_line(input: &[u8], text: &mut [u8]) -> usize
     ensures { λ r. ⌜ Wrote (numberLine (now (input .entry))) 0 (now (text .entry)) (now (text .exit)) r ⌝ }
 {
     let mut sheet = [0u8; numbering::OUTPUT];
-    let reply = numbering::number(words::rest_from(input, 1), &mut sheet);
+    let reply = numbering::number(inputs::rest_from(input, 1), &mut sheet);
     numbered_line(reply, &sheet, text)
 }
 
@@ -30,14 +30,14 @@ pub fn number_line(input: &[u8], text: &mut [u8]) -> usize
 pub fn join_line(input: &[u8], text: &mut [u8]) -> usize
     ensures { λ r. ⌜ Wrote (joinLine (now (input .entry))) 0 (now (text .entry)) (now (text .exit)) r ⌝ }
 {
-    let first = words::number_at(input, 1);
+    let first = inputs::number_at(input, 1);
     if input.len() < 3 + first {
         return report::refusal(text, 0, 60);
     }
     let mut joined = [0u8; join::OUTPUT];
     let made = join::join(
-        words::part_at(input, 3, first),
-        words::rest_from(input, 3 + first),
+        inputs::part_at(input, 3, first),
+        inputs::rest_from(input, 3 + first),
         &mut joined,
     );
     made_line(made, &joined, false, text)

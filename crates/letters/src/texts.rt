@@ -8,7 +8,7 @@ pub fn text_line(input: &[u8], text: &mut [u8]) -> usize
     ensures { λ r. ⌜ Wrote (textLine (now (input .entry))) 0 (now (text .entry)) (now (text .exit)) r ⌝ }
 {
     let mut out = [0u8; json::TEXT];
-    let made = json::write(words::rest_from(input, 1), &mut out);
+    let made = json::write(inputs::rest_from(input, 1), &mut out);
     made_line(made, &out, true, text)
 }
 
@@ -17,6 +17,6 @@ pub fn parsed_line(input: &[u8], text: &mut [u8]) -> usize
     ensures { λ r. ⌜ Wrote (parsedLine (now (input .entry))) 0 (now (text .entry)) (now (text .exit)) r ⌝ }
 {
     let mut out = [0u8; json::VALUE];
-    let made = json::read(words::rest_from(input, 1), &mut out);
+    let made = json::read(inputs::rest_from(input, 1), &mut out);
     made_line(made, &out, false, text)
 }

@@ -10,13 +10,13 @@ use lib.Dec.{eqb}
 use lib.ListN.{length, getD, take, drop, length-drop, length-take, drop-of-length-le, take-append-drop}
 use lib.Seq.{drop-cons, drop-drop, take-suc, getD-drop, drop-length}
 use borrow.Author.Tests.{ne-eqb, eqb-true}
-use Rattle.syntax.specs.Quoted.{bytes}
-use Rattle.syntax.specs.Tokens.{Token, word, digits, hash, mark, Class, blank, letter, digit, dash, sharp, other, classOf, Mode, between, comment}
-use Rattle.syntax.specs.Tokens.{arrow, act, begin, tokens, places, last, held, first, rest}
-use Rattle.syntax.specs.Tokens.{isBlank as isBlank′, isLetter as isLetter′, isDigit as isDigit′}
-use Rattle.syntax.specs.Laid.{isDigit, shuts}
-use Rattle.syntax.specs.Ahead.{Passes, Meets, at-end, at-blank, at-comment, in-comment, at-line, at-mark, at-arrow, at-dash, allIn, isPart, at-word}
-use Rattle.syntax.specs.Ahead.{letterFirst, digitFirst, at-digits, at-hash, Here, here-passed, here-met, placeAt, place-met, place-end}
+use Rattle.tokens.specs.Quoted.{bytes}
+use Rattle.tokens.specs.Tokens.{Token, word, digits, hash, mark, Class, blank, letter, digit, dash, sharp, other, classOf, Mode, between, comment}
+use Rattle.tokens.specs.Tokens.{arrow, act, begin, tokens, places, last, held, first, rest}
+use Rattle.tokens.specs.Tokens.{isBlank as isBlank′, isLetter as isLetter′, isDigit as isDigit′}
+use Rattle.tokens.specs.Laid.{isDigit, shuts}
+use Rattle.tokens.specs.Ahead.{Passes, Meets, at-end, at-blank, at-comment, in-comment, at-line, at-mark, at-arrow, at-dash, allIn, isPart, at-word}
+use Rattle.tokens.specs.Ahead.{letterFirst, digitFirst, at-digits, at-hash, Here, here-passed, here-met, placeAt, place-met, place-end}
 use Rattle.lexing.specs.declared.Lexeme.{Lexeme}
 
 -- the class of a byte as a number
@@ -147,10 +147,6 @@ part-more s at end h g =
 
 part-none : (s : List ℕ) (at : ℕ) → part s at at ≡ []
 part-none s at = let e : at - at ≡ 0 = omega arith in rw e
-
-pub and-true : (a b : Bool) → a && b ≡ true → (a ≡ true) × (b ≡ true)
-and-true true b e = (refl, e)
-and-true false b e = let z : _≡_ {A = ℕ} 0 1 = cc in absurd (omega arith)
 
 all-append : (In : Class → Bool) (s : List ℕ) (c : ℕ) → allIn In s ≡ true → In (classOf c) ≡ true → allIn In (s ++ c ∷ []) ≡ true
 all-append In [] c h e = rw e

@@ -2,7 +2,7 @@
 ghost use mathlib.Core.Path.{_≡_};
 ghost use Prim.Native.Nat.{_≤_, _<_};
 ghost use lib.ListN.{length};
-ghost use Rattle.syntax.specs.Tokens.{within, isBlank, isLetter, classOf};
+ghost use Rattle.tokens.specs.Tokens.{within, isBlank, isLetter, classOf};
 ghost use Rattle.lexing.specs.Lexing.{codeOf, inRun, Running, Comment, Gap, Skips, Mark, Lexed, Next};
 
 /// The kind of a token: one of these, or the byte of a mark.

@@ -14,14 +14,14 @@ use borrow.Author.Tests.{eq-eqb, ne-eqb, le-leb, lt-leb}
 use mir.Val.{Fits}
 use mir.Syntax.{w8}
 use Rattle.value.specs.Result.{ok}
-use Rattle.sheet.specs.declared.Node.{Node}
-use Rattle.sheet.specs.declared.Node.the-variants.{False}
+use Rattle.node.specs.declared.Node.{Node}
+use Rattle.node.specs.declared.Node.the-variants.{False}
 use Rattle.sheet.specs.declared.Table.{Table}
 use Rattle.sheet.specs.declared.Children.{Children}
-use Rattle.sheet.specs.Kinds.{Role, aNode, aSection, aVariable, aTest, aNumber, aWide, Field, row, roles, size, sizes, width, place, keep, pick, children}
+use Rattle.node.specs.Kinds.{Role, aNode, aSection, aVariable, aTest, aNumber, aWide, Field, row, roles, size, sizes, width, place, keep, pick, children}
 use Rattle.sheet.specs.Sheet.{Sheet, readSheet}
 use Rattle.sheet.specs.Table.{tableOf, sectionAt}
-use Rattle.sheet.specs.Forms.{listing}
+use Rattle.node.specs.Forms.{listing}
 use Rattle.sheet.specs.Laws.{Reads, table-reads, Ranges, sheet-ranges, section-read}
 use Rattle.sheet.specs.Rows.{width-8}
 use Rattle.sheet.specs.Parts.{childrenOf, childrenAt}

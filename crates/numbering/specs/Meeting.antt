@@ -10,7 +10,7 @@ use lib.Seq.{sets-eq, drop-at, drop-cons, take-suc-set, length-take-le, length-s
 use Rattle.value.specs.Result.{ok}
 use Rattle.sheet.specs.declared.Table.{Table}
 use Rattle.sheet.specs.declared.Children.{Children}
-use Rattle.sheet.specs.Kinds.{children}
+use Rattle.node.specs.Kinds.{children}
 use Rattle.sheet.specs.Sheet.{Sheet, readSheet}
 use Rattle.sheet.specs.Laws.{Child, Ranges}
 use Rattle.sheet.specs.Rows.{Every}

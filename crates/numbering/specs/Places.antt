@@ -9,12 +9,13 @@ use lib.ListN.{length, getD, set, take, replicate, length-set, length-replicate}
 use lib.Seq.{getD-set-same, getD-set-other, getD-take}
 use Rattle.value.specs.Result.{ok}
 use Rattle.report.specs.Writing.{Wrote, wrote-then}
-use Rattle.sheet.specs.declared.Node.the-variants.{False}
+use Rattle.node.specs.declared.Node.the-variants.{False}
 use Rattle.sheet.specs.declared.Table.{Table}
-use Rattle.sheet.specs.Kinds.{children, calls, renumber}
+use Rattle.node.specs.Kinds.{children, calls}
+use Rattle.sheet.specs.Renumbering.{renumber}
 use Rattle.sheet.specs.Sheet.{Sheet, readSheet}
 use Rattle.sheet.specs.Table.{sectionAt}
-use Rattle.sheet.specs.Forms.{listing}
+use Rattle.node.specs.Forms.{listing}
 use Rattle.sheet.specs.Rows.{Every, allWritten, sheetWritten}
 use Rattle.sheet.specs.Written.{Bytes}
 use Rattle.sheet.specs.Ranging.{every-map, map-at, calls-in}

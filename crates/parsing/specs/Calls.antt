@@ -12,9 +12,9 @@ use borrow.Author.Tests.{le-leb, lt-leb}
 use Rattle.report.specs.Writing.{Wrote, wrote-front}
 use Rattle.sheet.specs.Sheet.{Sheet}
 use Rattle.sheet.specs.Rows.{rootsWritten, allWritten, sheetWritten}
-use Rattle.syntax.specs.Tokens.{between, tokens}
+use Rattle.tokens.specs.Tokens.{between, tokens}
 use Rattle.syntax.specs.Reader.{Out, ok, fault, _>>=_, Name, find, textRead, sheetRead, Said, says, refused, placed, sheetOf}
-use Rattle.syntax.specs.Ahead.{placeAt}
+use Rattle.tokens.specs.Ahead.{placeAt}
 use Rattle.parsing.specs.Cursor.{Told, on, off}
 use Rattle.parsing.specs.Names.{stackOf, stack-kept}
 use Rattle.parsing.specs.Expect.{resolveBy}

@@ -11,17 +11,17 @@ use lib.Dec.{eqb}
 use lib.ListN.{length, getD, take, drop, set, length-append, length-set}
 use lib.Seq.{sets, getD-take, take-take, take-set-le, getD-set-same, getD-set-other}
 use borrow.Author.Tests.{ne-eqb, eq-eqb, le-leb, lt-leb, eqb-true}
-use Rattle.sheet.specs.declared.Node.{Node}
-use Rattle.sheet.specs.declared.Node.the-variants as node
-use Rattle.sheet.specs.Kinds.{width, written}
-use Rattle.syntax.specs.Quoted.{bytes}
-use Rattle.syntax.specs.Tokens.{Token, word, digits, hash, mark, arrow, first, rest, wordOf, markOf, same}
+use Rattle.node.specs.declared.Node.{Node}
+use Rattle.node.specs.declared.Node.the-variants as node
+use Rattle.node.specs.Kinds.{width, written}
+use Rattle.tokens.specs.Quoted.{bytes}
+use Rattle.tokens.specs.Tokens.{Token, word, digits, hash, mark, arrow, first, rest, wordOf, markOf, same}
 use Rattle.syntax.specs.Reader.{Out, ok, fault, _>>=_, Name, Scope, scope, isName, sent, symbol, keyword, bind, known, variable, test}
 use Rattle.syntax.specs.Reader.{Begin, nothing, aFalse, aTrue, aLet, aCase, anEach, aPair, aList, aName, aHash, aNumber, wordBegin, beginOf, behindOf, branchOf}
 use Rattle.syntax.specs.Reader.{whole, Nodes, Reader, room, begun, constant, pairOf, behind, back, frontOf, listBy, listOf, letIn, amountBy, amountOf}
 use Rattle.syntax.specs.Reader.{truthCase, listCase, branches, caseOf, eachOf, named, shaped, parted}
 use Rattle.syntax.specs.Reader as reader
-use Rattle.syntax.specs.Ahead.{letterFirst}
+use Rattle.tokens.specs.Ahead.{letterFirst}
 use Rattle.lexing.specs.Lexing.{Between, ahead, part, tokenAt, Next}
 use Rattle.parsing.specs.Cursor.{faultAt, entered, Told, on, fault-told, Behind, With, fault-same, Carries, carries-then, Goes, told-then}
 use Rattle.parsing.specs.Cursor as cursor

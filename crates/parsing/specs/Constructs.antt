@@ -4,9 +4,9 @@ use mathlib.Core.Option.{Option}
 use mathlib.Core.List.{List, [], _∷_}
 use Prim.Native.Nat.{ℕ, suc, _+_, _*_, _-_, _≤_, _<_}
 use lib.ListN.{length, getD}
-use Rattle.sheet.specs.declared.Node.{Node}
-use Rattle.syntax.specs.Quoted.{bytes}
-use Rattle.syntax.specs.Tokens.{Token, arrow, first}
+use Rattle.node.specs.declared.Node.{Node}
+use Rattle.tokens.specs.Quoted.{bytes}
+use Rattle.tokens.specs.Tokens.{Token, arrow, first}
 use Rattle.syntax.specs.Reader.{Out, ok, _>>=_, Name, Scope, scope, sent, symbol, bind}
 use Rattle.syntax.specs.Reader.{beginOf, branchOf, whole, Nodes, Reader, pairOf, back, frontOf, listOf, letIn}
 use Rattle.syntax.specs.Reader.{truthCase, listCase, branches, caseOf, eachOf, shaped}

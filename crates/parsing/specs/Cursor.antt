@@ -4,9 +4,9 @@ use mathlib.Core.List.{List}
 use Prim.Native.Nat.{ℕ, suc, _+_, _≤_, _<_}
 use native.Mathlib.Omega.{arith}
 use lib.ListN.{length, drop}
-use Rattle.syntax.specs.Tokens.{Token, first, rest}
+use Rattle.tokens.specs.Tokens.{Token, first, rest}
 use Rattle.syntax.specs.Reader.{Out, ok, fault, _>>=_}
-use Rattle.syntax.specs.Ahead.{placeAt}
+use Rattle.tokens.specs.Ahead.{placeAt}
 use Rattle.lexing.specs.Lexing.{Between, ahead, tokenAt, Next}
 use Rattle.parsing.specs.declared.cursor.Cursor.{Cursor}
 use Rattle.lexing.specs.declared.Lexeme.{Lexeme}

@@ -10,15 +10,16 @@ use lib.Dec.{eqb, leb}
 use lib.ListN.{length, getD, take, drop, set, drop-of-length-le, length-set}
 use lib.Seq.{take-set-le, getD-set-same}
 use borrow.Author.Tests.{ne-eqb, eq-eqb, le-leb, lt-leb, not-true, eqb-true, eqb-false, leb-true}
-use Rattle.syntax.specs.Quoted.{bytes}
-use Rattle.syntax.specs.Tokens.{Token, word, digits, hash, mark, Class, blank, letter, digit, dash, sharp, other, classOf, arrow, first, rest, wordOf}
-use Rattle.syntax.specs.Tokens.{markOf, same}
+use Rattle.tokens.specs.Quoted.{bytes}
+use Rattle.tokens.specs.Tokens.{Token, word, digits, hash, mark, Class, blank, letter, digit, dash, sharp, other, classOf, arrow, first, rest, wordOf}
+use Rattle.tokens.specs.Tokens.{markOf, same}
 use Rattle.syntax.specs.Reader.{Out, ok, fault, _>>=_, Name, Scope, scope, find, wild, tests, isName, symbol, keyword, bind, sectionName, known}
 use Rattle.syntax.specs.Reader.{is, value, zeroFirst, valued, number, byNumber, variableBy, variable, testBy, test}
-use Rattle.syntax.specs.Laid.{isDigit, isLetter}
-use Rattle.syntax.specs.Tokens.{isBlank as isBlank′, isLetter as isLetter′}
-use Rattle.syntax.specs.Ahead.{allIn, letterFirst, placeAt}
-use Rattle.lexing.specs.Lexing.{Between, ahead, part, part-first, part-length, at-byte, and-true, codeOf, tokenAt, Shape, Next}
+use Rattle.tokens.specs.Laid.{isDigit, isLetter}
+use Rattle.tokens.specs.Tokens.{isBlank as isBlank′, isLetter as isLetter′}
+use Rattle.tokens.specs.Ahead.{allIn, letterFirst, placeAt}
+use Rattle.tokens.specs.Same.{and-true}
+use Rattle.lexing.specs.Lexing.{Between, ahead, part, part-first, part-length, at-byte, codeOf, tokenAt, Shape, Next}
 use Rattle.parsing.specs.Cursor.{faultAt, behind, Told, on, off, fault-told, Behind, With, fault-same, Carries, Goes, told-then}
 use Rattle.parsing.specs.Names.{part-at, word-is, word-none, same-none, name-read, nameAt, stackOf, Found, same-sym}
 use Rattle.parsing.specs.declared.cursor.Cursor.{Cursor}

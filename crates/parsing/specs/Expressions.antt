@@ -11,19 +11,20 @@ use lib.Dec.{eqb, leb}
 use lib.ListN.{length, getD, take, drop, set}
 use lib.Seq.{sets}
 use borrow.Author.Tests.{ne-eqb, eq-eqb, le-leb, lt-leb, not-true, not-false, eqb-true, eqb-false}
-use Rattle.sheet.specs.declared.Node.{Node}
-use Rattle.sheet.specs.declared.Node.the-variants as node
-use Rattle.sheet.specs.Kinds.{width, written}
-use Rattle.syntax.specs.Quoted.{bytes}
-use Rattle.syntax.specs.Tokens.{Token, word, digits, hash, mark, arrow, first, rest, wordOf, markOf, same}
+use Rattle.node.specs.declared.Node.{Node}
+use Rattle.node.specs.declared.Node.the-variants as node
+use Rattle.node.specs.Kinds.{width, written}
+use Rattle.tokens.specs.Quoted.{bytes}
+use Rattle.tokens.specs.Tokens.{Token, word, digits, hash, mark, arrow, first, rest, wordOf, markOf, same}
 use Rattle.syntax.specs.Reader.{Out, ok, fault, _>>=_, Name, Scope, scope, find, isSome, isName, symbol, keyword, bind, known, number, variable, test}
 use Rattle.syntax.specs.Reader.{Begin, nothing, aFalse, aTrue, aLet, aCase, anEach, aPair, aList, aName, aHash, aNumber, wordBegin, beginOf, behindOf, branchOf}
 use Rattle.syntax.specs.Reader.{Part, whole, more, Nodes, Reader, room, begun, constant, pairOf, behind, back, frontOf, listBy, listOf, letIn}
 use Rattle.syntax.specs.Reader.{amountBy, amountOf}
 use Rattle.syntax.specs.Reader.{truthCase, listCase, branches, caseOf, callOf, eachOf, named, shaped, parted}
 use Rattle.syntax.specs.Reader as reader
-use Rattle.syntax.specs.Ahead.{letterFirst, placeAt}
-use Rattle.lexing.specs.Lexing.{Between, ahead, part, tokenAt, Shape, Next, and-true}
+use Rattle.tokens.specs.Ahead.{letterFirst, placeAt}
+use Rattle.tokens.specs.Same.{and-true}
+use Rattle.lexing.specs.Lexing.{Between, ahead, part, tokenAt, Shape, Next}
 use Rattle.parsing.specs.Cursor.{faultAt, entered, Told, on, off, fault-told, Behind, With, Fault, fault-same, Carries, carries-then, Goes, told-then}
 use Rattle.parsing.specs.Cursor as cursor
 use Rattle.parsing.specs.Names.{word-is, word-none, nameAt, stackOf, stack-kept}

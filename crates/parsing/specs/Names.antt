@@ -9,11 +9,12 @@ use lib.Dec.{eqb, leb}
 use lib.ListN.{length, getD, take, drop, drop-of-length-le}
 use lib.Seq.{getD-drop, getD-take, take-take}
 use borrow.Author.Tests.{ne-eqb, eq-eqb, eqb-true, eqb-false, le-leb, lt-leb, not-true}
-use Rattle.syntax.specs.Tokens.{digits, hash, mark, classOf, wordOf, same}
+use Rattle.tokens.specs.Tokens.{digits, hash, mark, classOf, wordOf, same}
 use Rattle.syntax.specs.Reader.{Name, find, isSome, words, wild, sent, some-byte, isName}
-use Rattle.syntax.specs.Laid.{shuts}
-use Rattle.syntax.specs.Ahead.{allIn, isPart}
-use Rattle.lexing.specs.Lexing.{inRun, part, part-length, part-behind, at-byte, and-true, tokenAt, Shape}
+use Rattle.tokens.specs.Laid.{shuts}
+use Rattle.tokens.specs.Ahead.{allIn, isPart}
+use Rattle.tokens.specs.Same.{and-true}
+use Rattle.lexing.specs.Lexing.{inRun, part, part-length, part-behind, at-byte, tokenAt, Shape}
 use Rattle.lexing.specs.declared.Lexeme.{Lexeme}
 
 -- SPELLING

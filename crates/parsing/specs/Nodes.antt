@@ -7,11 +7,11 @@ use native.Mathlib.Numerals.{add-one}
 use lib.ListN.{length, getD, take, drop, set, length-drop, length-take}
 use lib.Seq.{sets, sets-eq, take-nil, take-suc, take-all, getD-take, getD-drop, take-at, drop-at, drop-set-lt, length-sets, take-take, length-take-le}
 use Rattle.report.specs.Writing.{Wrote, wrote-text, wrote-then}
-use Rattle.sheet.specs.declared.Node.{Node}
-use Rattle.sheet.specs.Kinds.{Row, row, formOf, sizes, roles, width, bodyWidth, written}
-use Rattle.sheet.specs.Table.{kindWidth, formWidth}
+use Rattle.node.specs.declared.Node.{Node}
+use Rattle.node.specs.Kinds.{Row, row, formOf, sizes, roles, width, bodyWidth, written}
+use Rattle.node.specs.Decoding.{kindWidth, formWidth}
 use Rattle.sheet.specs.Rows.{allWritten, width-8}
-use Rattle.sheet.specs.declared.Node.the-variants as node
+use Rattle.node.specs.declared.Node.the-variants as node
 
 abbrev pub slot : List ℕ → ℕ → List ℕ
 slot s n = take 8 (drop (8 * n) s)

@@ -11,16 +11,16 @@ use lib.Dec.{eqb, leb}
 use lib.ListN.{length, getD, take, drop, set, length-append, length-set, length-take}
 use lib.Seq.{take-set-le, take-suc-set, take-suc, getD-set-same, length-take-le}
 use borrow.Author.Tests.{ne-eqb, eq-eqb, not-true, not-false}
-use Rattle.sheet.specs.declared.Node.{Node}
+use Rattle.node.specs.declared.Node.{Node}
 use Rattle.sheet.specs.Sheet.{Sheet}
 use Rattle.sheet.specs.Rows.{rootsWritten}
-use Rattle.syntax.specs.Quoted.{bytes}
-use Rattle.syntax.specs.Tokens.{Token, between, tokens, first, rest, wordOf, markOf, same}
+use Rattle.tokens.specs.Quoted.{bytes}
+use Rattle.tokens.specs.Tokens.{Token, between, tokens, first, rest, wordOf, markOf, same}
 use Rattle.syntax.specs.Reader.{Out, ok, fault, _>>=_, Name, Scope, scope, find, isSome, isName, wild, symbol, keyword, bind, sectionName, unknown}
 use Rattle.syntax.specs.Reader.{whole, plan, section}
 use Rattle.syntax.specs.Reader.{sections, textRead}
 use Rattle.syntax.specs.Reader as reader
-use Rattle.syntax.specs.Ahead.{here-first}
+use Rattle.tokens.specs.Ahead.{here-first}
 use Rattle.lexing.specs.Lexing.{Between, ahead, tokenAt, Shape, Next}
 use Rattle.parsing.specs.Cursor.{faultAt, Told, on, off, fault-told, Behind, With, Fault, fault-same, Carries, carries-then, Goes, told-then}
 use Rattle.parsing.specs.Cursor as cursor

@@ -3,8 +3,8 @@
 ghost use mathlib.Core.Path.{_≡_};
 ghost use Prim.Native.Nat.{_+_, _≤_, _<_};
 ghost use lib.ListN.{length, drop};
-ghost use Rattle.syntax.specs.Laid.{shuts};
-ghost use Rattle.syntax.specs.Tokens.{wordOf, same};
+ghost use Rattle.tokens.specs.Laid.{shuts};
+ghost use Rattle.tokens.specs.Tokens.{wordOf, same};
 ghost use Rattle.syntax.specs.Reader.{isName, isSome, find, words};
 ghost use Rattle.lexing.specs.Lexing.{tokenAt, Shape, part};
 ghost use Rattle.parsing.specs.Names.{nameAt, Found};

@@ -197,7 +197,7 @@ fn record(slots: &[u8], n: usize, out: &mut [u8], at: usize) -> usize
     requires { ⌜ 8 * n + 8 ≤ length (now slots) ⌝ }
     ensures { λ r. ⌜ Wrote (recordIn (now (slots .entry)) n) at (now (out .entry)) (now (out .exit)) r ⌝ }
 {
-    let width = sheet::record_width(slots[8 * n]);
+    let width = node::record_width(slots[8 * n]);
     report::bytes(out, at, &slots[8 * n..8 * n + width])
 }
 

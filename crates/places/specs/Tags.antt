@@ -8,10 +8,10 @@ use lib.Dec.{T, eqb}
 use mir.Val.{hasKey}
 use types.Run.{OneOf, miss}
 use denote.Enum.Declared.{tagOf}
-use Rattle.sheet.proofs.Node as node
-use Rattle.sheet.specs.Kinds.{row}
-use Rattle.sheet.specs.declared.Node.{Node}
-use Rattle.sheet.specs.declared.Node.the-variants.{Var, False, True, Empty, Number, Front, Pair, ListCase, TruthCase, Split, Call, Add, Each, Wide}
+use Rattle.node.proofs.Node as node
+use Rattle.node.specs.Kinds.{row}
+use Rattle.node.specs.declared.Node.{Node}
+use Rattle.node.specs.declared.Node.the-variants.{Var, False, True, Empty, Number, Front, Pair, ListCase, TruthCase, Split, Call, Add, Each, Wide}
 
 -- the kind byte of a node, by its variant's number
 kind-tag : (n : Node) → row n .kind ≡ 16 + tagOf node.the-type n

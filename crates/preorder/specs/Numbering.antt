@@ -10,9 +10,10 @@ use lib.Dec.{eqb}
 use lib.ListN.{length, getD}
 use borrow.Author.Tests.{eq-eqb, ne-eqb}
 use Rattle.value.specs.Value.{Value}
-use Rattle.sheet.specs.declared.Node.{Node}
-use Rattle.sheet.specs.declared.Node.the-variants.{False}
-use Rattle.sheet.specs.Kinds.{children, calls, renumber}
+use Rattle.node.specs.declared.Node.{Node}
+use Rattle.node.specs.declared.Node.the-variants.{False}
+use Rattle.node.specs.Kinds.{children, calls}
+use Rattle.sheet.specs.Renumbering.{renumber}
 use Rattle.sheet.specs.Sheet.{Sheet}
 use Rattle.sheet.specs.Laws.{Child, Ranges}
 use Rattle.sheet.specs.Rows.{Every}

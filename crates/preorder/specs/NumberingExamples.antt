@@ -4,7 +4,8 @@ use mathlib.Core.List.{List, [], _∷_, map}
 use Prim.Native.Nat.{ℕ}
 use Rattle.value.specs.Result.{andThen, mapResult, orRefuse, unless}
 use Rattle.sheet.specs.Sheet.{readNodes, oneSection, ifSection, readRecords, withNodes, readBody, nodesInRange, rootsInRange, inRange, readHeader, readSheet}
-use Rattle.sheet.specs.Kinds.{formOf, bodyWidth, make, nodeInRange, children, ofKind, renumber, written}
+use Rattle.node.specs.Kinds.{formOf, bodyWidth, make, nodeInRange, children, written}
+use Rattle.sheet.specs.Renumbering.{ofKind, renumber}
 use Rattle.sheet.specs.Rows.{sheetWritten}
 use Rattle.preorder.specs.Numbering.{metFrom, roots, order, placeOf, newNumber, numbered}
 use Rattle.preorder.specs.NumberingLaws.{uses}

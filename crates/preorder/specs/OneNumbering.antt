@@ -7,8 +7,9 @@ use native.Mathlib.Omega.{arith}
 use native.Mathlib.Decide.{ℕ-discrete}
 use lib.ListN.{length, getD}
 use Rattle.value.specs.Result.{ok}
-use Rattle.sheet.specs.declared.Node.{Node}
-use Rattle.sheet.specs.Kinds.{children, calls, renumber}
+use Rattle.node.specs.declared.Node.{Node}
+use Rattle.node.specs.Kinds.{children, calls}
+use Rattle.sheet.specs.Renumbering.{renumber}
 use Rattle.sheet.specs.Sheet.{Sheet, readSheet}
 use Rattle.sheet.specs.Laws.{Ranges, sheet-ranges}
 use Rattle.sheet.specs.Rows.{Every, sheetWritten, renumbered-alike, renumbered-twice}

@@ -9,11 +9,11 @@ use lib.Dec.{leb, eqb}
 use lib.ListN.{length, getD, set}
 use lib.Seq.{getD-set-same, getD-set-other}
 use borrow.Author.Tests.{le-leb, lt-leb}
-use Rattle.sheet.specs.declared.Node.{Node}
+use Rattle.node.specs.declared.Node.{Node}
 use Rattle.sheet.specs.declared.Table.{Table}
-use Rattle.sheet.specs.Kinds.{children}
+use Rattle.node.specs.Kinds.{children}
 use Rattle.sheet.specs.Sheet.{Sheet}
-use Rattle.sheet.specs.Table.{nodeAt}
+use Rattle.node.specs.Decoding.{nodeAt}
 use Rattle.sheet.specs.Laws.{Reads, Ranges, Child}
 use Rattle.sheet.specs.Rows.{Every}
 use Rattle.sheet.specs.Ranging.{children-in}

@@ -10,8 +10,8 @@ use borrow.Author.Tests.{lt-ltb, le-ltb}
 use Rattle.report.specs.Text.{digitOf, decimalOf}
 use Rattle.report.specs.TextLaws.{decimal-small, decimal-more, by-digits}
 use Rattle.report.specs.Writing.{Wrote, wrote-then, wrote-text}
-use Rattle.syntax.specs.Quoted.{bytes}
-use Rattle.syntax.specs.Laid.{spelled}
+use Rattle.tokens.specs.Quoted.{bytes}
+use Rattle.tokens.specs.Laid.{spelled}
 use Rattle.syntax.specs.Reader.{sent}
 use Rattle.syntax.specs.NameLaws.{small-dec, large-dec}
 use Rattle.syntax.specs.Printer.{Reach, reach, dec, decimal, suffix, nameOf, called, partName, variableSaid, testName, line, orLine, unlessPlain}

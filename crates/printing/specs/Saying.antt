@@ -7,14 +7,14 @@ use native.Mathlib.Omega.{arith}
 use lib.Dec.{eqb}
 use lib.ListN.{length, getD}
 use Rattle.report.specs.Writing.{Wrote, wrote-then, wrote-long}
-use Rattle.sheet.specs.declared.Node.{Node}
-use Rattle.sheet.specs.declared.Node.the-variants.{Var, False, True, Empty, Number, Front, Pair, ListCase, TruthCase, Split, Call, Add, Each, Wide}
-use Rattle.sheet.specs.Kinds.{row}
+use Rattle.node.specs.declared.Node.{Node}
+use Rattle.node.specs.declared.Node.the-variants.{Var, False, True, Empty, Number, Front, Pair, ListCase, TruthCase, Split, Call, Add, Each, Wide}
+use Rattle.node.specs.Kinds.{row}
 use Rattle.sheet.specs.Sheet.{Sheet}
-use Rattle.sheet.specs.Table.{nodeAt}
+use Rattle.node.specs.Decoding.{nodeAt}
 use Rattle.sheet.specs.Laws.{Ranges}
 use Rattle.preorder.specs.Numbering.{nodeOf}
-use Rattle.syntax.specs.Quoted.{bytes}
+use Rattle.tokens.specs.Quoted.{bytes}
 use Rattle.syntax.specs.Printer.{Reach, reach, gap, the, sign, space, line, called}
 use Rattle.syntax.specs.Printer.{Piece, Speaker, alone, inList, bodySaid, testSaid, plainNode, said}
 use Rattle.syntax.specs.Setting.{textIn}

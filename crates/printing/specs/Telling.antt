@@ -9,16 +9,16 @@ use lib.Dec.{eqb}
 use lib.ListN.{length, getD, replicate}
 use Rattle.report.specs.Text.{decimalOf}
 use Rattle.report.specs.Writing.{Wrote}
-use Rattle.sheet.specs.declared.Node.{Node}
-use Rattle.sheet.specs.declared.Node.the-variants.{Var, False, True, Empty, Number, Front, Pair, ListCase, TruthCase, Split, Call, Add, Each, Wide}
-use Rattle.sheet.specs.Kinds.{row}
+use Rattle.node.specs.declared.Node.{Node}
+use Rattle.node.specs.declared.Node.the-variants.{Var, False, True, Empty, Number, Front, Pair, ListCase, TruthCase, Split, Call, Add, Each, Wide}
+use Rattle.node.specs.Kinds.{row}
 use Rattle.sheet.specs.Sheet.{Sheet}
-use Rattle.sheet.specs.Table.{nodeAt}
+use Rattle.node.specs.Decoding.{nodeAt}
 use Rattle.sheet.specs.Laws.{Ranged, Child}
 use Rattle.preorder.specs.Numbering.{nodeOf}
-use Rattle.syntax.specs.Quoted.{bytes}
-use Rattle.syntax.specs.Tokens.{arrow}
-use Rattle.syntax.specs.Laid.{spelled}
+use Rattle.tokens.specs.Quoted.{bytes}
+use Rattle.tokens.specs.Tokens.{arrow}
+use Rattle.tokens.specs.Laid.{spelled}
 use Rattle.syntax.specs.Printer.{Piece, tok, gap, the, sign, space, line, orLine, unlessPlain, called, partName, variableSaid, testSaid}
 use Rattle.syntax.specs.Printer.{alone, spoken, tailed, TailOf, another, tailOf, plainNode, said, binder}
 use Rattle.syntax.specs.Setting.{textIn}

@@ -11,8 +11,8 @@ use Rattle.sheet.specs.declared.Table.{Table}
 use Rattle.sheet.specs.Sheet.{Sheet}
 use Rattle.sheet.specs.Table.{sectionAt}
 use Rattle.sheet.specs.Laws.{Reads}
-use Rattle.syntax.specs.Quoted.{bytes}
-use Rattle.syntax.specs.Laid.{spelled}
+use Rattle.tokens.specs.Quoted.{bytes}
+use Rattle.tokens.specs.Laid.{spelled}
 use Rattle.syntax.specs.Printer.{Piece, gap, the, sign, space, partName, called}
 use Rattle.syntax.specs.Printer.{reach, rootSaid, planSaid, sectionsSaid, sheetSaid, nameOf, suffix}
 use Rattle.syntax.specs.Setting.{textIn}

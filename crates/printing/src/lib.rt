@@ -1,4 +1,4 @@
-//! Sheets as text: the printer (GRAMMAR.md, "The printer").
+//! Sheets as text: the printer (docs/SHEETS.md, "The text of a sheet").
 ghost use mathlib.Core.Path.{_≡_};
 ghost use Prim.Native.Nat.{pred};
 ghost use lib.ListN.{length};

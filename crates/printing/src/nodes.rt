@@ -1,7 +1,7 @@
 //! Nodes as text. Lent are the sheet, the `table` of where its records start, and `plain`, which is 1 for each node that has no case in it. Each
 //! function gives the place behind what it wrote; what a node names stands behind it in the sheet, so that fewer nodes are left at each call.
 ghost use mathlib.Core.Path.{_≡_};
-ghost use Rattle.sheet.specs.Table.{nodeAt};
+ghost use Rattle.node.specs.Decoding.{nodeAt};
 ghost use Rattle.printing.specs.Saying.{Ready, Standing, Trailing, Tells, Alone, Body, Branch, Rest, Defaults};
 use crate::pieces::Scope;
 use crate::pieces::binders;
@@ -19,10 +19,10 @@ use crate::pieces::or_line;
 use crate::pieces::rest_default;
 use crate::pieces::test;
 use crate::pieces::variable;
+use node::Node;
+use node::node_at;
 use report::bytes;
 use report::decimal;
-use sheet::Node;
-use sheet::node_at;
 
 /// The node whose record starts at this byte of the sheet.
 pub fn record_at(sheet: &[u8], start: u16) -> Node

@@ -4,7 +4,7 @@ ghost use mathlib.Core.List.{[], _∷_, _++_};
 ghost use Prim.Native.Nat.{_+_, _≤_, _<_};
 ghost use lib.ListN.{length, replicate};
 ghost use Rattle.report.specs.Writing.{Wrote};
-ghost use Rattle.syntax.specs.Laid.{spelled};
+ghost use Rattle.tokens.specs.Laid.{spelled};
 ghost use Rattle.syntax.specs.Printer.{called, partName, variableSaid, line, orLine, unlessPlain};
 ghost use Rattle.printing.specs.Pieces.{reachOf, Bounded, testText, callText, bindersText, emptyText, frontText, firstText, restText};
 ghost use Rattle.printing.specs.Pieces.{eachText, withText};

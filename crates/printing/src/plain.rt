@@ -7,7 +7,7 @@ ghost use Rattle.sheet.specs.Laws.{Reads};
 ghost use Rattle.syntax.specs.Printer.{allPlain};
 ghost use Rattle.printing.specs.Flat.{flatIn, plainOf, bitOf, Flats};
 use crate::nodes::record_at;
-use sheet::Node;
+use node::Node;
 use sheet::Table;
 
 // Whether node n is marked as one.

@@ -1,5 +1,5 @@
 -- The published rules: HOBiT's residual expressions and its two evaluation relations (Matsuda and Wang 2018, section 4.2), one
--- constructor for each rule. No steps, no allowance, no sizes. docs/RULES.md lays them beside the paper and beside `Rules`.
+-- constructor for each rule. No steps, no allowance, no sizes. docs/RULES.md lays them beside the paper and beside ours.
 use mathlib.Core.Path.{_≡_}
 use mathlib.Core.Bool.{Bool, not}
 use mathlib.Core.Option.{Option, none, some}
@@ -8,8 +8,8 @@ use Prim.Native.Nat.{ℕ, _+_, _-_, _≤_}
 use lib.ListN.{getD, set, getElem?}
 use Rattle.value.specs.Value.{Value, Values, vfalse, vtrue, list, number, wide, pair, nil, cons}
 use Rattle.value.specs.Tests.{Passes}
-use Rattle.sheet.specs.declared.Node.{Node}
-use Rattle.sheet.specs.declared.Node.the-variants.{Var, False, True, Empty, Number, Front, Pair, ListCase, TruthCase, Split, Call, Add, Each, Wide}
+use Rattle.node.specs.declared.Node.{Node}
+use Rattle.node.specs.declared.Node.the-variants.{Var, False, True, Empty, Number, Front, Pair, ListCase, TruthCase, Split, Call, Add, Each, Wide}
 use Rattle.sheet.specs.Sheet.{Sheet}
 use Rattle.rules.specs.Counting.{Env, two, pick, restOf, orOld}
 use Rattle.rules.specs.Laws.Related.{All2}

@@ -4,7 +4,7 @@ use mathlib.Core.List.{List, [], _∷_, _++_}
 use Prim.Native.Nat.{ℕ, _+_, _%_}
 use lib.Dec.{eqb, ltb}
 use lib.ListN.{getD}
-use Rattle.sheet.specs.Forms.{listing}
+use Rattle.node.specs.Forms.{listing}
 use Rattle.sheet.specs.Table.{sectionAt}
 use Rattle.sheet.specs.Parts.{recordAnew}
 use Rattle.records.specs.declared.Anew.{Anew}

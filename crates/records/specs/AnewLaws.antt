@@ -11,13 +11,15 @@ use mir.Syntax.{w8}
 use borrow.Author.Tests.{lt-ltb}
 use Rattle.report.specs.Writing.{Wrote, wrote-then, wrote-text}
 use Rattle.value.specs.Result.{ok}
-use Rattle.sheet.specs.declared.Node.{Node}
-use Rattle.sheet.specs.declared.Node.the-variants.{False}
+use Rattle.node.specs.declared.Node.{Node}
+use Rattle.node.specs.declared.Node.the-variants.{False}
 use Rattle.sheet.specs.declared.Table.{Table}
-use Rattle.sheet.specs.Kinds.{children, calls, renumber, written}
+use Rattle.node.specs.Kinds.{children, calls, written}
+use Rattle.sheet.specs.Renumbering.{renumber}
 use Rattle.sheet.specs.Sheet.{Sheet, readSheet}
-use Rattle.sheet.specs.Table.{tableOf, sectionAt, kindWidth, firstNode}
-use Rattle.sheet.specs.Forms.{listing}
+use Rattle.node.specs.Decoding.{kindWidth}
+use Rattle.sheet.specs.Table.{tableOf, sectionAt, firstNode}
+use Rattle.node.specs.Forms.{listing}
 use Rattle.sheet.specs.Reading.{Made}
 use Rattle.sheet.specs.Laws.{node-made, table-start, sheet-ranges}
 use Rattle.sheet.specs.Rows.{Every, renumbered-alike, allWritten, rootsWritten}

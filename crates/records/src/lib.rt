@@ -43,12 +43,12 @@ fn chosen(part: u8, byte: u8, node: u8, section: u8) -> u8
 fn write_record(s: &[u8], at: u16, m: Anew, out: &mut [u8], to: usize) -> usize
     ensures { λ r. ⌜ Wrote (recordOf (now (s .entry)) at m) to (now (out .entry)) (now (out .exit)) r ⌝ }
 {
-    let kind = sheet::byte_of(s, at, 0);
-    let width = sheet::record_width(kind);
+    let kind = node::byte_of(s, at, 0);
+    let width = node::record_width(kind);
     let mut end = report::place(out, to);
     let mut i: u16 = 0;
     while (i as usize) < width {
-        let b = sheet::byte_of(s, at, i);
+        let b = node::byte_of(s, at, i);
         let k = b as usize;
         end = report::byte(
             out,

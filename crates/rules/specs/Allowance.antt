@@ -10,7 +10,7 @@ module _ {A : Type 0} where
 
   -- o where it takes at most a steps, and else 41. This is the same as paying a step on entering each node: a walk that
   -- takes more than a steps is refused where it enters the node after the a-th, before any refusal that comes later
-  -- (`within-bind` of AllowanceLaws); and a node that is too deep costs no step, so its 40 comes before 41.
+  -- (`within-bind` of Laws/Allowances.antt); and a node that is too deep costs no step, so its 40 comes before 41.
   unfoldable pub within : ℕ → Out A → Out A
   unfolding cap
   within a o = cap {a = a} o (decLe (steps o) a)

@@ -8,7 +8,7 @@ use mathlib.Core.Option.{Option, none, some}
 use mathlib.Core.List.{List, [], _∷_}
 use Prim.Native.Nat.{ℕ, zero, suc, _+_, _-_}
 use Rattle.value.specs.Value.{Value, Values}
-use Rattle.sheet.specs.declared.Node.{Node}
+use Rattle.node.specs.declared.Node.{Node}
 use Rattle.sheet.specs.Sheet.{Sheet}
 use Rattle.rules.specs.Semantics
 use Rattle.rules.specs.Semantics.{Reading, Env}

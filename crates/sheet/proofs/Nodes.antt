@@ -9,12 +9,13 @@ use lib.Seq.{drop-drop, set-at}
 use borrow.Author.Tests.{le-leb, lt-leb}
 use Rattle.value.specs.Result.{Result, ok, refusal, andThen, mapResult, orRefuse, unless}
 use Rattle.sheet.specs.Sheet.{readNodes, withNodes}
-use Rattle.sheet.specs.Kinds.{Form, formOf, bodyWidth, make, width}
-use Rattle.sheet.specs.Table.{offsets, firstNode, padded, tableOf, kindWidth, formWidth, NodesTable}
-use Rattle.sheet.specs.Forms.{form-told, wide-form}
-use Rattle.sheet.specs.Places.{rest-begins}
+use Rattle.node.specs.Kinds.{Form, formOf, bodyWidth, make, width}
+use Rattle.node.specs.Decoding.{kindWidth, formWidth}
+use Rattle.sheet.specs.Table.{offsets, firstNode, padded, tableOf, NodesTable}
+use Rattle.node.specs.Forms.{form-told, wide-form}
+use Rattle.node.specs.Places.{rest-begins}
 use Rattle.sheet.specs.Laws.{length-offsets}
-use Rattle.sheet.specs.declared.Node.{Node}
+use Rattle.node.specs.declared.Node.{Node}
 use Rattle.sheet.specs.declared.Table.{Table}
 
 -- ONE RECORD, of which `left` may come

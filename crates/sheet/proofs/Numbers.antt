@@ -10,13 +10,14 @@ use lib.ListN.{length, getD, drop, drop-of-length-le}
 use lib.Seq.{drop-cons}
 use borrow.Author.Tests.{lt-ltb, le-ltb}
 use Rattle.value.specs.Result.{Result, ok, refusal, andThen, unless}
-use Rattle.sheet.specs.Kinds.{nodeInRange}
+use Rattle.node.specs.Kinds.{nodeInRange}
 use Rattle.sheet.specs.Sheet.{Sheet, rootsInRange, nodesInRange, inRange, readHeader, readSheet}
-use Rattle.sheet.specs.Table.{tableOf, nodeAt, sectionAt, RootsJudged, NodesJudged, SheetJudged}
+use Rattle.node.specs.Decoding.{nodeAt}
+use Rattle.sheet.specs.Table.{tableOf, sectionAt, RootsJudged, NodesJudged, SheetJudged}
 use Rattle.sheet.specs.Reading.{Fine, fine, refused, fine-ok, HeaderRead, header-fine}
 use Rattle.sheet.specs.Laws.{header-node, header-section, table-start}
-use Rattle.sheet.specs.declared.Node.{Node}
-use Rattle.sheet.specs.declared.Node.the-variants.{False}
+use Rattle.node.specs.declared.Node.{Node}
+use Rattle.node.specs.declared.Node.the-variants.{False}
 use Rattle.sheet.specs.declared.Table.{Table}
 
 -- THE ROOTS OF SECTIONS: those of the first i are in range

@@ -9,8 +9,8 @@ use borrow.Author.Tests.{eq-eqb, ne-eqb}
 use Rattle.value.specs.Result.{Result, ok, refusal, andThen, mapResult, unless}
 use Rattle.sheet.specs.Sheet.{Records, readNodes, oneSection, ifSection, readRecords, withNodes, readBody, readHeader}
 use Rattle.sheet.specs.Table.{firstNode, tableOf, NodesTable}
-use Rattle.sheet.specs.Places.{rest-begins}
-use Rattle.sheet.specs.declared.Node.{Node}
+use Rattle.node.specs.Places.{rest-begins}
+use Rattle.node.specs.declared.Node.{Node}
 use Rattle.sheet.specs.declared.Table.{Table}
 
 -- these roots, before those that follow

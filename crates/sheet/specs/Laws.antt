@@ -12,15 +12,16 @@ use Rattle.value.specs.Result.{Result, ok, refusal}
 use mathlib.Core.Logic.{inl, inr}
 use mathlib.Core.Option.{none, some}
 use native.Mathlib.Decide.{decLt}
-use Rattle.sheet.specs.Forms.{no-form}
+use Rattle.node.specs.Forms.{no-form}
 use Rattle.sheet.specs.Sheet.{Sheet, nodesInRange, rootsInRange, inRange, readSheet}
-use Rattle.sheet.specs.Kinds.{Role, aNode, aSection, aVariable, aTest, aNumber, aWide, Field, row, Form, past}
-use Rattle.sheet.specs.Kinds.{formOf, make, width, fits, allFit, nodeInRange}
-use Rattle.sheet.specs.Table.{offsets, firstNode, nodeAt, sectionAt, tableOf}
+use Rattle.node.specs.Kinds.{Role, aNode, aSection, aVariable, aTest, aNumber, aWide, Field, row, Form, past}
+use Rattle.node.specs.Kinds.{formOf, make, width, fits, allFit, nodeInRange}
+use Rattle.node.specs.Decoding.{nodeAt}
+use Rattle.sheet.specs.Table.{offsets, firstNode, sectionAt, tableOf}
 use Rattle.sheet.specs.Reading.{Fine, fine, refused, fine-ok, Made, placed-at, made-at, rooted-at, HeaderRead, SheetRead, sheet-fine}
-use Rattle.sheet.specs.declared.Node.{Node}
+use Rattle.node.specs.declared.Node.{Node}
 use Rattle.sheet.specs.declared.Table.{Table}
-use Rattle.sheet.specs.declared.Node.the-variants.{False}
+use Rattle.node.specs.declared.Node.the-variants.{False}
 
 -- WHERE RECORDS STAND
 

@@ -1,8 +1,6 @@
-pub mod Kinds
+pub mod Renumbering
 pub mod Sheet
 pub mod Table
-pub mod Forms
-pub mod Places
 pub mod Reading
 pub mod Laws
 pub mod Records
@@ -11,4 +9,3 @@ pub mod Written
 pub mod Ranging
 pub mod Parts
 pub mod PartsLaws
-pub mod Wide

@@ -5,9 +5,9 @@ use mathlib.Core.List.{List, [], _∷_, _++_}
 use Prim.Native.Nat.{ℕ, zero, suc, _+_, _-_}
 use lib.Dec.{eqb, ltb}
 use lib.ListN.{length, getD, set, replicate}
-use Rattle.sheet.specs.Kinds.{Role, aNode, aSection, aVariable, aTest, aNumber, aWide, Form, rolesOf, formOf, keep}
-use Rattle.sheet.specs.Table.{kindWidth}
-use Rattle.sheet.specs.Forms.{listing}
+use Rattle.node.specs.Kinds.{Role, aNode, aSection, aVariable, aTest, aNumber, aWide, Form, rolesOf, formOf, keep}
+use Rattle.node.specs.Decoding.{kindWidth}
+use Rattle.node.specs.Forms.{listing}
 use Rattle.sheet.specs.declared.Children.{Children}
 
 -- 1 a node's number, 2 a section's, 0 anything else

@@ -13,17 +13,18 @@ use lib.Dec.{eqb, leb, ltb}
 use lib.ListN.{length, getD, set, replicate, length-append, List·getD-append, List·getD-eq-default, length-replicate}
 use lib.Seq.{getD-append-add, set-append-seam}
 use borrow.Author.Tests.{leb-true, eqb-true, lt-ltb}
-use Rattle.sheet.specs.Kinds.{Role, aNode, aSection, aVariable, aTest, aNumber, aWide, Field, Row, row, Form, forms, past, formOf, made, rolesOf}
-use Rattle.sheet.specs.Kinds.{valueOf, valuesOf, size, sizes, bytesOf, bodyBytes, bodyWidth, make, width, written, keep, pick, children}
-use Rattle.sheet.specs.Kinds.{fieldAnew, renumber, _is_}
-use Rattle.sheet.specs.Table.{kindWidth, formWidth}
-use Rattle.sheet.specs.Forms.{listing, fieldsOf, Told, form-told, no-form, row-made, length-values, wide-form}
+use Rattle.node.specs.Kinds.{Role, aNode, aSection, aVariable, aTest, aNumber, aWide, Field, Row, row, Form, forms, past, formOf, made, rolesOf}
+use Rattle.node.specs.Kinds.{valueOf, valuesOf, size, sizes, bytesOf, bodyBytes, bodyWidth, make, width, written, keep, pick, children}
+use Rattle.node.specs.Kinds.{_is_}
+use Rattle.sheet.specs.Renumbering.{fieldAnew, renumber}
+use Rattle.node.specs.Decoding.{kindWidth, formWidth}
+use Rattle.node.specs.Forms.{listing, fieldsOf, Told, form-told, no-form, row-made, length-values, wide-form}
 use Rattle.sheet.specs.Reading.{Made}
 use Rattle.sheet.specs.Rows.{row-renumbered}
 use Rattle.sheet.specs.Written.{Bytes, byte-small, role-back}
 use Rattle.sheet.specs.Parts.{partsOf, bodyParts, formParts, partAt, nodesIn, childrenOf, childrenAt, withNode, byteAnew, recordAnew}
 use Rattle.sheet.specs.declared.Children.{Children}
-use Rattle.sheet.specs.declared.Node.{Node}
+use Rattle.node.specs.declared.Node.{Node}
 
 -- as many parts as bytes
 parts-long : (rs : List Role) → length (bodyParts rs) ≡ sizes rs

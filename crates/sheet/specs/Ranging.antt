@@ -8,9 +8,9 @@ use native.Mathlib.Omega.{arith}
 use lib.ListN.{length, getD, length-append}
 use borrow.Author.Tests.{le-leb, lt-ltb}
 use Rattle.value.specs.Result.{ok}
-use Rattle.sheet.specs.declared.Node.{Node}
-use Rattle.sheet.specs.declared.Node.the-variants.{False}
-use Rattle.sheet.specs.Kinds.{children, calls}
+use Rattle.node.specs.declared.Node.{Node}
+use Rattle.node.specs.declared.Node.the-variants.{False}
+use Rattle.node.specs.Kinds.{children, calls}
 use Rattle.sheet.specs.Sheet.{Sheet, nodesInRange, rootsInRange, inRange, readSheet}
 use Rattle.sheet.specs.Laws.{Child, Ranged, Ranges}
 use Rattle.sheet.specs.Rows.{Every, children-behind, calls-inside, in-range, width-8, written-length, allWritten, rootsWritten, sheetWritten}

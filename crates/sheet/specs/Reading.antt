@@ -10,11 +10,12 @@ use lib.ListN.{length, getD, drop}
 use lib.Seq.{drop-drop, getD-drop}
 use Rattle.value.specs.Result.{Result, ok, refusal, andThen, mapResult, orRefuse, unless}
 use Rattle.sheet.specs.Sheet.{Sheet, Records, readNodes, oneSection, ifSection, readRecords, withNodes, readBody, inRange, readHeader, readSheet}
-use Rattle.sheet.specs.Kinds.{Form, formOf, bodyWidth, make, width}
-use Rattle.sheet.specs.Table.{offsets, firstNode, nodeOf, nodeAt, ofForm, ifWhole}
-use Rattle.sheet.specs.Forms.{wide-form}
-use Rattle.sheet.specs.declared.Node.{Node}
-use Rattle.sheet.specs.declared.Node.the-variants.{False}
+use Rattle.node.specs.Kinds.{Form, formOf, bodyWidth, make, width}
+use Rattle.node.specs.Decoding.{nodeOf, nodeAt, ofForm, ifWhole}
+use Rattle.sheet.specs.Table.{offsets, firstNode}
+use Rattle.node.specs.Forms.{wide-form}
+use Rattle.node.specs.declared.Node.{Node}
+use Rattle.node.specs.declared.Node.the-variants.{False}
 
 -- A RESULT of which P holds, or a refusal of a sheet
 

@@ -4,11 +4,11 @@ use mathlib.Core.Option.{Option, none, some}
 use mathlib.Core.List.{List}
 use Prim.Native.Nat.{ℕ, suc, _+_}
 use lib.ListN.{getD}
-use Rattle.sheet.specs.Kinds.{Form, _is_, row, made, rolesOf, valuesOf, formAt, formOf, make}
-use Rattle.sheet.specs.Forms.{fieldsOf, form-told, row-made, length-values}
+use Rattle.node.specs.Kinds.{Form, _is_, row, made, rolesOf, valuesOf, formAt, formOf, make}
+use Rattle.node.specs.Forms.{fieldsOf, form-told, row-made, length-values}
 use Rattle.sheet.specs.Reading.{Made}
-use Rattle.sheet.specs.declared.Node.{Node}
-use Rattle.sheet.specs.declared.Node.the-variants.{False}
+use Rattle.node.specs.declared.Node.{Node}
+use Rattle.node.specs.declared.Node.the-variants.{False}
 
 -- the node of the form that the bytes b make; False where there is no form
 abbrev pub ofBytes : Option Form → (ℕ → ℕ) → Node

@@ -13,14 +13,15 @@ use lib.ListN.{length, getD, drop, length-append}
 use lib.Seq.{getD-append-add, drop-at}
 use borrow.Author.Tests.{le-leb, lt-ltb, eqb-true, ne-eqb}
 use Rattle.value.specs.Result.{ok, andThen, mapResult, orRefuse, unless}
-use Rattle.sheet.specs.Kinds.{Role, aNode, aSection, aVariable, aTest, aNumber, aWide, Field, _of_, Row, _is_, row, Form, past, formOf, made, rolesOf}
-use Rattle.sheet.specs.Kinds.{roles, values, valueOf, valuesOf, size, sizes, bytesOf, bodyBytes, bodyWidth, make, width, written}
-use Rattle.sheet.specs.Kinds.{place, keep, pick, children, calls, variables, anew, fieldAnew, ofKind, renumber, fits, allFit, nodeInRange}
+use Rattle.node.specs.Kinds.{Role, aNode, aSection, aVariable, aTest, aNumber, aWide, Field, _of_, Row, _is_, row, Form, past, formOf, made, rolesOf}
+use Rattle.node.specs.Kinds.{roles, values, valueOf, valuesOf, size, sizes, bytesOf, bodyBytes, bodyWidth, make, width, written}
+use Rattle.node.specs.Kinds.{place, keep, pick, children, calls, variables, fits, allFit, nodeInRange}
+use Rattle.sheet.specs.Renumbering.{anew, fieldAnew, ofKind, renumber}
 use Rattle.sheet.specs.Sheet.{Sheet, Records, readNodes, oneSection, ifSection, readRecords, withNodes, readBody, inRange, readHeader, readSheet}
-use Rattle.sheet.specs.Table.{nodeOf, ofForm, ifWhole}
-use Rattle.sheet.specs.Forms.{no-form, fieldsOf, Told, form-told, built, roles-of, row-made}
+use Rattle.node.specs.Decoding.{nodeOf, ofForm, ifWhole}
+use Rattle.node.specs.Forms.{no-form, fieldsOf, Told, form-told, built, roles-of, row-made}
 use Rattle.sheet.specs.Laws.{Child, InRange, AllFit, Ranged}
-use Rattle.sheet.specs.declared.Node.{Node}
+use Rattle.node.specs.declared.Node.{Node}
 
 -- A NODE OF THE SAME KIND, WITH OTHER VALUES
 

@@ -6,8 +6,8 @@ use Prim.Native.Nat.{ℕ, zero, suc}
 use lib.Dec.{leb, ltb, eqb}
 use lib.ListN.{length, getD, drop}
 use Rattle.value.specs.Result.{Result, ok, refusal, andThen, mapResult, orRefuse, unless}
-use Rattle.sheet.specs.declared.Node.{Node}
-use Rattle.sheet.specs.Kinds.{formOf, bodyWidth, make, nodeInRange}
+use Rattle.node.specs.declared.Node.{Node}
+use Rattle.node.specs.Kinds.{formOf, bodyWidth, make, nodeInRange}
 
 -- k variables in a plan, the root node, the root node of each section, the nodes
 pub record Sheet : Type 0 where

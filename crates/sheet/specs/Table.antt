@@ -1,16 +1,15 @@
--- What the sheet reader answers: a table of where each node's record starts, a node decoded from its record, a section's root.
+-- What the sheet reader answers: a table of where each node's record starts, and a section's root.
 use mathlib.Core.Path.{_≡_}
-use mathlib.Core.Bool.{Bool, true, false}
-use mathlib.Core.Option.{Option, none, some}
+use mathlib.Core.Bool.{Bool}
 use mathlib.Core.List.{List, [], _∷_, _++_}
 use Prim.Native.Nat.{ℕ, suc, _+_, _*_, _-_, _<_}
-use lib.Dec.{leb}
 use lib.ListN.{length, getD, drop, replicate}
 use Rattle.value.specs.Result.{Result, ok, refusal, andThen, mapResult}
 use Rattle.sheet.specs.Sheet.{Sheet, readNodes, withNodes, rootsInRange, nodesInRange, inRange, readHeader}
-use Rattle.sheet.specs.Kinds.{Form, formOf, bodyWidth, make, width}
-use Rattle.sheet.specs.declared.Node.{Node}
-use Rattle.sheet.specs.declared.Node.the-variants.{False}
+use Rattle.node.specs.Kinds.{width}
+use Rattle.node.specs.Decoding.{nodeAt}
+use Rattle.node.specs.declared.Node.{Node}
+use Rattle.node.specs.declared.Node.the-variants.{False}
 use Rattle.sheet.specs.declared.Table.{Table}
 
 -- where each node's record starts, the first at `at`
@@ -38,32 +37,6 @@ tableOf (ok sh) =
       nodes = length (sh .nodes);
       starts = padded (offsets (firstNode (length (sh .sections))) (sh .nodes));
     }
-
--- the node of a record whose form is known; False where the record is cut, or no node has its kind
-unfoldable pub ifWhole : Bool → Node → Node
-ifWhole true n = n
-ifWhole false n = False
-
-unfoldable pub ofForm : Option Form → List ℕ → Node
-ofForm none bs = False
-ofForm (some f) bs = ifWhole (leb (bodyWidth f) (length bs)) (make f (λ i. getD bs i 0))
-
--- the node whose record the bytes begin with
-unfoldable pub nodeOf : List ℕ → Node
-nodeOf [] = False
-nodeOf (b ∷ bs) = ofForm (formOf b) bs
-
--- the node whose record starts at byte p
-unfoldable pub nodeAt : List ℕ → ℕ → Node
-nodeAt s p = nodeOf (drop p s)
-
--- the bytes of a record of kind b; 0 where no node has the kind
-unfoldable pub formWidth : Option Form → ℕ
-formWidth none = 0
-formWidth (some f) = suc (bodyWidth f)
-
-unfoldable pub kindWidth : ℕ → ℕ
-kindWidth b = formWidth (formOf b)
 
 -- the root of section i, whose record starts at byte 3 + 2 * i; 0 past the end
 unfoldable pub sectionAt : List ℕ → ℕ → ℕ

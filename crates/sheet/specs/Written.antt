@@ -10,14 +10,14 @@ use lib.Dec.{leb, eqb}
 use lib.ListN.{length, getD, take, drop, take-append-drop}
 use borrow.Author.Tests.{leb-true, eqb-true}
 use Rattle.value.specs.Result.{Result, ok}
-use Rattle.sheet.specs.Kinds.{Role, aNode, aSection, aVariable, aTest, aNumber, aWide, Row, row, Form, formOf, rolesOf, valueOf, valuesOf, size, sizes}
-use Rattle.sheet.specs.Kinds.{bytesOf, bodyBytes, bodyWidth, make, width, written}
+use Rattle.node.specs.Kinds.{Role, aNode, aSection, aVariable, aTest, aNumber, aWide, Row, row, Form, formOf, rolesOf, valueOf, valuesOf, size, sizes}
+use Rattle.node.specs.Kinds.{bytesOf, bodyBytes, bodyWidth, make, width, written}
 use Rattle.sheet.specs.Sheet.{Sheet, Records, readNodes, oneSection, ifSection, readRecords, withNodes, readBody, inRange, readHeader, readSheet}
-use Rattle.sheet.specs.Table.{nodeOf}
-use Rattle.sheet.specs.Forms.{listing, fieldsOf, form-told, row-made, length-values, wide-form, node-whole}
+use Rattle.node.specs.Decoding.{nodeOf}
+use Rattle.node.specs.Forms.{listing, fieldsOf, form-told, row-made, length-values, wide-form, node-whole}
 use Rattle.sheet.specs.Reading.{Made, Fine, fine, refused, fine-or, fine-unless, fine-map, fine-then, fine-ok}
 use Rattle.sheet.specs.Rows.{Every, limit, Small, allWritten, rootsWritten, sheetWritten}
-use Rattle.sheet.specs.declared.Node.{Node}
+use Rattle.node.specs.declared.Node.{Node}
 
 -- BYTES
 

@@ -7,10 +7,10 @@ use Prim.Native.Nat.{ℕ, zero, suc, _+_}
 use native.Mathlib.Omega.{arith}
 use lib.Dec.{leb, eqb}
 use lib.ListN.{length, length-append}
-use Rattle.sheet.specs.declared.Node.{Node}
+use Rattle.node.specs.declared.Node.{Node}
 use Rattle.sheet.specs.Sheet.{Sheet}
-use Rattle.syntax.specs.Quoted.{bytes}
-use Rattle.syntax.specs.Tokens.{Token, first, rest, wordOf, markOf, same}
+use Rattle.tokens.specs.Quoted.{bytes}
+use Rattle.tokens.specs.Tokens.{Token, first, rest, wordOf, markOf, same}
 use Rattle.syntax.specs.Reader.{Out, ok, fault, _>>=_, Name, Scope, known, variable, Begin, nothing, aFalse, aTrue, aLet, aCase, anEach, aPair}
 use Rattle.syntax.specs.Reader.{aList, aName, aHash, aNumber, beginOf, Behind, aComma, aBar, anEnd, noneOf, behindOf, Branch, truths, lists}
 use Rattle.syntax.specs.Reader.{neither, branchOf, Part, whole, more, Reader, room, begun, constant, pairOf, behind, back, frontOf, listBy}

@@ -1,11 +1,11 @@
--- Worked texts of GRAMMAR.md with their bytes, and faults with their places.
+-- Worked texts with their bytes, and faults with their places.
 use mathlib.Core.Path.{_≡_, refl}
 use mathlib.Core.List.{List, [], _∷_, _++_}
 use Prim.Native.Nat.{ℕ}
-use Rattle.sheet.specs.Kinds.{written}
+use Rattle.node.specs.Kinds.{written}
 use Rattle.sheet.specs.Rows.{sheetWritten}
-use Rattle.syntax.specs.Quoted.{bytes}
-use Rattle.syntax.specs.Tokens.{classOf, begin, onWord, onDigits, act, last, tokens, held, places, first, rest, wordOf, markOf, same}
+use Rattle.tokens.specs.Quoted.{bytes}
+use Rattle.tokens.specs.Tokens.{classOf, begin, onWord, onDigits, act, last, tokens, held, places, first, rest, wordOf, markOf, same}
 use Rattle.syntax.specs.Reader.{_>>=_, find, isName, symbol, keyword, bind, sectionName, known, value, zeroFirst, valued, number, byNumber}
 use Rattle.syntax.specs.Reader.{variableBy, variable, testBy, test, wordBegin, beginOf, behindOf, branchOf, room, begun, constant, pairOf}
 use Rattle.syntax.specs.Reader.{behind, back, frontOf, listBy, listOf, letIn, amountBy, amountOf, truthCase, listCase, branches, caseOf, callOf}

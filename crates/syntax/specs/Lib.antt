@@ -1,10 +1,7 @@
-pub mod Quoted
-pub mod Tokens
 pub mod Reader
 pub mod Examples
 pub mod Printer
 pub mod NameLaws
-pub mod Laid
 pub mod ReadLaws
 pub mod TextLaws
 pub mod Setting
@@ -15,4 +12,3 @@ pub mod Sound
 pub mod Alike
 pub mod TextsBack
 pub mod Short
-pub mod Ahead

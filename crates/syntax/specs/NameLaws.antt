@@ -10,41 +10,15 @@ use lib.Dec.{leb, ltb, eqb}
 use lib.ListN.{length, getD, drop}
 use borrow.Author.Tests.{leb-true, le-leb, lt-ltb, le-ltb, eq-eqb, ne-eqb, eqb-true}
 use Rattle.sheet.specs.Rows.{Every}
-use Rattle.syntax.specs.Quoted.{bytes}
-use Rattle.syntax.specs.Tokens.{same}
+use Rattle.tokens.specs.Quoted.{bytes}
+use Rattle.tokens.specs.Tokens.{same}
+use Rattle.tokens.specs.Same.{and-true, same-self, same-not}
 use Rattle.syntax.specs.Reader.{Name, find, isSome, words, wild, sent, isName, ok, value, Valued, is, over, zeroFirst, valued, number, byNumber}
 use Rattle.syntax.specs.Printer.{decBy, dec, decimal, suffix, nameOf, partName, called}
-
--- TWO TEXTS
-
-pub same-self : (w : List ℕ) → same w w ≡ true
-unfolding same
-same-self [] = refl
-same-self (c ∷ w) = rw (eq-eqb c c refl) (same-self w)
-
-and-true : (a b : Bool) → a && b ≡ true → (a ≡ true) × (b ≡ true)
-and-true true b e = (refl, e)
-and-true false b e = let z : _≡_ {A = ℕ} 0 1 = cc in absurd (omega arith)
 
 and-false : (a b : Bool) → b ≡ false → a && b ≡ false
 and-false true b e = e
 and-false false b e = refl
-
-pub same-true : (v w : List ℕ) → same v w ≡ true → v ≡ w
-unfolding same
-same-true [] [] e = refl
-same-true [] (c ∷ w) e = let z : _≡_ {A = ℕ} 0 1 = cc in absurd (omega arith)
-same-true (c ∷ v) [] e = let z : _≡_ {A = ℕ} 0 1 = cc in absurd (omega arith)
-same-true (c ∷ v) (d ∷ w) e =
-    let p = and-true (eqb c d) (same v w) e in
-    ap (λ (x : ℕ). x ∷ v) (eqb-true c d (p .0)) ∙ ap (λ (l : List ℕ). d ∷ l) (same-true v w (p .1))
-
-pub same-not : (v w : List ℕ) → (v ≡ w → ⊥) → same v w ≡ false
-same-not v w f = go (same v w) refl
-  where
-    go : (b : Bool) → same v w ≡ b → same v w ≡ false
-    go true e = absurd (f (same-true v w e))
-    go false e = e
 
 -- DECIMAL
 

@@ -3,16 +3,16 @@ use mathlib.Core.Path.{_≡_, refl}
 use mathlib.Core.List.{List, [], _∷_, _++_}
 use Prim.Native.Nat.{ℕ}
 use Rattle.value.specs.Result.{andThen, mapResult, orRefuse, unless}
-use Rattle.sheet.specs.Kinds.{formOf, bodyWidth, make, nodeInRange, children}
+use Rattle.node.specs.Kinds.{formOf, bodyWidth, make, nodeInRange, children}
 use Rattle.sheet.specs.Sheet.{readNodes, oneSection, ifSection, readRecords, withNodes, readBody, nodesInRange, rootsInRange, inRange, readHeader, readSheet}
 use Rattle.preorder.specs.Numbering.{roots}
 use Rattle.preorder.specs.NumberingLaws.{uses}
 use Rattle.preorder.specs.Uses.{times, lowestFrom, lowestTwice}
 use Rattle.preorder.specs.NumberAnswer.{Answer, done}
-use Rattle.syntax.specs.Quoted.{bytes}
+use Rattle.tokens.specs.Quoted.{bytes}
 use Rattle.syntax.specs.Printer.{decBy, dec, decimal, suffix, nameOf, partName, called, variableSaid, testName, testSaid, tailOf, noCase}
 use Rattle.syntax.specs.Printer.{allPlain, plainFrom, spoken, tailed, said, planSaid, sectionsSaid, sheetSaid}
-use Rattle.syntax.specs.Laid.{spelled}
+use Rattle.tokens.specs.Laid.{spelled}
 use Rattle.syntax.specs.Setting.{textIn}
 use Rattle.syntax.specs.Texts.{textOf, sheetPrinted, printedBytes}
 

@@ -1,4 +1,4 @@
--- THE PRINTER (GRAMMAR.md, "The printer"): each function says a thing before what follows it, in pieces, which are tokens and the gaps between them.
+-- THE PRINTER (docs/SHEETS.md, "The text of a sheet"): each function says a thing before what follows it, in pieces, which are tokens and gaps between them.
 -- Names are its own: variable x is a .. z, a1 .. z1, a2 .., by its number alone; in a default of a case variable 0 is `sent`; a variable out of scope
 -- is #x; section i is part i. What has no case in it stands on one line; no line is indented by more than 32 blanks.
 use mathlib.Core.Bool.{Bool, true, false, _&&_, cond}
@@ -6,13 +6,13 @@ use mathlib.Core.List.{List, [], _∷_, _++_}
 use Prim.Native.Nat.{ℕ, zero, suc, pred, min, _+_, _/_, _%_}
 use lib.Dec.{ltb}
 use lib.ListN.{length, replicate}
-use Rattle.sheet.specs.declared.Node.{Node}
-use Rattle.sheet.specs.declared.Node.the-variants.{Var, False, True, Empty, Number, Front, Pair, ListCase, TruthCase, Split, Call, Add, Each, Wide}
-use Rattle.sheet.specs.Kinds.{children}
+use Rattle.node.specs.declared.Node.{Node}
+use Rattle.node.specs.declared.Node.the-variants.{Var, False, True, Empty, Number, Front, Pair, ListCase, TruthCase, Split, Call, Add, Each, Wide}
+use Rattle.node.specs.Kinds.{children}
 use Rattle.sheet.specs.Sheet.{Sheet}
 use Rattle.preorder.specs.Numbering.{nodeOf}
-use Rattle.syntax.specs.Quoted.{bytes}
-use Rattle.syntax.specs.Tokens.{Token, word, digits, hash, mark, arrow}
+use Rattle.tokens.specs.Quoted.{bytes}
+use Rattle.tokens.specs.Tokens.{Token, word, digits, hash, mark, arrow}
 use Rattle.syntax.specs.Reader.{Name, sent}
 
 -- PIECES

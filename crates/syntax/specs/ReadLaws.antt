@@ -9,22 +9,24 @@ use native.Mathlib.Decide.{decLt}
 use lib.Dec.{leb, ltb, eqb}
 use lib.ListN.{length, getD, length-map, length-append}
 use borrow.Author.Tests.{le-leb, lt-leb, lt-ltb, le-ltb, ne-eqb, not-true}
-use Rattle.sheet.specs.declared.Node.{Node}
-use Rattle.sheet.specs.declared.Node.the-variants.{Var, False, True, Empty, Number, Front, Pair, ListCase, TruthCase, Split, Call, Add, Each, Wide}
-use Rattle.sheet.specs.Kinds.{row, children, renumber, ofKind, formOf}
+use Rattle.node.specs.declared.Node.{Node}
+use Rattle.node.specs.declared.Node.the-variants.{Var, False, True, Empty, Number, Front, Pair, ListCase, TruthCase, Split, Call, Add, Each, Wide}
+use Rattle.node.specs.Kinds.{row, children, formOf}
+use Rattle.sheet.specs.Renumbering.{renumber, ofKind}
 use Rattle.sheet.specs.Sheet.{Sheet}
 use Rattle.sheet.specs.Laws.{Ranged, Ranges, Child}
 use Rattle.sheet.specs.Rows.{Small, Every}
 use Rattle.preorder.specs.Numbering.{gathered, nodeOf, metFrom}
-use Rattle.syntax.specs.Quoted.{bytes}
-use Rattle.syntax.specs.Tokens.{Token, word, digits, hash, mark, arrow, first, rest, wordOf, markOf, same}
+use Rattle.tokens.specs.Quoted.{bytes}
+use Rattle.tokens.specs.Tokens.{Token, word, digits, hash, mark, arrow, first, rest, wordOf, markOf, same}
 use Rattle.syntax.specs.Reader.{Out, ok, fault, _>>=_, Name, Scope, scope, find, wild, sent, tests, isName, symbol, keyword, bind, sectionName}
 use Rattle.syntax.specs.Reader.{known, number, variableBy, variable, testBy, test, wordBegin, beginOf, behindOf, branchOf, Part, whole, more}
 use Rattle.syntax.specs.Reader.{Nodes, Reader, room, begun, constant, pairOf, behind, back, frontOf, listBy, listOf, letIn, amountBy, amountOf}
 use Rattle.syntax.specs.Reader.{truthCase, listCase, branches, caseOf, callOf, eachOf, named, shaped, parted, read}
 use Rattle.syntax.specs.Printer.{Piece, gap, sign, unlessPlain, tokensIn, decimal, partName, Reach, reach, called, wide, variableSaid, testName}
 use Rattle.syntax.specs.Printer.{testSaid, TailOf, aFront, theEnd, another, Where, alone, inList, Speaker, spoken, tailed, plainNode, said}
-use Rattle.syntax.specs.NameLaws.{same-self, number-decimal, hash-decimal, called-is, called-wild, part-is, called-apart, part-apart, stack}
+use Rattle.tokens.specs.Same.{and-true, same-self}
+use Rattle.syntax.specs.NameLaws.{number-decimal, hash-decimal, called-is, called-wild, part-is, called-apart, part-apart, stack}
 use Rattle.syntax.specs.NameLaws.{find-in, find-new}
 
 -- STEPS
@@ -40,10 +42,6 @@ room-ok {n = n} ts f h q = rw (ne-eqb n 200 (λ e. omega arith)) q
 -- what may stand behind an expression
 abbrev pub quiet : List Token → Bool
 quiet ts = not (same (markOf (first ts)) (bytes "(")) && not (same (markOf (first ts)) (bytes "+"))
-
-and-true : (a b : Bool) → a && b ≡ true → (a ≡ true) × (b ≡ true)
-and-true true b e = (refl, e)
-and-true false b e = let z : _≡_ {A = ℕ} 0 1 = cc in absurd (omega arith)
 
 no-bracket : (ts : List Token) → quiet ts ≡ true → same (markOf (first ts)) (bytes "(") ≡ false
 no-bracket ts e = not-true _ (and-true (not (same (markOf (first ts)) (bytes "("))) (not (same (markOf (first ts)) (bytes "+"))) e .0)

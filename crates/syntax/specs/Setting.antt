@@ -8,20 +8,21 @@ use native.Mathlib.Decide.{decLt}
 use lib.Dec.{leb, ltb, eqb}
 use lib.ListN.{length, replicate}
 use borrow.Author.Tests.{le-leb, lt-leb, lt-ltb, le-ltb, ne-eqb}
-use Rattle.sheet.specs.declared.Node.{Node}
-use Rattle.sheet.specs.declared.Node.the-variants.{Var, False, True, Empty, Number, Front, Pair, ListCase, TruthCase, Split, Call, Add, Each, Wide}
+use Rattle.node.specs.declared.Node.{Node}
+use Rattle.node.specs.declared.Node.the-variants.{Var, False, True, Empty, Number, Front, Pair, ListCase, TruthCase, Split, Call, Add, Each, Wide}
 use Rattle.sheet.specs.Sheet.{Sheet}
 use Rattle.sheet.specs.Rows.{Every}
 use Rattle.preorder.specs.Numbering.{nodeOf}
-use Rattle.syntax.specs.Quoted.{bytes}
-use Rattle.syntax.specs.Tokens.{Token, word, digits, hash, mark, blank, letter, digit, dash, other, classOf, arrow, same}
+use Rattle.tokens.specs.Quoted.{bytes}
+use Rattle.tokens.specs.Tokens.{Token, word, digits, hash, mark, blank, letter, digit, dash, other, classOf, arrow, same}
 use Rattle.syntax.specs.Reader.{Name, sent}
 use Rattle.syntax.specs.Printer.{Piece, tok, gap, tokensIn, the, sign, space, line, orLine, unlessPlain, decimal, suffix, nameOf, partName}
 use Rattle.syntax.specs.Printer.{Reach, reach, called, variableSaid, binder, wide, testName, testSaid, TailOf, aFront, theEnd, another, tailOf}
 use Rattle.syntax.specs.Printer.{alone, inList, Speaker, bodySaid, spoken, tailed, plainNode, said, rootSaid, planSaid, sectionsSaid, sheetSaid}
-use Rattle.syntax.specs.NameLaws.{same-true, Digit, decimal-digits, suffix-digits, some-digit}
-use Rattle.syntax.specs.Laid.{isLetter, isDigit, isOther, isBlank, letters, numerals, good, spelled, shuts, isMark, Laid, nothing, gap as aGap}
-use Rattle.syntax.specs.Laid.{token, of-blank, of-other}
+use Rattle.tokens.specs.Same.{and-true, same-true}
+use Rattle.syntax.specs.NameLaws.{Digit, decimal-digits, suffix-digits, some-digit}
+use Rattle.tokens.specs.Laid.{isLetter, isDigit, isOther, isBlank, letters, numerals, good, spelled, shuts, isMark, Laid, nothing, gap as aGap}
+use Rattle.tokens.specs.Laid.{token, of-blank, of-other}
 
 unfoldable pub textIn : List Piece → List ℕ
 textIn [] = []
@@ -42,10 +43,6 @@ pub data Fit : Bool → List Piece → Type 0 where
   end : {p : Bool} → Fit p []
   open′ : {p : Bool} {k : List Piece} (g : List ℕ) → blanks g ≡ true → Fit (p && isEmpty g) k → Fit p (gap g ∷ k)
   next : {p : Bool} {k : List Piece} (t : Token) → good t ≡ true → isMark t || not p ≡ true → Fit (not (isMark t)) k → Fit p (tok t ∷ k)
-
-and-true : (a b : Bool) → a && b ≡ true → (a ≡ true) × (b ≡ true)
-and-true true b e = (refl, e)
-and-true false b e = let z : _≡_ {A = ℕ} 0 1 = cc in absurd (omega arith)
 
 mark-shuts : (m s : List ℕ) → good (mark m) ≡ true → shuts (m ++ s) ≡ true
 unfolding good shuts classOf

@@ -9,9 +9,9 @@ use native.Mathlib.Decide.{decLt}
 use lib.Dec.{ltb}
 use lib.ListN.{length, getD, replicate, length-append, length-replicate}
 use borrow.Author.Tests.{lt-ltb, le-ltb, ltb-false}
-use Rattle.sheet.specs.declared.Node.{Node}
-use Rattle.sheet.specs.declared.Node.the-variants.{Var, False, True, Empty, Number, Front, Pair, ListCase, TruthCase, Split, Call, Add, Each, Wide}
-use Rattle.sheet.specs.Kinds.{row, children}
+use Rattle.node.specs.declared.Node.{Node}
+use Rattle.node.specs.declared.Node.the-variants.{Var, False, True, Empty, Number, Front, Pair, ListCase, TruthCase, Split, Call, Add, Each, Wide}
+use Rattle.node.specs.Kinds.{row, children}
 use Rattle.sheet.specs.Sheet.{Sheet, readSheet}
 use Rattle.sheet.specs.Laws.{Ranges, Ranged, Child, sheet-ranges}
 use Rattle.sheet.specs.Rows.{Small, Every}
@@ -22,14 +22,14 @@ use Rattle.preorder.specs.Numbering.{gathered, nodeOf, metFrom, roots, order}
 use Rattle.preorder.specs.NumberingLaws.{Once, uses, uses-in, order-short}
 use Rattle.preorder.specs.Uses.{lowestTwice, all-once}
 use Rattle.preorder.specs.NumberAnswer.{Answer, done, refused, twice}
-use Rattle.syntax.specs.Quoted.{bytes}
-use Rattle.syntax.specs.Tokens.{Token, word, digits, hash, mark}
+use Rattle.tokens.specs.Quoted.{bytes}
+use Rattle.tokens.specs.Tokens.{Token, word, digits, hash, mark}
 use Rattle.syntax.specs.Printer.{Piece, tok, gap, the, sign, space, line, orLine, unlessPlain, dec, decimal, suffix, nameOf, partName, Reach}
 use Rattle.syntax.specs.Printer.{reach, called, wide, variableSaid, testName, testSaid, TailOf, aFront, theEnd, another, tailOf, noCase}
 use Rattle.syntax.specs.Printer.{allPlain, plainFrom, alone, inList, Speaker, bodySaid, spoken, tailed, plainNode, said, rootSaid, planSaid}
 use Rattle.syntax.specs.Printer.{sectionsSaid, sheetSaid}
 use Rattle.syntax.specs.NameLaws.{limit, small-dec, large-dec}
-use Rattle.syntax.specs.Laid.{spelled}
+use Rattle.tokens.specs.Laid.{spelled}
 use Rattle.syntax.specs.Setting.{textIn}
 use Rattle.syntax.specs.Texts.{textOf, sheetPrinted, printedBytes, sheet-smalls}
 

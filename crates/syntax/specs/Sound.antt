@@ -9,12 +9,12 @@ use native.Mathlib.Omega.{arith}
 use lib.Dec.{leb, eqb}
 use lib.ListN.{length, length-append}
 use borrow.Author.Tests.{leb-true, leb-false, eqb-false}
-use Rattle.sheet.specs.declared.Node.{Node}
-use Rattle.sheet.specs.declared.Node.the-variants.{Var, False, True, Empty, Number, Front, Pair, ListCase, TruthCase, Split, Call, Add, Each, Wide}
-use Rattle.sheet.specs.Kinds.{row, children}
+use Rattle.node.specs.declared.Node.{Node}
+use Rattle.node.specs.declared.Node.the-variants.{Var, False, True, Empty, Number, Front, Pair, ListCase, TruthCase, Split, Call, Add, Each, Wide}
+use Rattle.node.specs.Kinds.{row, children}
 use Rattle.sheet.specs.Sheet.{Sheet}
-use Rattle.syntax.specs.Quoted.{bytes}
-use Rattle.syntax.specs.Tokens.{Token, word, digits, hash, mark, arrow, first, rest, wordOf, markOf, same}
+use Rattle.tokens.specs.Quoted.{bytes}
+use Rattle.tokens.specs.Tokens.{Token, word, digits, hash, mark, arrow, first, rest, wordOf, markOf, same}
 use Rattle.syntax.specs.Reader.{Out, ok, fault, _>>=_, Name, Scope, scope, find, wild, sent, tests, isName, symbol, keyword, bind, sectionName}
 use Rattle.syntax.specs.Reader.{known, Valued, is, over, value, zeroFirst, valued, number, byNumber, variableBy, variable, testBy, test, Begin}
 use Rattle.syntax.specs.Reader.{nothing, aFalse, aTrue, aLet, aCase, anEach, aPair, aList, aName, aHash, aNumber, beginOf, Behind, aComma, aBar}

@@ -7,8 +7,9 @@ use Prim.Native.Nat.{ℕ, zero, suc, pred, _+_, _≤_, _<_}
 use native.Mathlib.Nat.{add-zero, zero-add}
 use native.Mathlib.Omega.{arith}
 use lib.ListN.{length, getD, drop, length-map, length-append}
-use Rattle.sheet.specs.declared.Node.{Node}
-use Rattle.sheet.specs.Kinds.{row, children, renumber}
+use Rattle.node.specs.declared.Node.{Node}
+use Rattle.node.specs.Kinds.{row, children}
+use Rattle.sheet.specs.Renumbering.{renumber}
 use Rattle.sheet.specs.Sheet.{Sheet}
 use Rattle.sheet.specs.Laws.{Ranges, Child}
 use Rattle.sheet.specs.Rows.{Small, Every}
@@ -17,8 +18,8 @@ use Rattle.rules.specs.Laws.Embedding.{itself}
 use Rattle.sheet.specs.Ranging.{children-in}
 use Rattle.preorder.specs.Numbering.{gathered, nodeOf, metFrom, roots, order, newNumber, numbered, met-self}
 use Rattle.preorder.specs.NumberingLaws.{Once, uses, order-short, places-count}
-use Rattle.syntax.specs.Quoted.{bytes}
-use Rattle.syntax.specs.Tokens.{Token, word, mark, first, rest, wordOf, markOf, same}
+use Rattle.tokens.specs.Quoted.{bytes}
+use Rattle.tokens.specs.Tokens.{Token, word, mark, first, rest, wordOf, markOf, same}
 use Rattle.syntax.specs.Reader.{Out, ok, _>>=_, Name, scope, find, symbol, keyword, bind, sectionName, whole, more, read, back, plan, Sections}
 use Rattle.syntax.specs.Reader.{unknown, section, sections, textRead, sheetRead}
 use Rattle.syntax.specs.Printer.{Piece, gap, the, sign, space, unlessPlain, tokensIn, partName, Reach, reach, called, TailOf, aFront, theEnd}

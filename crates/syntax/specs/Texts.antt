@@ -8,7 +8,7 @@ use lib.Dec.{ltb}
 use lib.ListN.{length}
 use borrow.Author.Tests.{le-ltb}
 use Rattle.value.specs.Result.{Result, ok, refusal}
-use Rattle.sheet.specs.Kinds.{row}
+use Rattle.node.specs.Kinds.{row}
 use Rattle.sheet.specs.Sheet.{Sheet, readSheet}
 use Rattle.sheet.specs.Laws.{Ranges, sheet-ranges, node-made}
 use Rattle.sheet.specs.Rows.{Small, sheetWritten}
@@ -19,12 +19,12 @@ use Rattle.preorder.specs.Uses.{lowestTwice, once-all}
 use Rattle.preorder.specs.NumberAnswer.{Answer, done, twice, numberAnswer}
 use Rattle.preorder.specs.NumberAnswer.{refused as unread}
 use Rattle.preorder.specs.NumberingCalls.{Anew, numbered-told}
-use Rattle.syntax.specs.Tokens.{Token, between, tokens}
+use Rattle.tokens.specs.Tokens.{Token, between, tokens}
 use Rattle.syntax.specs.Reader.{Out, fault, sheetRead, Said, says, refused, placed, sheetOf}
 use Rattle.syntax.specs.Reader.{ok as read}
 use Rattle.syntax.specs.Printer.{tokensIn, sheetSaid}
 use Rattle.syntax.specs.TextLaws.{sheet-read}
-use Rattle.syntax.specs.Laid.{Laid, laid-read}
+use Rattle.tokens.specs.Laid.{Laid, laid-read}
 use Rattle.syntax.specs.Setting.{textIn, fit-laid, fit-sheet}
 
 -- THE TEXT OF A SHEET

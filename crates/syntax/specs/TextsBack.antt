@@ -6,9 +6,9 @@ use Prim.Native.Nat.{ℕ, zero, suc, _+_, _≤_, _<_}
 use native.Mathlib.Nat.{zero-add}
 use native.Mathlib.Omega.{arith}
 use lib.ListN.{length, getD}
-use Rattle.sheet.specs.declared.Node.{Node}
-use Rattle.sheet.specs.declared.Node.the-variants.{False}
-use Rattle.sheet.specs.Kinds.{Role, aNode, aSection, aVariable, aTest, aNumber, aWide, Field, row, written}
+use Rattle.node.specs.declared.Node.{Node}
+use Rattle.node.specs.declared.Node.the-variants.{False}
+use Rattle.node.specs.Kinds.{Role, aNode, aSection, aVariable, aTest, aNumber, aWide, Field, row, written}
 use Rattle.sheet.specs.Sheet.{Sheet}
 use Rattle.sheet.specs.Laws.{InRange, AllFit, Ranges}
 use Rattle.sheet.specs.Rows.{Every, limit, Small, allWritten, rootsWritten, sheetWritten, written-bytes}
@@ -16,7 +16,7 @@ use Rattle.sheet.specs.Written.{Bytes}
 use Rattle.sheet.specs.Ranging.{read-back}
 use Rattle.preorder.specs.Uses.{once-all}
 use Rattle.preorder.specs.NumberAnswer.{done, numberAnswer, number-done}
-use Rattle.syntax.specs.Tokens.{Token, between, tokens}
+use Rattle.tokens.specs.Tokens.{Token, between, tokens}
 use Rattle.syntax.specs.Reader.{Out, fault, _>>=_, Name, find, textRead, sheetRead, Said, says, refused, placed, sheetOf}
 use Rattle.syntax.specs.Reader.{ok as read}
 use Rattle.syntax.specs.Trees.{Keeps, AllKeep, Trees, trees-ranged, trees-keep, trees-ranges, trees-once, trees-still}

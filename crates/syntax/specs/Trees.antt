@@ -10,9 +10,9 @@ use native.Mathlib.Decide.{decLt}
 use lib.ListN.{length, getD, length-append}
 use lib.ListN.{List·getD-append}
 use lib.Seq.{getD-append-add}
-use Rattle.sheet.specs.declared.Node.{Node}
-use Rattle.sheet.specs.declared.Node.the-variants.{False}
-use Rattle.sheet.specs.Kinds.{Role, aNode, aSection, aVariable, aTest, aNumber, aWide, Field, _of_, row, pick, children}
+use Rattle.node.specs.declared.Node.{Node}
+use Rattle.node.specs.declared.Node.the-variants.{False}
+use Rattle.node.specs.Kinds.{Role, aNode, aSection, aVariable, aTest, aNumber, aWide, Field, _of_, row, pick, children}
 use Rattle.sheet.specs.Sheet.{Sheet}
 use Rattle.sheet.specs.Laws.{Child, InRange, AllFit, Ranged, Ranges}
 use Rattle.sheet.specs.Rows.{Every}

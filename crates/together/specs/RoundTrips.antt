@@ -15,7 +15,7 @@ use Rattle.rules.specs.Answer.{Answer, refusal, success, getAnswer, putAnswer}
 use Rattle.calls.specs.Reply.{Reply, Done, Refused}
 use Rattle.together.specs.declared.Trip.{Trip}
 use Rattle.together.specs.declared.Trip.the-variants.{Kept, Stopped, Broken}
-use Rattle.calls.specs.Buffers.{zeros, zeroed}
+use Rattle.buffers.specs.Buffers.{zeros, zeroed}
 use Rattle.calls.specs.Calls.{reply, written, cleared, afterRefusal, Answered}
 use Rattle.calls.specs.Trips.{success-of}
 

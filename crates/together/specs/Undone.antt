@@ -21,7 +21,7 @@ use Rattle.undo.specs.Calls.{undo}
 use Rattle.calls.specs.Reply.{Reply, Done, Refused}
 use Rattle.together.specs.declared.Trip.{Trip}
 use Rattle.together.specs.declared.Trip.the-variants.{Kept, Stopped, Broken}
-use Rattle.calls.specs.Buffers.{zeroed}
+use Rattle.buffers.specs.Buffers.{zeroed}
 use Rattle.calls.specs.Calls.{reply, written, cleared, Answered}
 use Rattle.calls.specs.Trips.{success-of}
 use Rattle.together.specs.RoundTrips.{secondWrites, ifBoth, refusal-of, cleared-zeroed}

@@ -10,8 +10,8 @@ use lib.Dec.{eqb}
 use lib.ListN.{length, getD, getElem?}
 use Rattle.shapes.specs.Parts.{sameBytes}
 use Rattle.shapes.specs.PartsLaws.{same-bytes, same-refl}
-use Rattle.sheet.specs.declared.Node.{Node}
-use Rattle.sheet.specs.declared.Node.the-variants.{Var, False, True, Empty, Number, Front, Pair, ListCase, TruthCase, Split, Call, Add, Each, Wide}
+use Rattle.node.specs.declared.Node.{Node}
+use Rattle.node.specs.declared.Node.the-variants.{Var, False, True, Empty, Number, Front, Pair, ListCase, TruthCase, Split, Call, Add, Each, Wide}
 use Rattle.sheet.specs.Laws.{Ranged}
 use Rattle.typing.specs.Types.{Ty, truths, numbers, lists, pairs, Ty-discrete}
 use Rattle.typing.specs.Fits.{Lent, Scope, typeOf, sectionOf}

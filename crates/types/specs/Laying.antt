@@ -11,7 +11,7 @@ use lib.Dec.{eqb}
 use lib.Seq.{take-at, drop-at, drop-drop, getD-set-same, getD-set-other, getD-append-add}
 use lib.ListN.{length, getD, take, drop, set, replicate, length-append, length-drop, length-set, drop-of-length-le, List·getD-append}
 use borrow.Author.Tests.{eqb-true, eqb-false}
-use Rattle.sheet.specs.Places.{take-rest, rest-begins}
+use Rattle.node.specs.Places.{take-rest, rest-begins}
 use Rattle.typing.specs.Numbers.{LONGEST, PAST}
 use Rattle.typing.specs.Types.{Ty, truths}
 use Rattle.typing.specs.Check.{apart, andThen, readTypes, onType, readAll}

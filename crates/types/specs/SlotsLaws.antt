@@ -13,7 +13,7 @@ use lib.ListN.{length, getD, take, drop, length-append, length-drop, drop-of-len
 use borrow.Author.Tests.{lt-ltb, le-ltb, le-leb, lt-leb, eq-eqb}
 use Rattle.shapes.specs.Parts.{both, sameBytes}
 use Rattle.shapes.specs.PartsLaws.{same-bytes, same-refl}
-use Rattle.sheet.specs.Places.{take-rest, rest-begins}
+use Rattle.node.specs.Places.{take-rest, rest-begins}
 use Rattle.typing.specs.Numbers.{LONGEST, PAST}
 use Rattle.typing.specs.Types.{Ty, truths, numbers, lists, pairs}
 use Rattle.typing.specs.Fits.{added}

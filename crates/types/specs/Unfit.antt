@@ -11,14 +11,14 @@ use native.Mathlib.Decide.{decLt, ℕ-discrete}
 use lib.Dec.{eqb}
 use lib.ListN.{length, getD, replicate, getD-replicate, List·getD-eq-default}
 use borrow.Author.Tests.{eq-eqb, eqb-true}
-use Rattle.sheet.specs.declared.Node.{Node}
-use Rattle.sheet.specs.declared.Node.the-variants.{Var, False, True, Empty, Number, Front, Pair, ListCase, TruthCase, Split, Call, Add, Each, Wide}
+use Rattle.node.specs.declared.Node.{Node}
+use Rattle.node.specs.declared.Node.the-variants.{Var, False, True, Empty, Number, Front, Pair, ListCase, TruthCase, Split, Call, Add, Each, Wide}
 use Rattle.sheet.specs.declared.Table.{Table}
-use Rattle.sheet.specs.Kinds.{children}
+use Rattle.node.specs.Kinds.{children}
 use Rattle.sheet.specs.Rows.{Every, children-behind}
 use Rattle.sheet.specs.Sheet.{Sheet}
 use Rattle.sheet.specs.Laws.{Child, Ranged, Ranges, Reads}
-use Rattle.sheet.specs.Table.{nodeAt}
+use Rattle.node.specs.Decoding.{nodeAt}
 use Rattle.rules.specs.Semantics.{two}
 use Rattle.typing.specs.Types.{Ty, truths, lists}
 use Rattle.typing.specs.Fits.{Lent, Scope, nodeOf, typeOf, sectionOf, added, Fits, places, Root, sectionRoots, roots, Placed}

@@ -11,11 +11,12 @@ use lib.Seq.{getD-set-same, getD-set-other, take-suc, take-all}
 use lib.ListN.{length, getD, set, take, replicate, length-set, getD-replicate}
 use borrow.Author.Tests.{eq-eqb, ne-eqb, lt-ltb}
 use Rattle.sheet.specs.Sheet.{Sheet}
-use Rattle.sheet.specs.Table.{nodeAt, sectionAt}
+use Rattle.node.specs.Decoding.{nodeAt}
+use Rattle.sheet.specs.Table.{sectionAt}
 use Rattle.sheet.specs.Laws.{Reads}
 use Rattle.sheet.specs.declared.Table.{Table}
-use Rattle.sheet.specs.Kinds.{children}
-use Rattle.sheet.specs.declared.Node.{Node}
+use Rattle.node.specs.Kinds.{children}
+use Rattle.node.specs.declared.Node.{Node}
 use Rattle.typing.specs.Check.{count, used, twice, lowest}
 use Rattle.typing.specs.CheckLaws.{count-append}
 use Rattle.types.specs.declared.Lowest.{Lowest}

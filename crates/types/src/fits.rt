@@ -12,7 +12,7 @@ ghost use Rattle.sheet.specs.Sheet.{Sheet};
 ghost use Rattle.types.specs.Slots.{At};
 ghost use Rattle.types.specs.Scopes.{Scoped};
 ghost use Rattle.types.specs.Decided.{holds, Fitted};
-ghost use Rattle.sheet.specs.Kinds.{row};
+ghost use Rattle.node.specs.Kinds.{row};
 ghost use mathlib.Core.List.{List};
 use crate::Lowest;
 use crate::lent::LISTS;
@@ -31,7 +31,7 @@ use crate::lent::type_in;
 use crate::scopes::place_children;
 use crate::scopes::place_roots;
 use crate::scopes::variable;
-use sheet::Node;
+use node::Node;
 use sheet::Table;
 
 // The slot of a node's type.
@@ -249,7 +249,7 @@ pub fn first_unfit(sheet: &[u8], t: Table, types: &[u8], starts: &[u16; 242]) ->
             continue;
         }
         let at = t.starts[i] as usize;
-        let n = sheet::node_at(sheet, at);
+        let n = node::node_at(sheet, at);
         if !fits(types, starts, &stand, n, i) {
             return Lowest::At(i);
         }

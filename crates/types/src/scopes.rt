@@ -4,7 +4,7 @@ ghost use mathlib.Core.Path.{_≡_};
 ghost use mathlib.Core.List.{List, [], _∷_};
 ghost use Prim.Native.Nat.{ℕ, _+_, _*_, _/_, _%_, _≤_, _<_};
 ghost use lib.ListN.{getElem?};
-ghost use Rattle.sheet.specs.Kinds.{row};
+ghost use Rattle.node.specs.Kinds.{row};
 ghost use Rattle.typing.specs.Fits.{Scope};
 ghost use Rattle.types.specs.Scopes.{Scoped, bytesOr, widen, viewOf, Put, PutAll, childScopes, sectionScopes, subject};
 ghost use Rattle.types.specs.Uses.{Roots};
@@ -12,7 +12,7 @@ use crate::lent::NODES;
 use crate::lent::SECTIONS;
 use crate::lent::part_of;
 use crate::lent::type_in;
-use sheet::Node;
+use node::Node;
 
 // A scope without variables, that of a default of 1C.
 const ALONE: u32 = 1;

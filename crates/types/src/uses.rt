@@ -4,13 +4,13 @@ ghost use mathlib.Core.Path.{_≡_};
 ghost use Prim.Native.Nat.{ℕ, _≤_};
 ghost use lib.Dec.{eqb};
 ghost use lib.ListN.{length, getD};
-ghost use Rattle.sheet.specs.Kinds.{children};
+ghost use Rattle.node.specs.Kinds.{children};
 ghost use Rattle.sheet.specs.Laws.{Reads};
 ghost use Rattle.sheet.specs.Sheet.{Sheet};
 ghost use Rattle.typing.specs.Check.{lowest, twice};
 ghost use Rattle.types.specs.Uses.{Counted, Roots, lowestIn};
 use crate::Lowest;
-use sheet::Node;
+use node::Node;
 use sheet::Table;
 
 // One use more of node n: 2 stands for two and more.
@@ -93,7 +93,7 @@ pub fn first_used_twice(sheet: &[u8], t: Table) -> Lowest
     let mut i: usize = 0;
     while i < t.nodes {
         let at = t.starts[i] as usize;
-        count_children(&mut uses, sheet::node_at(sheet, at));
+        count_children(&mut uses, node::node_at(sheet, at));
         i += 1;
     }
     lowest_of(&uses, t.nodes)

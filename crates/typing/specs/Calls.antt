@@ -12,7 +12,7 @@ use Rattle.value.specs.Result.{Result, ok, refusal}
 use Rattle.value.specs.Value.{Value, vfalse, encode, flat}
 use Rattle.value.specs.Reading.{readPlan, readView}
 use Rattle.value.specs.Laws.{Readable, readValues-sound}
-use Rattle.sheet.specs.declared.Node.the-variants.{Wide}
+use Rattle.node.specs.declared.Node.the-variants.{Wide}
 use Rattle.sheet.specs.Sheet.{Sheet, readSheet}
 use Rattle.sheet.specs.Laws.{sheet-ranges}
 use Rattle.rules.specs.Semantics

@@ -7,8 +7,8 @@ use Prim.Native.Nat.{ℕ, zero, suc, _-_, _≤_}
 use native.Mathlib.Omega.{arith}
 use Rattle.value.specs.Value.{Value, Values, list, number, wide, pair, nil, cons, truth}
 use Rattle.value.specs.Views.{asList, asFront, asPair, asNumber, asTruth}
-use Rattle.sheet.specs.declared.Node.{Node}
-use Rattle.sheet.specs.declared.Node.the-variants.{Front, Add}
+use Rattle.node.specs.declared.Node.{Node}
+use Rattle.node.specs.declared.Node.the-variants.{Front, Add}
 use Rattle.sheet.specs.Sheet.{Sheet}
 use Rattle.rules.specs.Semantics.{onList}
 use Rattle.rules.specs.Explain.{Cause, own, barred}

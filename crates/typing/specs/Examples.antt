@@ -6,7 +6,7 @@ use native.Mathlib.Decide.{ℕ-discrete}
 use lib.ListN.{replicate}
 use Rattle.value.specs.Result.{andThen, mapResult, orRefuse, unless}
 use Rattle.sheet.specs.Sheet.{readNodes, oneSection, ifSection, readRecords, withNodes, readBody, nodesInRange, rootsInRange, inRange, readHeader, readSheet}
-use Rattle.sheet.specs.Kinds.{formOf, bodyWidth, make, nodeInRange, children}
+use Rattle.node.specs.Kinds.{formOf, bodyWidth, make, nodeInRange, children}
 use Rattle.typing.specs.Check as Check
 use Rattle.typing.specs.Check.{Verdict, passes, refused, refusedAt, check}
 

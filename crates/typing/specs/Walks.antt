@@ -11,8 +11,8 @@ use Rattle.value.specs.All.{All}
 use Rattle.value.specs.All as All
 use Rattle.value.specs.Value.{Value, Values, vfalse, vtrue, list, number, wide, pair, nil, cons, Encodable, Encodables, eList, eNumber, ePair, eNil, eCons}
 use Rattle.value.specs.Laws.{and-true, Readable}
-use Rattle.sheet.specs.declared.Node.{Node}
-use Rattle.sheet.specs.declared.Node.the-variants.{Front, Add, Wide}
+use Rattle.node.specs.declared.Node.{Node}
+use Rattle.node.specs.declared.Node.the-variants.{Front, Add, Wide}
 use Rattle.sheet.specs.Sheet.{Sheet}
 use Rattle.sheet.specs.Laws.{Ranges}
 use Rattle.rules.specs.Semantics

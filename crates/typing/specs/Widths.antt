@@ -9,8 +9,8 @@ use lib.ListN.{length, getElem?, take, set, length-append, length-set}
 use lib.Seq.{length-take-le}
 use Rattle.value.specs.All.{All, none as empty, each}
 use Rattle.value.specs.Value.{Value, Values, list, nil, cons, truth}
-use Rattle.sheet.specs.declared.Node.{Node}
-use Rattle.sheet.specs.declared.Node.the-variants.{Var, False, True, Empty, Number, Front, Pair, ListCase, TruthCase, Split, Call, Add, Each, Wide}
+use Rattle.node.specs.declared.Node.{Node}
+use Rattle.node.specs.declared.Node.the-variants.{Var, False, True, Empty, Number, Front, Pair, ListCase, TruthCase, Split, Call, Add, Each, Wide}
 use Rattle.sheet.specs.Sheet.{Sheet}
 use Rattle.sheet.specs.Laws.{Ranged}
 use Rattle.rules.specs.Outcome.{Out, done, refused, plus, _>>=_, given, choose}

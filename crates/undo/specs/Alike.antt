@@ -13,9 +13,9 @@ use lib.Seq.{length-take-le}
 use borrow.Author.Tests.{eqb-true, eq-eqb}
 use Rattle.value.specs.All.{All, none, each}
 use Rattle.value.specs.Value.{Value, Values, vfalse, vtrue, list, number, wide, nil, cons, size}
-use Rattle.sheet.specs.declared.Node.{Node}
-use Rattle.sheet.specs.declared.Node.the-variants.{Var, False, True, Empty, Number, Front, Pair, ListCase, TruthCase, Split, Call, Add, Each, Wide}
-use Rattle.sheet.specs.Kinds.{variables}
+use Rattle.node.specs.declared.Node.{Node}
+use Rattle.node.specs.declared.Node.the-variants.{Var, False, True, Empty, Number, Front, Pair, ListCase, TruthCase, Split, Call, Add, Each, Wide}
+use Rattle.node.specs.Kinds.{variables}
 use Rattle.sheet.specs.Rows.{Every}
 use Rattle.sheet.specs.Sheet.{Sheet}
 use Rattle.rules.specs.Outcome.{Out, _>>=_, plus, given, choose}

@@ -14,9 +14,9 @@ use Rattle.value.specs.All.{All}
 use Rattle.value.specs.Value.{Value, vfalse, encode, flat, Fits}
 use Rattle.value.specs.Reading.{readPlan, readView}
 use Rattle.value.specs.Laws.{Readable, readValues-sound}
-use Rattle.sheet.specs.declared.Node.{Node}
-use Rattle.sheet.specs.declared.Node.the-variants.{Var, False, True, Empty, Number, Front, Pair, ListCase, TruthCase, Split, Call, Add, Each, Wide}
-use Rattle.sheet.specs.Kinds.{row, variables}
+use Rattle.node.specs.declared.Node.{Node}
+use Rattle.node.specs.declared.Node.the-variants.{Var, False, True, Empty, Number, Front, Pair, ListCase, TruthCase, Split, Call, Add, Each, Wide}
+use Rattle.node.specs.Kinds.{row, variables}
 use Rattle.sheet.specs.Sheet.{Sheet, readSheet}
 use Rattle.rules.specs.Numbers.{LEVELS, PUT-OUTPUT, SCRATCH, ALLOWANCE}
 use Rattle.rules.specs.Outcome.{Out, done, refused, mapOut, reading}

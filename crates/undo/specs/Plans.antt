@@ -12,7 +12,7 @@ use Rattle.value.specs.All.{All, none, each}
 use Rattle.value.specs.Value.{Value, encode, flat, Fits}
 use Rattle.value.specs.Reading.{readView}
 use Rattle.value.specs.Laws.{Readable, readValues-back}
-use Rattle.sheet.specs.declared.Node.the-variants.{False, Number, Wide}
+use Rattle.node.specs.declared.Node.the-variants.{False, Number, Wide}
 use Rattle.sheet.specs.Sheet.{Sheet, readSheet}
 use Rattle.sheet.specs.Laws.{sheet-ranges}
 use Rattle.rules.specs.Semantics

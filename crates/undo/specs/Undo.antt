@@ -10,9 +10,9 @@ use lib.ListN.{length, getD, take, set, getElem?, length-append}
 use lib.Seq.{length-take-le}
 use Rattle.value.specs.Value.{Value, vfalse, vtrue, list, number, wide, pair, nil, cons, size, Fits}
 use Rattle.value.specs.Views.{asList, asFront, asPair, asNumber}
-use Rattle.sheet.specs.declared.Node.{Node}
-use Rattle.sheet.specs.declared.Node.the-variants.{Var, False, True, Empty, Number, Front, Pair, ListCase, TruthCase, Split, Call, Add, Each, Wide}
-use Rattle.sheet.specs.Kinds.{children, calls}
+use Rattle.node.specs.declared.Node.{Node}
+use Rattle.node.specs.declared.Node.the-variants.{Var, False, True, Empty, Number, Front, Pair, ListCase, TruthCase, Split, Call, Add, Each, Wide}
+use Rattle.node.specs.Kinds.{children, calls}
 use Rattle.sheet.specs.Sheet.{Sheet}
 use Rattle.rules.specs.Outcome.{Out, done, _>>=_}
 use Rattle.rules.specs.Semantics

@@ -28,7 +28,7 @@ use Rattle.value.specs.Reading.{
   readValues,
 }
 use Rattle.sheet.specs.Sheet.{readNodes, oneSection, ifSection, readRecords, withNodes, readBody, nodesInRange, rootsInRange, inRange, readHeader, readSheet}
-use Rattle.sheet.specs.Kinds.{formOf, bodyWidth, make, variables, nodeInRange}
+use Rattle.node.specs.Kinds.{formOf, bodyWidth, make, variables, nodeInRange}
 use Rattle.rules.specs.Numbers.{SCRATCH}
 use Rattle.rules.specs.Outcome.{plus, steps, when, _>>=_, mapOut, given, choose}
 use Rattle.rules.specs.Allowance.{cap, within}

@@ -5,7 +5,7 @@ use mathlib.Core.List.{List, []}
 use Prim.Native.Nat.{ℕ, _+_, _-_, _≤_}
 use native.Mathlib.Omega.{arith}
 use Rattle.value.specs.Value.{Value, Values, vfalse}
-use Rattle.sheet.specs.declared.Node.{Node}
+use Rattle.node.specs.declared.Node.{Node}
 use Rattle.sheet.specs.Sheet.{Sheet}
 use Rattle.rules.specs.Semantics.{Env}
 use Rattle.rules.specs.Counting

@@ -5,7 +5,7 @@ ghost use Prim.Native.Nat.{_+_, _*_, _≤_, _<_};
 ghost use lib.ListN.{length, getD};
 ghost use lib.Seq.{paste};
 ghost use Rattle.outcome.specs.Outcome.{doneAs};
-ghost use Rattle.sheet.specs.Wide.{wideBytes};
+ghost use Rattle.node.specs.Wide.{wideBytes};
 ghost use Rattle.rules.specs.Numbers.{SCRATCH};
 ghost use Rattle.walk.specs.Get.{Ready, GetShows, KindAsked, KindTells, enter};
 ghost use Rattle.walk.specs.Get.Requires.{Sized};
@@ -41,8 +41,8 @@ fn get_number(sheet: &[u8], arena: &mut [u8], place: u16, top: usize) -> usize
         (256 * getD (now (sheet .entry)) (place + 1) 0 + getD (now (sheet .entry)) (place + 2) 0)) × (r ≡ doneAs top 3 0) ⌝ }
 {
     let number = value::number(
-        sheet::byte_of(sheet, place, 1),
-        sheet::byte_of(sheet, place, 2),
+        node::byte_of(sheet, place, 1),
+        node::byte_of(sheet, place, 2),
     );
     arena[top] = 4;
     arena[top + 1] = value::high(number);
@@ -55,7 +55,7 @@ fn get_wide(sheet: &[u8], arena: &mut [u8], place: u16, top: usize) -> usize
     requires { ⌜ (top + 5 ≤ length (now arena)) × (top < SCRATCH) ⌝ }
     ensures { λ r. ⌜ (now (arena .exit) ≡ paste (now (arena .entry)) top (wideBytes (now (sheet .entry)) place) 5) × (r ≡ doneAs top 5 0) ⌝ }
 {
-    let number = sheet::wide_bytes(sheet, place);
+    let number = node::wide_bytes(sheet, place);
     scopes::store(arena, top, &number);
     done(top, 5, 0)
 }
@@ -69,7 +69,7 @@ fn get_leaf(sheet: &[u8], table: &Table, arena: &mut [u8], scope: Scope, own: Po
     let kind = own.kind;
     let top = at.top;
     if kind == 0x10 {
-        return scopes::variable(scope, sheet::number_of(sheet, own.from, 1));
+        return scopes::variable(scope, node::number_of(sheet, own.from, 1));
     }
     if kind == 0x14 {
         return get_number(sheet, arena, own.from, top);
@@ -97,7 +97,7 @@ pub fn get_node(
     }
     let from = table[node];
     let below = at.below();
-    let kind = sheet::byte_of(sheet, from, 0);
+    let kind = node::byte_of(sheet, from, 0);
     let own = Pos { node, from, kind };
     if kind < 0x15 {
         let got = get_leaf(sheet, table, arena, scope, own, below);
@@ -139,14 +139,14 @@ fn get_two(sheet: &[u8], table: &Table, arena: &mut [u8], scope: Scope, own: Pos
     let made = decisions::made(own.kind);
     arena[top] = made;
     let one = at.raised(1);
-    let first = sheet::number_of(sheet, own.from, 1);
+    let first = node::number_of(sheet, own.from, 1);
     let got = get_node(sheet, table, arena, scope, first, one);
     let a = bring(arena, got, one.top);
     if is_refused(a) {
         return a;
     }
     let two = one.behind(a);
-    let second = sheet::number_of(sheet, own.from, 2);
+    let second = node::number_of(sheet, own.from, 2);
     let got = get_node(sheet, table, arena, scope, second, two);
     let b = bring(arena, got, two.top);
     joined(arena, made, top, a, b)
@@ -160,7 +160,7 @@ fn test_of(sheet: &[u8], place: u16, kind: u8, i: u16) -> u8
     if kind == 0x19 {
         return 0;
     }
-    sheet::byte_of(sheet, place, i + 1)
+    node::byte_of(sheet, place, i + 1)
 }
 
 // A list case (17), a truth case (18) or a split (19): the subject, and then the branch that it fits.
@@ -169,7 +169,7 @@ fn get_case(sheet: &[u8], table: &Table, arena: &mut [u8], scope: Scope, own: Po
     requires { ⌜ Case (own .kind) ⌝ }
     ensures { λ r. ⌜ KindTells (now (sheet .entry)) (now (arena .entry)) (now (arena .exit)) scope own at r ⌝ }
 {
-    let subject = sheet::number_of(sheet, own.from, 1);
+    let subject = node::number_of(sheet, own.from, 1);
     let got = get_node(sheet, table, arena, scope, subject, at);
     if is_refused(got) {
         return got;
@@ -178,13 +178,13 @@ fn get_case(sheet: &[u8], table: &Table, arena: &mut [u8], scope: Scope, own: Po
     let top = at.top;
     match decisions::fits(own.kind, shape_at(arena, got)) {
         Branch::Plain(i, _) => {
-            let node = sheet::number_of(sheet, own.from, i);
+            let node = node::number_of(sheet, own.from, i);
             let test = test_of(sheet, own.from, own.kind, i);
             let branch = get_node(sheet, table, arena, scope, node, to);
             later(judge(arena, branch, test, top), steps_of(got))
         }
         Branch::Parts(i, mid) => {
-            let node = sheet::number_of(sheet, own.from, i);
+            let node = node::number_of(sheet, own.from, i);
             let test = test_of(sheet, own.from, own.kind, i);
             let inner = with_two(scope, start_of(got) + 1, mid - 1, len_of(got) - mid);
             let branch = get_node(sheet, table, arena, inner, node, to);
@@ -200,8 +200,8 @@ fn get_call(sheet: &[u8], table: &Table, arena: &mut [u8], scope: Scope, own: Po
     requires { ⌜ own .kind ≡ 0x1A ⌝ }
     ensures { λ r. ⌜ KindTells (now (sheet .entry)) (now (arena .entry)) (now (arena .exit)) scope own at r ⌝ }
 {
-    let x = sheet::number_of(sheet, own.from, 2);
-    let y = sheet::number_of(sheet, own.from, 3);
+    let x = node::number_of(sheet, own.from, 2);
+    let y = node::number_of(sheet, own.from, 3);
     let count = scope.count as usize;
     if count <= x {
         return refused(42);
@@ -209,7 +209,7 @@ fn get_call(sheet: &[u8], table: &Table, arena: &mut [u8], scope: Scope, own: Po
     if count <= y {
         return refused(42);
     }
-    let root = sheet::section_root(sheet, sheet::number_of(sheet, own.from, 1));
+    let root = sheet::section_root(sheet, node::number_of(sheet, own.from, 1));
     let inner = scopes::section(scope, x, y);
     get_node(sheet, table, arena, inner, root, at)
 }
@@ -221,12 +221,12 @@ fn get_add(sheet: &[u8], table: &Table, arena: &mut [u8], scope: Scope, own: Pos
     ensures { λ r. ⌜ KindTells (now (sheet .entry)) (now (arena .entry)) (now (arena .exit)) scope own at r ⌝ }
 {
     let top = at.top;
-    let node = sheet::number_of(sheet, own.from, 1);
+    let node = node::number_of(sheet, own.from, 1);
     let got = get_node(sheet, table, arena, scope, node, at);
     let a = bring(arena, got, top);
     let amount = value::number(
-        sheet::byte_of(sheet, own.from, 2),
-        sheet::byte_of(sheet, own.from, 3),
+        node::byte_of(sheet, own.from, 2),
+        node::byte_of(sheet, own.from, 3),
     );
     added(arena, a, amount, top)
 }
@@ -281,7 +281,7 @@ fn get_each(sheet: &[u8], table: &Table, arena: &mut [u8], scope: Scope, own: Po
     requires { ⌜ own .kind ≡ 0x1C ⌝ }
     ensures { λ r. ⌜ KindTells (now (sheet .entry)) (now (arena .entry)) (now (arena .exit)) scope own at r ⌝ }
 {
-    let subject = sheet::number_of(sheet, own.from, 1);
+    let subject = node::number_of(sheet, own.from, 1);
     let got = get_node(sheet, table, arena, scope, subject, at);
     if is_refused(got) {
         return got;
@@ -290,11 +290,11 @@ fn get_each(sheet: &[u8], table: &Table, arena: &mut [u8], scope: Scope, own: Po
     if decisions::unfit(3, arena[start]) {
         return refused(43);
     }
-    let x = sheet::number_of(sheet, own.from, 3);
+    let x = node::number_of(sheet, own.from, 3);
     if scope.count as usize <= x {
         return refused(42);
     }
-    let root = sheet::section_root(sheet, sheet::number_of(sheet, own.from, 2));
+    let root = sheet::section_root(sheet, node::number_of(sheet, own.from, 2));
     let end = start + len_of(got);
     let to = at.behind(got);
     let list = get_members(sheet, table, arena, scope, x, root, start, end, to);

@@ -6,7 +6,7 @@ ghost use Prim.Native.Nat.{_+_, _*_, _≤_};
 ghost use lib.ListN.{length};
 ghost use Rattle.value.specs.Value.{Value, vfalse};
 ghost use Rattle.shapes.specs.Parts.{sameBytes};
-ghost use Rattle.sheet.specs.Wide.{wideBytes};
+ghost use Rattle.node.specs.Wide.{wideBytes};
 ghost use Rattle.rules.specs.Numbers.{CHAIN};
 ghost use Rattle.outcome.specs.Outcome.{lenOf};
 ghost use Rattle.decisions.specs.Decisions.{judged, madeOf};
@@ -126,8 +126,8 @@ fn put_number(sheet: &[u8], place: u16, view: &[u8]) -> usize
     ensures { λ r. ⌜ r ≡ judged 50 (sameBytes (now (view .entry)) (numberBytes (now (sheet .entry)) place)) ⌝ }
 {
     let number = value::number(
-        sheet::byte_of(sheet, place, 1),
-        sheet::byte_of(sheet, place, 2),
+        node::byte_of(sheet, place, 1),
+        node::byte_of(sheet, place, 2),
     );
     decisions::put_number(number, view)
 }
@@ -136,7 +136,7 @@ fn put_number(sheet: &[u8], place: u16, view: &[u8]) -> usize
 fn put_wide(sheet: &[u8], place: u16, view: &[u8]) -> usize
     ensures { λ r. ⌜ r ≡ judged 50 (sameBytes (now (view .entry)) (wideBytes (now (sheet .entry)) place)) ⌝ }
 {
-    let number = sheet::wide_bytes(sheet, place);
+    let number = node::wide_bytes(sheet, place);
     decisions::put_bytes(&number, view)
 }
 
@@ -164,7 +164,7 @@ fn put_leaf(
     if kind != 0x10 {
         return decisions::put_constant(kind - 0x11, view);
     }
-    let x = sheet::number_of(sheet, own.from, 1);
+    let x = node::number_of(sheet, own.from, 1);
     let count = scope.count as usize;
     if count <= x {
         return refused(42);
@@ -196,7 +196,7 @@ pub fn put_node(
     }
     let from = table[node];
     let to = at.below();
-    let kind = sheet::byte_of(sheet, from, 0);
+    let kind = node::byte_of(sheet, from, 0);
     let own = Pos { node, from, kind };
     if kind < 0x15 {
         let put = put_leaf(sheet, table, arena, slots, scope, cells, own, view, to);
@@ -278,13 +278,13 @@ fn put_two(
     };
     let left = shapes::first_part(view, mid);
     let right = shapes::second_part(view, mid);
-    let a = sheet::number_of(sheet, own.from, 1);
+    let a = node::number_of(sheet, own.from, 1);
     let one = put_node(sheet, table, arena, slots, scope, cells, a, left, at);
     if is_refused(one) {
         return one;
     }
     let then = at.after(one);
-    let b = sheet::number_of(sheet, own.from, 2);
+    let b = node::number_of(sheet, own.from, 2);
     let two = put_node(sheet, table, arena, slots, scope, cells, b, right, then);
     later(two, steps_of(one))
 }
@@ -389,17 +389,17 @@ fn put_case(
     ensures { λ r. ⌜ KindTells (now (sheet .entry)) (now (arena .entry)) (now (arena .exit)) (now (slots .entry)) (now (slots .exit)) scope (now (cells .entry))
         own (now (view .entry)) at r ⌝ }
 {
-    let subject = sheet::number_of(sheet, own.from, 1);
+    let subject = node::number_of(sheet, own.from, 1);
     let got = get_node(sheet, table, arena, scope, subject, at);
     if is_refused(got) {
         return got;
     }
     let to = at.behind(got);
-    let first = sheet::byte_of(sheet, own.from, 3);
-    let second = sheet::byte_of(sheet, own.from, 5);
+    let first = node::byte_of(sheet, own.from, 3);
+    let second = node::byte_of(sheet, own.from, 5);
     match decisions::takes(own.kind, shape_at(arena, got), first, second, view) {
         Branch::Plain(i, byte) => {
-            let branch = sheet::number_of(sheet, own.from, i);
+            let branch = node::number_of(sheet, own.from, i);
             let by = Plain {
                 branch,
                 subject,
@@ -409,7 +409,7 @@ fn put_case(
             later(put, steps_of(got))
         }
         Branch::Parts(i, mid) => {
-            let branch = sheet::number_of(sheet, own.from, i);
+            let branch = node::number_of(sheet, own.from, i);
             let parts = parts_of(own.kind, branch, subject, got, mid);
             let put = put_under(sheet, table, arena, slots, scope, cells, parts, view, to);
             later(put, steps_of(got))
@@ -436,14 +436,14 @@ fn two_defaults(
     ensures { λ r. ⌜ Defaults (now (sheet .entry)) place (Sees (now (arena .entry)) seen (at .top)) (now (arena .entry)) (now (arena .exit)) (at .top)
         (at .levels) (at .left) r ⌝ }
 {
-    let first = sheet::number_of(sheet, place, 6);
+    let first = node::number_of(sheet, place, 6);
     let got = get_node(sheet, table, arena, seen, first, at);
     let a = bring(arena, got, at.top);
     if is_refused(a) {
         return a;
     }
     let two = at.behind(a);
-    let rest = sheet::number_of(sheet, place, 7);
+    let rest = node::number_of(sheet, place, 7);
     let got = get_node(sheet, table, arena, seen, rest, two);
     let b = bring(arena, got, two.top);
     if is_refused(b) {
@@ -501,8 +501,8 @@ fn put_switch(
     }
     let first = start_of(got);
     let second = len_of(got);
-    let branch = sheet::number_of(sheet, place, 4);
-    let subject = sheet::number_of(sheet, place, 1);
+    let branch = node::number_of(sheet, place, 4);
+    let subject = node::number_of(sheet, place, 1);
     let parts = Parts {
         kind: 3,
         branch,
@@ -534,8 +534,8 @@ fn put_call(
     ensures { λ r. ⌜ KindTells (now (sheet .entry)) (now (arena .entry)) (now (arena .exit)) (now (slots .entry)) (now (slots .exit)) scope (now (cells .entry))
         own (now (view .entry)) at r ⌝ }
 {
-    let x = sheet::number_of(sheet, own.from, 2);
-    let y = sheet::number_of(sheet, own.from, 3);
+    let x = node::number_of(sheet, own.from, 2);
+    let y = node::number_of(sheet, own.from, 3);
     let count = scope.count as usize;
     if count <= x {
         return refused(42);
@@ -543,7 +543,7 @@ fn put_call(
     if count <= y {
         return refused(42);
     }
-    let root = sheet::section_root(sheet, sheet::number_of(sheet, own.from, 1));
+    let root = sheet::section_root(sheet, node::number_of(sheet, own.from, 1));
     let inner = scopes::section(scope, x, y);
     let two = scopes::pick_cells(cells, x, y);
     put_node(sheet, table, arena, slots, inner, &two, root, view, at)
@@ -570,15 +570,15 @@ fn put_add(
         return refused(51);
     };
     let amount = value::number(
-        sheet::byte_of(sheet, own.from, 2),
-        sheet::byte_of(sheet, own.from, 3),
+        node::byte_of(sheet, own.from, 2),
+        node::byte_of(sheet, own.from, 3),
     );
     if m < amount {
         return refused(52);
     }
     let rest = m - amount;
     let less = [4, value::high(rest), value::low(rest)];
-    let node = sheet::number_of(sheet, own.from, 1);
+    let node = node::number_of(sheet, own.from, 1);
     put_node(sheet, table, arena, slots, scope, cells, node, &less, at)
 }
 
@@ -730,7 +730,7 @@ fn put_each(
     if decisions::unfit(3, view[0]) {
         return refused(51);
     }
-    let subject = sheet::number_of(sheet, own.from, 1);
+    let subject = node::number_of(sheet, own.from, 1);
     let got = get_node(sheet, table, arena, scope, subject, at);
     if is_refused(got) {
         return got;
@@ -739,13 +739,13 @@ fn put_each(
     if decisions::unfit(3, arena[old]) {
         return refused(43);
     }
-    let x = sheet::number_of(sheet, own.from, 3);
+    let x = node::number_of(sheet, own.from, 3);
     let count = scope.count as usize;
     if count <= x {
         return refused(42);
     }
-    let root = sheet::section_root(sheet, sheet::number_of(sheet, own.from, 2));
-    let default = sheet::number_of(sheet, own.from, 4);
+    let root = sheet::section_root(sheet, node::number_of(sheet, own.from, 2));
+    let default = node::number_of(sheet, own.from, 4);
     let by = Members {
         subject,
         x,

@@ -25,10 +25,10 @@ use Rattle.accepts.specs.Accepts.{yesNo, verdict, cleared, Accepted}
 use Rattle.report.specs.Text.{words, refusalLine, okLine}
 use Rattle.report.specs.TextLaws.{refusal-length}
 use Rattle.report.specs.Writing.{Wrote, wrote-text}
-use Rattle.words.specs.declared.fields.Fields.{Fields}
-use Rattle.words.specs.declared.fields.Taken.{Taken}
-use Rattle.words.specs.declared.fields.Taken.the-variants.{Whole, Cut}
-use Rattle.words.specs.Format.{two, part, fieldsOf, sheetOf, planOf, viewOf}
+use Rattle.inputs.specs.declared.fields.Fields.{Fields}
+use Rattle.inputs.specs.declared.fields.Taken.{Taken}
+use Rattle.inputs.specs.declared.fields.Taken.the-variants.{Whole, Cut}
+use Rattle.inputs.specs.Format.{two, part, fieldsOf, sheetOf, planOf, viewOf}
 use Rattle.letters.specs.Small.{Small, no, small-number, small-unless, small-then, small-sheet, small-view, small-plan}
 use Rattle.walking.specs.Endings.{Ending, says, yesLine, judges, checksBy, checks, outputAfter, scratchAfter}
 use Rattle.walking.specs.ExplanationLaws.{Explained}

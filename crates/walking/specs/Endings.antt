@@ -12,19 +12,19 @@ use Rattle.rules.specs.Answer as Answer
 use Rattle.rules.specs.Explain.Calls.{Explanation, whyGet, whyPut}
 use Rattle.calls.specs.Reply.{Reply, Done, Refused}
 use Rattle.calls.specs.Calls.{written, cleared, newStarts, newWritten}
-use Rattle.calls.specs.Explain.{whyCleared}
+use Rattle.explaining.specs.Explain.{whyCleared}
 use Rattle.venue.specs.Accepts.{acceptsOf}
 use Rattle.accepts.specs.Accepts.{cleared as judgedCleared}
 use Rattle.report.specs.Text.{hexOf, decimalOf, refusalLine, okLine}
 use Rattle.report.specs.Writing.{Wrote}
 use Rattle.starts.specs.declared.Starts.{Starts}
 use Rattle.starts.specs.Starts.{numbers}
-use Rattle.words.specs.declared.fields.Fields.{Fields}
-use Rattle.words.specs.declared.fields.Taken.{Taken}
-use Rattle.words.specs.declared.fields.Taken.the-variants.{Whole, Cut}
-use Rattle.words.specs.declared.Job.{Job}
-use Rattle.words.specs.declared.Job.the-variants.{Get, Put, Other}
-use Rattle.words.specs.Format.{two, part, sheetOf, planOf, viewOf, jobOf, jobNumber}
+use Rattle.inputs.specs.declared.fields.Fields.{Fields}
+use Rattle.inputs.specs.declared.fields.Taken.{Taken}
+use Rattle.inputs.specs.declared.fields.Taken.the-variants.{Whole, Cut}
+use Rattle.inputs.specs.declared.Job.{Job}
+use Rattle.inputs.specs.declared.Job.the-variants.{Get, Put, Other}
+use Rattle.inputs.specs.Format.{two, part, sheetOf, planOf, viewOf, jobOf, jobNumber}
 use Rattle.words.specs.Answers.{bitsWord}
 use Rattle.walking.specs.Explanations.{whyLine}
 

@@ -11,16 +11,16 @@ use Rattle.rules.specs.Explain.{Cause}
 use Rattle.rules.specs.Explain.Calls.{Explanation, success, before, walked, whyGet, whyPut}
 use Rattle.rules.specs.Explain.Nodes.{Inside, First, nobody, writer}
 use Rattle.starts.specs.Starts.{firsts}
-use Rattle.calls.specs.declared.why.Explanation.{Explanation as WhyReply}
-use Rattle.calls.specs.Explain.{unmet, firstNumber, toldAs, WhyAnswered}
-use Rattle.calls.specs.Explain.Laws.{Proper, why-get-proper, why-put-proper}
+use Rattle.explaining.specs.declared.Explanation.{Explanation as WhyReply}
+use Rattle.explaining.specs.Explain.{unmet, firstNumber, toldAs, WhyAnswered}
+use Rattle.explaining.specs.Explain.Laws.{Proper, why-get-proper, why-put-proper}
 use Rattle.report.specs.Text.{words, refusalLine}
 use Rattle.report.specs.TextLaws.{Below, none as below-none, each, decimal-length, numbers-length, words-append, ok-length, refusal-length}
 use Rattle.report.specs.Writing.{Wrote, wrote-text}
-use Rattle.words.specs.declared.fields.Fields.{Fields}
-use Rattle.words.specs.declared.Job.{Job}
-use Rattle.words.specs.declared.Job.the-variants.{Get, Put, Other}
-use Rattle.words.specs.Format.{sheetOf, planOf, viewOf, jobOf}
+use Rattle.inputs.specs.declared.fields.Fields.{Fields}
+use Rattle.inputs.specs.declared.Job.{Job}
+use Rattle.inputs.specs.declared.Job.the-variants.{Get, Put, Other}
+use Rattle.inputs.specs.Format.{sheetOf, planOf, viewOf, jobOf}
 use Rattle.words.specs.Answers.{noLine, byNumber, metWords, toldLine}
 use Rattle.walking.specs.Explanations.{byFirst, whyLine, told}
 use Rattle.walking.specs.Endings.{Ending, explains, whyBy, whys, outputAfter, scratchAfter}

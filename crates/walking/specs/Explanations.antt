@@ -4,7 +4,7 @@ use mathlib.Core.List.{List, [], _∷_}
 use Prim.Native.Nat.{ℕ}
 use lib.ListN.{take}
 use Rattle.rules.specs.Explain.Calls.{Explanation, success, before, walked}
-use Rattle.calls.specs.declared.why.Explanation.{Explanation as WhyReply}
+use Rattle.explaining.specs.declared.Explanation.{Explanation as WhyReply}
 use Rattle.report.specs.Text.{decimalOf, refusalLine, okLine}
 use Rattle.words.specs.Answers.{noLine, metWords, toldLine}
 

@@ -16,11 +16,12 @@ use Rattle.report.specs.Text.{words, hexOf, decimalOf, refusalLine, okLine}
 use Rattle.report.specs.TextLaws.{hex-length, decimal-length, ok-length}
 use Rattle.report.specs.Writing.{Wrote, wrote-text}
 use Rattle.starts.specs.declared.Starts.{Starts}
-use Rattle.words.specs.Numbers.{INPUT, LINE}
-use Rattle.words.specs.declared.fields.Fields.{Fields}
-use Rattle.words.specs.declared.fields.Taken.{Taken}
-use Rattle.words.specs.declared.fields.Taken.the-variants.{Whole, Cut}
-use Rattle.words.specs.Format.{fieldsOf, sheetOf, planOf, viewOf}
+use Rattle.inputs.specs.Numbers.{INPUT}
+use Rattle.words.specs.Numbers.{LINE}
+use Rattle.inputs.specs.declared.fields.Fields.{Fields}
+use Rattle.inputs.specs.declared.fields.Taken.{Taken}
+use Rattle.inputs.specs.declared.fields.Taken.the-variants.{Whole, Cut}
+use Rattle.inputs.specs.Format.{fieldsOf, sheetOf, planOf, viewOf}
 use Rattle.words.specs.Answers.{bitsWord}
 use Rattle.words.specs.Starts.{kept, kept-all}
 use Rattle.letters.specs.LookupLaws.{fits-refusal, starts-length}

@@ -1,11 +1,11 @@
 //! A new plan that a house sends with its list, judged (letter C).
 ghost use mathlib.Core.Path.{_≡_};
-ghost use Rattle.words.specs.Format.{fieldsOf};
+ghost use Rattle.inputs.specs.Format.{fieldsOf};
 ghost use Rattle.report.specs.Writing.{Wrote};
 ghost use Rattle.walking.specs.Endings.{scratchAfter, checks};
 ghost use Rattle.walking.specs.CheckLaws.{verdictLine};
 use accepts::Verdict;
-use words::Taken;
+use inputs::Taken;
 
 // The line of a verdict.
 fn verdict_line(verdict: Verdict, text: &mut [u8]) -> usize
@@ -23,19 +23,19 @@ pub fn check_line(input: &[u8], scratch: &mut [u8; rules::SCRATCH], text: &mut [
     ensures { λ r. ⌜ Wrote (checks (now (input .entry)) (fieldsOf (now (input .entry))) .line) 0 (now (text .entry)) (now (text .exit)) r ⌝ }
     ensures { λ _. ⌜ now (scratch .exit) ≡ scratchAfter (checks (now (input .entry)) (fieldsOf (now (input .entry))) .call) (now (scratch .entry)) ⌝ }
 {
-    let Taken::Whole(f) = words::take_fields(input) else {
+    let Taken::Whole(f) = inputs::take_fields(input) else {
         return report::refusal(text, 0, 60);
     };
-    let rest = words::view_of(input, f);
-    let list = words::number_at(rest, 0);
+    let rest = inputs::view_of(input, f);
+    let list = inputs::number_at(rest, 0);
     if rest.len() < 2 + list {
         return report::refusal(text, 0, 60);
     }
     let verdict = accepts::accepts(
-        words::sheet_of(input, f),
-        words::plan_of(input, f),
-        words::part_at(rest, 2, list),
-        words::rest_from(rest, 2 + list),
+        inputs::sheet_of(input, f),
+        inputs::plan_of(input, f),
+        inputs::part_at(rest, 2, list),
+        inputs::rest_from(rest, 2 + list),
         f.allowance,
         scratch,
     );

@@ -1,13 +1,13 @@
 //! A put, with the starts of its new plan's values (letter S), or with which variables took a view (letter W).
 ghost use Prim.Native.Nat.{_≤_};
 ghost use Rattle.calls.specs.CallLaws.{Within};
-ghost use Rattle.words.specs.Format.{fieldsOf};
+ghost use Rattle.inputs.specs.Format.{fieldsOf};
 ghost use Rattle.report.specs.Text.{words};
 ghost use Rattle.report.specs.Writing.{Wrote};
 ghost use Rattle.walking.specs.Endings.{besides, puts, replyLine, Ended};
 use calls::Reply;
+use inputs::Taken;
 use starts::Starts;
-use words::Taken;
 
 // What stands behind a new plan: which variables took a view, or where its values start.
 fn besides_words(text: &mut [u8], at: usize, bits: bool, starts: Starts, written: u16) -> usize
@@ -55,13 +55,13 @@ pub fn put_line(
     ensures { λ r. ⌜ Ended (puts bits (now (input .entry)) (fieldsOf (now (input .entry)))) r (now (text .entry)) (now (text .exit)) (now (out .entry))
         (now (out .exit)) (now (scratch .entry)) (now (scratch .exit)) ⌝ }
 {
-    let Taken::Whole(f) = words::take_fields(input) else {
+    let Taken::Whole(f) = inputs::take_fields(input) else {
         return report::refusal(text, 0, 60);
     };
     let put = calls::put(
-        words::sheet_of(input, f),
-        words::plan_of(input, f),
-        words::view_of(input, f),
+        inputs::sheet_of(input, f),
+        inputs::plan_of(input, f),
+        inputs::view_of(input, f),
         f.allowance,
         out,
         scratch,

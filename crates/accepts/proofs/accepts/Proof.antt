@@ -2,7 +2,7 @@
 use native.Mathlib.Omega.{arith}
 use lib.ListN.{length}
 use Rattle.rules.specs.Laws.Answers.{DoorOpens}
-use Rattle.calls.specs.Buffers.{cleared-whole}
+use Rattle.buffers.specs.Buffers.{cleared-whole}
 use Rattle.arena.specs.Door.{door-lent}
 use Rattle.accepts.specs.Calls.{shut-told, behind}
 use borrow.Author.Needs.{needs}

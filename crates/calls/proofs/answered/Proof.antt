@@ -1,6 +1,6 @@
 -- `answered` meets its contract: a walk that refused, or one that is done. Assumes nothing.
 use mathlib.Core.Path.{sym, _∙_}
-use Rattle.calls.specs.Buffers.{cleared-whole}
+use Rattle.buffers.specs.Buffers.{cleared-whole}
 use Rattle.calls.specs.Output.{kept-refused, room-done, copied-done}
 use borrow.Author.Needs.{needs}
 use Rattle.calls.proofs.answered.Statement.{statement}

@@ -1,6 +1,7 @@
 -- `given` meets its contract: the bytes are copied out, then scratch is cleared. Assumes nothing.
-use mathlib.Core.Path.{refl}
-use Rattle.calls.specs.Buffers.{cleared-whole}
+use mathlib.Core.Path.{refl, _∙_}
+use native.Mathlib.Omega.{arith}
+use Rattle.buffers.specs.Buffers.{cleared-whole, copied-room}
 use borrow.Author.Needs.{needs}
 use Rattle.calls.proofs.given.Statement.{statement}
 use Rattle.calls.proofs.given.Tie as tie
@@ -13,7 +14,8 @@ entry c = c .before .before .before .before .before
 returns : tie.Need-returns
 returns c =
     let copied = c .before .before .before .before .before .before in
-    (refl, copied .copy-out .ensures, cleared-whole _ (c .before .before .clear .ensures) (entry copied .pre .0))
+    let p = entry copied .pre in
+    (refl, copied .copy-out .ensures ∙ copied-room _ _ _ _ _ (p .1 .0) (omega (arith, p .1 .1)), cleared-whole _ (c .before .before .clear .ensures) (p .0))
 
 pub given-spec : {M : Type 1} → statement M
 given-spec = tie.close (tie.spec (λ c κs. search needs) (λ c κs. search needs) (λ c. search needs) (λ c. search needs) returns)

@@ -2,7 +2,7 @@
 use borrow.Author.Needs.{needs}
 use native.Mathlib.Omega.{arith}
 use lib.ListN.{drop}
-use Rattle.words.specs.Format.{fieldsOf}
+use Rattle.inputs.specs.Format.{fieldsOf}
 use Rattle.letters.specs.LookupLaws.{fits-refusal}
 use Rattle.walking.specs.PutLaws.{fits-puts, said}
 use Rattle.walking.specs.ExplanationLaws.{whys-fit}

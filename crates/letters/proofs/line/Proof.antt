@@ -4,7 +4,8 @@ use Prim.Native.Nat.{ℕ, _≤_}
 use native.Mathlib.Omega.{arith}
 use lib.ListN.{length, getD}
 use Rattle.report.specs.Writing.{wrote-text}
-use Rattle.words.specs.Numbers.{INPUT, LINE}
+use Rattle.inputs.specs.Numbers.{INPUT}
+use Rattle.words.specs.Numbers.{LINE}
 use Rattle.records.specs.AnewLaws.{bytes-known}
 use Rattle.letters.specs.SheetTexts.{readLine}
 use Rattle.letters.specs.Letters.{letterLine, letter-L, letter-V, letter-N, letter-J, letter-R, letter-D, letter-E, letter-T, letter-A, letter-U}

@@ -3,7 +3,7 @@ use mathlib.Core.Path.{sym, ap, _∙_}
 use Prim.Native.Nat.{ℕ}
 use lib.Dec.{eqb}
 use borrow.Author.Needs.{needs}
-use Rattle.syntax.specs.Tokens.{classOf}
+use Rattle.tokens.specs.Tokens.{classOf}
 use Rattle.lexing.specs.Lexing.{run-told}
 use Rattle.lexing.proofs.goes_on.Statement.{statement}
 use Rattle.lexing.proofs.goes_on.Tie as tie

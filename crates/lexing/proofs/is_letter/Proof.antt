@@ -2,7 +2,7 @@
 use mathlib.Core.Path.{_≡_, sym, _∙_}
 use mathlib.Core.Bool.{true, false}
 use borrow.Author.Needs.{needs}
-use Rattle.syntax.specs.Tokens.{within}
+use Rattle.tokens.specs.Tokens.{within}
 use Rattle.lexing.proofs.is_letter.Statement.{statement}
 use Rattle.lexing.proofs.is_letter.Tie as tie
 

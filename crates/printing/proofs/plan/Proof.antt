@@ -3,7 +3,7 @@ use mathlib.Core.List.{List}
 use Prim.Native.Nat.{ℕ, _≤_, _-_, pred}
 use native.Mathlib.Omega.{arith}
 use Rattle.report.specs.Writing.{Wrote, wrote-long}
-use Rattle.syntax.specs.Quoted.{bytes}
+use Rattle.tokens.specs.Quoted.{bytes}
 use Rattle.printing.specs.Whole.{Planned, plan-first, plan-more, plan-all}
 use borrow.Author.Needs.{needs}
 use Rattle.printing.proofs.plan.Statement.{statement}

@@ -5,7 +5,7 @@ use native.Mathlib.Omega.{arith}
 use borrow.Author.Needs.{needs}
 use lib.ListN.{getD}
 use Rattle.report.specs.Writing.{wrote-long}
-use Rattle.sheet.specs.Table.{kindWidth}
+use Rattle.node.specs.Decoding.{kindWidth}
 use Rattle.sheet.specs.PartsLaws.{kind-narrow}
 use Rattle.records.specs.AnewLaws.{Copied, copied-none, copied-more, copied-all}
 use Rattle.records.proofs.write_record.Statement.{statement}

@@ -5,8 +5,8 @@ use mathlib.Core.List.{List, map}
 use Prim.Native.Nat.{ℕ, zero, suc, _-_, _≤_}
 use native.Mathlib.Omega.{arith}
 use Rattle.value.specs.Value.{Value, Values}
-use Rattle.sheet.specs.declared.Node.{Node}
-use Rattle.sheet.specs.Kinds.{children, calls}
+use Rattle.node.specs.declared.Node.{Node}
+use Rattle.node.specs.Kinds.{children, calls}
 use Rattle.sheet.specs.Sheet.{Sheet}
 use Rattle.sheet.specs.Rows.{renumbered-same}
 use Rattle.rules.specs.Outcome.{Out, done, refused, plus, steps, _>>=_, given, choose}

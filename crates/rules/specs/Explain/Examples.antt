@@ -29,7 +29,7 @@ use Rattle.value.specs.Reading.{
   readValues,
 }
 use Rattle.sheet.specs.Sheet.{readNodes, oneSection, ifSection, readRecords, withNodes, readBody, nodesInRange, rootsInRange, inRange, readHeader, readSheet}
-use Rattle.sheet.specs.Kinds.{formOf, bodyWidth, make, nodeInRange}
+use Rattle.node.specs.Kinds.{formOf, bodyWidth, make, nodeInRange}
 use Rattle.rules.specs.Outcome.{when}
 use Rattle.rules.specs.Semantics
 use Rattle.rules.specs.Semantics.{onList, restOf, mkList, mkPair}

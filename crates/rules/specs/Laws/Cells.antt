@@ -6,7 +6,7 @@ use Prim.Native.Nat.{ℕ, zero, suc}
 use native.Mathlib.Omega.{arith}
 use lib.ListN.{length, take, set, replicate, getElem?}
 use Rattle.value.specs.Value.{Value, sameValue}
-use Rattle.sheet.specs.declared.Node.the-variants.{Var}
+use Rattle.node.specs.declared.Node.the-variants.{Var}
 use Rattle.sheet.specs.Sheet.{Sheet}
 use Rattle.rules.specs.Outcome.{when}
 use Rattle.rules.specs.Semantics

@@ -33,8 +33,8 @@ use Rattle.value.specs.Value.{
 }
 use Rattle.value.specs.Laws.{Readable, readable-front, readable-pair, encodable-front}
 use Rattle.value.specs.Views.{asList}
-use Rattle.sheet.specs.declared.Node.{Node}
-use Rattle.sheet.specs.declared.Node.the-variants.{Var, False, True, Empty, Number, Front, Pair, ListCase, TruthCase, Split, Call, Add, Each, Wide}
+use Rattle.node.specs.declared.Node.{Node}
+use Rattle.node.specs.declared.Node.the-variants.{Var, False, True, Empty, Number, Front, Pair, ListCase, TruthCase, Split, Call, Add, Each, Wide}
 use Rattle.sheet.specs.Sheet.{Sheet}
 use Rattle.rules.specs.Outcome.{Out}
 use Rattle.rules.specs.Semantics

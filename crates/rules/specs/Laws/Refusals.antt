@@ -12,7 +12,7 @@ use Rattle.value.specs.Result.{Result, ok, refusal, andThen, mapResult, orRefus
 use Rattle.value.specs.Value.{Value}
 use Rattle.value.specs.Reading.{Found, whole, malformed, tooLong, nothing, aValue, value, readValue, onValue, readValues}
 use Rattle.sheet.specs.Sheet.{Sheet, readNodes, oneSection, ifSection, readRecords, Records, withNodes, readBody, readHeader, readSheet}
-use Rattle.sheet.specs.Kinds.{formOf}
+use Rattle.node.specs.Kinds.{formOf}
 use Rattle.rules.specs.Numbers.{LEVELS, ALLOWANCE, SCRATCH, GET-OUTPUT, PUT-OUTPUT}
 use Rattle.rules.specs.Outcome.{Out, done, refused, steps, when, mapOut, given, reading}
 use Rattle.rules.specs.Allowance.{within, cap}

@@ -10,8 +10,8 @@ use Rattle.value.specs.Result.{Result, ok, refusal}
 use Rattle.value.specs.Value.{Value, Values, vfalse, list, nil, cons, size, encode, flat}
 use Rattle.value.specs.Reading.{readPlan, readView}
 use Rattle.value.specs.Laws.{readValues-sound}
-use Rattle.sheet.specs.declared.Node.{Node}
-use Rattle.sheet.specs.declared.Node.the-variants.{Var, False, True, Empty, Number, Front, Pair, ListCase, TruthCase, Split, Call, Add, Each, Wide}
+use Rattle.node.specs.declared.Node.{Node}
+use Rattle.node.specs.declared.Node.the-variants.{Var, False, True, Empty, Number, Front, Pair, ListCase, TruthCase, Split, Call, Add, Each, Wide}
 use Rattle.sheet.specs.Sheet.{Sheet, readSheet}
 use Rattle.sheet.specs.Laws.{sheet-ranges}
 use Rattle.rules.specs.Numbers.{LEVELS, VARIABLES, GET-OUTPUT, PUT-OUTPUT}

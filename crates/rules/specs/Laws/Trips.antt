@@ -14,7 +14,7 @@ use Rattle.value.specs.Value.{Value, vfalse, encode, flat, Fits}
 use Rattle.value.specs.Reading.{readPlan, readView}
 use Rattle.value.specs.Encoding.{size-encode}
 use Rattle.value.specs.Laws.{Readable, readValues-sound, readValues-back}
-use Rattle.sheet.specs.declared.Node.the-variants.{False, Number, Wide}
+use Rattle.node.specs.declared.Node.the-variants.{False, Number, Wide}
 use Rattle.sheet.specs.Sheet.{Sheet, readSheet}
 use Rattle.sheet.specs.Laws.{sheet-ranges}
 use Rattle.rules.specs.Numbers.{LEVELS, ALLOWANCE, FACTOR, SCRATCH, GET-OUTPUT, PUT-OUTPUT}

@@ -4,7 +4,7 @@ use Prim.Native.Nat.{_+_, _-_}
 use lib.ListN.{getD}
 use native.Mathlib.Omega.{arith}
 use borrow.Author.Needs.{needs}
-use Rattle.sheet.specs.Table.{kindWidth}
+use Rattle.node.specs.Decoding.{kindWidth}
 use Rattle.sheet.specs.PartsLaws.{kind-narrow, Looked, looked-none, looked-more, looked-all}
 use Rattle.sheet.proofs.children_at.Statement.{statement}
 use Rattle.sheet.proofs.children_at.Tie as tie

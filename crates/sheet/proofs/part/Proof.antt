@@ -4,7 +4,7 @@ use mathlib.Core.Logic.{inl, inr}
 use Prim.Native.Nat.{ℕ, _+_, _-_}
 use native.Mathlib.Omega.{arith}
 use borrow.Author.Needs.{needs}
-use Rattle.sheet.specs.Forms.{no-form}
+use Rattle.node.specs.Forms.{no-form}
 use Rattle.sheet.specs.Parts.{partAt}
 use Rattle.sheet.specs.PartsLaws.{part-at, part-unknown, part-past}
 use Rattle.sheet.proofs.part.Statement.{statement}

@@ -9,14 +9,14 @@ use lib.ListN.{length, getD}
 use Rattle.outcome.specs.Outcome.{isRefusal, lenOf, stepsOf}
 use Rattle.value.specs.Result.{ok}
 use Rattle.value.specs.Value.{Value}
-use Rattle.sheet.specs.declared.Node.{Node}
-use Rattle.sheet.specs.declared.Node.the-variants.{False}
+use Rattle.node.specs.declared.Node.{Node}
+use Rattle.node.specs.declared.Node.the-variants.{False}
 use Rattle.sheet.specs.Sheet.{Sheet, readSheet}
 use Rattle.sheet.specs.Table.{offsets}
 use Rattle.sheet.specs.Reading.{Made}
 use Rattle.sheet.specs.Records.{recordAt, record-told}
 use Rattle.sheet.specs.Laws.{Ranged, sheet-ranges, node-made, made-kind, table-start}
-use Rattle.sheet.specs.Kinds.{width}
+use Rattle.node.specs.Kinds.{width}
 use Rattle.sheet.specs.Rows.{width-8}
 use Rattle.rules.specs.Semantics
 use Rattle.rules.specs.Semantics.{Env}

@@ -11,7 +11,7 @@ use lib.Seq.{getD-set-same, getD-set-other, paste}
 use Rattle.outcome.specs.Outcome.{doneAs}
 use Rattle.value.specs.Value.{Value, vfalse, vtrue, list, nil, number, wide, encode, encodes, size, sizes}
 use Rattle.value.specs.Laws.{Readable}
-use Rattle.sheet.specs.Wide.{wideBytes}
+use Rattle.node.specs.Wide.{wideBytes}
 use Rattle.rules.specs.Semantics
 use Rattle.rules.specs.Semantics.{Env}
 use Rattle.rules.specs.Explain.{getNode, give}

@@ -9,8 +9,8 @@ use lib.ListN.{length, getD}
 use Rattle.outcome.specs.Outcome.{isRefusal, lenOf, stepsOf}
 use Rattle.value.specs.Result.{ok}
 use Rattle.value.specs.Value.{Value}
-use Rattle.sheet.specs.declared.Node.{Node}
-use Rattle.sheet.specs.declared.Node.the-variants.{False}
+use Rattle.node.specs.declared.Node.{Node}
+use Rattle.node.specs.declared.Node.the-variants.{False}
 use Rattle.sheet.specs.Records.{recordAt}
 use Rattle.sheet.specs.Sheet.{Sheet, readSheet}
 use Rattle.rules.specs.Semantics

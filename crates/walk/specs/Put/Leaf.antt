@@ -30,7 +30,7 @@ use Rattle.walk.specs.Represents.{Represents, answer-by, finish, give-so
 use Rattle.walk.specs.Arena.Cells.{Holds, Slot, blank, full, CellsHold, Shown}
 use Rattle.walk.specs.Arena.Frames.{frame-refl}
 use Rattle.walk.specs.Arena.CellLaws.{filled, filled-frame, written-set}
-use Rattle.sheet.specs.Wide.{wideBytes}
+use Rattle.node.specs.Wide.{wideBytes}
 use Rattle.walk.specs.Get.Leaf.{Childless}
 use Rattle.walk.specs.Put.{own, run, Given, Wrote, PutHere, PutAsked, PutTells}
 

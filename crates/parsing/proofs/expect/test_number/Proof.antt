@@ -5,7 +5,7 @@ use Prim.Native.Nat.{ℕ}
 use native.Mathlib.Omega.{arith}
 use borrow.Author.Needs.{needs}
 use lib.ListN.{drop}
-use Rattle.syntax.specs.Tokens.{wordOf}
+use Rattle.tokens.specs.Tokens.{wordOf}
 use Rattle.syntax.specs.Reader.{Name, find, tests}
 use Rattle.lexing.specs.Lexing.{tokenAt}
 use Rattle.parsing.specs.Expect.{numberOr, test-first, test-later, test-none}

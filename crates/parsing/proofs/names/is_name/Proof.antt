@@ -1,7 +1,7 @@
 -- `is_name` meets its contract. Assumes nothing.
 use mathlib.Core.Path.{sym, _∙_}
 use borrow.Author.Needs.{needs}
-use Rattle.syntax.specs.Tokens.{wordOf}
+use Rattle.tokens.specs.Tokens.{wordOf}
 use Rattle.lexing.specs.Lexing.{tokenAt}
 use Rattle.parsing.specs.Names.{no-name, wild-no-name, name-told}
 use Rattle.parsing.proofs.names.is_name.Statement.{statement}

@@ -3,8 +3,8 @@ use mathlib.Core.Path.{_∙_}
 use native.Mathlib.Omega.{arith}
 use borrow.Author.Needs.{needs}
 use lib.ListN.{drop}
-use Rattle.syntax.specs.Quoted.{bytes}
-use Rattle.syntax.specs.Tokens.{wordOf}
+use Rattle.tokens.specs.Quoted.{bytes}
+use Rattle.tokens.specs.Tokens.{wordOf}
 use Rattle.syntax.specs.Reader.{words}
 use Rattle.lexing.specs.Lexing.{tokenAt}
 use Rattle.parsing.specs.Names.{either, any-word}

@@ -4,8 +4,8 @@ use mathlib.Core.Path.{sym, ap, _∙_}
 use native.Mathlib.Omega.{arith}
 use borrow.Author.Needs.{needs}
 use lib.ListN.{length}
-use Rattle.syntax.specs.Quoted.{bytes}
-use Rattle.syntax.specs.Tokens.{wordOf, same}
+use Rattle.tokens.specs.Quoted.{bytes}
+use Rattle.tokens.specs.Tokens.{wordOf, same}
 use Rattle.syntax.specs.Reader.{Name}
 use Rattle.lexing.specs.Lexing.{part, part-length, tokenAt}
 use Rattle.parsing.specs.Names.{Alike, alike-none, alike-more, alike-not, alike-short, alike-all, same-sym, name-sent, name-alike, part-at}

@@ -2,7 +2,7 @@
 use mathlib.Core.Path.{sym, ap, _∙_}
 use mathlib.Core.List.{List}
 use Prim.Native.Nat.{ℕ}
-use Rattle.syntax.specs.Tokens.{same}
+use Rattle.tokens.specs.Tokens.{same}
 use Rattle.parsing.specs.Names.{same-none, word-is}
 use Rattle.parsing.proofs.names.is_word.Statement.{statement}
 use Rattle.parsing.proofs.names.is_word.Tie as tie

@@ -2,7 +2,7 @@
 use Prim.Native.Nat.{_-_}
 use mathlib.Core.Path.{sym, _∙_}
 use native.Mathlib.Omega.{arith}
-use Rattle.syntax.specs.Tokens.{wordOf}
+use Rattle.tokens.specs.Tokens.{wordOf}
 use Rattle.lexing.specs.Lexing.{tokenAt}
 use Rattle.parsing.specs.Names.{Above, above-all, above-one, above-found, above-none}
 use Rattle.parsing.proofs.names.lookup.Statement.{statement}

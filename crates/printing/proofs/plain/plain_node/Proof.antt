@@ -1,6 +1,6 @@
 -- `plain_node` meets its contract: in each arm the node is of the kind that it binds. Assumes nothing.
 use mathlib.Core.Path.{sym, ap, _∙_}
-use Rattle.sheet.specs.Kinds.{children}
+use Rattle.node.specs.Kinds.{children}
 use Rattle.syntax.specs.Printer.{noCase, allPlain}
 use Rattle.printing.specs.Flat.{flatIn, plainOf, one-is}
 use borrow.Author.Needs.{needs}

@@ -1,6 +1,6 @@
 -- `fits` meets its contract: in each arm the node is the kind that it binds. Assumes nothing.
 use mathlib.Core.Path.{ap}
-use Rattle.sheet.specs.Kinds.{row}
+use Rattle.node.specs.Kinds.{row}
 use Rattle.types.specs.Decided.{ranged-as, in-node, kind-is, same-types, list-types, pair-types}
 use Rattle.types.specs.Decided.{fits-var, fits-false, fits-true, fits-empty, fits-number, fits-wide, fits-front, fits-pair, fits-split, fits-add}
 use borrow.Author.Needs.{needs}

@@ -1,7 +1,7 @@
 -- `place_children` meets its contract: in each arm the node is the kind that it binds. Assumes nothing.
 use mathlib.Core.Path.{ap}
 use native.Mathlib.Omega.{arith}
-use Rattle.sheet.specs.Kinds.{children, row}
+use Rattle.node.specs.Kinds.{children, row}
 use Rattle.types.specs.Scopes.{childScopes, subject}
 use Rattle.types.specs.Placing.{put-1, put-more, as-scope, as-kind, childless-scopes}
 use Rattle.types.proofs.Tags.{childless}

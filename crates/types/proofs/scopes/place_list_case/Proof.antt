@@ -1,7 +1,7 @@
 -- `place_list_case` meets its contract. Assumes nothing.
 use mathlib.Core.Path.{ap}
 use native.Mathlib.Omega.{arith}
-use Rattle.sheet.specs.Kinds.{children}
+use Rattle.node.specs.Kinds.{children}
 use Rattle.types.specs.Scopes.{childScopes, subject}
 use Rattle.types.specs.Placing.{put-more, put-two, as-scope, as-scopes, as-kind}
 use Rattle.places.specs.Tags.{not-here}

@@ -1,6 +1,6 @@
 -- `count_children` meets its contract: in each arm the node is the kind that it binds. Assumes nothing.
 use mathlib.Core.List.{append-assoc}
-use Rattle.sheet.specs.Kinds.{children}
+use Rattle.node.specs.Kinds.{children}
 use Rattle.types.specs.Uses.{as-node, as-none}
 use Rattle.types.proofs.Tags.{childless}
 use borrow.Author.Needs.{needs}

@@ -8,7 +8,7 @@ use lib.ListN.{length}
 use lib.Seq.{paste}
 use Rattle.value.specs.Value.{encode}
 use Rattle.walk.specs.Arena.CellLaws.{filled}
-use Rattle.sheet.specs.Wide.{wideBytes}
+use Rattle.node.specs.Wide.{wideBytes}
 use borrow.Author.Needs.{needs}
 use Rattle.walk.proofs.getter.get_wide.Statement.{statement}
 use Rattle.walk.proofs.getter.get_wide.Tie as tie

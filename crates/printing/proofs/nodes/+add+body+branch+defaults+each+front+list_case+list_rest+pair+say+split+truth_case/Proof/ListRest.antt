@@ -5,8 +5,8 @@ use native.Mathlib.Omega.{arith}
 use borrow.Author.Needs.{needs}
 use mathlib.Core.Path.{_≡_, sym, _∙_}
 use lib.ListN.{getD}
-use Rattle.sheet.specs.declared.Node.the-variants.{Front}
-use Rattle.sheet.specs.Table.{nodeAt}
+use Rattle.node.specs.declared.Node.the-variants.{Front}
+use Rattle.node.specs.Decoding.{nodeAt}
 use Rattle.printing.specs.Saying.{ready-few, ready-bounded, tells-long}
 use Rattle.printing.specs.Telling.{names, next-ready, next-trailing, trailing-ready, end-tells, member-tells, other-tells}
 use Rattle.printing.proofs.Tags.{tail-other}

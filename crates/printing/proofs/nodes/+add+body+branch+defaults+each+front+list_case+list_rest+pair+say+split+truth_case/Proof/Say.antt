@@ -4,7 +4,7 @@ use Prim.Native.Nat.{ℕ}
 use native.Mathlib.Omega.{arith}
 use borrow.Author.Needs.{needs}
 use mathlib.Core.Path.{_≡_, sym, ap, _∙_}
-use Rattle.sheet.specs.Kinds.{row}
+use Rattle.node.specs.Kinds.{row}
 use Rattle.printing.specs.Saying.{Standing, ready-few, tells-long}
 use Rattle.printing.specs.Telling.{var-tells, false-tells, true-tells, empty-tells, number-tells, call-tells, wide-tells}
 use Rattle.printing.proofs.nodes.add.Reads as add-reads

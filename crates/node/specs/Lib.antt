@@ -1,0 +1,5 @@
+pub mod Kinds
+pub mod Decoding
+pub mod Forms
+pub mod Places
+pub mod Wide

@@ -1,0 +1,5 @@
+pub mod Quoted
+pub mod Tokens
+pub mod Same
+pub mod Laid
+pub mod Ahead
