@@ -10,6 +10,7 @@ use lib.ListN.{length, getD, drop, set, replicate, drop-of-length-le, length-set
 use lib.Seq.{drop-cons, getD-set-same, getD-set-other}
 use borrow.Author.Tests.{eq-eqb, ne-eqb, lt-ltb, le-ltb, lt-leb, le-leb}
 use Rattle.value.specs.Result.{Result, ok, refusal, andThen, unless}
+use Rattle.value.specs.Laws.{and-true}
 use Rattle.node.specs.declared.Node.{Node}
 use Rattle.node.specs.declared.Node.the-variants.{False, Var, Front, Pair, Add}
 use Rattle.sheet.specs.declared.Table.{Table}
@@ -118,10 +119,6 @@ module _ {n : Node} (x : ℕ) (counts : List ℕ) where
   add-counted e first sum p = rw e (omega arith)
 
 -- THE COUNTS of the nodes from i on
-
-and-true : (a b : Bool) → a && b ≡ true → (a ≡ true) × (b ≡ true)
-and-true true b e = (refl, e)
-and-true false b e = let z : _≡_ {A = ℕ} 0 1 = cc in absurd (omega arith)
 
 pub plain-at : (ns : List Node) → allPlain ns ≡ true → (i : ℕ) → plain (getD ns i False) ≡ true
 unfolding allPlain

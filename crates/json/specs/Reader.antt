@@ -107,10 +107,6 @@ module _ {K : Type 0} {w v : K → Awaits} {s : List ℕ} {at i c : ℕ} (o : On
   off-byte h e = off-then o (λ k. ap (λ (l : List ℕ). run l (exactly c (v k))) (at-byte s i h refl)
       ∙ run-byte (getD s i 0) c (drop (i + 1) s) (v k) ∙ rw (ne-eqb (getD s i 0) c e))
 
-  pub off-short : length s ≤ i → Off w s at 70
-  unfolding ends
-  off-short h = off-end o h (λ k. refl)
-
 -- A TOKEN OR MORE was passed, and r is the place behind it; or it does not stand there, and r is 0
 pub record Passes (w : Awaits → Awaits) (s : List ℕ) (at r : ℕ) : Type 0 where
   pub none : r ≡ 0 → Off w s at 70

@@ -174,9 +174,6 @@ module _ {s : List ℕ} {at i : ℕ} (levels put : ℕ) (h : at ≤ length s) (p
     }
 
 module _ {levels : ℕ} {s : List ℕ} {at put : ℕ} {b₀ : List ℕ} {i : ℕ} {b : List ℕ} {p : ℕ} (m : Listed levels s at put b₀ i b p) where
-  pub member-inside : i ≤ length s
-  member-inside = m .on .inside
-
   member-refused′ : {b′ : List ℕ} {c : ℕ} → Gives (value levels) encode s i p b b′ (Refused c) → Gives (members levels) encodes s at put b₀ b′ (Refused c)
   unfolding member
   member-refused′ (gRefused l f) = gRefused (l ∙ wrote-long (m .wrote)) (off-then (m .on) (λ k. f (λ v. more levels λ l. k (m .make (cons v l)))))

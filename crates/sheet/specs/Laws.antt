@@ -9,6 +9,7 @@ use lib.Dec.{leb, ltb}
 use lib.ListN.{length, getD, replicate, List·getD-append}
 use borrow.Author.Tests.{leb-true, ltb-true}
 use Rattle.value.specs.Result.{Result, ok, refusal}
+use Rattle.value.specs.Laws.{and-true}
 use mathlib.Core.Logic.{inl, inr}
 use mathlib.Core.Option.{none, some}
 use native.Mathlib.Decide.{decLt}
@@ -45,9 +46,6 @@ pub node-made : (s : List ℕ) {sh : Sheet} → readSheet s ≡ ok sh → (i : �
     → Made s (getD (offsets (3 + 2 * length (sh .sections)) (sh .nodes)) i 0) (getD (sh .nodes) i False)
 node-made s e i h = made-at (sheet-read s e .header .placed) i h
 
-pub made-as : {s : List ℕ} {p k : ℕ} {n : Node} {f : Form} → Made s p n → getD s (p + 0) 0 ≡ k → formOf k ≡ some f → n ≡ make f (λ i. getD s (p + suc i) 0)
-made-as {f = f} m e q = let z : m .form ≡ f = let x = m .known in cc in rw z at (m .node)
-
 pub made-kind : {s : List ℕ} {p : ℕ} {n : Node} → Made s p n → (16 ≤ getD s (p + 0) 0) × (getD s (p + 0) 0 < past)
 made-kind {s} {p} m = (go (decLt (getD s (p + 0) 0) 16), go′ (decLt (getD s (p + 0) 0) past))
   where
@@ -66,10 +64,6 @@ pub section-read : (s : List ℕ) {sh : Sheet} → readSheet s ≡ ok sh → (i 
 section-read s e = header-section (sheet-read s e .header)
 
 -- THE RANGE OF EACH NUMBER
-
-and-true : (a b : Bool) → a && b ≡ true → (a ≡ true) × (b ≡ true)
-and-true true b e = (refl, e)
-and-true false b e = let z : _≡_ {A = ℕ} 0 1 = cc in absurd (omega arith)
 
 -- a node that node `own` names: a higher number, of a node that is there
 pub record Child (nodes own c : ℕ) : Type 0 where

@@ -110,9 +110,6 @@ only-answer (ill h) = refuses h
 told-refusal : {R : ℕ → Type 0} {Q : List ℕ → Type 0} {c : ℕ} → Told-of R Q (Answer.refusal c) → R c
 told-refusal (refuses h) = h
 
-told-success : {R : ℕ → Type 0} {Q : List ℕ → Type 0} {bs : List ℕ} {n : ℕ} → Told-of R Q (Answer.success bs n) → Q bs
-told-success (answered q) = q
-
 module _ {sh : Sheet} {P : ℕ → Type 0} {Q : List ℕ → Type 0} where
   only-door : (need output scratch allowance : ℕ) {o : Out (List ℕ)} → Only (Permitted sh P) Q o
       → Only (Permitted sh P) Q (door need output scratch allowance o)

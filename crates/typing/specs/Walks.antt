@@ -251,11 +251,6 @@ module _ {A : Type 0} {R : Cause → Option Value → Type 0} {Q : A → Type 0}
   ends-met {y} {s} (ill {y = x} {v} {s = r} h) e z =
       let a : x ≡ y = cc in let b : r ≡ s = cc in (v, cc, rw a at h)
 
-  ends-got : {j : Judged A} {t : Exit A} {a : A} {s : ℕ} → Ends R Q j → drop j ≡ t → t ≡ got a s → Q a
-  unfolding drop
-  ends-got {a} (well {a = b} q) e z = let k : b ≡ a = cc in rw k at q
-  ends-got (ill h) e z = apart (cc)
-
 module _ {A B : Type 0} {R : Cause → Option Value → Type 0} {Q : A → Type 0} where
   -- and in the counting one
   ends-refused : (f : A → B) {j : Judged A} {t : Exit A} {o : Out B} {c s : ℕ} → Ends R Q j → drop j ≡ t → forget f t ≡ o → o ≡ refused c s

@@ -14,7 +14,7 @@ use Rattle.value.specs.Value.{Value, vfalse, encode}
 use Rattle.shapes.specs.Parts.{both, sameBytes}
 use Rattle.shapes.specs.PartsLaws.{same-refl, same-values}
 use Rattle.value.specs.Reading.{readPlan, readView}
-use Rattle.value.specs.Laws.{readValues-sound}
+use Rattle.value.specs.Laws.{readValues-sound, and-true}
 use Rattle.sheet.specs.Sheet.{Sheet, readSheet}
 use Rattle.rules.specs.Numbers.{LEVELS, ALLOWANCE, SCRATCH, GET-OUTPUT}
 use Rattle.rules.specs.Outcome.{Out, done, refused}
@@ -105,10 +105,6 @@ module _ (sh : Sheet) (μ ν : Env) (x : ℕ) where
       go false f e = left _ e
 
 -- ALL OF THEM
-
-and-true : (a b : Bool) → a && b ≡ true → (a ≡ true) × (b ≡ true)
-and-true true b e = (refl, e)
-and-true false b e = let z : _≡_ {A = ℕ} 0 1 = cc in absurd (omega arith)
 
 module _ (sh : Sheet) (μ ν : Env) where
   all-spared : ((x : ℕ) → spared sh μ ν x ≡ true) → (x n : ℕ) → sparedFrom sh μ ν x n ≡ true

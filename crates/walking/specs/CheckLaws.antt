@@ -47,11 +47,6 @@ small-walk sheet new a sh es ν en = go (getWalk a sh ν) (rw (es, en) at (lists
     go (done v n) l = Small.done
     go (refused c n) l = no {c = c} (listed l)
 
-small-other : {A : Type 0} (c : ℕ) → c < 256 → (r : Result A) → Small (orCode c r)
-unfolding orCode
-small-other c h (ok a) = Small.done
-small-other c h (refusal d) = no {c = c} h
-
 judged-small : (sheet old view new : List ℕ) (a : ℕ) → Small (judgedOf sheet old view new a)
 unfolding judgedOf andThen orCode
 judged-small sheet old view new a = go (readSheet sheet) refl (small-sheet sheet)
