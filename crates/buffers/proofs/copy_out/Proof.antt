@@ -39,6 +39,12 @@ returns-2 c = copied-full _ _ _ _ _ (source (c .before .before)) (sym (c .before
 loop-holds : tie.Need-loop-holds Inv-loop μ-loop
 loop-holds c = (omega arith, leb-true _ _ (source (long c)), leb-true _ _ (sym (c .before .has2 .ensures) ∙ not-false _ (c .if2 .left)), copying-none _ _ _ _)
 
+shared-slice-read-out : tie.Need-shared-slice-read-out Inv-loop μ-loop
+shared-slice-read-out c = let v = c .before .before .loop .inv in omega (arith, v .1)
+
+slice-write-out : tie.Need-slice-write-out Inv-loop μ-loop
+slice-write-out c = let v = c .before .before .loop .inv in omega (arith, v .2, v .3 .long)
+
 loop-again : tie.Need-loop-again Inv-loop μ-loop
 loop-again c =
     let v = c .before .before .loop .inv in
@@ -52,5 +58,4 @@ returns-3 c =
 
 pub copy-out-spec : {M : Type 1} → statement M
 copy-out-spec = tie.close (tie.spec Inv-loop μ-loop (λ c κs. search needs) returns (λ c κs. search needs) returns-2 loop-holds (λ c. omega arith)
-    (λ c. let v = c .before .before .loop .inv in omega (arith, v .1)) (λ c. omega arith) (λ c. let v = c .before .before .loop .inv in omega (arith, v .2, v .3 .long)) (λ c. omega arith) (λ c. omega arith) loop-again
-    (λ c. c .before .loop .inv .3 .long) returns-3)
+    shared-slice-read-out (λ c. omega arith) slice-write-out (λ c. omega arith) (λ c. omega arith) loop-again (λ c. c .before .loop .inv .3 .long) returns-3)
