@@ -1,4 +1,4 @@
-/* Gabqweshi's archive (rt staticlib lens): one sheet of rules, read both ways, the values of a plan found by their number, why a
+/* Gabqweshi's archive (bin/build lens): one sheet of rules, read both ways, the values of a plan found by their number, why a
  * reading is refused, tools for sheets, and sheets as text.
  *
  *   lens_get          a plan to its list (the "view")
@@ -56,7 +56,7 @@ uint64_t lens_version(void);
 
 /* The most bytes of stack that a call takes: measured on the deepest jobs, sheets and texts (rust/tests/stack), not proved, and rounded up to
  * a page. A thread needs this much free when it calls. */
-#define LENS_STACK 204800u
+#define LENS_STACK 192512u
 
 /* The list that the sheet makes of the plan, in at most `allowance` steps. */
 uint64_t lens_get(const uint8_t *sheet, size_t sheet_len, const uint8_t *plan, size_t plan_len, uint32_t allowance,

@@ -1,4 +1,4 @@
-//! Links the archive that `rt staticlib lens` makes, or the one that `LENS_ARCHIVE` names.
+//! Links the archive that `bin/build lens` makes, or the one that `LENS_ARCHIVE` names.
 
 use std::env;
 use std::fs;
@@ -14,7 +14,7 @@ fn main() {
     let copy = PathBuf::from(env::var_os("OUT_DIR").unwrap());
     if let Err(error) = fs::copy(&archive, copy.join("liblens.a")) {
         eprintln!("\nThe archive {} cannot be read: {error}.", archive.display());
-        eprintln!("Run `rt staticlib lens` in the repository's root to make it, or name another in LENS_ARCHIVE (a full path).\n");
+        eprintln!("Run `bin/build lens` in the repository's root to make it, or name another in LENS_ARCHIVE (a full path).\n");
         std::process::exit(1);
     }
     println!("cargo:rustc-link-search=native={}", copy.display());

@@ -87,7 +87,7 @@ class Verbs(InFolder):
         self.assertEqual(run('why', 'house.txt', 'plan.json', '--allowance', 1).status, 1)
 
     def test_words_are_those_of_why(self):
-        """bin/why says the same of the same job, by the program that rt check makes."""
+        """bin/why says the same of the same job, by the program that bin/build makes."""
         rows = [('010100 160102 1000 1000', '040007', '05 040008 040009'), ('010100 1000', '0400', '00'), ('010100 1001', '00', '00'),
                 ('010200 2001 1A000001 1702030104020708 1000 1001 150506 1002 1A000301 11 13', '02 02', '00')]
         for sheet, plan, view in map(lambda row: map(bytes.fromhex, row), rows):

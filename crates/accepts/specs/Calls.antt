@@ -12,7 +12,7 @@ use Rattle.value.specs.Value.{Value, encode}
 use Rattle.shapes.specs.Parts.{same_bytes}
 use Rattle.value.specs.Reading.{read_plan, read_view}
 use Rattle.value.specs.Spans.{spans, spans_of}
-use Rattle.value.specs.SpansLaws.{plan_read, plan_refused}
+use Rattle.value.proofs.SpansLaws.{plan_read, plan_refused}
 use Rattle.value.specs.declared.Spans.{Spans}
 use Rattle.sheet.specs.declared.Table.{Table}
 use Rattle.sheet.specs.Sheet.{Sheet, read_sheet}
@@ -22,20 +22,19 @@ use Rattle.rules.specs.Numbers.{allowance_limit, scratch_size, stack_start, get_
 use Rattle.rules.specs.Outcome.{Out, done, refused, map_out, reading}
 use Rattle.rules.specs.Counting.{Env}
 use Rattle.rules.specs.Answer.{get_walk, get_bytes}
-use Rattle.rules.specs.Laws.Answers.{DoorOpens, door-scratch, door_none, door_over}
-use Rattle.rules.specs.Laws.Refusals.{Lists, l_done, l_refused, listed_above, lists_get_bytes, lists_put_bytes}
+use Rattle.rules.specs.Laws.Answers.{DoorOpens}
+use Rattle.rules.proofs.Laws.Answers.{door-scratch, door_none, door_over}
+use Rattle.rules.proofs.Laws.Refusals.{Lists, l_done, l_refused, listed_above, lists_get_bytes, lists_put_bytes}
 use Rattle.walk.specs.declared.Reply.{Reply}
 use Rattle.walk.specs.declared.Reply.TheVariants.{Done as ReplyDone, Refused as ReplyRefused}
 use Rattle.walk.specs.Call.{Says, says_done, says_refused, Free, get_sheet-refused, get_plan-refused}
 use Rattle.walk.specs.Call.Put.{put_view-refused}
-use Rattle.buffers.specs.Buffers.{zeroed}
 use Rattle.calls.specs.Calls.{after_refusal}
-use Rattle.calls.specs.CallLaws.{zeros_same}
 use Rattle.arena.specs.Door.{shut, shut_is, shut_open}
 use Rattle.accepts.specs.declared.Verdict.{Verdict}
 use Rattle.accepts.specs.declared.Verdict.TheVariants.{Yes, No, Refused}
 use Rattle.venue.specs.Accepts.{kept, or_code, result, judged_of, accepts_of}
-use Rattle.venue.specs.Laws.{read_85}
+use Rattle.venue.proofs.Laws.{read_85}
 use Rattle.accepts.specs.Accepts.{yes_no, verdict, cleared, Accepted}
 use Rattle.accepts.specs.Marks.{Readied}
 use Rattle.accepts.specs.Kept.{Plans, KeptAs}
@@ -231,7 +230,8 @@ module _ (sheet old view new : List ℕ) (allowance : ℕ) (s : List ℕ) where
       by k q l w = rw w (record { answer = ap Refused q; scratch = rw l refl })
 
       go : Dec (scratch_size ≤ length s) → Dec (1 ≤ allowance) → Dec (allowance ≤ allowance_limit) → Accepted Answer (Refused c) s s
-      go (no a) b d = by 2 (f ∙ sym (shut_is _ _ _ _ (door-scratch _ _ _ _ _ (omega arith) (omega arith)))) refl (rw (lt-leb scratch_size (length s) (omega arith)))
+      go (no a) b d = by 2 (f ∙ sym (shut_is _ _ _ _ (door-scratch _ _ _ _ _ (omega arith) (omega arith)))) refl (rw (lt-leb scratch_size (length s)
+          (omega arith)))
       go (yes a) (no b) d =
           by 3 (f ∙ sym (shut_is _ _ _ _ (door_none _ _ _ _ _ (omega arith) a (omega arith)))) refl
           (rw (le-leb scratch_size (length s) a, lt-leb 1 allowance (omega arith)))
@@ -253,7 +253,7 @@ listed_code : {o : Out (List ℕ)} {c n : ℕ} → Lists o → o ≡ refused c n
 listed_code l_done e = let z : ◌≡◌ {A = ℕ} 0 1 = cc in absurd (omega arith)
 listed_code {c = c} (l_refused {c = d} h) e = let z : d ≡ c = cc in rw z at (listed_above d h)
 
-abbrev High : {A : Type 0} → Result A → Type 0
+abbrev pub High : {A : Type 0} → Result A → Type 0
 High r = (c : ℕ) → r ≡ refusal c → 3 < c
 
 high_then : {A B : Type 0} (r : Result A) (f : A → Result B) → High r → ((a : A) → r ≡ ok a → High (f a)) → High (and_then r f)
@@ -276,7 +276,7 @@ bytes_refused : (sheet new : List ℕ) (allowance : ℕ) {sh : Sheet} → read_s
 unfolding get_bytes reading map_out
 bytes_refused sheet new allowance es en e = rw (es, en, e)
 
-judged_high : (sheet old view new : List ℕ) (allowance : ℕ) → High (judged_of sheet old view new allowance)
+pub judged_high : (sheet old view new : List ℕ) (allowance : ℕ) → High (judged_of sheet old view new allowance)
 unfolding judged_of
 judged_high sheet old view new allowance =
     high_then (read_sheet sheet) _ (λ c e. listed_code (lists_get_bytes sheet [] allowance) (get_sheet-refused sheet [] allowance e)) λ sh es.
@@ -286,16 +286,3 @@ judged_high sheet old view new allowance =
     high_then (result (get_walk allowance sh ν)) _ (λ c e. listed_code (lists_get_bytes sheet new allowance)
     (bytes_refused sheet new allowance es (read_85 (read_plan sh.k new) en) (walk_refused (get_walk allowance sh ν) e).1)) λ v _ c e.
     let z : ◌≡◌ {A = ℕ} 0 1 = cc in absurd (omega arith)
-
-cleared_high : (j : Result Bool) (s : List ℕ) → High j → zeroed s ≡ cleared j s
-unfolding cleared after_refusal
-cleared_high (ok b) s h = refl
-cleared_high (refusal c) s h = rw (lt-leb c 3 (h c refl))
-
-pub behind : (sheet old view new : List ℕ) (allowance : ℕ) (s : List ℕ) → DoorOpens 0 0 (length s) allowance
-    → {r : Verdict} → r ≡ verdict (judged_of sheet old view new allowance) → {a : List ℕ} → Free scratch_size s a → {s' : List ℕ} → s' ≡ zeroed a
-    → Accepted (accepts_of sheet old view new allowance (length s)) r s s'
-behind sheet old view new allowance s l e {a} f z = rw (opened sheet old view new allowance s l) (record {
-  answer = e;
-  scratch = z ∙ zeros_same scratch_size s a f.behind ∙ cleared_high _ s (judged_high sheet old view new allowance);
-})

@@ -1,6 +1,6 @@
 -- The comparison of two plans, as far as it has come.
-use Rattle.std.specs.Prelude.{◌≡◌, refl, Bool, true, false, ◌&&◌, ◌||◌, List, length, get_or, take, drop}
-use Rattle.std.proofs.Common.{sym, ◌∙◌, add-one, lt-ltb, le-ltb, drop_of_length-le, drop-cons}
+use Rattle.std.specs.Prelude.{◌≡◌, Bool, true, false, ◌&&◌, ◌||◌, List, length, get_or, take, drop}
+use Rattle.std.proofs.Common.{sym, ◌∙◌, add-one, lt-ltb, le-ltb}
 use Rattle.std.proofs.Math.Path.{ap, ap₂}
 use Prim.Native.Nat.{ℕ, suc, ◌+◌, ◌-◌, ◌≤◌, ◌<◌}
 use native.Mathlib.Omega.{arith}
@@ -8,16 +8,12 @@ use Rattle.value.specs.Result.{ok}
 use Rattle.value.specs.Value.{Value, vfalse, encode}
 use Rattle.shapes.specs.Parts.{same_bytes}
 use Rattle.value.specs.Reading.{read_plan}
-use Rattle.value.specs.Laws.{read_values_sound}
+use Rattle.value.proofs.Laws.{read_values_sound}
 use Rattle.value.specs.Spans.{spans}
-use Rattle.value.specs.SpansLaws.{span_is, span_inside}
+use Rattle.value.proofs.SpansLaws.{span_is, span_inside}
 use Rattle.value.specs.declared.Spans.{Spans}
-use Rattle.node.specs.declared.Node.{Node}
-use Rattle.node.specs.declared.Node.TheVariants.{False}
 use Rattle.sheet.specs.declared.Table.{Table}
-use Rattle.node.specs.Kinds.{variables}
 use Rattle.sheet.specs.Sheet.{Sheet, read_sheet}
-use Rattle.node.specs.Decoding.{node_at}
 use Rattle.sheet.specs.Laws.{Reads}
 use Rattle.rules.specs.Counting.{Env}
 use Rattle.undo.specs.Alike.{names}

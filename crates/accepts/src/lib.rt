@@ -1,4 +1,6 @@
 //! Plans made by a venue's own system (document 02, request 10): a finished new plan that comes with the list is judged by the rules.
+#![tactic(auto)]
+
 ghost use Rattle.std.specs.Prelude.{◌≡◌, length};
 ghost use Rattle.node.specs.Kinds.{variables};
 ghost use Rattle.shapes.specs.Parts.{same_bytes};

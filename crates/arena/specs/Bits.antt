@@ -2,7 +2,7 @@
 use Rattle.std.specs.Prelude.{◌≡◌, refl, Bool, cond, not, List, [], ◌∷◌, ℕ, zero, suc, ◌+◌, ◌-◌, ◌*◌, ◌≤◌, ◌<◌, min, eqb, length, get_or}
 use Rattle.std.proofs.Common.{ap, ◌∙◌, arith, eq-eqb, ne_eqb}
 use Rattle.rules.specs.Bits.{bits_of}
-use Rattle.rules.specs.Bits.Laws.{bits_below}
+use Rattle.rules.proofs.Bits.Laws.{bits_below}
 
 -- a slot of 0 took no view
 unfoldable pub filled : ℕ → Bool

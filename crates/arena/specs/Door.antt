@@ -6,9 +6,10 @@ use mathlib.Core.List.{List, []}
 use Rattle.std.proofs.Math.Decide.{dec_le}
 use Rattle.rules.specs.Numbers.{allowance_limit, scratch_size}
 use Rattle.rules.specs.Outcome.{Out, done, refused}
-use Rattle.rules.specs.Laws.Outcomes.{given_yes}
+use Rattle.rules.proofs.Laws.Outcomes.{given_yes}
 use Rattle.rules.specs.Answer.{door}
-use Rattle.rules.specs.Laws.Answers.{DoorOpens, door_open, door-output, door-scratch, door_none, door_over}
+use Rattle.rules.specs.Laws.Answers.{DoorOpens}
+use Rattle.rules.proofs.Laws.Answers.{door_open, door-output, door-scratch, door_none, door_over}
 
 -- the number of a refusal, 0 where there is none
 unfoldable pub number : Out (List ℕ) → ℕ

@@ -1,6 +1,8 @@
 //! What a walk leaves at fixed places: a view in its cell's slot, stored by the first node that puts one and compared with ever after, and what the
 //! slots' notes tell of which cells took a view; and the chain of a refusal, the nodes from the root down to the one that it was met at, each with
 //! its byte at the arena's end, written on the way out of it. And the door, which judges whether an arena and an allowance will do for a walk.
+#![tactic(auto)]
+
 ghost use Rattle.std.specs.Prelude.{cond, ◌≡◌, min};
 ghost use Rattle.rules.specs.Bits.{bits_of};
 ghost use Rattle.scopes.specs.Scopes.{When};

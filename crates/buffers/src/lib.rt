@@ -1,4 +1,6 @@
 //! The caller's buffers: scratch cleared, and an answer copied out of it.
+#![tactic(auto)]
+
 ghost use Rattle.std.specs.Prelude.{◌≡◌, ◌+◌, min, leb, length};
 ghost use Rattle.rules.specs.Numbers.{scratch_size};
 ghost use Rattle.buffers.specs.Buffers.{zeros, copied};

@@ -6,16 +6,16 @@ use Rattle.std.proofs.Math.Decide.{dec_lt}
 use Rattle.value.specs.Result.{ok}
 use Rattle.value.specs.Value.{Value, vfalse, encode}
 use Rattle.value.specs.Reading.{read_plan}
-use Rattle.value.specs.Laws.{read_values_sound}
+use Rattle.value.proofs.Laws.{read_values_sound}
 use Rattle.sheet.specs.Sheet.{Sheet, read_sheet}
 use Rattle.starts.specs.declared.Found.{Found}
 use Rattle.starts.specs.Starts.{load_of, find_of, part_of}
-use Rattle.starts.specs.StartsLaws.{loaded_part, loaded_none}
+use Rattle.starts.proofs.StartsLaws.{loaded_part, loaded_none}
 use Rattle.rules.specs.Answer.{success, put_answer}
-use Rattle.rules.specs.Laws.Answers.{put_shows}
-use Rattle.rules.specs.Laws.Trips.{put_writes}
+use Rattle.rules.proofs.Laws.Answers.{put_shows}
+use Rattle.rules.proofs.Laws.Trips.{put_writes}
 use Rattle.rules.specs.Bits.{bit, put_written}
-use Rattle.rules.specs.Bits.Laws.{clear_kept}
+use Rattle.rules.proofs.Bits.Laws.{clear_kept}
 
 -- the bytes of variable i of a plan, by the starts that loading the plan gives; none where it has no such variable
 abbrev pub bytes_at : (sheet plan : List ℕ) (i : ℕ) → List ℕ

@@ -1,5 +1,5 @@
 -- What shows that a call was answered: refused at the door, refused behind it, or done.
-use Rattle.std.specs.Prelude.{◌≡◌, List, ◌++◌, ℕ, ◌+◌, ◌≤◌, ◌<◌, length, take}
+use Rattle.std.specs.Prelude.{◌≡◌, List, ◌++◌, ℕ, ◌≤◌, ◌<◌, length, take}
 use Rattle.std.proofs.Math.Path.{refl, ap}
 use Rattle.std.proofs.Common.{◌∙◌, zero-add, arith, length-append}
 use Rattle.std.proofs.Math.Bool.{false}
@@ -9,8 +9,9 @@ use Rattle.std.proofs.Math.ListN.{drop}
 use Rattle.std.proofs.Math.Seq.{paste}
 use Rattle.rules.specs.Outcome.{Out, done, refused}
 use Rattle.rules.specs.Answer.{Answer, refusal, success, answer, door}
-use Rattle.rules.specs.Laws.Answers.{DoorOpens, door_open}
-use Rattle.rules.specs.Laws.Refusals.{Lists, l_refused, listed_above}
+use Rattle.rules.specs.Laws.Answers.{DoorOpens}
+use Rattle.rules.proofs.Laws.Answers.{door_open}
+use Rattle.rules.proofs.Laws.Refusals.{Lists, l_refused, listed_above}
 use Rattle.calls.specs.Reply.{Reply, Done, Refused}
 use Rattle.buffers.specs.Buffers.{zeros, zeroed}
 use Rattle.arena.specs.Door.{shut, Door, opens, shuts, door_cases}

@@ -3,9 +3,9 @@ use Rattle.std.specs.Prelude.{◌≡◌, refl, List, ℕ, ◌≤◌, ◌<◌, le
 use Rattle.std.proofs.Common.{arith, le_trans}
 use Rattle.rules.specs.Numbers.{allowance_limit, put_output}
 use Rattle.rules.specs.Answer.{Answer, refusal, success, get_answer, put_answer}
-use Rattle.rules.specs.Laws.Answers.{get_shows, put_shows, get_steps, put_steps}
-use Rattle.rules.specs.Laws.Trips.{get_short, put_short}
-use Rattle.rules.specs.Laws.Refusals.{Stated, stated_small, get_refusals, put_refusals}
+use Rattle.rules.proofs.Laws.Answers.{get_shows, put_shows, get_steps, put_steps}
+use Rattle.rules.proofs.Laws.Trips.{get_short, put_short}
+use Rattle.rules.proofs.Laws.Refusals.{Stated, stated_small, get_refusals, put_refusals}
 use Rattle.calls.specs.Reply.{Reply, Done, Refused}
 use Rattle.calls.specs.Calls.{reply, Answered}
 
@@ -14,7 +14,8 @@ abbrev pub Small : Reply → Type 0
 Small (Refused c) = (1 ≤ c) × (c < 256)
 Small (Done len n) = (len ≤ put_output) × (n ≤ allowance_limit)
 
-small_reply : (a : Answer) → ((c : ℕ) → a ≡ refusal c → Stated c) → ((bs : List ℕ) (n : ℕ) → a ≡ success bs n → (length bs ≤ put_output) × (n ≤ allowance_limit))
+small_reply : (a : Answer) → ((c : ℕ) → a ≡ refusal c → Stated c) → ((bs : List ℕ) (n : ℕ) → a ≡ success bs n → (length bs ≤ put_output)
+    × (n ≤ allowance_limit))
     → Small (reply a)
 unfolding reply
 small_reply (refusal c) k h = stated_small c (k c refl)

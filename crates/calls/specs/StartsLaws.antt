@@ -11,9 +11,9 @@ use Rattle.starts.specs.declared.Found.TheVariants.{Refused}
 use Rattle.starts.specs.declared.Loaded.{Loaded}
 use Rattle.starts.specs.declared.Starts.{Starts}
 use Rattle.starts.specs.Starts.{no_starts, load_of, find_of, part_of}
-use Rattle.starts.specs.StartsLaws.{load_few, load_gives, loaded_part, loaded_none}
+use Rattle.starts.proofs.StartsLaws.{load_few, load_gives, loaded_part, loaded_none}
 use Rattle.rules.specs.Answer.{Answer, refusal, success, put_answer}
-use Rattle.rules.specs.Laws.Trips.{new_plan_lem}
+use Rattle.rules.proofs.Laws.Trips.{new_plan_lem}
 use Rattle.calls.specs.declared.PutReply.{PutReply}
 use Rattle.calls.specs.Calls.{new_starts, PutAnswered}
 

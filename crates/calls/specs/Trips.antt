@@ -3,7 +3,7 @@ use Rattle.std.specs.Prelude.{◌≡◌, List, ℕ, ◌*◌, ◌≤◌, length, 
 use Rattle.std.proofs.Common.{arith, take_at}
 use Rattle.rules.specs.Numbers.{allowance_limit, factor, scratch_size, get_output, put_output}
 use Rattle.rules.specs.Answer.{Answer, refusal, success, get_answer, put_answer}
-use Rattle.rules.specs.Laws.Trips.{consistency, acceptability}
+use Rattle.rules.proofs.Laws.Trips.{consistency, acceptability}
 use Rattle.calls.specs.declared.PutReply.{PutReply}
 use Rattle.calls.specs.Reply.{Reply, Done}
 use Rattle.calls.specs.Calls.{reply, written, Answered, new_starts, new_written, PutAnswered}

@@ -7,8 +7,9 @@ use Rattle.std.proofs.Math.Seq.{paste}
 use Rattle.rules.specs.Numbers.{scratch_size, stack_start, get_output, put_output}
 use Rattle.rules.specs.Outcome.{Out, done, refused}
 use Rattle.rules.specs.Answer.{Answer, refusal, success, answer, door, get_bytes, get_answer, put_bytes, put_answer}
-use Rattle.rules.specs.Laws.Answers.{DoorOpens, door_open}
-use Rattle.rules.specs.Laws.Refusals.{Lists, lists_get_bytes, lists_put_bytes}
+use Rattle.rules.specs.Laws.Answers.{DoorOpens}
+use Rattle.rules.proofs.Laws.Answers.{door_open}
+use Rattle.rules.proofs.Laws.Refusals.{Lists, lists_get_bytes, lists_put_bytes}
 use Rattle.starts.specs.Starts.{no_starts, load_of}
 use Rattle.walk.specs.Call.{Says, says_done, says_refused, WalkCall}
 use Rattle.calls.specs.Reply.{Reply, Done, Refused}

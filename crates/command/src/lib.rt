@@ -1,4 +1,6 @@
 //! What the program `tools` is handed, taken apart and run: docs/TOOLS.md has the letters and their fields.
+#![tactic(auto)]
+
 ghost use Rattle.report.specs.Writing.{Front};
 ghost use Rattle.command.specs.Line.{tool_line, BuffersAfter};
 

@@ -4,7 +4,7 @@ use Rattle.std.proofs.Common.{sym, ap₂, ◌∙◌, arith, eqb-true, ne_eqb, eq
 use Rattle.std.proofs.Math.Path.{ap}
 use Rattle.std.proofs.lemmas.Bool.{false≢true}
 use Rattle.shapes.specs.Parts.{passes_bytes}
-use Rattle.shapes.specs.TestsLaws.{passes_enough}
+use Rattle.shapes.proofs.TestsLaws.{passes_enough}
 use Rattle.shapes.specs.declared.Shape.{Shape}
 use Rattle.shapes.specs.declared.Shape.TheVariants.{False, True, Empty, Front, Number, Pair, Wide, Malformed}
 use Rattle.decisions.specs.declared.Branch.{Branch}

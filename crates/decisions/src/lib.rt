@@ -1,5 +1,7 @@
 //! What a node decides: whether it may be entered, the branch of a case that its subject fits or that a view takes, a view taken apart, what is
 //! made of two values, and whether a constant or a written value takes a view.
+#![tactic(auto)]
+
 ghost use Rattle.std.specs.Prelude.{◌≡◌, [], ◌∷◌, ◌+◌, ◌/◌, ◌%◌, ltb};
 ghost use Rattle.shapes.specs.Parts.{passes_bytes, same_bytes};
 ghost use Rattle.outcome.specs.Outcome.{refused_by};

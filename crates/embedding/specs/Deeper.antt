@@ -10,7 +10,8 @@ use Rattle.sheet.specs.Sheet.{Sheet}
 use Rattle.rules.specs.Outcome.{Out, done, refused, plus, ◌>>=◌, given, choose}
 use Rattle.rules.specs.Semantics
 use Rattle.rules.specs.Counting.{Env, Cells, counting, get, put}
-use Rattle.rules.specs.Laws.Embedding.{Relates, itself, held_itself, cells_same, cells, get_node_held, put_node_held}
+use Rattle.rules.specs.Laws.Embedding.{Relates, itself}
+use Rattle.rules.proofs.Laws.Embedding.{held_itself, cells_same, cells, get_node_held, put_node_held}
 
 -- what is done stays done, with the same steps
 data Keeps {A B : Type 0} (h : A → B) : Out A → Out B → Type 0 where

@@ -5,7 +5,7 @@ use Rattle.node.specs.Kinds.{children, calls}
 use Rattle.sheet.specs.Renumbering.{renumber}
 use Rattle.sheet.specs.Sheet.{Sheet}
 use Rattle.sheet.specs.Laws.{Child, Ranges}
-use Rattle.sheet.specs.Ranging.{every_map, children_in, calls_in}
+use Rattle.sheet.proofs.Ranging.{every_map, children_in, calls_in}
 use Rattle.rules.specs.Laws.Embedding.{Sent, Holds}
 
 child_in : {nodes own : ℕ} (c : ℕ) → Child nodes own c → c < nodes

@@ -3,26 +3,30 @@
 //! A line is a letter, a space and bytes in hexadecimal: `v` a value, `c` bytes that each test is asked of, `p` a plan behind the byte k,
 //! `w` a view, `s` a sheet, `j` a job, `t` a job whose call is followed by the one that turns it back, `u` a put whose edit is taken back,
 //! `k` a job of the program `tools`.
-mod buffers;
+#![tactic(auto)]
+
 mod lines;
+mod sizes;
 mod tests;
 mod turns;
 
-ghost use Rattle.io.specs.Counts.{IsPrefixLen};
+ghost use Rattle.std.specs.Prelude.{◌≤◌, length};
 
-use libc::STDOUT_FILENO;
+use std::fs::File;
+use std::io;
+use std::io::Write;
 use value::Read;
 
 // A word and a number.
 fn labelled(text: &mut [u8], at: usize, label: &[u8], n: usize) -> usize
-    ensures { IsPrefixLen result text.new }
+    ensures { result ≤ length text.new }
 {
     let end = report::bytes(text, at, label);
     report::decimal(text, end, n)
 }
 
 fn value_line(bytes: &[u8], text: &mut [u8]) -> usize
-    ensures { IsPrefixLen result text.new }
+    ensures { result ≤ length text.new }
 {
     match value::read_value(bytes) {
         Read::Whole(n) => {
@@ -35,14 +39,14 @@ fn value_line(bytes: &[u8], text: &mut [u8]) -> usize
 }
 
 fn span(text: &mut [u8], at: usize, start: u16, len: u16) -> usize
-    ensures { IsPrefixLen result text.new }
+    ensures { result ≤ length text.new }
 {
     let end = labelled(text, at, b" ", start as usize);
     labelled(text, end, b"+", len as usize)
 }
 
 fn plan_line(first: u8, plan: &[u8], text: &mut [u8]) -> usize
-    ensures { IsPrefixLen result text.new }
+    ensures { result ≤ length text.new }
 {
     let k = first as usize;
     let spans = value::read_plan(k, plan);
@@ -59,7 +63,7 @@ fn plan_line(first: u8, plan: &[u8], text: &mut [u8]) -> usize
 }
 
 fn view_line(view: &[u8], text: &mut [u8]) -> usize
-    ensures { IsPrefixLen result text.new }
+    ensures { result ≤ length text.new }
 {
     let refusal = value::read_view(view);
     if refusal != 0 {
@@ -69,7 +73,7 @@ fn view_line(view: &[u8], text: &mut [u8]) -> usize
 }
 
 fn sheet_line(bytes: &[u8], text: &mut [u8]) -> usize
-    ensures { IsPrefixLen result text.new }
+    ensures { result ≤ length text.new }
 {
     let table = sheet::read_sheet(bytes);
     if table.refusal != 0 {
@@ -97,19 +101,19 @@ fn last_start(table: sheet::Table) -> usize {
 }
 
 fn job_line(bytes: &[u8], text: &mut [u8; job::LINE]) -> usize
-    ensures { IsPrefixLen result text.new }
+    ensures { result ≤ length text.new }
 {
-    let mut out = io::buffer();
-    let mut scratch = io::large_buffer();
+    let mut out = [0u8; rules::PUT_OUTPUT];
+    let mut scratch = [0u8; rules::SCRATCH];
     job::line(bytes, &mut out, &mut scratch, text)
 }
 
 // The line of a job of `tools`, as far as there is room.
 fn tool_line(bytes: &[u8], text: &mut [u8]) -> usize
-    ensures { IsPrefixLen result text.new }
+    ensures { result ≤ length text.new }
 {
-    let mut out = io::buffer();
-    let mut scratch = io::large_buffer();
+    let mut out = [0u8; rules::PUT_OUTPUT];
+    let mut scratch = [0u8; rules::SCRATCH];
     let mut line = [0u8; command::LINE];
     let end = command::line(bytes, &mut out, &mut scratch, &mut line);
     report::bytes(text, 0, &line[..end])
@@ -117,7 +121,7 @@ fn tool_line(bytes: &[u8], text: &mut [u8]) -> usize
 
 // What a line of data/ makes: the line to print, at the front of the text, and its length.
 fn answer(letter: u8, bytes: &[u8], text: &mut [u8; job::LINE]) -> usize
-    ensures { IsPrefixLen result text.new }
+    ensures { result ≤ length text.new }
 {
     match letter {
         b'v' => value_line(bytes, text),
@@ -139,46 +143,42 @@ fn answer(letter: u8, bytes: &[u8], text: &mut [u8; job::LINE]) -> usize
 }
 
 // Runs the next line of the file, and answers whether there was one.
-fn run_next(fd: i32) -> bool {
+fn run_next<R: io::Read, W: Write>(file: &mut R, to: &mut W) -> io::Result<bool> {
     let mut line = [0u8; 16400];
-    let n = lines::read_line(fd, &mut line);
+    let n = lines::read_line(file, &mut line)?;
     if n < 2 {
-        return false;
+        return Ok(false);
     }
     let mut bytes = [0u8; 8200];
     let m = lines::unhex(&line[2..n], &mut bytes);
     let mut text = [0u8; job::LINE];
     let end = answer(line[0], &bytes[..m], &mut text);
-    io::write_all(STDOUT_FILENO, &text[..end]);
-    true
+    to.write_all(&text[..end])?;
+    Ok(true)
 }
 
-// A proved loop has to end: the turns count down from a number that no file uses up.
-fn run_file(fd: i32) {
-    let mut turns = u64::MAX;
-    while turns > 0 && run_next(fd) {
-        turns -= 1;
+// A proved loop has to end: no file uses up the turns.
+fn run_file<R: io::Read, W: Write>(file: &mut R, to: &mut W) -> io::Result<()> {
+    for _ in 0..u64::MAX {
+        if !run_next(file, to)? {
+            break;
+        }
     }
+    Ok(())
 }
 
-fn run_named(name: &[u8]) {
-    let fd = os::open_read(name);
-    if fd < 0 {
-        os::fail(name);
-        return;
-    }
-    run_file(fd);
-    libc::close(fd);
+fn run_named(rt: &HostRuntime, name: &str) -> io::Result<()> {
+    run_file(&mut File::open(rt, name)?, &mut rt.stdout())
 }
 
-fn main() {
-    buffers::run();
-    run_named(b"readers.txt");
-    run_named(b"tests.txt");
-    run_named(b"examples.txt");
-    run_named(b"sizes.txt");
-    run_named(b"jobs.txt");
-    run_named(b"turns.txt");
-    run_named(b"manual.txt");
-    run_named(b"tools.txt");
+fn main(rt: HostRuntime) -> io::Result<()> {
+    sizes::run(&mut rt.stdout())?;
+    run_named(&rt, "readers.txt")?;
+    run_named(&rt, "tests.txt")?;
+    run_named(&rt, "examples.txt")?;
+    run_named(&rt, "sizes.txt")?;
+    run_named(&rt, "jobs.txt")?;
+    run_named(&rt, "turns.txt")?;
+    run_named(&rt, "manual.txt")?;
+    run_named(&rt, "tools.txt")
 }

@@ -1,4 +1,6 @@
 //! Why a get or a put is refused: the refusal that the call meets first, and the nodes from the root down to the one where it is met.
+#![tactic(auto)]
+
 ghost use Rattle.std.specs.Prelude.{◌≡◌, ◌≤◌, length};
 ghost use Rattle.rules.specs.Numbers.{scratch_size, chain_limit};
 ghost use Rattle.rules.specs.Explain.Calls.{why_get, why_put};

@@ -1,7 +1,8 @@
 -- What a tool reports of some sheets.
 use Rattle.std.specs.Prelude.{◌≡◌, refl, List, [], ◌∷◌, ℕ}
 use Rattle.value.specs.Result.{ok, refusal, and_then, map_result, or_refuse, unless}
-use Rattle.sheet.specs.Sheet.{read_nodes, one_section, if_section, read_records, with_nodes, read_body, nodes_in_range, roots_in_range, in_range, read_header, read_sheet}
+use Rattle.sheet.specs.Sheet.{read_nodes, one_section, if_section, read_records, with_nodes, read_body, nodes_in_range, roots_in_range, in_range}
+use Rattle.sheet.specs.Sheet.{read_header, read_sheet}
 use Rattle.node.specs.Kinds.{form_of, body_width, make, children, variables, node_in_range}
 use Rattle.growth.specs.Growth.{all_plain, own, capped_from, capped, growth_of}
 
@@ -22,9 +23,11 @@ twice = 0x01 ∷ 0x01 ∷ 0x00 ∷ 0x15 ∷ 0x01 ∷ 0x02 ∷ 0x10 ∷ 0x00 ∷ 
 abbrev pub splits : List ℕ
 splits = 0x01 ∷ 0x01 ∷ 0x00 ∷ 0x19 ∷ 0x01 ∷ 0x02 ∷ 0x10 ∷ 0x00 ∷ 0x10 ∷ 0x01 ∷ []
 
-pub reports : growth_of eight 1 ∷ growth_of eight 0 ∷ growth_of nine 1 ∷ growth_of nine 0 ∷ growth_of nine 2 ∷ growth_of twice 0 ∷ growth_of splits 9 ∷ growth_of []
+pub reports : growth_of eight 1 ∷ growth_of eight 0 ∷ growth_of nine 1 ∷ growth_of nine 0 ∷ growth_of nine 2 ∷ growth_of twice 0 ∷ growth_of splits 9 ∷
+    growth_of []
     0 ∷ []
     ≡ ok 256 ∷ ok 0 ∷ refusal 88 ∷ ok 0 ∷ refusal 23 ∷ ok 2 ∷ refusal 87 ∷ refusal 14 ∷ []
-unfolding growth_of capped capped_from own all_plain children variables and_then map_result or_refuse unless form_of body_width make read_nodes one_section if_section
+unfolding growth_of capped capped_from own all_plain children variables and_then map_result or_refuse unless form_of body_width make read_nodes one_section
+    if_section
     read_records with_nodes read_body node_in_range nodes_in_range roots_in_range in_range read_header read_sheet
 reports = refl

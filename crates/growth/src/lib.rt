@@ -1,4 +1,6 @@
 //! How much longer the list can get (document 02, request 14): how often a variable's length counts in the list's.
+#![tactic(auto)]
+
 ghost use Rattle.std.specs.Prelude.{◌≡◌, ◌+◌, min, get_or};
 ghost use Rattle.growth.specs.Growth.{plain, growth_of};
 ghost use Rattle.growth.specs.Tool.{told, Readied, AllJudged, OneCounted, Counted};

@@ -6,7 +6,7 @@ ghost use Rattle.inputs.specs.Starts.{starts_in};
 use starts::Starts;
 
 /// The fields behind the letter of a get or a put: the allowance, and the lengths of the sheet and of the plan.
-#[derive(Drop)]
+#[derive(Clone, Copy)]
 pub struct Fields {
     pub allowance: u32,
     pub sheet: usize,

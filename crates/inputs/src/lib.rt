@@ -1,13 +1,17 @@
 //! What the programs' inputs are made of: fields taken apart, and the job that they are.
+#![tactic(auto)]
+
 ghost use Rattle.std.specs.Prelude.{◌≡◌};
 ghost use Rattle.inputs.specs.Format.{job_of};
 
 mod fields;
+mod reading;
 
 pub use fields::{
     Fields, Taken, byte_at, kept, number_at, part_at, plan_of, rest_from, sheet_of, starts_in,
     take_fields, view_of,
 };
+pub use reading::read_front;
 
 /// The most bytes of an input; a longer one is refused with 61.
 pub const INPUT: usize = 8_192;

@@ -12,7 +12,7 @@ use Rattle.calls.specs.Reply.{Reply, Done, Refused}
 use Rattle.calls.specs.Calls.{reply, written, cleared, Answered}
 use Rattle.calls.specs.Small.{Small, small_get, small_put}
 use Rattle.report.specs.Text.{refusal_line, success_line}
-use Rattle.report.specs.TextLaws.{refusal_length, success_length}
+use Rattle.report.proofs.TextLaws.{refusal_length, success_length}
 use Rattle.report.specs.Writing.{Wrote, Front, wrote_front, wrote_text}
 use Rattle.inputs.specs.Numbers.{input_limit}
 use Rattle.inputs.specs.declared.fields.Fields.{Fields}
@@ -88,7 +88,8 @@ pub line_done : (o : List ℕ) {q : Reply} {len n : ℕ} → q ≡ Done len n �
 unfolding reply_line
 line_done o e = rw e
 
-more_output : (sheet plan : List ℕ) (allowance : ℕ) → get_answer sheet plan allowance put_output scratch_size ≡ get_answer sheet plan allowance get_output scratch_size
+more_output : (sheet plan : List ℕ) (allowance : ℕ) → get_answer sheet plan allowance put_output scratch_size ≡ get_answer sheet plan allowance get_output
+    scratch_size
 unfolding get_answer door given when dec_le
 more_output sheet plan allowance = refl
 
@@ -136,7 +137,8 @@ module _ (bs : List ℕ) where
     prints_over {o} {s} et h l = (line_wrote 61 et (answer_over h) l, lent_over o s h)
 
     module _ {j : Job} (h : length bs ≤ input_limit) (e : j ≡ job_of bs) where
-      pub prints_none : {o s : List ℕ} → length t ≡ line_limit → j ≡ Other → Wrote (refusal_line 60) 0 t t' r → Front (job_line bs) t t' r × BuffersAfter bs o o s s
+      pub prints_none : {o s : List ℕ} → length t ≡ line_limit → j ≡ Other → Wrote (refusal_line 60) 0 t t' r → Front (job_line bs) t t' r
+          × BuffersAfter bs o o s s
       unfolding answer_of written cleared_by
       prints_none et q l = (line_wrote 60 et (answer_job h e q) l, lent_job h e q refl refl)
 

@@ -1,4 +1,6 @@
 //! What the program is handed, run as a job, and the line of its answer written.
+#![tactic(auto)]
+
 ghost use Rattle.rules.specs.Numbers.{scratch_size, get_output, put_output};
 ghost use Rattle.rules.specs.Answer.{get_answer, put_answer};
 ghost use Rattle.report.specs.Writing.{Wrote, Front};

@@ -5,9 +5,10 @@ use Rattle.std.proofs.Math.ListN.{length}
 use borrow.Author.Tests.{le-leb, lt-leb, eq-eqb, ne_eqb}
 use Rattle.value.specs.Result.{Result, ok, refusal, and_then, unless}
 use Rattle.sheet.specs.Sheet.{Sheet, read_sheet}
-use Rattle.sheet.specs.Rows.{sheet_written}
+use Rattle.sheet.proofs.Rows.{sheet_written}
 use Rattle.joined.specs.Joined.{joined}
-use Rattle.joined.specs.JoinedCalls.{joined_bytes, Joins, unless-ok, joined_told, joined_short}
+use Rattle.joined.specs.JoinedCalls.{joined_bytes, Joins}
+use Rattle.joined.proofs.JoinedCalls.{unless-ok, joined_told, joined_short}
 
 -- 1 an output under 2,048 bytes, judged first
 unfoldable pub join_answer : (s t : List ℕ) (output : ℕ) → Result (List ℕ)

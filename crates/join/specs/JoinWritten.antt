@@ -16,15 +16,16 @@ use Rattle.sheet.specs.Sheet.{Sheet, read_sheet}
 use Rattle.sheet.specs.Table.{table_of, section_at}
 use Rattle.node.specs.Forms.{listing}
 use Rattle.sheet.specs.Laws.{Child, Ranges, sheet_ranges, section_read}
-use Rattle.sheet.specs.Rows.{all_written, sheet_written}
-use Rattle.sheet.specs.Written.{Bytes}
-use Rattle.sheet.specs.Ranging.{every_map, children_in, calls_in}
+use Rattle.sheet.proofs.Rows.{all_written, sheet_written}
+use Rattle.sheet.proofs.Written.{Bytes}
+use Rattle.sheet.proofs.Ranging.{every_map, children_in, calls_in}
 use Rattle.records.specs.declared.Anew.{Anew}
 use Rattle.records.specs.Anew.{shifted_by, within, new_node, new_section, records_of, named, roots_of, sections_of}
 use Rattle.records.specs.AnewLaws.{listing_same, listing-map, every_listing, within_in, shift_at, Renumbers, records_are, roots_append, roots_written_lem}
 use Rattle.rules.specs.Laws.Embedding.{itself}
 use Rattle.joined.specs.Joined.{node_behind, section_behind, joined}
-use Rattle.joined.specs.JoinedCalls.{joined_bytes, Joins, joined_told, joined_short}
+use Rattle.joined.specs.JoinedCalls.{joined_bytes, Joins}
+use Rattle.joined.proofs.JoinedCalls.{joined_told, joined_short}
 use Rattle.join.specs.JoinAnswer.{text_of}
 
 -- all nodes in their order, their numbers raised and those of the sections

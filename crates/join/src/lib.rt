@@ -1,4 +1,6 @@
 //! Two sheets joined into one, whose list is the pair of both lists (document 02, request 7).
+#![tactic(auto)]
+
 ghost use Rattle.std.specs.Prelude.{◌≡◌, length};
 ghost use Rattle.joined.specs.JoinedCalls.{joined_bytes};
 ghost use Rattle.made.specs.Made.{Makes};

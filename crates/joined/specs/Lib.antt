@@ -1,11 +1,4 @@
 pub mod Joined
-pub mod JoinedRanges
-pub mod Beside
 pub mod Levels
-pub mod JoinedPut
-pub mod JoinedClash
 pub mod JoinedCalls
-pub mod JoinedGets
-pub mod JoinedPuts
 pub mod JoinedExamples
-pub mod ClashExample

@@ -6,7 +6,7 @@ use Rattle.std.proofs.Math.Bool.{cond}
 use Rattle.starts.specs.declared.Starts.{Starts}
 use Rattle.starts.specs.declared.Loaded.{Loaded}
 use Rattle.starts.specs.Starts.{load_of, numbers}
-use Rattle.starts.specs.StartsLaws.{load_few}
+use Rattle.starts.proofs.StartsLaws.{load_few}
 use Rattle.rules.specs.Answer.{Answer, refusal, success, put_answer}
 use Rattle.rules.specs.Bits.{put_written}
 use Rattle.calls.specs.declared.PutReply.{PutReply}

@@ -1,5 +1,7 @@
 //! The archive: every function for other languages. A slice is a pointer and a length, 16 starts, the nodes of a chain and a number of bits are
 //! pointers, and the answer is one number.
+#![tactic(auto)]
+
 mod answers;
 mod checks;
 mod explanations;

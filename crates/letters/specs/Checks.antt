@@ -7,13 +7,13 @@ use Rattle.value.specs.Result.{ok}
 use Rattle.sheet.specs.Sheet.{Sheet, read_sheet}
 use Rattle.sheet.specs.Laws.{sheet_ranges}
 use Rattle.report.specs.Text.{words, refusal_line, ok_line}
-use Rattle.report.specs.TextLaws.{ok_length}
+use Rattle.report.proofs.TextLaws.{ok_length}
 use Rattle.words.specs.Numbers.{line_limit}
 use Rattle.inputs.specs.Format.{two, part}
 use Rattle.words.specs.Answers.{node_line}
 use Rattle.typing.specs.Check.{Verdict, passes, refused, refused_at, lent_of, check}
-use Rattle.typing.specs.CheckLaws.{Says, all_right, used_twice, not_right}
-use Rattle.typing.specs.Calls.{Judges, no_sheet, no_types, judged, check_judges}
+use Rattle.typing.proofs.CheckLaws.{Says, all_right, used_twice, not_right}
+use Rattle.typing.proofs.Calls.{Judges, no_sheet, no_types, judged, check_judges}
 use Rattle.types.specs.declared.Checked.{Checked}
 use Rattle.types.specs.declared.Checked.TheVariants as Answer
 use Rattle.types.specs.Checked.{checked}

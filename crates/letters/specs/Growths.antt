@@ -5,13 +5,13 @@ use Rattle.std.specs.Prelude.{Bool, true, false, cond, List, [], ◌∷◌, ℕ,
 use Rattle.std.proofs.lemmas.Bool.{lt-leb}
 use Rattle.value.specs.Result.{Result, ok, refusal}
 use Rattle.report.specs.Text.{words, decimal_of, refusal_line, ok_line}
-use Rattle.report.specs.TextLaws.{ok_length, decimal_length}
+use Rattle.report.proofs.TextLaws.{ok_length, decimal_length}
 use Rattle.words.specs.Numbers.{line_limit}
 use Rattle.growth.specs.declared.Growing.{Growing}
 use Rattle.growth.specs.declared.Growing.TheVariants.{Times, Refused}
 use Rattle.growth.specs.Growth.{growth_of}
 use Rattle.growth.specs.Tool.{told}
-use Rattle.growth.specs.Calls.{reported}
+use Rattle.growth.proofs.Calls.{reported}
 use Rattle.letters.specs.LookupLaws.{fits_refusal}
 use Rattle.letters.specs.Small.{Small, small_number, small_unless, small_then, small_sheet}
 

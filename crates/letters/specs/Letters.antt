@@ -13,7 +13,7 @@ use Rattle.letters.specs.Sheets.{number_line, join_line}
 use Rattle.letters.specs.SheetLaws.{fits_number, fits_join}
 use Rattle.letters.specs.Growths.{growth_line, fits_growth}
 use Rattle.letters.specs.Texts.{text_line, parsed_line, fits_text, fits_parsed}
-use Rattle.sheet.specs.Written.{Bytes}
+use Rattle.sheet.proofs.Written.{Bytes}
 use Rattle.letters.specs.SheetTexts.{read_line, print_line}
 use Rattle.letters.specs.SheetTextLaws.{fits_print, fits_as}
 use Rattle.letters.specs.Checks.{types_line, fits_types}

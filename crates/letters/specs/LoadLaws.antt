@@ -5,18 +5,18 @@ use Rattle.std.proofs.Math.Decide.{dec_le}
 use Rattle.value.specs.Result.{Result, ok, refusal as refuses, and_then}
 use Rattle.value.specs.Value.{Value}
 use Rattle.value.specs.Reading.{read_plan}
-use Rattle.value.specs.Laws.{read_values_sound}
+use Rattle.value.proofs.Laws.{read_values_sound}
 use Rattle.sheet.specs.Sheet.{Sheet, read_sheet}
 use Rattle.sheet.specs.Laws.{sheet_ranges}
 use Rattle.rules.specs.Outcome.{when, given, reading}
 use Rattle.rules.specs.Numbers.{scratch_size, get_output}
 use Rattle.rules.specs.Answer.{refusal, answer, door, get_bytes, get_answer}
-use Rattle.rules.specs.Laws.Refusals.{stated_small, get_refusals}
-use Rattle.report.specs.TextLaws.{Below, none, each}
+use Rattle.rules.proofs.Laws.Refusals.{stated_small, get_refusals}
+use Rattle.report.proofs.TextLaws.{Below, none, each}
 use Rattle.starts.specs.declared.Loaded.{Loaded}
 use Rattle.starts.specs.Starts.{no_starts, refused_load, loaded, load_of, numbers}
-use Rattle.starts.specs.Lookup.{Rising, end, over}
-use Rattle.starts.specs.StartsLaws.{starts_proper}
+use Rattle.starts.proofs.Lookup.{Rising, end, over}
+use Rattle.starts.proofs.StartsLaws.{starts_proper}
 
 rising_below : {n low : ℕ} {l : List ℕ} → Rising n low l → Below n l
 rising_below end = none

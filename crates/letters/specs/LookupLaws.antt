@@ -5,19 +5,19 @@ use Rattle.std.proofs.Common.{◌∙◌, arith, length-append, length-take, leng
 use mathlib.Core.List.{List, [], ◌∷◌, map}
 use borrow.Author.Tests.{le-leb, lt-leb, eq-eqb, ne_eqb, leb-true}
 use Rattle.report.specs.Text.{hex_of, words, decimal_of, refusal_line, ok_line}
-use Rattle.report.specs.TextLaws.{Below, none, each, hex_length, numbers_length, ok_length, refusal_length}
+use Rattle.report.proofs.TextLaws.{Below, none, each, hex_length, numbers_length, ok_length, refusal_length}
 use Rattle.starts.specs.declared.Starts.{Starts}
 use Rattle.starts.specs.declared.Loaded.{Loaded}
 use Rattle.starts.specs.declared.Found.{Found}
 use Rattle.starts.specs.declared.Found.TheVariants.{At, Refused}
 use Rattle.starts.specs.Starts.{load_of, numbers, proper, stands_at, find_of, part_of}
-use Rattle.starts.specs.Lookup.{length-firsts, proper_is}
-use Rattle.starts.specs.StartsLaws.{load_few}
+use Rattle.starts.proofs.Lookup.{length-firsts, proper_is}
+use Rattle.starts.proofs.StartsLaws.{load_few}
 use Rattle.inputs.specs.Numbers.{input_limit}
 use Rattle.words.specs.Numbers.{line_limit}
 use Rattle.inputs.specs.Format.{two, part}
 use Rattle.inputs.specs.Starts.{starts_in}
-use Rattle.words.specs.Starts.{kept, kept_all}
+use Rattle.words.proofs.Starts.{kept, kept_all}
 use Rattle.letters.specs.Lookups.{loaded_line, load_line, found_line, value_line}
 use Rattle.letters.specs.LoadLaws.{load_small}
 
@@ -72,7 +72,8 @@ found_small s n i {c} e = go (proper s n) (ltb i s.count) e
     go false q f = let z : 24 ≡ c = cc in omega arith
 
 fits_found : (bs : List ℕ) → length bs ≤ input_limit → 3 + 2 * get_or bs 2 0 ≤ length bs → (f : Found)
-    → find_of (starts_in bs) (length (drop (3 + 2 * get_or bs 2 0) bs)) (get_or bs 1 0) ≡ f → length (found_line f (drop (3 + 2 * get_or bs 2 0) bs)) ≤ line_limit
+    → find_of (starts_in bs) (length (drop (3 + 2 * get_or bs 2 0) bs)) (get_or bs 1 0) ≡ f →
+    length (found_line f (drop (3 + 2 * get_or bs 2 0) bs)) ≤ line_limit
 unfolding found_line part_of words starts_in
 fits_found bs h k (At a b) e =
     let m : 1 ≤ get_or bs 2 0 = found_some (starts_in bs) _ _ e in

@@ -3,7 +3,7 @@ use Rattle.std.specs.Prelude.{◌≡◌, refl, Bool, true, false, cond, List, []
 use Rattle.std.proofs.Common.{sym, ap, ◌∙◌, arith, length-append}
 use Rattle.value.specs.Result.{Result, ok, refusal}
 use Rattle.report.specs.Text.{hex_of, words, refusal_line, ok_line}
-use Rattle.report.specs.TextLaws.{hex_length, ok_length}
+use Rattle.report.proofs.TextLaws.{hex_length, ok_length}
 use Rattle.words.specs.Numbers.{line_limit}
 use Rattle.made.specs.declared.Made.{Made}
 use Rattle.made.specs.declared.Made.TheVariants.{Done, Refused}

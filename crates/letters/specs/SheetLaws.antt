@@ -5,19 +5,20 @@ use Rattle.std.proofs.Common.{ap, ◌∙◌, arith, length-append}
 use borrow.Author.Tests.{le-leb, lt-leb}
 use Rattle.std.proofs.Math.Seq.{take-append_seam}
 use Rattle.report.specs.Text.{hex_of, words, decimal_of, refusal_line, ok_line}
-use Rattle.report.specs.TextLaws.{hex_length, ok_length, decimal_length}
+use Rattle.report.proofs.TextLaws.{hex_length, ok_length, decimal_length}
 use Rattle.inputs.specs.Format.{two, part}
 use Rattle.words.specs.Answers.{no_line, node_line}
 use Rattle.value.specs.Result.{Result, ok, refusal}
 use Rattle.words.specs.Numbers.{line_limit}
 use Rattle.sheet.specs.Sheet.{Sheet, read_sheet}
 use Rattle.sheet.specs.Laws.{sheet_ranges}
-use Rattle.sheet.specs.Rows.{sheet_written}
+use Rattle.sheet.proofs.Rows.{sheet_written}
 use Rattle.preorder.specs.Numbering.{numbered}
 use Rattle.preorder.specs.Uses.{lowest_twice}
 use Rattle.preorder.specs.NumberAnswer.{Answer, done, refused, twice, sheet_answer, number_answer}
-use Rattle.preorder.specs.NumberingCalls.{numbered_told, numbered_short}
-use Rattle.preorder.specs.UsedTwice.{UsedTwice, twice_told}
+use Rattle.preorder.proofs.NumberingCalls.{numbered_told, numbered_short}
+use Rattle.preorder.specs.UsedTwice.{UsedTwice}
+use Rattle.preorder.proofs.UsedTwice.{twice_told}
 use Rattle.numbering.specs.declared.Numbered.{Numbered}
 use Rattle.numbering.specs.declared.Numbered.TheVariants.{Done, Refused, Twice}
 use Rattle.numbering.specs.Replies.{reply_of, output_of}

@@ -5,13 +5,13 @@ use Rattle.std.proofs.Math.Path.{ap₂}
 use Rattle.std.proofs.Math.Seq.{take-append_seam}
 use Rattle.value.specs.Result.{Result, ok, refusal}
 use Rattle.report.specs.Text.{hex_of, words, decimal_of, refusal_line, ok_line}
-use Rattle.report.specs.TextLaws.{decimal_length, wrote_words}
+use Rattle.report.proofs.TextLaws.{decimal_length, wrote_words}
 use Rattle.report.specs.Writing.{Wrote}
 use Rattle.words.specs.Numbers.{line_limit}
 use Rattle.words.specs.Answers.{no_line}
-use Rattle.words.specs.AnswersLaws.{wrote_no}
+use Rattle.words.proofs.AnswersLaws.{wrote_no}
 use Rattle.sheet.specs.Sheet.{Sheet, read_sheet}
-use Rattle.sheet.specs.Written.{Bytes, drop_bytes}
+use Rattle.sheet.proofs.Written.{Bytes, drop_bytes}
 use Rattle.preorder.specs.Uses.{lowest_twice}
 use Rattle.preorder.specs.NumberAnswer.{Answer, done, refused, twice}
 use Rattle.numbering.specs.declared.Numbered.{Numbered}

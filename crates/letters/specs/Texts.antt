@@ -8,8 +8,9 @@ use Rattle.words.specs.Numbers.{line_limit}
 use Rattle.notation.specs.Calls.{json_room, value_room, to_json, from_json}
 use Rattle.notation.specs.Text.{level_limit, write_json}
 use Rattle.notation.specs.Grammar.{value, finished, run, read_json}
-use Rattle.notation.specs.Laws.{to_short, from_short}
-use Rattle.notation.specs.Numbers.{Told, read, malformed, deep, told}
+use Rattle.notation.proofs.Laws.{to_short, from_short}
+use Rattle.notation.specs.Numbers.{Told, read, malformed, deep}
+use Rattle.notation.proofs.Numbers.{told}
 use Rattle.letters.specs.Small.{Small, no, small_number, small_unless, small_then, small_map, small_view}
 use Rattle.letters.specs.Making.{made_line, fits_made}
 

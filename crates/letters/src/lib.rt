@@ -1,4 +1,6 @@
 //! The letters of the program `tools` that walk nothing: each takes the input, and writes its line.
+#![tactic(auto)]
+
 ghost use Rattle.std.specs.Prelude.{◌≤◌, length};
 ghost use Rattle.report.specs.Writing.{Wrote};
 ghost use Rattle.inputs.specs.Numbers.{input_limit};

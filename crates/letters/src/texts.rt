@@ -8,8 +8,8 @@ use crate::lines::made_line;
 pub fn text_line(input: &[u8], text: &mut [u8]) -> usize
     ensures { Wrote (text_line input.now) 0 text.old text.new result }
 {
-    let mut out = [0u8; json::TEXT];
-    let made = json::write(inputs::rest_from(input, 1), &mut out);
+    let mut out = [0u8; json_codec::TEXT];
+    let made = json_codec::write(inputs::rest_from(input, 1), &mut out);
     made_line(made, &out, true, text)
 }
 
@@ -17,7 +17,7 @@ pub fn text_line(input: &[u8], text: &mut [u8]) -> usize
 pub fn parsed_line(input: &[u8], text: &mut [u8]) -> usize
     ensures { Wrote (parsed_line input.now) 0 text.old text.new result }
 {
-    let mut out = [0u8; json::VALUE];
-    let made = json::read(inputs::rest_from(input, 1), &mut out);
+    let mut out = [0u8; json_codec::VALUE];
+    let made = json_codec::read(inputs::rest_from(input, 1), &mut out);
     made_line(made, &out, false, text)
 }

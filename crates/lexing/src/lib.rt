@@ -1,4 +1,6 @@
 //! The tokens of a text: the one ahead of a place, its kind, where it begins and where it ends.
+#![tactic(auto)]
+
 ghost use Rattle.std.specs.Prelude.{◌≡◌, ◌≤◌, ◌<◌, length};
 ghost use Rattle.tokens.specs.Tokens.{within, is_blank, is_letter, class_of};
 ghost use Rattle.lexing.specs.Lexing.{code_of, in_run, Running, Comment, Gap, Skips, Mark, Lexed, Next};
@@ -15,7 +17,7 @@ pub const ARROW: u8 = b'A';
 pub const END: u8 = b'Z';
 
 /// A token: its kind, and the places where it begins and ends.
-#[derive(Drop)]
+#[derive(Clone, Copy)]
 pub struct Lexeme {
     pub kind: u8,
     pub at: usize,

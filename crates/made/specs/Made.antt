@@ -45,7 +45,8 @@ makes_ok bs {o} e f g = rw e record { answer = ap Done f; output = g ∙ ap (λ 
 
 -- a text that was written at the front, and has room there
 pub makes_text : {a : Result (List ℕ)} (bs : List ℕ) {n : ℕ} {o o' : List ℕ} → a ≡ ok bs → Wrote bs 0 o o' n → length bs ≤ length o → Makes a (Done n) o o'
-makes_text bs e w h = let f = wrote_front w h in makes_ok bs e f.long f.made
+unfolding made written
+makes_text bs {o} e w h = let f = wrote_front w h in rw e record { answer = ap Done f.long; output = f.made ∙ ap (λ (k : ℕ). bs ++ drop k o) f.long }
 
 -- WHAT IT TELLS A CALLER
 

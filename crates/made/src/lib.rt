@@ -1,4 +1,5 @@
 //! What a tool answers that writes bytes at the front of an output which it is lent.
+#![tactic(auto)]
 
 /// How many bytes were written, at the front of the output; or a refusal's number, and none was.
 #[derive(Drop)]

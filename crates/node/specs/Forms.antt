@@ -110,7 +110,8 @@ no_form b (inl h) = get_or-append (replicate 16 none) forms none b h ∙ get_or-
 no_form b (inr h) = get_or-eq_default (replicate 16 none ++ forms) none h
 
 -- the node of a record of a known kind k, of which no byte is missing
-pub node_whole : (r : List ℕ) {k : ℕ} → get_or r 0 0 ≡ k → {f : Form} → form_of k ≡ some f → body_width f < length r → node_of r ≡ make f (λ i. get_or r (suc i) 0)
+pub node_whole : (r : List ℕ) {k : ℕ} → get_or r 0 0 ≡ k → {f : Form} → form_of k ≡ some f → body_width f < length r →
+    node_of r ≡ make f (λ i. get_or r (suc i) 0)
 unfolding node_of of_form if_whole
 node_whole [] e q h = absurd (not-suc-le-zero h)
 node_whole (b ∷ bs) e {f} q h = rw (e, q, le-leb (body_width f) (length bs) (le_of_suc-le-suc h))

@@ -1,4 +1,5 @@
 //! Nodes: the record of one read, judged and decoded (document 01, "Sheet records"; docs/SHEETS.md, "All kinds on one page").
+#![tactic(auto)]
 
 ghost use Rattle.std.specs.Prelude.{◌≡◌, ◌+◌, ◌*◌, ◌<◌, ◌≤◌, ◌&&◌, ltb, leb, length, get_or};
 ghost use Rattle.node.specs.declared.Node.TheVariants.{ListCase, TruthCase, Each};
@@ -7,7 +8,7 @@ ghost use Rattle.node.specs.Decoding.{node_of, node_at, kind_width};
 ghost use Rattle.node.specs.Wide.{wide_bytes};
 
 /// A node of a sheet: one variant a kind, 10 to 1D in order. Numbers of nodes, sections and variables are `usize`.
-#[derive(Drop)]
+#[derive(Clone, Copy)]
 pub enum Node {
     Var(usize),
     False,

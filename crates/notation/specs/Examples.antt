@@ -35,17 +35,20 @@ use Rattle.notation.specs.Calls.{from_json}
 reads_object : from_json (0x7B ∷ 0x22 ∷ 0x61 ∷ 0x22 ∷ 0x3A ∷ 0x20 ∷ 0x37 ∷ 0x2C ∷ 0x22 ∷ 0x62 ∷ 0x22 ∷ 0x3A ∷ 0x5B ∷ 0x74 ∷ 0x72 ∷ 0x75 ∷ 0x65 ∷ 0x5D ∷ 0x7D ∷
     []) 256
     ≡ ok (5 ∷ 4 ∷ 0 ∷ 7 ∷ 3 ∷ 1 ∷ 2 ∷ [])
-unfolding from_json read_json run ends judge take skip or_digit or_comma or_member found begin start_of follows is_digit white numeral member object named name rue
+unfolding from_json read_json run ends judge take skip or_digit or_comma or_member found begin start_of follows is_digit white numeral member object named name
+    rue
     alse word map_result unless and_then encode encodes size sizes
 reads_object = refl
 
 reads_number : from_json (0x36 ∷ 0x35 ∷ 0x35 ∷ 0x33 ∷ 0x35 ∷ []) 256 ≡ ok (4 ∷ 255 ∷ 255 ∷ [])
-unfolding from_json read_json run ends judge take skip or_digit found begin start_of follows is_digit white numeral map_result unless and_then encode encodes size
+unfolding from_json read_json run ends judge take skip or_digit found begin start_of follows is_digit white numeral map_result unless and_then encode encodes
+    size
     sizes
 reads_number = refl
 
 reads_wide : from_json (0x36 ∷ 0x35 ∷ 0x35 ∷ 0x33 ∷ 0x36 ∷ []) 256 ≡ ok (6 ∷ 0 ∷ 1 ∷ 0 ∷ 0 ∷ [])
-unfolding from_json read_json run ends judge take skip or_digit found begin start_of follows is_digit white numeral map_result unless and_then encode encodes size
+unfolding from_json read_json run ends judge take skip or_digit found begin start_of follows is_digit white numeral map_result unless and_then encode encodes
+    size
     sizes
 reads_wide = refl
 
@@ -55,7 +58,8 @@ leading_zero = refl
 
 -- all of the RFC's white space, and a vertical tab, which is none
 reads_white : from_json (0x09 ∷ 0x0A ∷ 0x0D ∷ 0x20 ∷ 0x37 ∷ 0x09 ∷ []) 256 ≡ ok (4 ∷ 0 ∷ 7 ∷ [])
-unfolding from_json read_json run ends judge take skip or_digit found begin start_of follows is_digit white numeral map_result unless and_then encode encodes size
+unfolding from_json read_json run ends judge take skip or_digit found begin start_of follows is_digit white numeral map_result unless and_then encode encodes
+    size
     sizes
 reads_white = refl
 
@@ -73,7 +77,8 @@ unfolding read_json run ends judge take skip or_digit or_comma or_member found b
 reads_array = refl
 
 level_48 : from_json (replicate 48 0x5B ++ replicate 48 0x5D) 256 ≡ ok (replicate 47 3 ++ replicate 48 2)
-unfolding from_json read_json run ends judge take skip or_comma or_member found begin start_of is_digit white map_result unless and_then encode encodes size sizes
+unfolding from_json read_json run ends judge take skip or_comma or_member found begin start_of is_digit white map_result unless and_then encode encodes size
+    sizes
 level_48 = refl
 
 -- an `x` for the `"` of a name, and behind it a `[` that would be the 49th level: the `x` is judged

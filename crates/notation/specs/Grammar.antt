@@ -1,5 +1,5 @@
 -- JSON text (RFC 8259) read as a value, each byte judged in turn (document 02, request 11).
-use Rattle.std.specs.Prelude.{Bool, true, false, ◌&&◌, ◌||◌, not, cond, List, [], ◌∷◌, ℕ, zero, suc, ◌+◌, ◌-◌, ◌*◌, eqb, leb}
+use Rattle.std.specs.Prelude.{Bool, true, false, ◌&&◌, ◌||◌, cond, List, [], ◌∷◌, ℕ, zero, suc, ◌+◌, ◌-◌, ◌*◌, eqb, leb}
 use Rattle.value.specs.Value.{Value, Values, vfalse, vtrue, list, number, wide, pair, nil, cons, least_wide, size}
 use Rattle.value.specs.Result.{Result, ok, refusal, and_then, unless}
 use Rattle.notation.specs.Text.{level_limit}

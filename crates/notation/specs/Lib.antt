@@ -5,8 +5,4 @@ pub mod Examples
 pub mod Texts
 pub mod Reads
 pub mod Written
-pub mod Derives
-pub mod Laws
-pub mod Fronts
 pub mod Numbers
-pub mod Deep

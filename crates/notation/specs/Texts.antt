@@ -31,7 +31,8 @@ mutual
     t_true : {l : ℕ} {s r : List ℕ} → Spaces s (0x74 ∷ 0x72 ∷ 0x75 ∷ 0x65 ∷ r) → Text l vtrue s r
     t_number : {l b n : ℕ} {v : Value} {s t r : List ℕ} → Spaces s (b ∷ t) → is_digit b ≡ true → Digits (b - 48) n t r → numeral n ≡ v → Text l v s r
     t_array : {l : ℕ} {m : Values} {s t r : List ℕ} → Token 0x5B s t → Members l m t r → Text (suc l) (list m) s r
-    t_object : {l : ℕ} {a b : Value} {s t t₁ t₂ t₃ r : List ℕ} → Token 0x7B s t → Named 0x61 l a t t₁ → Token 0x2C t₁ t₂ → Named 0x62 l b t₂ t₃ → Token 0x7D t₃ r
+    t_object : {l : ℕ} {a b : Value} {s t t₁ t₂ t₃ r : List ℕ} → Token 0x7B s t → Named 0x61 l a t t₁ → Token 0x2C t₁ t₂ → Named 0x62 l b t₂ t₃ →
+        Token 0x7D t₃ r
         → Text (suc l) (pair a b) s r
 
   -- a member of an object: its name, a colon and its value

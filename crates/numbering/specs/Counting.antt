@@ -1,7 +1,9 @@
 -- The uses of a sheet's nodes, counted in an array up to two.
-use Rattle.std.specs.Prelude.{◌≡◌, refl, Bool, true, false, cond, List, [], ◌∷◌, ◌++◌, ℕ, zero, suc, ◌+◌, ◌*◌, ◌-◌, ◌≤◌, ◌<◌, min, leb, eqb, length, get_or, set, take, replicate}
+use Rattle.std.specs.Prelude.{◌≡◌, refl, Bool, true, false, cond, List, [], ◌∷◌, ◌++◌, ℕ, zero, suc, ◌+◌, ◌*◌, ◌-◌, ◌≤◌, ◌<◌, min, leb, eqb, length}
+use Rattle.std.specs.Prelude.{get_or, set, take, replicate}
 use Rattle.std.proofs.Math.Path.{ap, sym}
-use Rattle.std.proofs.Common.{◌∙◌, append_assoc, append-nil, zero-add, add-one, arith, length-set, length-append, take-suc, take_all, get_or-set_same, get_or-set_other, eq-eqb, ne_eqb, le-leb, Fits}
+use Rattle.std.proofs.Common.{◌∙◌, append_assoc, append-nil, zero-add, add-one, arith, length-set, length-append, take-suc, take_all, get_or-set_same}
+use Rattle.std.proofs.Common.{get_or-set_other, eq-eqb, ne_eqb, le-leb, Fits}
 use Rattle.std.proofs.Math.Decide.{ℕ_discrete, dec_le}
 use Rattle.std.proofs.lemmas.List.{length-replicate, get_or-replicate}
 use Rattle.std.proofs.Math.Seq.{take-append_seam}
@@ -16,10 +18,10 @@ use Rattle.node.specs.Kinds.{Role, a_node, a_section, a_variable, a_test, a_numb
 use Rattle.sheet.specs.Sheet.{Sheet, read_sheet}
 use Rattle.sheet.specs.Table.{table_of, section_at}
 use Rattle.node.specs.Forms.{listing}
-use Rattle.sheet.specs.Laws.{Reads, table_reads, Ranges, sheet_ranges, section_read}
-use Rattle.sheet.specs.Rows.{width_8}
+use Rattle.sheet.specs.Laws.{Reads, table_reads}
+use Rattle.sheet.proofs.Rows.{width_8}
 use Rattle.sheet.specs.Parts.{children_of, children_at}
-use Rattle.sheet.specs.PartsLaws.{children_told}
+use Rattle.sheet.proofs.PartsLaws.{children_told}
 use Rattle.report.specs.Writing.{Wrote, wrote, wrote_then, wrote_text, wrote_front, front_read}
 use Rattle.records.specs.AnewLaws.{listing_long, wrote_listing, listing_same, listing_of, made_there}
 use Rattle.preorder.specs.Numbering.{node_of, roots}
@@ -316,7 +318,8 @@ pub counted_all : {s : List ℕ} {t : Table} (f : Fine s t) {n : ℕ} {u : List 
 unfolding uses
 counted_all {s} f {n} {u} v h = record { told = λ sh e. let z = (fine_read f).1.sheet in v.so_far ∙ same sh (cc) }
   where
-    same : (sh : Sheet) → (fine_read f).0 ≡ sh → used_all zeros (roots (fine_read f).0 ++ all_children (take n (fine_read f).0.nodes)) ≡ used_all zeros (uses sh)
+    same : (sh : Sheet) → (fine_read f).0 ≡ sh → used_all zeros (roots (fine_read f).0 ++ all_children (take n (fine_read f).0.nodes)) ≡ used_all zeros
+        (uses sh)
     same sh e =
         ap (λ z. used_all zeros (roots (fine_read f).0 ++ all_children z)) (take_all n (fine_read f).0.nodes (omega (arith, (fine_read f).1.nodes)))
         ∙ ap (λ z. used_all zeros (uses z)) e

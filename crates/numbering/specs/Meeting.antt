@@ -1,6 +1,6 @@
 -- The nodes of a sheet in the order in which they are first met, by a stack: of those still to be met the first is taken, and its children
 -- are put in its place.
-use Rattle.std.specs.Prelude.{◌≡◌, refl, ℕ, zero, suc, ◌+◌, ◌-◌, ◌≤◌, ◌<◌, get_or, set, take, replicate}
+use Rattle.std.specs.Prelude.{◌≡◌, ℕ, suc, ◌+◌, ◌-◌, ◌≤◌, ◌<◌, get_or, set, take, replicate}
 use Rattle.std.proofs.Math.Path.{ap}
 use Rattle.std.proofs.Common.{sym, ◌∙◌, add-one, length-append, length-drop, length-set, drop_of_length-le, drop_at, drop-cons, take-suc-set, length-take-le}
 use mathlib.Core.List.{List, [], ◌∷◌, ◌++◌, append_assoc, append-nil}
@@ -13,14 +13,15 @@ use Rattle.sheet.specs.declared.Table.{Table}
 use Rattle.sheet.specs.declared.Children.{Children}
 use Rattle.node.specs.Kinds.{children}
 use Rattle.sheet.specs.Sheet.{Sheet, read_sheet}
-use Rattle.sheet.specs.Laws.{Child, Ranges}
-use Rattle.sheet.specs.Rows.{Every}
-use Rattle.sheet.specs.Ranging.{every_map, children_in}
+use Rattle.sheet.specs.Laws.{Child}
+use Rattle.sheet.proofs.Rows.{Every}
+use Rattle.sheet.proofs.Ranging.{every_map, children_in}
 use Rattle.report.specs.Writing.{Wrote}
-use Rattle.rules.specs.Explain.Chain.{◌∈◌, here, there}
 use Rattle.numbering.specs.declared.Nodes.{Nodes}
-use Rattle.preorder.specs.Numbering.{gathered, met_from, node_of, roots, order, every_of, roots_in}
-use Rattle.preorder.specs.NumberingLaws.{Once, uses, order_short, meet_next, meet_short}
+use Rattle.preorder.specs.Numbering.{gathered, met_from, node_of, roots, order, every_of}
+use Rattle.preorder.proofs.Numbering.{roots_in}
+use Rattle.preorder.specs.NumberingLaws.{Once, uses}
+use Rattle.preorder.proofs.NumberingLaws.{order_short, meet_next, meet_short}
 use Rattle.numbering.specs.Counting.{Fine, fine_read, fine_sizes, roots_at, roots_are, roots_few, Named}
 
 -- a sheet that was read, of which no node is used twice

@@ -1,23 +1,24 @@
 -- What `number` has found out, stage by stage, and what it then answers.
-use Rattle.std.specs.Prelude.{◌≡◌, refl, List, ℕ, ◌≤◌, ◌<◌, length}
+use Rattle.std.specs.Prelude.{◌≡◌, List, ℕ, ◌≤◌, ◌<◌, length}
 use Rattle.std.proofs.Common.{sym, ap, ◌∙◌, arith}
-use Rattle.value.specs.Result.{ok, refusal}
+use Rattle.value.specs.Result.{refusal}
 use Rattle.report.specs.Writing.{Wrote, wrote_text}
 use Rattle.sheet.specs.declared.Table.{Table}
-use Rattle.sheet.specs.Sheet.{Sheet, read_sheet}
+use Rattle.sheet.specs.Sheet.{read_sheet}
 use Rattle.sheet.specs.Table.{table_of}
 use Rattle.sheet.specs.Laws.{table_refused}
-use Rattle.sheet.specs.Written.{Bytes}
-use Rattle.sheet.specs.Ranging.{written_short}
+use Rattle.sheet.proofs.Written.{Bytes}
+use Rattle.sheet.proofs.Ranging.{written_short}
 use Rattle.records.specs.declared.Anew.{Anew}
 use Rattle.numbering.specs.declared.Nodes.{Nodes}
-use Rattle.numbering.specs.declared.Numbered.{Numbered}
 use Rattle.numbering.specs.declared.Numbered.TheVariants.{Done, Refused, Twice}
-use Rattle.preorder.specs.NumberingLaws.{uses, uses_in, numbered_ranges}
-use Rattle.preorder.specs.Uses.{lowest_from, lowest_twice, all_once}
+use Rattle.preorder.specs.NumberingLaws.{uses}
+use Rattle.preorder.proofs.NumberingLaws.{uses_in, numbered_ranges}
+use Rattle.preorder.specs.Uses.{lowest_twice}
+use Rattle.preorder.proofs.Uses.{all_once}
 use Rattle.preorder.specs.NumberAnswer.{twice, number_answer, number_1, number_refused, number_twice, number_done}
 use Rattle.numbering.specs.Replies.{Answers, answers_no, answers_twice, answers_done}
-use Rattle.numbering.specs.Counting.{used_all, zeros, first_two, lowest_is, Fine, fine_read, Counts}
+use Rattle.numbering.specs.Counting.{first_two, lowest_is, Fine, fine_read, Counts}
 use Rattle.numbering.specs.Meeting.{Single, Ordered}
 use Rattle.numbering.specs.Places.{Numbers, text_anew, anew_text}
 

@@ -1,31 +1,30 @@
 -- Nodes in an order, each under the number of its place, and the sheet that is written of them.
-use Rattle.std.specs.Prelude.{◌≡◌, refl, ℕ, zero, suc, ◌+◌, ◌≤◌, ◌<◌, length, get_or, set, take, replicate}
+use Rattle.std.specs.Prelude.{◌≡◌, ℕ, ◌+◌, ◌≤◌, ◌<◌, length, get_or, set, replicate}
 use Rattle.std.proofs.Math.Path.{ap}
 use Rattle.std.proofs.Common.{sym, ◌∙◌, zero-add, arith, length-set, get_or-set_same, get_or-set_other, get_or-take}
-use mathlib.Core.List.{List, [], ◌∷◌, ◌++◌, map}
+use mathlib.Core.List.{List, [], ◌∷◌, ◌++◌}
 use Rattle.std.proofs.Math.Decide.{dec_lt}
 use Rattle.std.proofs.lemmas.List.{length-replicate}
-use Rattle.value.specs.Result.{ok}
 use Rattle.report.specs.Writing.{Wrote, wrote_then}
-use Rattle.node.specs.declared.Node.TheVariants.{False}
 use Rattle.sheet.specs.declared.Table.{Table}
 use Rattle.node.specs.Kinds.{children, calls}
-use Rattle.sheet.specs.Renumbering.{renumber}
-use Rattle.sheet.specs.Sheet.{Sheet, read_sheet}
+use Rattle.sheet.specs.Sheet.{Sheet}
 use Rattle.sheet.specs.Table.{section_at}
 use Rattle.node.specs.Forms.{listing}
-use Rattle.sheet.specs.Rows.{Every, all_written, sheet_written}
-use Rattle.sheet.specs.Written.{Bytes}
-use Rattle.sheet.specs.Ranging.{every_map, map_at, calls_in}
+use Rattle.sheet.proofs.Rows.{all_written, sheet_written}
+use Rattle.sheet.proofs.Written.{Bytes}
+use Rattle.sheet.proofs.Ranging.{every_map, map_at, calls_in}
 use Rattle.records.specs.declared.Anew.{Anew}
 use Rattle.records.specs.Anew.{shifted_by, within, new_node, new_section, records_of, named, roots_of, sections_of}
 use Rattle.records.specs.AnewLaws.{listing_same, listing-map, listing-within, shift_at, Renumbers, records_are, roots_written_lem}
-use Rattle.rules.specs.Explain.Chain.{◌∈◌, here, there}
+use Rattle.rules.specs.Explain.Chain.{◌∈◌, there}
 use Rattle.rules.specs.Laws.Embedding.{itself}
 use Rattle.numbering.specs.declared.Nodes.{Nodes}
-use Rattle.preorder.specs.Numbering.{node_of, roots, order, place_of, new_number, numbered, in_at, every_of, place_at, order_in, root_met, children_met, main_met}
-use Rattle.preorder.specs.NumberingLaws.{Once, uses, place_in, place_of_lem, order_once}
-use Rattle.numbering.specs.Counting.{Fine, fine_read}
+use Rattle.preorder.specs.Numbering.{node_of, roots, order, place_of, new_number, numbered, in_at, every_of, place_at}
+use Rattle.preorder.proofs.Numbering.{order_in, root_met, children_met, main_met}
+use Rattle.preorder.specs.NumberingLaws.{Once, place_in, place_of_lem}
+use Rattle.preorder.proofs.NumberingLaws.{order_once}
+use Rattle.numbering.specs.Counting.{fine_read}
 use Rattle.numbering.specs.Meeting.{Single, Holds, Ordered, ordered_few}
 
 -- THE PLACE OF EACH NODE

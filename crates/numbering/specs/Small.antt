@@ -5,10 +5,10 @@ use Rattle.std.specs.Prelude.{List, ℕ, ◌≤◌, ◌<◌}
 use Rattle.std.proofs.Math.ListN.{length}
 use Rattle.sheet.specs.Laws.{sheet_ranges}
 use Rattle.preorder.specs.NumberAnswer.{Answer, done, refused, twice, number_answer}
-use Rattle.preorder.specs.NumberingCalls.{numbered_told, numbered_short}
-use Rattle.preorder.specs.UsedTwice.{twice_told}
+use Rattle.preorder.proofs.NumberingCalls.{numbered_told, numbered_short}
+use Rattle.preorder.proofs.UsedTwice.{twice_told}
 use Rattle.numbering.specs.declared.Numbered.{Numbered}
-use Rattle.numbering.specs.declared.Numbered.TheVariants.{Done, Refused, Twice}
+use Rattle.numbering.specs.declared.Numbered.TheVariants.{Done, Twice}
 use Rattle.numbering.specs.Replies.{reply_of}
 
 module _ (s : List ℕ) (n : ℕ) where

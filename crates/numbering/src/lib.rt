@@ -1,4 +1,6 @@
 //! One numbering for a sheet file: nodes are numbered as they are first met (document 02, request 12).
+#![tactic(auto)]
+
 ghost use Rattle.std.specs.Prelude.{◌≡◌, ◌≤◌, ◌<◌, length, set};
 ghost use Rattle.report.specs.Writing.{Wrote};
 ghost use Rattle.preorder.specs.NumberAnswer.{number_answer};
@@ -23,7 +25,7 @@ pub enum Numbered {
 }
 
 // A list of nodes: `count` numbers, at the front of `nodes`.
-#[derive(Drop)]
+#[derive(Clone, Copy)]
 struct Nodes {
     count: usize,
     nodes: [u8; 256],

@@ -2,6 +2,8 @@
 //! success; then the length of the value that was got (16 bits), where it starts (16 bits) and the steps taken (24 bits) stand above it.
 //! A put that succeeds has got nothing: length and start are 0. In the length's place a refusal has how many nodes its chain has, and in the
 //! start's, one more than the number of the node that wrote first, or 0.
+#![tactic(auto)]
+
 ghost use Rattle.std.specs.Prelude.{◌≡◌};
 ghost use Rattle.outcome.specs.Outcome.{done_as, refused_by, is_refusal, code_of, len_of, start_of, steps_of, deeper_as, later_as};
 

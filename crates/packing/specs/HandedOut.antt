@@ -5,7 +5,7 @@ use Rattle.std.proofs.Math.Seq.{append_snoc, set-append_seam}
 use Rattle.starts.specs.declared.Found.{Found}
 use Rattle.starts.specs.declared.Found.TheVariants.{At, Refused}
 use Rattle.starts.specs.Starts.{firsts}
-use Rattle.starts.specs.Lookup.{length-firsts, firsts_more}
+use Rattle.starts.proofs.Lookup.{length-firsts, firsts_more}
 
 -- the first n of the numbers l at the front of the caller's t; those behind them do not change
 unfoldable pub handed : ℕ → (l t : List ℕ) → List ℕ

@@ -1,4 +1,6 @@
 //! Answers as one number, and what is handed out beside them in numbers and bytes that the caller lends.
+#![tactic(auto)]
+
 mod handing;
 mod numbers;
 

@@ -1,5 +1,5 @@
 -- A WHOLE CALL: what reading a text answers, from its two readings.
-use Rattle.std.specs.Prelude.{◌≡◌, refl, true, false, cond, ℕ, zero, suc, ◌+◌, ◌*◌, ◌-◌, ◌≤◌, ◌<◌, leb, length, drop}
+use Rattle.std.specs.Prelude.{◌≡◌, refl, ℕ, ◌+◌, ◌*◌, ◌≤◌, ◌<◌, length}
 use Rattle.std.proofs.Common.{sym, ◌∙◌, arith, length-take, length-take-le, take-take, le-leb}
 use Rattle.std.proofs.Math.Path.{ap, fun_ext}
 use Rattle.std.proofs.Math.Option.{Option, some}
@@ -7,17 +7,16 @@ use mathlib.Core.List.{List, [], ◌∷◌, ◌++◌}
 use Rattle.std.proofs.Math.ListN.{take}
 use Rattle.std.proofs.lemmas.Bool.{lt-leb}
 use Rattle.report.specs.Writing.{Wrote, wrote_front}
-use Rattle.sheet.specs.Sheet.{Sheet}
-use Rattle.sheet.specs.Rows.{roots_written, all_written, sheet_written}
+use Rattle.sheet.proofs.Rows.{roots_written, all_written, sheet_written}
 use Rattle.tokens.specs.Tokens.{between, tokens}
-use Rattle.syntax.specs.Reader.{Out, ok, fault, ◌>>=◌, Name, find, text_of_tokens, sheet_of_tokens, Said, says, refused, placed, sheet_of}
+use Rattle.syntax.specs.Reader.{Out, ok, fault, ◌>>=◌, Name, find, text_of_tokens, sheet_of_tokens, says, placed, sheet_of}
 use Rattle.tokens.specs.Ahead.{place_at}
 use Rattle.parsing.specs.Cursor.{Told, on, off}
 use Rattle.parsing.specs.Names.{stack_of, stack_kept}
 use Rattle.parsing.specs.Expect.{resolve_by}
 use Rattle.parsing.specs.Nodes.{records_from, records_in, records_written}
 use Rattle.parsing.specs.Whole.{Read, Passed}
-use Rattle.parsing.specs.Answer.{ReadAnswer, sheet, small, met, answer_of, read_answer, reply_of, output_of}
+use Rattle.parsing.specs.Answer.{ReadAnswer, small, met, answer_of, read_answer, reply_of, output_of}
 use Rattle.parsing.specs.Small.{said_short}
 use Rattle.parsing.specs.declared.Reading.{Reading}
 use Rattle.parsing.specs.declared.Reading.TheVariants.{Done, Refused, At}

@@ -2,9 +2,9 @@
 use Rattle.std.specs.Prelude.{◌≡◌, Bool, true, false, cond, eqb, length, get_or, take, drop, set}
 use Rattle.std.proofs.Math.Path.{refl, ap}
 use Rattle.std.proofs.Common.{sym, subst, ◌∙◌, arith, mod-eq_of_lt, length-append, length-set, get_or-take, take-take, get_or-set_same, get_or-set_other}
-use Rattle.std.proofs.Math.Option.{Option, some}
+use Rattle.std.proofs.Math.Option.{Option}
 use mathlib.Core.List.{List, [], ◌∷◌, ◌++◌}
-use Prim.Native.Nat.{ℕ, zero, suc, ◌+◌, ◌*◌, ◌-◌, ◌/◌, ◌%◌, ◌≤◌, ◌<◌}
+use Prim.Native.Nat.{ℕ, zero, suc, ◌+◌, ◌*◌, ◌/◌, ◌%◌, ◌≤◌, ◌<◌}
 use Rattle.std.proofs.Math.Numerals.{add-one}
 use Rattle.std.proofs.lemmas.List.Edits.{sets}
 use Rattle.std.proofs.lemmas.List.{take-set-le}
@@ -15,7 +15,8 @@ use Rattle.node.specs.Kinds.{width, written}
 use Rattle.tokens.specs.Quoted.{bytes}
 use Rattle.tokens.specs.Tokens.{Token, word, digits, hash, mark, arrow, first, rest, word_of, mark_of, same}
 use Rattle.syntax.specs.Reader.{Out, ok, fault, ◌>>=◌, Name, Scope, scope, is_name, sent, symbol, keyword, bind, known, variable, test}
-use Rattle.syntax.specs.Reader.{Begin, nothing, a_false, a_true, a_let, a_case, an_each, a_pair, a_list, a_name, a_hash, a_number, word_begin, begin_of, behind_of, branch_of}
+use Rattle.syntax.specs.Reader.{Begin, nothing, a_false, a_true, a_let, a_case, an_each, a_pair, a_list, a_name, a_hash, a_number, word_begin}
+use Rattle.syntax.specs.Reader.{begin_of, behind_of, branch_of}
 use Rattle.syntax.specs.Reader.{whole, Nodes, Reader, room, begun, constant, pair_of, behind, back, front_of, list_by, list_of, let_in, amount_by, amount_of}
 use Rattle.syntax.specs.Reader.{truth_case, list_case, branches, case_of, each_of, named, shaped, parted}
 use Rattle.syntax.specs.Reader as reader
@@ -26,7 +27,7 @@ use Rattle.parsing.specs.Cursor as cursor
 use Rattle.parsing.specs.Names.{name_at, name_sent, stack_of, stack_kept}
 use Rattle.parsing.specs.Expect.{marked, mark_is, mark_at, mark_own, mark_other, Again, Binds, Named, Numbers, Number, IsVariable, IsTest}
 use Rattle.parsing.specs.Expect.{IsCallee, resolve_by, callee_of, scope_at, fault_here}
-use Rattle.parsing.specs.Nodes.{Slots, more, slots_append, Kept, kept_refl, kept_fewer, kept_then, slots_kept}
+use Rattle.parsing.specs.Nodes.{Slots, slots_append, Kept, kept_refl, kept_fewer, kept_then, slots_kept}
 use Rattle.parsing.specs.Nodes.{none as no_slots}
 use Rattle.parsing.specs.Expressions.{begin_code, begin_by, bytes_in, behind_it, begin_coded, row_of, Stored, Below, Leafy, Var, Call}
 use Rattle.parsing.specs.Expressions.{Constant, goes_told, stored_kept, stored_more}

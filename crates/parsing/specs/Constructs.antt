@@ -1,5 +1,5 @@
 -- THE CONSTRUCTS: what each function of an expression asks and answers.
-use Rattle.std.specs.Prelude.{◌≡◌, List, [], ◌∷◌, ℕ, suc, ◌+◌, ◌*◌, ◌-◌, ◌≤◌, ◌<◌, length, get_or}
+use Rattle.std.specs.Prelude.{◌≡◌, List, [], ◌∷◌, ℕ, suc, ◌+◌, ◌*◌, ◌≤◌, ◌<◌, length, get_or}
 use Rattle.std.proofs.Math.Option.{Option}
 use Rattle.node.specs.declared.Node.{Node}
 use Rattle.tokens.specs.Quoted.{bytes}

@@ -1,12 +1,11 @@
 -- A CURSOR, and what it tells of what was read: the definition's answer, and the place in the text.
-use Rattle.std.specs.Prelude.{◌≡◌, refl, List, ℕ, suc, ◌+◌, ◌≤◌, ◌<◌, length, drop}
-use Rattle.std.proofs.Common.{sym, ap, ◌∙◌, arith}
-use Rattle.tokens.specs.Tokens.{Token, first, rest}
+use Rattle.std.specs.Prelude.{◌≡◌, refl, List, ℕ, ◌+◌, ◌<◌}
+use Rattle.std.proofs.Common.{sym, ◌∙◌, arith}
+use Rattle.tokens.specs.Tokens.{Token}
 use Rattle.syntax.specs.Reader.{Out, ok, fault, ◌>>=◌}
 use Rattle.tokens.specs.Ahead.{place_at}
-use Rattle.lexing.specs.Lexing.{Between, ahead, token_at, Next}
+use Rattle.lexing.specs.Lexing.{Between, ahead}
 use Rattle.parsing.specs.declared.cursor.Cursor.{Cursor}
-use Rattle.lexing.specs.declared.Lexeme.{Lexeme}
 
 abbrev pub fault_at : Cursor → ℕ → ℕ → ℕ → Cursor
 fault_at c code at d = record { at = at; count = c.count; found = c.found; code = code; detail = d }

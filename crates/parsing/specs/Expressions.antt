@@ -1,31 +1,26 @@
 -- EXPRESSIONS: what the functions of the constructs answer, each from the answers of those that it calls.
-use Rattle.std.specs.Prelude.{◌≡◌, Bool, not, ◌&&◌, ◌||◌, cond, List, [], ◌∷◌, ◌++◌, ℕ, zero, suc, ◌+◌, ◌*◌, ◌-◌, ◌/◌, ◌%◌, ◌≤◌, ◌<◌, eqb, leb, length, get_or, take, drop, set}
+use Rattle.std.specs.Prelude.{◌≡◌, Bool, cond, List, [], ◌∷◌, ℕ, zero, suc, ◌+◌, ◌*◌, ◌/◌, ◌%◌, ◌≤◌, ◌<◌, eqb, length, take}
 use Rattle.std.proofs.Math.Path.{refl}
-use Rattle.std.proofs.Common.{sym, ap, ◌∙◌, arith, add-one, mod-eq_of_lt}
+use Rattle.std.proofs.Common.{arith, mod-eq_of_lt}
 use Rattle.std.proofs.Math.Bool.{true, false}
-use Rattle.std.proofs.Math.Option.{Option, none, some}
+use Rattle.std.proofs.Math.Option.{none}
 use Rattle.std.proofs.lemmas.List.Edits.{sets}
-use borrow.Author.Tests.{ne_eqb, eq-eqb, le-leb, lt-leb, not-true, not-false, eqb-true, eqb-false}
+use borrow.Author.Tests.{ne_eqb, le-leb, lt-leb}
 use Rattle.node.specs.declared.Node.{Node}
 use Rattle.node.specs.declared.Node.TheVariants as node
 use Rattle.node.specs.Kinds.{width, written}
 use Rattle.tokens.specs.Quoted.{bytes}
-use Rattle.tokens.specs.Tokens.{Token, word, digits, hash, mark, arrow, first, rest, word_of, mark_of, same}
-use Rattle.syntax.specs.Reader.{Out, ok, fault, ◌>>=◌, Name, Scope, scope, find, is_some, is_name, symbol, keyword, bind, known, number, variable, test}
-use Rattle.syntax.specs.Reader.{Begin, nothing, a_false, a_true, a_let, a_case, an_each, a_pair, a_list, a_name, a_hash, a_number, word_begin, begin_of, behind_of, branch_of}
-use Rattle.syntax.specs.Reader.{Part, whole, more, Nodes, Reader, room, begun, constant, pair_of, behind, back, front_of, list_by, list_of, let_in}
-use Rattle.syntax.specs.Reader.{amount_by, amount_of}
-use Rattle.syntax.specs.Reader.{truth_case, list_case, branches, case_of, call_of, each_of, named, shaped, parted}
-use Rattle.syntax.specs.Reader as reader
-use Rattle.tokens.specs.Ahead.{letter_first, place_at}
-use Rattle.tokens.specs.Same.{and-true}
-use Rattle.lexing.specs.Lexing.{Between, ahead, part, token_at, Shape, Next}
-use Rattle.parsing.specs.Cursor.{fault_at, entered, Told, on, off, fault_told, Behind, With, Fault, fault_same, Carries, carries_then, Goes, told_then}
-use Rattle.parsing.specs.Cursor as cursor
-use Rattle.parsing.specs.Names.{word_is, word_none, name_at, stack_of, stack_kept}
-use Rattle.parsing.specs.Expect.{marked, mark_is, Again, Binds, Named, Numbers, Number, IsVariable, IsTest, IsCallee, resolve_by, callee_of}
-use Rattle.parsing.specs.Expect.{Resolves, scope_at, fault_here}
-use Rattle.parsing.specs.Nodes.{Slot, Slots, none, more, slots_append, Kept, kept_refl, kept_fewer, kept_then, slots_kept, store_kept, store_more}
+use Rattle.tokens.specs.Tokens.{Token, word, digits, hash, mark, arrow, word_of, same}
+use Rattle.syntax.specs.Reader.{Out, ok, ◌>>=◌, Scope, is_name, symbol, variable}
+use Rattle.syntax.specs.Reader.{Begin, nothing, a_false, a_true, a_let, a_case, an_each, a_pair, a_list, a_name, a_hash, a_number, word_begin, begin_of}
+use Rattle.syntax.specs.Reader.{Nodes, constant}
+use Rattle.syntax.specs.Reader.{call_of}
+use Rattle.tokens.specs.Ahead.{place_at}
+use Rattle.lexing.specs.Lexing.{Between, ahead, token_at}
+use Rattle.parsing.specs.Cursor.{entered, Told, on, Behind, With, Carries, carries_then, Goes, told_then}
+use Rattle.parsing.specs.Expect.{marked, IsVariable, resolve_by}
+use Rattle.parsing.specs.Expect.{Resolves, scope_at}
+use Rattle.parsing.specs.Nodes.{Slots, none, Kept, store_kept, store_more}
 use Rattle.parsing.specs.declared.cursor.Cursor.{Cursor}
 use Rattle.lexing.specs.declared.Lexeme.{Lexeme}
 use Rattle.parsing.specs.declared.expect.Scope.{Scope as Names}

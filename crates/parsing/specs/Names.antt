@@ -264,7 +264,8 @@ module _ {s names : List ℕ} {base many : ℕ} {w : Name} where
       let y : suc i - 1 ≡ i = omega arith in
       record { below = omega (arith, k.below); others = k.others ∙ rw (y, rw z at e) }
 
-  pub above_found : {i : ℕ} → Above s names base many w i → 0 < i → same (name_at s (get_or names (base + i - 1) 0)) w ≡ true → Found s names base many w (i - 1)
+  pub above_found : {i : ℕ} → Above s names base many w i → 0 < i → same (name_at s (get_or names (base + i - 1) 0)) w ≡ true →
+      Found s names base many w (i - 1)
   unfolding find stack_of
   above_found {i = zero} k h e = absurd (omega arith)
   above_found {i = suc i} k h e =
@@ -294,4 +295,5 @@ shut_at s p h e = rw (at_byte s p h, e)
 -- a name that is no `sent`, compared
 pub name_alike : {s : List ℕ} {t : Lexeme} {p : ℕ} {b : Bool} → Shape s t → t.kind ≡ 97 → p < length s
     → b ≡ same (word_from (drop p s)) (part s t.at t.end) → b ≡ same (name_at s p) (word_of (token_at s t))
-name_alike {s} {t} {p} g e h q = q ∙ sym (ap (λ (x : Name). same x (word_of (token_at s t))) (name_word s p h) ∙ ap (same (word_from (drop p s))) (word_is s t e))
+name_alike {s} {t} {p} g e h q = q ∙ sym (ap (λ (x : Name). same x (word_of (token_at s t))) (name_word s p h) ∙
+    ap (same (word_from (drop p s))) (word_is s t e))

@@ -1,13 +1,14 @@
 -- NODES IN SLOTS: node n has the eight bytes from 8 n on, and its record stands at their front.
 use Rattle.std.specs.Prelude.{◌≡◌, refl, List, [], ◌∷◌, ◌++◌, ℕ, zero, suc, ◌+◌, ◌*◌, ◌-◌, ◌≤◌, ◌<◌, length, get_or, take, drop, set}
-use Rattle.std.proofs.Common.{sym, ap, ◌∙◌, append_assoc, append-nil, arith, add-one, length-drop, length-take, take-suc, take_all, get_or-take, get_or-drop, take_at, drop_at, drop-set-lt, take-take, length-take-le}
+use Rattle.std.proofs.Common.{sym, ap, ◌∙◌, append_assoc, append-nil, arith, add-one, take-suc, take_all, get_or-take, get_or-drop, take_at, drop_at}
+use Rattle.std.proofs.Common.{drop-set-lt, take-take, length-take-le}
 use Rattle.std.proofs.lemmas.List.Edits.{sets, sets-eq}
 use Rattle.std.proofs.Math.Seq.{take-nil, length-sets}
 use Rattle.report.specs.Writing.{Wrote, wrote_text, wrote_then}
 use Rattle.node.specs.declared.Node.{Node}
-use Rattle.node.specs.Kinds.{Row, row, form_of, sizes, roles, width, body_width, written}
+use Rattle.node.specs.Kinds.{row, form_of, width, body_width, written}
 use Rattle.node.specs.Decoding.{kind_width, form_width}
-use Rattle.sheet.specs.Rows.{all_written, width_8}
+use Rattle.sheet.proofs.Rows.{all_written, width_8}
 use Rattle.node.specs.declared.Node.TheVariants as node
 
 abbrev pub slot : List ℕ → ℕ → List ℕ
@@ -178,7 +179,8 @@ record_written s n x e =
     let f : take (width x) d ≡ written x = sym (take-take (width x) 8 d (width_8 x)) ∙ e in
     let z : 8 * n + 0 ≡ 8 * n = omega arith in
     let k : get_or s (8 * n) 0 ≡ (row x).kind =
-    ap (λ (m : ℕ). get_or s m 0) (sym z) ∙ sym (get_or-drop (8 * n) s 0 0) ∙ sym (get_or-take (width x) d 0 0 (some_width x)) ∙ ap (λ (l : List ℕ). get_or l 0 0) f
+    ap (λ (m : ℕ). get_or s m 0) (sym z) ∙ sym (get_or-drop (8 * n) s 0 0) ∙ sym (get_or-take (width x) d 0 0 (some_width x)) ∙
+    ap (λ (l : List ℕ). get_or l 0 0) f
     ∙ first_byte x in
     rw (k, kind_wide x) f
 

@@ -5,10 +5,10 @@ use Rattle.std.specs.Prelude.{Bool, true, false, cond, leb}
 use mathlib.Core.List.{List}
 use Prim.Native.Nat.{ℕ, ◌≤◌}
 use Rattle.std.proofs.Math.ListN.{length}
-use Rattle.sheet.specs.Ranging.{written_short}
+use Rattle.sheet.proofs.Ranging.{written_short}
 use Rattle.syntax.specs.Reader.{Said, says, refused, sheet_of}
 use Rattle.syntax.specs.Trees.{trees_ranges}
-use Rattle.syntax.specs.TextsBack.{read_met}
+use Rattle.syntax.proofs.TextsBack.{read_met}
 use Rattle.parsing.specs.declared.Reading.{Reading}
 use Rattle.parsing.specs.declared.Reading.TheVariants.{Done}
 use Rattle.parsing.specs.Answer.{ReadAnswer, sheet, small, met, answer_of, read_answer, reply_of}

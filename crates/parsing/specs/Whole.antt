@@ -1,15 +1,12 @@
 -- A WHOLE TEXT: what the functions answer that read the plan's names, the sections and all of a text.
-use Rattle.std.specs.Prelude.{◌≡◌, Bool, true, false, not, ◌&&◌, ◌||◌, cond, ℕ, zero, suc, ◌+◌, ◌*◌, ◌-◌, ◌≤◌, ◌<◌, eqb, leb, length, get_or, take, drop, set}
+use Rattle.std.specs.Prelude.{◌≡◌, Bool, true, false, ◌||◌, ℕ, zero, suc, ◌+◌, ◌*◌, ◌-◌, ◌≤◌, ◌<◌, length, get_or, take, set}
 use Rattle.std.proofs.Math.Path.{refl, sym, ap}
-use Rattle.std.proofs.Common.{subst, ◌∙◌, add-one, zero-add, length-append, length-set, length-take, take-suc-set, take-suc, get_or-set_same, length-take-le, ne_eqb, eq-eqb}
-use Rattle.std.proofs.Math.Option.{Option, none, some}
+use Rattle.std.proofs.Common.{subst, ◌∙◌, zero-add, length-append, length-set, take-suc-set, get_or-set_same}
 use mathlib.Core.List.{List, [], ◌∷◌, ◌++◌, append_assoc, append-nil}
 use native.Mathlib.Omega.{arith}
-use Rattle.std.proofs.lemmas.List.{take-set-le}
-use Rattle.std.proofs.lemmas.Bool.{not-true, not-false}
 use Rattle.node.specs.declared.Node.{Node}
 use Rattle.sheet.specs.Sheet.{Sheet}
-use Rattle.sheet.specs.Rows.{roots_written}
+use Rattle.sheet.proofs.Rows.{roots_written}
 use Rattle.tokens.specs.Quoted.{bytes}
 use Rattle.tokens.specs.Tokens.{Token, between, tokens, first, rest, word_of, mark_of, same}
 use Rattle.syntax.specs.Reader.{Out, ok, fault, ◌>>=◌, Name, Scope, scope, find, is_some, is_name, wild, symbol, keyword, bind, section_name, unknown}
@@ -17,16 +14,16 @@ use Rattle.syntax.specs.Reader.{whole, plan, section}
 use Rattle.syntax.specs.Reader.{sections, text_of_tokens}
 use Rattle.syntax.specs.Reader as reader
 use Rattle.tokens.specs.Ahead.{here_first}
-use Rattle.lexing.specs.Lexing.{Between, ahead, token_at, Shape, Next}
+use Rattle.lexing.specs.Lexing.{Between, ahead, token_at, Next}
 use Rattle.parsing.specs.Cursor.{fault_at, Told, on, off, fault_told, Behind, With, Fault, fault_same, Carries, carries_then, Goes, told_then}
 use Rattle.parsing.specs.Cursor as cursor
-use Rattle.parsing.specs.Names.{name_at, name_read, stack_of, stack-length, stack_kept, Found}
+use Rattle.parsing.specs.Names.{name_at, name_read, stack_of, stack-length, Found}
 use Rattle.parsing.specs.Expect.{marked, mark_is, mark_at, mark_own, mark_other, Binds, Named, resolve_by, scope_at, fault_here, over_it, name_kind}
 use Rattle.parsing.specs.Nodes.{Slots, slots_append, Kept, kept_refl, kept_fewer, kept_then, slots_kept}
 use Rattle.parsing.specs.Nodes.{none as no_slots}
 use Rattle.parsing.specs.Expressions.{Stored, Below, goes_told}
-use Rattle.parsing.specs.Constructs.{Ready, Expr, Both, Two}
-use Rattle.parsing.specs.ConstructLaws.{told_two, two_at, below_refl, below_then, below_lower, below_set, stack_one, stack_two, part_told, scope_kept}
+use Rattle.parsing.specs.Constructs.{Expr, Both, Two}
+use Rattle.parsing.specs.ConstructLaws.{told_two, two_at, below_refl, below_set, stack_one, stack_two, part_told}
 use Rattle.parsing.specs.declared.cursor.Cursor.{Cursor}
 use Rattle.lexing.specs.declared.Lexeme.{Lexeme}
 use Rattle.parsing.specs.declared.expect.Scope.{Scope as Names}

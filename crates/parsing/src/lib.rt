@@ -1,4 +1,6 @@
 //! Sheets written as text, read from the left to the sheet's bytes (docs/SHEETS.md).
+#![tactic(auto)]
+
 ghost use Rattle.std.specs.Prelude.{◌≡◌, length};
 ghost use Rattle.parsing.specs.Answer.{read_answer, reply_of, output_of};
 

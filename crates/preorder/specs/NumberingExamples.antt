@@ -1,10 +1,11 @@
 -- Sheets numbered anew, byte by byte.
 use Rattle.std.specs.Prelude.{◌≡◌, refl, List, [], ◌∷◌, map, ℕ}
 use Rattle.value.specs.Result.{and_then, map_result, or_refuse, unless}
-use Rattle.sheet.specs.Sheet.{read_nodes, one_section, if_section, read_records, with_nodes, read_body, nodes_in_range, roots_in_range, in_range, read_header, read_sheet}
+use Rattle.sheet.specs.Sheet.{read_nodes, one_section, if_section, read_records, with_nodes, read_body, nodes_in_range, roots_in_range, in_range}
+use Rattle.sheet.specs.Sheet.{read_header, read_sheet}
 use Rattle.node.specs.Kinds.{form_of, body_width, make, node_in_range, children, written}
 use Rattle.sheet.specs.Renumbering.{of_kind, renumber}
-use Rattle.sheet.specs.Rows.{sheet_written}
+use Rattle.sheet.proofs.Rows.{sheet_written}
 use Rattle.preorder.specs.Numbering.{met_from, roots, order, place_of, new_number, numbered}
 use Rattle.preorder.specs.NumberingLaws.{uses}
 use Rattle.preorder.specs.Uses.{times, lowest_from, lowest_twice}
@@ -36,7 +37,8 @@ section_twice = 0x01 ∷ 0x01 ∷ 0x00 ∷ 0x20 ∷ 0x01 ∷ 0x20 ∷ 0x01 ∷ 0
 
 pub numbers : map (λ s. number_answer s 2048) (drawn ∷ anew ∷ shared ∷ unmet ∷ root_twice ∷ section_twice ∷ [])
     ≡ done anew ∷ done anew ∷ twice 1 ∷ twice 2 ∷ twice 0 ∷ twice 1 ∷ []
-unfolding number_answer sheet_answer lowest_twice lowest_from times numbered new_number place_of order roots met_from uses children renumber of_kind sheet_written
+unfolding number_answer sheet_answer lowest_twice lowest_from times numbered new_number place_of order roots met_from uses children renumber of_kind
+    sheet_written
     written
     and_then map_result or_refuse unless form_of body_width make read_nodes one_section if_section
     read_records with_nodes read_body node_in_range nodes_in_range roots_in_range in_range read_header read_sheet

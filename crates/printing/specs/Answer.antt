@@ -5,7 +5,7 @@ use Rattle.std.proofs.Math.Path.{ap}
 use Rattle.std.proofs.lemmas.Bool.{lt-leb}
 use Rattle.value.specs.Result.{Result, ok, refusal}
 use Rattle.sheet.specs.Sheet.{Sheet, read_sheet}
-use Rattle.sheet.specs.Rows.{sheet_written}
+use Rattle.sheet.proofs.Rows.{sheet_written}
 use Rattle.preorder.specs.Numbering.{numbered}
 use Rattle.preorder.specs.Uses.{lowest_twice}
 use Rattle.preorder.specs.NumberAnswer.{Answer, done, refused, twice, sheet_answer, number_answer}
@@ -16,9 +16,9 @@ use Rattle.numbering.specs.Replies.{reply_of, Answers, answers_no, answers_twice
 use Rattle.numbering.specs.Counting.{Fine, fine_read}
 use Rattle.sheet.specs.declared.Table.{Table}
 use Rattle.sheet.specs.Table.{table_of}
-use Rattle.sheet.specs.Written.{Bytes}
+use Rattle.sheet.proofs.Written.{Bytes}
 use Rattle.report.specs.Writing.{wrote_text}
-use Rattle.syntax.specs.Short.{printed_short}
+use Rattle.syntax.proofs.Short.{printed_short}
 use Rattle.printing.specs.Whole.{Prints}
 
 -- 1 an output under 16,384 bytes, judged first

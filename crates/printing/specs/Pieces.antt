@@ -2,11 +2,10 @@
 use Rattle.std.specs.Prelude.{◌≡◌, refl, Bool, true, false, List, [], ◌∷◌, ◌++◌, ℕ, zero, suc, min, ◌+◌, ◌/◌, ◌%◌, ◌≤◌, ◌<◌, length, replicate}
 use Rattle.std.proofs.Common.{sym, ap, ◌∙◌, append_assoc, append-nil, arith, add-one, lt-ltb, le-ltb}
 use Rattle.report.specs.Text.{digit_of, decimal_of}
-use Rattle.report.specs.TextLaws.{decimal_small, decimal_more, by_digits}
+use Rattle.report.proofs.TextLaws.{decimal_small, decimal_more, by_digits}
 use Rattle.report.specs.Writing.{Wrote, wrote_then, wrote_text}
 use Rattle.tokens.specs.Quoted.{bytes}
 use Rattle.tokens.specs.Laid.{spelled}
-use Rattle.syntax.specs.Reader.{sent}
 use Rattle.syntax.specs.NameLaws.{small_dec, large_dec}
 use Rattle.syntax.specs.Printer.{Reach, reach, dec, decimal, suffix, name_of, called, part_name, variable_said, test_name, line, or_line, unless_plain}
 use Rattle.printing.specs.declared.pieces.Scope.{Scope}

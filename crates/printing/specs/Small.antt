@@ -1,6 +1,6 @@
 -- What `print` replies is small: the length of a text, and the number of a node.
 use Rattle.std.proofs.Math.Path.{◌≡◌, refl}
-use Rattle.std.proofs.Common.{sym, ap, ◌∙◌, arith}
+use Rattle.std.proofs.Common.{sym, ◌∙◌, arith}
 use Rattle.std.specs.Prelude.{Bool, List, ℕ, ◌≤◌, ◌<◌}
 use Rattle.std.proofs.Math.Bool.{true, false, cond}
 use Rattle.std.proofs.Math.Decide.{dec_lt}
@@ -10,11 +10,11 @@ use borrow.Author.Tests.{ltb-true}
 use Rattle.value.specs.Result.{Result, ok, refusal}
 use Rattle.sheet.specs.Sheet.{Sheet, read_sheet}
 use Rattle.sheet.specs.Laws.{sheet_ranges}
-use Rattle.sheet.specs.Written.{Bytes}
+use Rattle.sheet.proofs.Written.{Bytes}
 use Rattle.preorder.specs.Uses.{lowest_twice}
 use Rattle.preorder.specs.NumberAnswer.{Answer, done, refused, twice}
 use Rattle.syntax.specs.Texts.{text_of, sheet_printed, printed_bytes}
-use Rattle.syntax.specs.Short.{printed_short}
+use Rattle.syntax.proofs.Short.{printed_short}
 use Rattle.numbering.specs.declared.Numbered.{Numbered}
 use Rattle.numbering.specs.declared.Numbered.TheVariants.{Done, Twice}
 use Rattle.numbering.specs.Replies.{reply_of}

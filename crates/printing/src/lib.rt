@@ -1,4 +1,6 @@
 //! Sheets as text: the printer (docs/SHEETS.md, "The text of a sheet").
+#![tactic(auto)]
+
 ghost use Rattle.std.specs.Prelude.{◌≡◌, pred, length};
 ghost use Rattle.report.specs.Writing.{Wrote};
 ghost use Rattle.numbering.specs.Replies.{reply_of, output_of};

@@ -19,10 +19,10 @@ use Rattle.sheet.specs.Table.{table_of, section_at, first_node}
 use Rattle.node.specs.Forms.{listing}
 use Rattle.sheet.specs.Reading.{Made}
 use Rattle.sheet.specs.Laws.{node_made, table_start, sheet_ranges}
-use Rattle.sheet.specs.Rows.{Every, renumbered_alike, all_written, roots_written}
-use Rattle.sheet.specs.Written.{Bytes}
+use Rattle.sheet.proofs.Rows.{Every, renumbered_alike, all_written, roots_written}
+use Rattle.sheet.proofs.Written.{Bytes}
 use Rattle.sheet.specs.Parts.{part_at, byte_anew, record_anew}
-use Rattle.sheet.specs.PartsLaws.{record_anew_lem}
+use Rattle.sheet.proofs.PartsLaws.{record_anew_lem}
 use Rattle.records.specs.declared.Anew.{Anew}
 use Rattle.records.specs.Anew.{shifted_by, within, chosen_of, new_node, new_section, record_of, records_of, named, roots_of, sections_of}
 

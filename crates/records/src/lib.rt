@@ -1,5 +1,7 @@
 //! The records of a sheet, written into a buffer that the caller lends, its nodes and sections under other numbers. As in `report`, each
 //! function takes the buffer and the place, and gives the place behind what it wrote.
+#![tactic(auto)]
+
 ghost use Rattle.std.specs.Prelude.{◌≡◌};
 ghost use Rattle.records.specs.Anew.{within, chosen_of, record_of, records_of, named, sections_of, shifted_by};
 ghost use Rattle.report.specs.Writing.{Wrote};
@@ -7,7 +9,7 @@ ghost use Rattle.report.specs.Writing.{Wrote};
 use sheet::Table;
 
 /// How a sheet is written anew: these nodes, `count` of them, at the front of `order`; and the new number of each node and of each section.
-#[derive(Drop)]
+#[derive(Clone, Copy)]
 pub struct Anew {
     pub count: usize,
     pub order: [u8; 256],

@@ -1,6 +1,8 @@
 //! Text, written into a buffer that the caller lends: a byte, bytes as they stand, bytes in hexadecimal, a number in decimal, both as
 //! words of a line, the line of an answer. Each takes the buffer and the place, and gives the place behind what it wrote; text that has no
 //! room is cut.
+#![tactic(auto)]
+
 ghost use Rattle.std.specs.Prelude.{◌≡◌, [], ◌∷◌, ◌<◌, ◌/◌, ◌%◌};
 ghost use Rattle.report.specs.Text.{digit_of, hex_of, decimal_of, words, refusal_line, success_line};
 ghost use Rattle.report.specs.Writing.{Wrote};

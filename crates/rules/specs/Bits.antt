@@ -1,6 +1,4 @@
 -- Which plan variables a put wrote, as a number of 16 bits: bit i for variable i (document 02, request 8).
-pub mod Laws
-pub mod Examples
 use Rattle.std.specs.Prelude.{Bool, true, false, cond, List, [], ◌∷◌, map, ℕ, zero, suc, ◌+◌, ◌*◌, ◌/◌, ◌%◌, eqb, get_or}
 use Rattle.std.proofs.Math.Option.{Option, none, some}
 use Rattle.value.specs.Value.{Value, vfalse}

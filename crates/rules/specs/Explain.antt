@@ -1,9 +1,7 @@
 -- The explaining reading of get and put: the allowance is paid on entering each node, and a refusal says where it was met.
 pub mod Erasure
 pub mod Calls
-pub mod Examples
 pub mod Chain
-pub mod Nodes
 use Rattle.std.proofs.Math.Option.{Option, none, some}
 use Rattle.std.specs.Prelude.{List, [], ◌∷◌, ℕ, zero, suc, ◌+◌, ◌-◌}
 use Rattle.value.specs.Value.{Value, Values}

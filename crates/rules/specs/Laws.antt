@@ -2,14 +2,6 @@
 pub mod Related
 pub mod Cells
 pub mod Invariant
-pub mod Counting
 pub mod Outcomes
-pub mod Allowances
 pub mod Answers
-pub mod Readable
-pub mod Scope
-pub mod Consistency
-pub mod Acceptability
-pub mod Trips
-pub mod Refusals
 pub mod Embedding

@@ -5,7 +5,6 @@ pub mod Semantics
 pub mod Nodes
 pub mod Counting
 pub mod Answer
-pub mod Examples
 pub mod Laws
 pub mod Explain
 pub mod Bits

@@ -26,6 +26,7 @@ Inside b (n ∷ ns) = (n < b) × Inside b ns
 pub inside_one : {n : ℕ} (b : ℕ) (l : List ℕ) → Inside b l → n ∈ l → n < b
 inside_one b (m ∷ l) i here = i.0
 inside_one b (m ∷ l) i (there e) = inside_one b l i.1 e
+inside_one {n = n} b [] i x'' = elim x'' [ ]
 
 -- a node of a sheet that was read enters nodes of that sheet
 module _ {sh : Sheet} (r : Ranges sh) where

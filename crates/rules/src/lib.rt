@@ -1,5 +1,6 @@
 //! The rules of get and put: the crate is there for the definitions and laws of specs/. Its code is the numbers that they name
 //! (specs/Numbers.antt), so that each stands once.
+#![tactic(auto)]
 
 /// The levels of a walk: a node at depth 49 is refused.
 pub const LEVELS: usize = 48;

@@ -1,4 +1,6 @@
 //! The variables in scope: where each one's value stands, which cell it is, what is noted of the cell's slot, and a view stored there.
+#![tactic(auto)]
+
 ghost use Rattle.std.specs.Prelude.{◌≡◌, ◌+◌, ◌≤◌, ◌<◌, length, get_or};
 ghost use Rattle.std.proofs.Math.Seq.{paste};
 ghost use Rattle.outcome.specs.Outcome.{done_as};
@@ -8,7 +10,7 @@ ghost use Rattle.scopes.specs.Scopes.{When, front_two, picked_two, added_two, pi
 use outcome::{done, refused};
 
 /// The variables in scope, at most rules::VARIABLES: where each one's bytes start, and how many they are less one.
-#[derive(Drop)]
+#[derive(Clone, Copy)]
 pub struct Scope {
     pub count: u16,
     pub starts: [u16; rules::VARIABLES],

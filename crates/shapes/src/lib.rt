@@ -1,5 +1,7 @@
 //! A value's bytes taken apart: its shape, its two parts, what each test says to it, and whether two values are the same (document 01 and
 //! docs/SHEETS.md, "Values" and "Tests").
+#![tactic(auto)]
+
 ghost use Rattle.std.specs.Prelude.{◌≡◌};
 ghost use Rattle.shapes.specs.Needs.{Enough};
 ghost use Rattle.shapes.specs.Parts.{shape_of, middle_of, first_part, second_part, kind_at, rest_kind, passes_bytes, same_bytes};

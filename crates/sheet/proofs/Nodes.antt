@@ -111,7 +111,8 @@ run_none s from =
       rest = same_result (read_nodes 200 (drop from s));
     }
 
-one_more : (ns : List Node) (m : Node) (r : Result (List Node)) → map_result (λ x. ns ++ x) (map_result (λ x. m ∷ x) r) ≡ map_result (λ x. (ns ++ m ∷ []) ++ x) r
+one_more : (ns : List Node) (m : Node) (r : Result (List Node)) → map_result (λ x. ns ++ x) (map_result (λ x. m ∷ x) r) ≡ map_result (λ x. (ns ++ m ∷ []) ++ x)
+    r
 unfolding map_result
 one_more ns m (ok x) = ap ok (sym (append_assoc ns (m ∷ []) x))
 one_more ns m (refusal c) = refl
@@ -189,7 +190,8 @@ module _ {s : List ℕ} {from n at : ℕ} {starts : List ℕ} (run : Run s from 
 -- THE TABLE that comes of it
 
 module _ (s : List ℕ) (k root sections : ℕ) where
-  pub refused_table : {c : ℕ} {t : Table} → t ≡ table_of (refusal c) → read_nodes 200 (drop (first_node sections) s) ≡ refusal c → NodesTable s k root sections t
+  pub refused_table : {c : ℕ} {t : Table} → t ≡ table_of (refusal c) → read_nodes 200 (drop (first_node sections) s) ≡ refusal c →
+      NodesTable s k root sections t
   unfolding and_then map_result
   refused_table e r secs l = rw r e
 

@@ -30,7 +30,8 @@ pub record Roots (s : List ℕ) (sections nodes i : ℕ) : Type 0 where
 pub roots_none : (s : List ℕ) (sections nodes : ℕ) → Roots s sections nodes 0
 roots_none s sections nodes = record { few = omega arith; rest = λ rs l a. refl }
 
-next_root : (nodes : ℕ) (rs : List ℕ) (i : ℕ) → i < length rs → roots_in_range nodes (drop i rs) ≡ ltb (get_or rs i 0) nodes && roots_in_range nodes (drop (i + 1) rs)
+next_root : (nodes : ℕ) (rs : List ℕ) (i : ℕ) → i < length rs → roots_in_range nodes (drop i rs) ≡ ltb (get_or rs i 0) nodes && roots_in_range nodes
+    (drop (i + 1) rs)
 unfolding roots_in_range
 next_root nodes rs i h = rw (add-one, drop-cons rs i 0)
 
@@ -66,7 +67,8 @@ pub nodes_none : (s : List ℕ) (t : Table) → Nodes s t 0
 nodes_none s t = record { few = omega arith; rest = λ ns l a. refl }
 
 next_node : (nodes sections : ℕ) (ns : List Node) (i : ℕ) → i < length ns
-    → nodes_in_range nodes sections i (drop i ns) ≡ node_in_range nodes sections i (get_or ns i False) && nodes_in_range nodes sections (i + 1) (drop (i + 1) ns)
+    → nodes_in_range nodes sections i (drop i ns) ≡ node_in_range nodes sections i (get_or ns i False) && nodes_in_range nodes sections (i + 1)
+    (drop (i + 1) ns)
 unfolding nodes_in_range
 next_node nodes sections ns i h = rw (add-one, drop-cons ns i False)
 

@@ -8,7 +8,7 @@ use Rattle.std.proofs.Math.Nat.{add-zero}
 use native.Mathlib.Omega.{arith}
 use Rattle.std.proofs.Math.ListN.{get_or-append}
 use Rattle.value.specs.Result.{Result, ok, refusal}
-use Rattle.value.specs.Laws.{and-true}
+use Rattle.value.proofs.Laws.{and-true}
 use Rattle.std.proofs.Math.Option.{none, some}
 use Rattle.std.proofs.Math.Decide.{dec_lt}
 use Rattle.node.specs.Forms.{no_form}

@@ -3,9 +3,4 @@ pub mod Sheet
 pub mod Table
 pub mod Reading
 pub mod Laws
-pub mod Records
-pub mod Rows
-pub mod Written
-pub mod Ranging
 pub mod Parts
-pub mod PartsLaws

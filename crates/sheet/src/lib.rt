@@ -1,4 +1,5 @@
 //! Sheets: records of bytes read and judged (document 01, "Sheet records"; docs/SHEETS.md, "Records").
+#![tactic(auto)]
 
 ghost use Rattle.std.specs.Prelude.{◌≡◌, ◌≤◌, length, drop};
 ghost use Rattle.sheet.specs.Sheet.{read_body, read_header, read_sheet};
@@ -10,7 +11,7 @@ use node::{byte_of, record_in_range, record_width};
 
 /// What reading a sheet gives. A refusal is its number and zeros. Otherwise `refusal` is 0, and `starts` has the
 /// place of each node's record, in file order, with zeros behind.
-#[derive(Drop)]
+#[derive(Clone, Copy)]
 pub struct Table {
     pub refusal: u8,
     pub k: usize,

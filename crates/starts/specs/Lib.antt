@@ -1,4 +1,2 @@
 pub mod Starts
-pub mod Lookup
-pub mod StartsLaws
 pub mod NewPlan

@@ -1,11 +1,13 @@
 //! Where the values of a plan start, and a value handed out by its variable's number, with no reading from the front.
+#![tactic(auto)]
+
 ghost use Rattle.std.specs.Prelude.{◌≡◌, length};
 ghost use Rattle.starts.specs.Starts.{no_starts, load_of, refused_load, proper, find_of, part_of};
 ghost use Rattle.starts.specs.NewPlan.{plan_of, grown_by};
 
 /// Where each value of a plan starts: `count` numbers, at the front of `at`. Those that this program gives have zeros behind them; those
 /// that a caller kept may be any numbers, and `find` judges them.
-#[derive(Drop)]
+#[derive(Clone, Copy)]
 pub struct Starts {
     pub count: u8,
     pub at: [u16; 16],

@@ -1,16 +1,15 @@
 -- Numbers in decimal are read back, and the printer's names are names, each with its own number.
-use Rattle.std.specs.Prelude.{◌≡◌, Bool, true, false, not, ◌&&◌, ◌||◌, cond, leb, ltb, eqb, length, get_or, drop}
+use Rattle.std.specs.Prelude.{◌≡◌, Bool, true, false, ◌&&◌, leb, eqb, length, get_or, drop}
 use Rattle.std.proofs.Math.Path.{refl}
-use Rattle.std.proofs.Common.{sym, ap, ◌∙◌, arith, leb-true, le-leb, lt-ltb, le-ltb, eq-eqb, ne_eqb, eqb-true}
-use Rattle.std.proofs.Math.Option.{Option, none, some}
-use mathlib.Core.List.{List, [], ◌∷◌, ◌++◌}
+use Rattle.std.proofs.Common.{sym, ap, ◌∙◌, arith, leb-true, le-leb, lt-ltb, le-ltb, ne_eqb}
+use Rattle.std.proofs.Math.Option.{none, some}
+use mathlib.Core.List.{List, [], ◌∷◌}
 use Prim.Native.Nat.{ℕ, zero, suc, ◌+◌, ◌*◌, ◌-◌, ◌/◌, ◌%◌, ◌≤◌, ◌<◌}
 use Rattle.std.proofs.Math.Decide.{dec_lt, ℕ_discrete}
-use Rattle.sheet.specs.Rows.{Every}
-use Rattle.tokens.specs.Quoted.{bytes}
+use Rattle.sheet.proofs.Rows.{Every}
 use Rattle.tokens.specs.Tokens.{same}
 use Rattle.tokens.specs.Same.{and-true, same_self, same_not}
-use Rattle.syntax.specs.Reader.{Name, find, is_some, words, wild, sent, is_name, ok, value, Valued, is, over, zero_first, valued, number, by_number}
+use Rattle.syntax.specs.Reader.{Name, find, words, wild, sent, is_name, value, Valued, is, over}
 use Rattle.syntax.specs.Printer.{dec_by, dec, decimal, suffix, name_of, part_name, called}
 
 and-false : (a b : Bool) → b ≡ false → a && b ≡ false
@@ -23,7 +22,7 @@ unfoldable pub limit : ℕ → ℕ
 limit zero = 1
 limit (suc f) = 10 * limit f
 
-below : (n : ℕ) → n < limit n
+pub below : (n : ℕ) → n < limit n
 unfolding limit
 below zero = omega arith
 below (suc n) = omega (arith, below n)
@@ -73,11 +72,11 @@ unfolding decimal
 decimal_digits n = dec_digits (suc n) n [] tt
 
 -- the first of them is 0 only where it stands alone
-abbrev Lead : List ℕ → Type 0
+abbrev pub Lead : List ℕ → Type 0
 Lead [] = ⊥
 Lead (d ∷ ds) = 48 < d
 
-dec_lead : (f n : ℕ) (acc : List ℕ) → n < limit f → 1 ≤ n → Lead (dec f n acc)
+pub dec_lead : (f n : ℕ) (acc : List ℕ) → n < limit f → 1 ≤ n → Lead (dec f n acc)
 unfolding limit
 dec_lead zero n acc h k = absurd (omega arith)
 dec_lead (suc f) n acc h k = go (dec_lt n 10) (dec_lead f (n / 10) ((48 + n % 10) ∷ acc))
@@ -85,20 +84,6 @@ dec_lead (suc f) n acc h k = go (dec_lt n 10) (dec_lead f (n / 10) ((48 + n % 10
     go : Dec (n < 10) → (n / 10 < limit f → 1 ≤ n / 10 → Lead (dec f (n / 10) ((48 + n % 10) ∷ acc))) → Lead (dec (suc f) n acc)
     go (yes s) i = rw (small_dec f n acc s) (omega arith)
     go (no s) i = rw (large_dec f n acc s) (i (omega arith) (omega arith))
-
-lead_zero : (ds : List ℕ) → Lead ds → zero_first ds ≡ false
-unfolding zero_first
-lead_zero (d ∷ []) h = refl
-lead_zero (d ∷ e ∷ ds) h = ne_eqb d 48 (λ q. omega arith)
-
-decimal_zero : (n : ℕ) → zero_first (decimal n) ≡ false
-unfolding decimal limit zero_first
-decimal_zero zero = rw (small_dec 0 0 [] (omega arith)) refl
-decimal_zero (suc n) = lead_zero (decimal (suc n)) (dec_lead (suc (suc n)) (suc n) [] (omega (arith, below n)) (omega arith))
-
-pub number-decimal : (most detail left behind n : ℕ) → n ≤ most → number most detail left behind (decimal n) false ≡ ok n
-unfolding number valued
-number-decimal most detail left behind n h = rw (decimal_zero n, value-decimal most n h)
 
 -- there is one at least
 pub some_digit : (n : ℕ) → (d : ℕ) × (ds : List ℕ) × (decimal n ≡ d ∷ ds)
@@ -108,10 +93,6 @@ some_digit (suc n) = go (decimal (suc n)) refl (unfold decimal limit in dec_lead
     go : (l : List ℕ) → decimal (suc n) ≡ l → Lead (decimal (suc n)) → (d : ℕ) × (ds : List ℕ) × (decimal (suc n) ≡ d ∷ ds)
     go [] e h = absurd (rw e at h)
     go (d ∷ ds) e h = (d, ds, e)
-
-pub hash_decimal : (left n : ℕ) → n ≤ 255 → by_number left (decimal n) false ≡ ok n
-unfolding by_number
-hash_decimal left n h = let (d, ds, e) = some_digit n in rw e (rw e at (number-decimal 255 64 left 1 n h))
 
 -- NAMES APART
 

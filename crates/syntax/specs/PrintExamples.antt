@@ -2,7 +2,8 @@
 use Rattle.std.specs.Prelude.{◌≡◌, refl, List, [], ◌∷◌, ◌++◌, ℕ}
 use Rattle.value.specs.Result.{and_then, map_result, or_refuse, unless}
 use Rattle.node.specs.Kinds.{form_of, body_width, make, node_in_range, children}
-use Rattle.sheet.specs.Sheet.{read_nodes, one_section, if_section, read_records, with_nodes, read_body, nodes_in_range, roots_in_range, in_range, read_header, read_sheet}
+use Rattle.sheet.specs.Sheet.{read_nodes, one_section, if_section, read_records, with_nodes, read_body, nodes_in_range, roots_in_range, in_range}
+use Rattle.sheet.specs.Sheet.{read_header, read_sheet}
 use Rattle.preorder.specs.Numbering.{roots}
 use Rattle.preorder.specs.NumberingLaws.{uses}
 use Rattle.preorder.specs.Uses.{times, lowest_from, lowest_twice}
@@ -17,7 +18,8 @@ use Rattle.syntax.specs.Texts.{text_of, sheet_printed, printed_bytes}
 -- (all that printing computes with)
 shown : List ℕ → Answer
 unfolding and_then map_result or_refuse unless form_of body_width make node_in_range children
-    read_nodes one_section if_section read_records with_nodes read_body nodes_in_range roots_in_range in_range read_header read_sheet roots uses times lowest_from lowest_twice
+    read_nodes one_section if_section read_records with_nodes read_body nodes_in_range roots_in_range in_range read_header read_sheet roots uses times
+    lowest_from lowest_twice
     dec_by dec decimal suffix name_of part_name called variable_said test_name test_said tail_of no_case all_plain plain_from
     spoken tailed said plan_said sections_said sheet_said spelled text_in text_of sheet_printed printed_bytes
 shown s = printed_bytes s

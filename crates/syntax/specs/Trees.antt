@@ -2,7 +2,7 @@
 -- request 12 gives it back unchanged.
 use Rattle.std.specs.Prelude.{◌≡◌, ◌⊎◌, get_or}
 use Rattle.std.proofs.Math.Path.{refl, ap, subst}
-use Rattle.std.proofs.Common.{sym, ◌∙◌, inl, inr, add-zero, zero-add, get_or-append-add}
+use Rattle.std.proofs.Common.{sym, ◌∙◌, inl, inr, zero-add, get_or-append-add}
 use mathlib.Core.List.{List, [], ◌∷◌, ◌++◌, append-nil, append_assoc}
 use Prim.Native.Nat.{ℕ, zero, suc, ◌+◌, ◌-◌, ◌≤◌, ◌<◌}
 use native.Mathlib.Omega.{arith}
@@ -13,11 +13,12 @@ use Rattle.node.specs.declared.Node.TheVariants.{False}
 use Rattle.node.specs.Kinds.{Role, a_node, a_section, a_variable, a_test, a_number, a_wide, Field, ◌of◌, row, pick, children}
 use Rattle.sheet.specs.Sheet.{Sheet}
 use Rattle.sheet.specs.Laws.{Child, InRange, AllFit, Ranged, Ranges}
-use Rattle.sheet.specs.Rows.{Every}
+use Rattle.sheet.proofs.Rows.{Every}
 use Rattle.rules.specs.Answer.{count}
 use Rattle.rules.specs.Explain.Chain.{◌∈◌, here, there}
 use Rattle.preorder.specs.Numbering.{gathered, node_of, met_from, roots, order, numbered, in_front, in_behind, in_either, every_at, every_of}
-use Rattle.preorder.specs.NumberingLaws.{Once, all_children, uses, once_both, numbered_still}
+use Rattle.preorder.specs.NumberingLaws.{Once, all_children, uses, once_both}
+use Rattle.preorder.proofs.NumberingLaws.{numbered_still}
 
 -- the numbers of a node that name no node
 module _ (sections : ℕ) where
@@ -44,7 +45,7 @@ Tree S m ns = Trees S m (m ∷ []) ns
 
 module _ {S : ℕ} where
   -- a tree, and others behind it
-  pub join : {m : ℕ} {cs : List ℕ} {ns os : List Node} → Tree S m ns → Trees S (m + length ns) cs os → Trees S m (m ∷ cs) (ns ++ os)
+  pub join : {m k : ℕ} {cs : List ℕ} {ns os : List Node} → Trees S m (k ∷ []) ns → Trees S (m + length ns) cs os → Trees S m (k ∷ cs) (ns ++ os)
   join (more {below = below} x f t none) u = rw (append-nil below) (more x f t (rw (append-nil below) at u))
 
   -- a node above trees
@@ -93,7 +94,7 @@ module _ (sh : Sheet) where
   unfolding met_from count
   met_node l m x b e q = rw e (ap (λ (z : List ℕ). m ∷ z) q)
 
-  pub met_trees : (l : ℕ) {S m : ℕ} {cs : List ℕ} {ns : List Node} → Trees S m cs ns → length ns ≤ l → At sh m ns → gathered (met_from l sh) cs
+  pub met_trees : {S : ℕ} (l : ℕ) {m : ℕ} {cs : List ℕ} {ns : List Node} → Trees S m cs ns → length ns ≤ l → At sh m ns → gathered (met_from l sh) cs
       ≡ count m (length ns)
   unfolding count
   met_trees l none h a = refl
@@ -159,7 +160,8 @@ trees_ranged {S} N (more {m} {cs} {below} {others} x f t u) h (suc i) l =
 pub trees_keep : {S m : ℕ} {cs : List ℕ} {ns : List Node} → Trees S m cs ns → (i : ℕ) → i < length ns → AllKeep S (row (get_or ns i False)).body
 trees_keep none i l = absurd (omega arith)
 trees_keep (more x f t u) zero l = f
-trees_keep {S} (more {m} {cs} {below} {others} x f t u) (suc i) l = go (dec_lt i (length below)) (λ h. trees_keep t i h) (λ h. trees_keep u (i - length below) h)
+trees_keep {S} (more {m} {cs} {below} {others} x f t u) (suc i) l = go (dec_lt i (length below)) (λ h. trees_keep t i h) (λ h. trees_keep u
+    (i - length below) h)
   where
     go : Dec (i < length below) → (i < length below → AllKeep S (row (get_or below i False)).body)
         → (i - length below < length others → AllKeep S (row (get_or others (i - length below) False)).body)

@@ -1,1 +1,2 @@
 //! Sheets as text: the crate is there for the definitions and laws of specs/.
+#![tactic(auto)]

@@ -2,14 +2,11 @@
 use Rattle.std.specs.Prelude.{◌≡◌, ℕ}
 use Rattle.std.proofs.Math.Path.{refl}
 use Rattle.made.specs.declared.Made.{Made}
-use Rattle.made.specs.declared.Made.TheVariants as Made
 use Rattle.made.specs.Made.{code_of as made_code, length_of}
 use Rattle.numbering.specs.declared.Numbered.{Numbered}
-use Rattle.numbering.specs.declared.Numbered.TheVariants as Numbered
 use Rattle.numbering.specs.Replies.{code_of, value_of}
 use Rattle.accepts.specs.declared.Verdict.{Verdict}
 use Rattle.accepts.specs.declared.Verdict.TheVariants.{Yes, No}
-use Rattle.accepts.specs.declared.Verdict.TheVariants as Verdict
 use Rattle.accepts.specs.Accepts.{code_of as verdict_code, yes_of}
 use Rattle.parsing.specs.declared.Reading.{Reading}
 use Rattle.parsing.specs.declared.Reading.TheVariants.{Done, Refused, At}

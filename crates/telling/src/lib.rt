@@ -1,4 +1,6 @@
 //! The answers of tools as one number, case by case, and the place of a fault in a number that the caller lends.
+#![tactic(auto)]
+
 ghost use Rattle.telling.specs.Tools.{MadeTold, NumberTold, VerdictTold, ReadTold};
 
 use accepts::Verdict;

@@ -7,7 +7,7 @@ use native.Mathlib.Omega.{arith}
 use borrow.Author.Tests.{le-leb, lt-leb}
 use Rattle.std.proofs.lemmas.List.{length-replicate}
 use Rattle.shapes.specs.Parts.{same_bytes}
-use Rattle.shapes.specs.PartsLaws.{same_refl}
+use Rattle.shapes.proofs.PartsLaws.{same_refl}
 use Rattle.rules.specs.Numbers.{allowance_limit, factor, scratch_size, get_output, put_output}
 use Rattle.rules.specs.Answer.{Answer, refusal, success, get_answer, put_answer}
 use Rattle.calls.specs.Reply.{Reply, Done, Refused}

@@ -1,4 +1,6 @@
 //! What calls one after the other answer together, and how the last of them is judged.
+#![tactic(auto)]
+
 ghost use Rattle.std.specs.Prelude.{◌≡◌, take};
 
 mod last;

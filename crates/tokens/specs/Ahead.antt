@@ -2,17 +2,17 @@
 -- fault has. (A code's function takes the place p; its contract speaks of the tokens of `drop p text`.)
 use Rattle.std.proofs.Math.Path.{◌≡◌, refl, ap}
 use Rattle.std.proofs.Common.{sym, ◌∙◌, arith, length-append, get_or-append-add}
-use Rattle.std.specs.Prelude.{Bool, true, not, ◌&&◌, ◌||◌, cond, ℕ, zero, suc, ◌+◌, ◌-◌, ◌≤◌, ◌<◌, eqb, length, get_or}
+use Rattle.std.specs.Prelude.{Bool, true, not, ◌&&◌, ◌||◌, ℕ, suc, ◌+◌, ◌-◌, length, get_or}
 use Rattle.std.proofs.Math.Bool.{false}
 use mathlib.Core.List.{List, [], ◌∷◌, ◌++◌, map, append_assoc, append-nil}
 use Rattle.std.proofs.lemmas.List.{length-map}
 use borrow.Author.Tests.{ne_eqb}
 use Rattle.tokens.specs.Quoted.{bytes}
 use Rattle.tokens.specs.Tokens.{Token, word, digits, hash, mark, Class, blank, letter, digit, dash, sharp, other, class_of, Mode, between}
-use Rattle.tokens.specs.Tokens.{comment, dashed, in_word, in_digits, in_hash, into, Act, begin, on_word, on_digits, arrow, act, last, tokens, held}
+use Rattle.tokens.specs.Tokens.{comment, dashed, in_word, in_digits, in_hash, into, begin, on_word, on_digits, arrow, act, last, tokens, held}
 use Rattle.tokens.specs.Tokens.{places}
 use Rattle.tokens.specs.Same.{and-true}
-use Rattle.tokens.specs.Laid.{is_letter, is_digit, letters, numerals, shuts, of_digit, of_letter}
+use Rattle.tokens.specs.Laid.{is_letter, is_digit, shuts, of_digit}
 
 -- as many places as tokens
 pub places_many : (p : ℕ) (m : Mode) (s : List ℕ) → length (places p m s) ≡ length (tokens m s)

@@ -1,6 +1,6 @@
 -- TOKENS (docs/SHEETS.md, "Sheets as text"). A text is read byte by byte; a mode is what stands before a byte and is not yet ended. A fault names its
 -- token by how many tokens stand from it on, so that no token holds a place; `places` has the place of each.
-use Rattle.std.specs.Prelude.{◌≡◌, refl, Bool, true, false, ◌&&◌, ◌||◌, cond, List, [], ◌∷◌, ◌++◌, map, ℕ, zero, suc, ◌+◌, ◌-◌, leb, eqb, length}
+use Rattle.std.specs.Prelude.{Bool, true, false, ◌&&◌, ◌||◌, cond, List, [], ◌∷◌, ◌++◌, map, ℕ, suc, ◌-◌, leb, eqb, length}
 use Rattle.tokens.specs.Quoted.{bytes}
 
 -- a word, or digits and whether a letter stands right behind them, or # and the digits right behind it, or any other bytes

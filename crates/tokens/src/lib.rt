@@ -1,1 +1,2 @@
 //! The tokens of a text: the crate is there for the definitions and laws of specs/.
+#![tactic(auto)]

@@ -3,8 +3,8 @@ use Rattle.std.specs.Prelude.{◌≡◌, refl, List, ℕ, ◌*◌, ◌≤◌, le
 use Rattle.std.proofs.Common.{sym, le_trans, le_refl, length-take-le}
 use Rattle.rules.specs.Numbers.{allowance_limit, factor, get_output, put_output}
 use Rattle.rules.specs.Answer.{success, get_answer, put_answer}
-use Rattle.rules.specs.Laws.Answers.{get_shows, put_shows, get_steps, put_steps}
-use Rattle.rules.specs.Laws.Trips.{consistency, acceptability}
+use Rattle.rules.proofs.Laws.Answers.{get_shows, put_shows, get_steps, put_steps}
+use Rattle.rules.proofs.Laws.Trips.{consistency, acceptability}
 use Rattle.calls.specs.Reply.{Reply, Done, Refused}
 use Rattle.together.specs.declared.Trip.{Trip}
 use Rattle.together.specs.declared.Trip.TheVariants.{Stopped}
@@ -12,7 +12,8 @@ use Rattle.calls.specs.Calls.{Answered}
 use Rattle.arena.specs.Door.{shut, door_lent}
 use Rattle.calls.specs.Trips.{success_of}
 use Rattle.calls.specs.WalkCalls.{get_behind, put_behind, call_shut}
-use Rattle.together.specs.RoundTrips.{Tripped, ListStands, PlanStays, back_and_out, out_and_back, verdict, refusal_of, first_refused, second_shut, second_judged}
+use Rattle.together.specs.RoundTrips.{Tripped, ListStands, PlanStays, back_and_out, out_and_back, verdict, refusal_of, first_refused, second_shut}
+use Rattle.together.specs.RoundTrips.{second_judged}
 
 -- a front that is lent
 pub front_long : (n : ℕ) (xs : List ℕ) → n ≤ length xs → n ≡ length (take n xs)

@@ -6,7 +6,8 @@ use Rattle.calls.specs.Reply.{Reply, Done, Refused}
 use Rattle.together.specs.declared.Trip.{Trip}
 use Rattle.together.specs.declared.Trip.TheVariants.{Stopped}
 use Rattle.calls.specs.Calls.{Answered}
-use Rattle.together.specs.Undone.{ThreeCalls, TakesBack, first_into_new, replied, get_refused, put_refused, all_made, relies}
+use Rattle.together.specs.Undone.{ThreeCalls, TakesBack, first_into_new, replied}
+use Rattle.together.proofs.Undone.{get_refused, put_refused, all_made, relies}
 
 module _ (sheet plan edited : List ℕ) (reading allowance : ℕ) (list new out s : List ℕ) {list' s₁ : List ℕ} {r₁ : Reply}
     (w₁ : Answered (get_answer sheet plan reading (length list) (length s)) r₁ list list' s s₁) where

@@ -1,4 +1,6 @@
 //! Calls one after the other: a list put back and read out again, a list read out and put back unedited, and an edit that is taken back.
+#![tactic(auto)]
+
 ghost use Rattle.std.specs.Prelude.{length};
 ghost use Rattle.rules.specs.Answer.{get_answer, put_answer};
 ghost use Rattle.together.specs.RoundTrips.{Tripped, ListStands, PlanStays, back_and_out, out_and_back};

@@ -18,9 +18,9 @@ use Rattle.typing.specs.Types.{Ty, truths}
 use Rattle.typing.specs.Fits.{Section, section_of}
 use Rattle.typing.specs.Check.{apart, read_all, threes, many, lent_of, twice, unfit, lowest, Verdict, passes, refused, refused_at, unless_at, check_sheet}
 use Rattle.typing.specs.Check.{on_types, on_sheet, check}
-use Rattle.typing.specs.CheckLaws.{OnceBelow, Lowest, no_such, lowest_is, Says, all_right, used_twice, not_right}
-use Rattle.typing.specs.Calls.{Judges, no_sheet, no_types, judged, check_judges}
-use Rattle.typing.specs.Written.{types_read}
+use Rattle.typing.proofs.CheckLaws.{OnceBelow, Lowest, no_such, lowest_is, Says, all_right, used_twice, not_right}
+use Rattle.typing.proofs.Calls.{Judges, no_sheet, no_types, judged, check_judges}
+use Rattle.typing.proofs.Written.{types_read}
 use Rattle.types.specs.Slots.{At, Laid, lent_below, Slotted}
 use Rattle.types.specs.SlotsLaws.{clamp_before, clamp_in, clamp_past}
 use Rattle.types.specs.Uses.{lowest_in}
@@ -102,7 +102,14 @@ threes_at (suc n) l zero d h = refl
 threes_at (suc n) l (suc c) d h =
     let y : 3 + 3 * c ≡ 3 * suc c = omega arith in let y₁ : 3 + (3 * c + 1) ≡ 3 * suc c + 1 = omega arith in
     let y₂ : 3 + (3 * c + 2) ≡ 3 * suc c + 2 = omega arith in
-    threes_at n (drop 3 l) c d (omega arith) ∙ rw (get_or-drop 3 l (3 * c) truths, get_or-drop 3 l (3 * c + 1) truths, get_or-drop 3 l (3 * c + 2) truths, y, y₁, y₂)
+    threes_at n (drop 3 l) c d (omega arith) ∙ rw (
+      get_or-drop 3 l (3 * c) truths,
+      get_or-drop 3 l (3 * c + 1) truths,
+      get_or-drop 3 l (3 * c + 2) truths,
+      y,
+      y₁,
+      y₂,
+    )
 
 module _ (sh : Sheet) (g : Ranges sh) {types starts : List ℕ} (ts : List Ty)
     (z : Slotted types starts (lent_below sh.k (length sh.sections) (length sh.nodes)) ts) where

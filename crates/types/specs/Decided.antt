@@ -6,14 +6,15 @@ use Rattle.std.proofs.Math.Option.{Option, none, some}
 use mathlib.Core.List.{List, [], ◌∷◌, ◌++◌}
 use Rattle.std.proofs.Math.ListN.{get_elem?}
 use Rattle.shapes.specs.Parts.{same_bytes}
-use Rattle.shapes.specs.PartsLaws.{same_bytes_lem, same_refl}
+use Rattle.shapes.proofs.PartsLaws.{same_bytes_lem, same_refl}
 use Rattle.node.specs.declared.Node.{Node}
 use Rattle.node.specs.declared.Node.TheVariants.{Var, False, True, Empty, Number, Front, Pair, ListCase, TruthCase, Split, Call, Add, Each, Wide}
 use Rattle.sheet.specs.Laws.{Ranged}
 use Rattle.typing.specs.Types.{Ty, truths, numbers, lists, pairs, Ty-discrete}
 use Rattle.typing.specs.Fits.{Lent, Scope, type_of, section_of}
 use Rattle.typing.specs.Check.{apart, and?, and3?, and4?, some?, at?, lists?, pairs?, fits?}
-use Rattle.typing.specs.Written.{bytes_of, bytes_same}
+use Rattle.typing.specs.Written.{bytes_of}
+use Rattle.typing.proofs.Written.{bytes_same}
 use Rattle.types.specs.Slots.{part_at, At, Laid}
 use Rattle.types.specs.SlotsLaws.{type_some}
 use Rattle.types.specs.Scopes.{Scoped, bytes_or}
@@ -98,7 +99,8 @@ var_is (some u) t = same_is u t ∙ go (Ty-discrete u t)
 
 -- in slots
 module _ {types starts : List ℕ} where
-  pub same_types : {x y : ℕ} {t u : Ty} {r : Bool} → At types starts x t → At types starts y u → r ≡ same_bytes (part_at types starts x) (part_at types starts y)
+  pub same_types : {x y : ℕ} {t u : Ty} {r : Bool} → At types starts x t → At types starts y u → r ≡ same_bytes (part_at types starts x)
+      (part_at types starts y)
       → r ≡ holds (Ty-discrete t u)
   same_types {t} {u} a b e = e ∙ ap₂ same_bytes a.is b.is ∙ same_is t u
 

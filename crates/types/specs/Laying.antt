@@ -1,6 +1,8 @@
 -- Laws of reading types into their slots, one slot after another.
-use Rattle.std.specs.Prelude.{◌≡◌, refl, Bool, true, false, cond, ◌&&◌, List, [], ◌∷◌, ◌++◌, ℕ, suc, ◌+◌, ◌*◌, ◌-◌, ◌≤◌, ◌<◌, eqb, length, get_or, take, drop, set, replicate}
-use Rattle.std.proofs.Common.{sym, subst, ◌∙◌, append_assoc, append-nil, add-zero, take_at, drop_at, drop-drop, get_or-set_same, get_or-append-add, length-append, length-drop, length-set, drop_of_length-le, eqb-true}
+use Rattle.std.specs.Prelude.{◌≡◌, refl, Bool, true, false, cond, ◌&&◌, List, [], ◌∷◌, ◌++◌, ℕ, suc, ◌+◌, ◌*◌, ◌-◌, ◌≤◌, ◌<◌, eqb, length, get_or}
+use Rattle.std.specs.Prelude.{take, drop, set, replicate}
+use Rattle.std.proofs.Common.{sym, subst, ◌∙◌, append_assoc, append-nil, add-zero, take_at, drop_at, drop-drop, get_or-set_same, get_or-append-add}
+use Rattle.std.proofs.Common.{length-append, length-drop, length-set, drop_of_length-le, eqb-true}
 use Rattle.std.proofs.Math.Path.{ap}
 use Rattle.std.proofs.Math.Option.{Option, none, some}
 use native.Mathlib.Omega.{arith}
@@ -12,7 +14,8 @@ use Rattle.node.specs.Places.{take_rest, rest_begins}
 use Rattle.typing.specs.Numbers.{longest_type, past_slots}
 use Rattle.typing.specs.Types.{Ty, truths}
 use Rattle.typing.specs.Check.{apart, and_then, read_types, on_type, read_all}
-use Rattle.typing.specs.Written.{bytes_of, flat, Short, Taken, nothing, taken, takes}
+use Rattle.typing.specs.Written.{bytes_of, flat, Short, Taken, nothing, taken}
+use Rattle.typing.proofs.Written.{takes}
 use Rattle.types.specs.Slots.{behind, up_to, type_len, part_at, At, TypesRead}
 use Rattle.types.specs.SlotsLaws.{type_some, part_in}
 
@@ -25,7 +28,8 @@ pub record Begins (bs : List ℕ) (n : ℕ) (t : Ty) : Type 0 where
   pub long : length (bytes_of t) ≡ n
   pub more : (k : ℕ) → read_all (suc k) bs ≡ and_then (read_all k (drop n bs)) (λ ts. some (t ∷ ts))
 
-next_type : {bs : List ℕ} {o : Option (List Ty × List ℕ)} → read_types bs longest_type 1 ≡ o → Taken bs longest_type 1 o → (up_to (length bs) (behind o) ≡ 0 → ⊥)
+next_type : {bs : List ℕ} {o : Option (List Ty × List ℕ)} → read_types bs longest_type 1 ≡ o → Taken bs longest_type 1 o → (up_to (length bs) (behind o) ≡ 0 →
+    ⊥)
     → (t : Ty) × Begins bs (up_to (length bs) (behind o)) t
 unfolding up_to behind flat read_all on_type
 next_type q nothing h = absurd (h refl)
@@ -42,7 +46,8 @@ pub type_there : (bs : List ℕ) → (type_len bs ≡ 0 → ⊥) → (t : Ty) ×
 unfolding type_len
 type_there bs h = next_type refl (takes bs longest_type 1) h
 
-no_type : {bs : List ℕ} (k : ℕ) {o : Option (List Ty × List ℕ)} → read_types bs longest_type 1 ≡ o → Taken bs longest_type 1 o → up_to (length bs) (behind o) ≡ 0
+no_type : {bs : List ℕ} (k : ℕ) {o : Option (List Ty × List ℕ)} → read_types bs longest_type 1 ≡ o → Taken bs longest_type 1 o →
+    up_to (length bs) (behind o) ≡ 0
     → read_all (suc k) bs ≡ none
 unfolding up_to behind flat read_all on_type
 no_type k q nothing h = rw q

@@ -17,7 +17,7 @@ use Rattle.node.specs.Kinds.{children}
 use Rattle.sheet.specs.Table.{section_at}
 use Rattle.typing.specs.Fits.{Scope}
 use Rattle.typing.specs.Check.{apart, found}
-use Rattle.typing.specs.CheckLaws.{either}
+use Rattle.typing.proofs.CheckLaws.{either}
 use Rattle.types.specs.Uses.{Roots}
 use Rattle.types.specs.Scopes.{place_of, place_all, Put, PutAll, child_scopes, section_scopes, Scoped, base, inner, scope_some}
 

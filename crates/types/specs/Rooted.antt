@@ -4,13 +4,15 @@ use Rattle.std.proofs.Common.{sym, ap, ◌∙◌, add-zero, zero-add, arith, eqb
 use Rattle.std.proofs.Math.Bool.{true, false}
 use Rattle.std.proofs.Math.Decide.{ℕ_discrete}
 use Rattle.shapes.specs.Parts.{same_bytes}
-use Rattle.shapes.specs.PartsLaws.{same_bytes_lem, same_refl}
+use Rattle.shapes.proofs.PartsLaws.{same_bytes_lem, same_refl}
 use Rattle.sheet.specs.Sheet.{Sheet}
 use Rattle.sheet.specs.Table.{section_at}
 use Rattle.typing.specs.Types.{Ty}
-use Rattle.typing.specs.Fits.{Lent, root_of, type_of, section_of, In, here, there, Root, section_root, section_roots, main_root, roots, Placed, section_root_lem}
+use Rattle.typing.specs.Fits.{Lent, root_of, type_of, section_of, In, here, there, Root, section_root, section_roots, main_root, roots, Placed}
+use Rattle.typing.proofs.Fits.{section_root_lem}
 use Rattle.typing.specs.Check.{apart, placed?}
-use Rattle.typing.specs.Written.{bytes_of, bytes_same}
+use Rattle.typing.specs.Written.{bytes_of}
+use Rattle.typing.proofs.Written.{bytes_same}
 use Rattle.types.specs.Slots.{part_at, At, Laid}
 use Rattle.types.specs.Uses.{Roots}
 use Rattle.types.specs.Decided.{holds, decided, in_result}
@@ -31,7 +33,9 @@ pub record PlacedTo (sh : Sheet) (ts : Lent) (i c : ℕ) : Type 0 where
   pub main : sh.root ≡ i → type_of ts i ≡ ts.view
   pub each : (j : ℕ) → j < c → root_of sh j ≡ i → type_of ts i ≡ (section_of ts j).result
 
-in_sections : (ts : Lent) (c : ℕ) (l : List ℕ) {r : Root} → In r (section_roots ts c l) → (j : ℕ) × (j < length l) × (r ≡ section_root ts (c + j) (get_or l j 0))
+in_sections : (ts : Lent) (c : ℕ) (l : List ℕ) {r : Root} → In r (section_roots ts c l) → (j : ℕ) × (j < length l)
+    × (r ≡ section_root ts (c + j) (get_or l j 0))
+in_sections ts c mathlib.Core.List.[] {r = r} x' = elim x' [ ]
 in_sections ts c (x ∷ l) here = (0, omega arith, rw (add-zero c))
 in_sections ts c (x ∷ l) (there k) =
     let q = in_sections ts (suc c) l k in let z : suc c + q.0 ≡ c + suc q.0 = omega arith in

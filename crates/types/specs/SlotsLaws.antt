@@ -11,15 +11,17 @@ use Rattle.std.proofs.Math.Seq.{take_at}
 use Rattle.std.proofs.Math.ListN.{length, get_or, length-append}
 use borrow.Author.Tests.{lt-ltb, le-ltb, le-leb, lt-leb, eq-eqb}
 use Rattle.shapes.specs.Parts.{both, same_bytes}
-use Rattle.shapes.specs.PartsLaws.{same_bytes_lem, same_refl}
+use Rattle.shapes.proofs.PartsLaws.{same_bytes_lem, same_refl}
 use Rattle.node.specs.Places.{take_rest, rest_begins}
 use Rattle.typing.specs.Numbers.{longest_type, past_slots}
 use Rattle.typing.specs.Types.{Ty, truths, numbers, lists, pairs}
 use Rattle.typing.specs.Fits.{added}
 use Rattle.rules.specs.Semantics.{two}
 use Rattle.typing.specs.Check.{apart, make_list, make_pair, also, and_then, Kind, unknown, kind_of, begin, read_types}
-use Rattle.typing.specs.Written.{bytes_of, Short, Taken, nothing, taken, takes, none_owed, one_back, Names, is_truth, is_number, is_list, is_pair}
-use Rattle.typing.specs.Written.{is_other, names}
+use Rattle.typing.specs.Written.{bytes_of, Short, Taken, nothing, taken, Names, is_truth, is_number, is_list, is_pair}
+use Rattle.typing.proofs.Written.{takes, none_owed, one_back}
+use Rattle.typing.specs.Written.{is_other}
+use Rattle.typing.proofs.Written.{names}
 use Rattle.types.specs.Slots.{behind, up_to, type_len, part_at, clamp, lent_below}
 
 -- THE LENGTH OF A TYPE
@@ -127,8 +129,10 @@ module _ (s : List ℕ) {at owed : ℕ} (w : Owing s at owed) where
           where
             go : Dec (get_or s at 0 < 0x31) → behind (begin (read_types (drop (at + 1) s) (longest_type - (at + 1))) (owed - 1) (kind_of (get_or s at 0)))
                 ≡ behind (read_types (drop (at + 1) s) (longest_type - (at + 1)) (owed - 1))
-            go (yes q) = let z : get_or s at 0 ≡ 0x30 = omega arith in rw z (also-behind truths (read_types (drop (at + 1) s) (longest_type - (at + 1)) (owed - 1)))
-            go (no q) = let z : get_or s at 0 ≡ 0x31 = omega arith in rw z (also-behind numbers (read_types (drop (at + 1) s) (longest_type - (at + 1)) (owed - 1)))
+            go (yes q) = let z : get_or s at 0 ≡ 0x30 = omega arith in
+                rw z (also-behind truths (read_types (drop (at + 1) s) (longest_type - (at + 1)) (owed - 1)))
+            go (no q) = let z : get_or s at 0 ≡ 0x31 = omega arith in
+                rw z (also-behind numbers (read_types (drop (at + 1) s) (longest_type - (at + 1)) (owed - 1)))
 
         pub owing_same : get_or s at 0 ≡ 0x32 → Owing s (at + 1) owed
         unfolding begin kind_of
@@ -352,7 +356,8 @@ pub type_long : (t : Ty) (bs : List ℕ) → Short t → type_len (bytes_of t ++
 unfolding type_len up_to behind and_then also
 type_long t bs h =
     let q : longest_type ≡ length (bytes_of t) + (longest_type - length (bytes_of t)) = omega arith in
-    rw (one_back t bs (longest_type - length (bytes_of t)) longest_type 0 q, none_owed bs (longest_type - length (bytes_of t)), length-append (bytes_of t) bs) (omega arith)
+    rw (one_back t bs (longest_type - length (bytes_of t)) longest_type 0 q, none_owed bs (longest_type - length (bytes_of t)), length-append (bytes_of t) bs)
+    (omega arith)
 
 len_inside : (s : List ℕ) → type_len s ≤ length s
 unfolding type_len up_to

@@ -14,7 +14,7 @@ use Rattle.node.specs.declared.Node.{Node}
 use Rattle.node.specs.declared.Node.TheVariants.{Var, False, True, Empty, Number, Front, Pair, ListCase, TruthCase, Split, Call, Add, Each, Wide}
 use Rattle.sheet.specs.declared.Table.{Table}
 use Rattle.node.specs.Kinds.{children}
-use Rattle.sheet.specs.Rows.{Every, children_behind}
+use Rattle.sheet.proofs.Rows.{Every, children_behind}
 use Rattle.sheet.specs.Sheet.{Sheet}
 use Rattle.sheet.specs.Laws.{Child, Ranged, Ranges, Reads}
 use Rattle.node.specs.Decoding.{node_at}
@@ -22,7 +22,7 @@ use Rattle.rules.specs.Semantics.{two}
 use Rattle.typing.specs.Types.{Ty, truths, lists}
 use Rattle.typing.specs.Fits.{Lent, Scope, node_of, type_of, section_of, added, Fits, places, Root, section_roots, roots, Placed}
 use Rattle.typing.specs.Check.{apart, found, count, used, refuted, fits?, placed?, rightly?, right?, below, standing, misfits, unfit, lowest}
-use Rattle.typing.specs.CheckLaws.{either, all_ranged, OnceBelow, in_count, found_in, count-append, standing-count, used_then}
+use Rattle.typing.proofs.CheckLaws.{either, all_ranged, OnceBelow, in_count, found_in, count-append, standing-count, used_then}
 use Rattle.types.specs.declared.Lowest.TheVariants.{At, Nothing}
 use Rattle.types.specs.Slots.{Laid}
 use Rattle.types.specs.Slots as Slots
@@ -99,8 +99,8 @@ module _ {types starts : List ℕ} {sections nodes : ℕ} {ts : Lent} (k : Laid 
   unfolding section_scopes
   section_steps b c [] h f = ends
   section_steps b c (x ∷ l) h f =
-      let b : x < 200 = omega (arith, h 0 (omega arith), k.few_nodes) in
-      more b scoped (section_steps _ (suc c) l (λ j q. h (suc j) (omega arith)) (omega arith))
+      let few : x < 200 = omega (arith, h 0 (omega arith), k.few_nodes) in
+      more few scoped (section_steps (place_of b x (1024 + (16 + 3 * c))) (suc c) l (λ j q. h (suc j) (omega arith)) (omega arith))
     where
       go : (x : ℕ) → x < 2 → Slots.At types starts (16 + 3 * c + x) (get_or (two (section_of ts c).first (section_of ts c).second) x truths)
       go zero q = rw (add-zero (16 + 3 * c)) (k.first c (omega arith))
@@ -144,7 +144,7 @@ low_place {a} {w} n s k h = record { long = place_long a n s ∙ k.long; is = λ
 low_all : {a : List ℕ} {w : ℕ} (ps : List (ℕ × ℕ)) → Low a w → Below w ps → Low (place_all a ps) w
 unfolding place_all
 low_all [] k h = k
-low_all (p ∷ ps) k h = low_all ps (low_place p.0 p.1 k h.0) h.1
+low_all {a = a} (p ∷ ps) k h = low_all {a = place_of a p.0 p.1} ps (low_place p.0 p.1 k h.0) h.1
 
 low_more : {a : List ℕ} {w : ℕ} → Low a w → Low a (w + 2)
 low_more k = record { long = k.long; is = λ m. omega (arith, k.is m) }

@@ -14,7 +14,7 @@ use Rattle.sheet.specs.declared.Table.{Table}
 use Rattle.node.specs.Kinds.{children}
 use Rattle.node.specs.declared.Node.{Node}
 use Rattle.typing.specs.Check.{count, used, twice, lowest}
-use Rattle.typing.specs.CheckLaws.{count-append}
+use Rattle.typing.proofs.CheckLaws.{count-append}
 use Rattle.types.specs.declared.Lowest.{Lowest}
 use Rattle.types.specs.declared.Lowest.TheVariants.{At, Nothing}
 

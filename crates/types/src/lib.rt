@@ -1,4 +1,6 @@
 //! The check of a sheet against types that are lent beside it (document 02, request 6).
+#![tactic(auto)]
+
 ghost use Rattle.std.specs.Prelude.{◌≡◌};
 ghost use Rattle.typing.specs.Check as Checks;
 ghost use Rattle.types.specs.Checked.{checked};

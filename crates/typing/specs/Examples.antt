@@ -2,7 +2,8 @@
 use Rattle.std.specs.Prelude.{◌≡◌, refl, List, [], ◌∷◌, ◌++◌, map, ℕ, replicate}
 use Rattle.std.proofs.Math.Decide.{ℕ_discrete}
 use Rattle.value.specs.Result.{and_then, map_result, or_refuse, unless}
-use Rattle.sheet.specs.Sheet.{read_nodes, one_section, if_section, read_records, with_nodes, read_body, nodes_in_range, roots_in_range, in_range, read_header, read_sheet}
+use Rattle.sheet.specs.Sheet.{read_nodes, one_section, if_section, read_records, with_nodes, read_body, nodes_in_range, roots_in_range, in_range}
+use Rattle.sheet.specs.Sheet.{read_header, read_sheet}
 use Rattle.node.specs.Kinds.{form_of, body_width, make, node_in_range, children}
 use Rattle.typing.specs.Check as Check
 use Rattle.typing.specs.Check.{Verdict, passes, refused, refused_at, check}
@@ -75,6 +76,7 @@ unfolding rows check Check.on_sheet Check.on_types Check.check_sheet Check.unles
     Check.right? Check.rightly? Check.placed? Check.every? Check.fits? Check.pairs? Check.lists? Check.at? Check.some? Check.if? Check.and? Check.and3?
     Check.and4? Check.found Check.refuted Check.twice Check.used Check.count Check.lent_of Check.many Check.threes Check.read_all Check.on_type Check.read_types
     Check.begin Check.kind_of Check.and_then Check.also Check.make_pair Check.make_list
-    and_then map_result or_refuse unless form_of body_width make read_nodes one_section if_section read_records with_nodes read_body node_in_range nodes_in_range roots_in_range
+    and_then map_result or_refuse unless form_of body_width make read_nodes one_section if_section read_records with_nodes read_body node_in_range
+    nodes_in_range roots_in_range
     in_range read_header read_sheet children ℕ_discrete
 checked = refl

@@ -2,14 +2,11 @@ pub mod Numbers
 pub mod Types
 pub mod Fits
 pub mod Judging
-pub mod JudgingLaws
 pub mod Ends
 pub mod Sound
 pub mod Check
 pub mod Written
-pub mod CheckLaws
 pub mod Walks
-pub mod Calls
 pub mod Examples
 pub mod Widths
 pub mod Never

@@ -3,8 +3,8 @@ use Rattle.std.specs.Prelude.{◌≡◌, refl, List, [], ◌∷◌, map, ℕ}
 use Rattle.std.proofs.Math.Decide.{dec_le, ℕ_discrete}
 use Rattle.value.specs.Result.{and_then, map_result, or_refuse, unless}
 use Rattle.value.specs.Value.{encode, encodes, size, sizes, flat, same_value}
-use Rattle.value.specs.Views.{as_list, as_front, as_pair, as_number, if_small, as_truth}
-use Rattle.value.specs.Tests.{class, table, holds, passes}
+use Rattle.value.proofs.Views.{as_list, as_front, as_pair, as_number, if_small, as_truth}
+use Rattle.value.proofs.Tests.{class, table, holds, passes}
 use Rattle.value.specs.Reading.{
   on_whole,
   kind_of,
@@ -25,14 +25,15 @@ use Rattle.value.specs.Reading.{
   on_value,
   read_values,
 }
-use Rattle.sheet.specs.Sheet.{read_nodes, one_section, if_section, read_records, with_nodes, read_body, nodes_in_range, roots_in_range, in_range, read_header, read_sheet}
+use Rattle.sheet.specs.Sheet.{read_nodes, one_section, if_section, read_records, with_nodes, read_body, nodes_in_range, roots_in_range, in_range}
+use Rattle.sheet.specs.Sheet.{read_header, read_sheet}
 use Rattle.node.specs.Kinds.{form_of, body_width, make, node_in_range}
 use Rattle.rules.specs.Outcome.{plus, steps, when, ◌>>=◌, map_out, given, reading, choose}
 use Rattle.rules.specs.Allowance.{cap, within}
 use Rattle.rules.specs.Semantics
 use Rattle.rules.specs.Counting.{on_list, rest_of, mk_list, mk_pair}
 use Rattle.rules.specs.Answer.{success, answer, door, get_walk, get_bytes, get_answer, count, new_plan, put_walk, put_bytes, put_answer}
-use Rattle.rules.specs.Examples.{Row, gets, puts, call, run}
+use Rattle.rules.proofs.Examples.{Row, gets, puts, call, run}
 
 -- a truth case on variable 0, both of whose branches are variable 1; the first one's test is True, the second one's anything
 abbrev pub cases : List ℕ
@@ -96,7 +97,9 @@ unfolding rows run call get_answer get_bytes get_walk put_answer put_bytes put_w
     Semantics.or_old Semantics.constant
     Semantics.write Semantics.both Semantics.under Semantics.stood_for Semantics.put_each mk_list mk_pair Semantics.put_node Semantics.put
     and_then map_result or_refuse unless encode encodes size sizes flat same_value as_list as_front as_pair as_number if_small as_truth class table holds passes
-    on_whole kind_of make_front joined make_number make_wide make_body make_pair make_rest begin_value begin_rest due may_be begin_byte read read_value on_value read_values
-    form_of body_width make read_nodes one_section if_section read_records with_nodes read_body node_in_range nodes_in_range roots_in_range in_range read_header read_sheet
+    on_whole kind_of make_front joined make_number make_wide make_body make_pair make_rest begin_value begin_rest due may_be begin_byte read read_value
+    on_value read_values
+    form_of body_width make read_nodes one_section if_section read_records with_nodes read_body node_in_range nodes_in_range roots_in_range in_range
+    read_header read_sheet
     dec_le ℕ_discrete
 shown = refl

@@ -1,6 +1,6 @@
 -- 81 is one refusal: the check by types (document 02, request 6) and the numbering (request 12) tell it of the same sheets, with the same node.
 use Rattle.std.proofs.Math.Path.{◌≡◌}
-use Rattle.std.specs.Prelude.{refl, Bool, true, false, cond, List, [], ◌∷◌, ◌++◌, ℕ, zero, suc, ◌+◌, ◌≤◌, ◌<◌, eqb, leb, ltb, length, get_or, take}
+use Rattle.std.specs.Prelude.{refl, Bool, cond, List, [], ◌∷◌, ◌++◌, ℕ, zero, suc, ◌+◌, ◌≤◌, ◌<◌, eqb, leb, ltb, length, take}
 use Rattle.std.proofs.Common.{sym, ap, ◌∙◌, append_assoc, append-nil, zero-add, arith, take_all, take-suc, eq-eqb, ne_eqb, lt-ltb, le-ltb, le-leb}
 use Rattle.std.proofs.Math.Option.{Option, none, some}
 use Rattle.std.proofs.Math.Decide.{ℕ_discrete, dec_lt}
@@ -13,7 +13,7 @@ use Rattle.sheet.specs.Sheet.{Sheet, read_sheet}
 use Rattle.preorder.specs.Numbering.{roots}
 use Rattle.preorder.specs.NumberingLaws.{all_children, uses}
 use Rattle.preorder.specs.NumberAnswer.{Answer, number_answer, number_twice, number_done}
-use Rattle.preorder.specs.Uses.{times, times_here, times_there, lowest_from, lowest_twice, lowest_here, lowest_later}
+use Rattle.preorder.specs.Uses.{times, times_here, times_there, lowest_from, lowest_twice}
 use Rattle.typing.specs.Fits.{node_of}
 use Rattle.typing.specs.Types.{Ty}
 use Rattle.typing.specs.Check.{count, used, twice, lowest, Verdict, unless_at, unfit, many, lent_of, read_all, check_sheet, on_types, on_sheet, check}

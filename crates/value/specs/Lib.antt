@@ -1,13 +1,8 @@
 pub mod Result
 pub mod All
 pub mod Value
-pub mod Views
-pub mod Tests
 pub mod Reading
 pub mod Encoding
 pub mod Laws
 pub mod Reader
-pub mod Turns
 pub mod Spans
-pub mod Progress
-pub mod SpansLaws

@@ -1,4 +1,6 @@
 //! Values and their bytes (document 01 and docs/SHEETS.md, "Values").
+#![tactic(auto)]
+
 ghost use Rattle.std.specs.Prelude.{◌≡◌, ◌+◌, ◌*◌, ◌/◌, ◌%◌, ◌≤◌, get_or};
 ghost use Rattle.value.specs.Reader.{Reads, PartBegins, BodyBegins, outcome, answer};
 ghost use Rattle.value.specs.Reading.{read_value, value, rest};
@@ -200,7 +202,7 @@ fn next_value(s: &[u8]) -> Next
 }
 
 // Where the values of a plan stand: refusal 0, and the start and the length of each; or a refusal and zeros.
-#[derive(Drop)]
+#[derive(Clone, Copy)]
 pub struct Spans {
     pub refusal: u8,
     pub starts: [u16; 16],

@@ -1,5 +1,5 @@
 -- Whether a new plan stands (document 02, request 10).
-use Rattle.std.specs.Prelude.{Bool, true, false, ◌&&◌, ◌||◌, List, ℕ, zero, suc, leb, get_or}
+use Rattle.std.specs.Prelude.{Bool, true, ◌&&◌, ◌||◌, List, ℕ, zero, suc, leb, get_or}
 use Rattle.value.specs.Result.{Result, ok, refusal, and_then, unless}
 use Rattle.value.specs.Value.{vfalse, encode}
 use Rattle.shapes.specs.Parts.{same_bytes}

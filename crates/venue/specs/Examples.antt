@@ -24,7 +24,8 @@ use Rattle.value.specs.Reading.{
   on_value,
   read_values,
 }
-use Rattle.sheet.specs.Sheet.{read_nodes, one_section, if_section, read_records, with_nodes, read_body, nodes_in_range, roots_in_range, in_range, read_header, read_sheet}
+use Rattle.sheet.specs.Sheet.{read_nodes, one_section, if_section, read_records, with_nodes, read_body, nodes_in_range, roots_in_range, in_range}
+use Rattle.sheet.specs.Sheet.{read_header, read_sheet}
 use Rattle.node.specs.Kinds.{form_of, body_width, make, variables, node_in_range}
 use Rattle.rules.specs.Numbers.{scratch_size}
 use Rattle.rules.specs.Outcome.{plus, steps, when, ◌>>=◌, map_out, given, choose}
@@ -75,10 +76,13 @@ pub verdicts :
     ∷ []
     ≡ ok true ∷ ok false ∷ ok false ∷ refusal 85 ∷ refusal 30 ∷ refusal 20 ∷ refusal 41 ∷ refusal 3 ∷ []
 unfolding accepts_of judged_of spared spared_from kept or_code result get_walk within cap stands names both same_bytes
-    plus steps when ◌>>=◌ map_out given choose Semantics.bounded Semantics.tested on_list rest_of Semantics.get_each Semantics.get_node Semantics.get mk_list mk_pair
+    plus steps when ◌>>=◌ map_out given choose Semantics.bounded Semantics.tested on_list rest_of Semantics.get_each Semantics.get_node Semantics.get mk_list
+    mk_pair
     and_then map_result or_refuse unless encode encodes size sizes
-    on_whole kind_of make_front joined make_number make_wide make_body make_pair make_rest begin_value begin_rest due may_be begin_byte read read_value on_value read_values
-    form_of body_width make variables read_nodes one_section if_section read_records with_nodes read_body node_in_range nodes_in_range roots_in_range in_range read_header
+    on_whole kind_of make_front joined make_number make_wide make_body make_pair make_rest begin_value begin_rest due may_be begin_byte read read_value
+    on_value read_values
+    form_of body_width make variables read_nodes one_section if_section read_records with_nodes read_body node_in_range nodes_in_range roots_in_range in_range
+    read_header
     read_sheet
     dec_le ℕ_discrete
 verdicts = refl

@@ -12,7 +12,7 @@ use Rattle.std.proofs.Math.Decide.{dec_lt}
 use Rattle.std.proofs.Math.ListN.{get_or-append}
 use Rattle.std.proofs.Math.Seq.{get_or-append_seam}
 use Rattle.value.specs.Value.{Value, vfalse, encode, size}
-use Rattle.value.specs.Encoding.{size_pos}
+use Rattle.value.proofs.Encoding.{size_pos}
 use Rattle.value.specs.Laws.{Readable}
 use Rattle.rules.specs.Numbers.{stack_start, variable_limit, slots_start}
 use Rattle.scopes.specs.declared.Scope.{Scope}

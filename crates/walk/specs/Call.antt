@@ -12,11 +12,12 @@ use Rattle.std.proofs.lemmas.List.{drop-append-le, take-append-le}
 use Rattle.outcome.specs.Outcome.{is_refusal, code_of, len_of, start_of, steps_of}
 use Rattle.value.specs.Result.{ok, refusal}
 use Rattle.value.specs.Value.{Value, vfalse, encode, size, flat}
-use Rattle.value.specs.Encoding.{size-encode, size_pos}
-use Rattle.value.specs.Laws.{ReadAs, read_values_sound}
+use Rattle.value.proofs.Encoding.{size-encode, size_pos}
+use Rattle.value.specs.Laws.{ReadAs}
+use Rattle.value.proofs.Laws.{read_values_sound}
 use Rattle.value.specs.Reading.{read_plan}
 use Rattle.value.specs.Spans.{places, starts, spans_of}
-use Rattle.value.specs.Progress.{starts-length}
+use Rattle.value.proofs.Progress.{starts-length}
 use Rattle.value.specs.declared.Spans.{Spans}
 use Rattle.sheet.specs.Sheet.{Sheet, read_sheet}
 use Rattle.sheet.specs.Table.{table_of}
@@ -24,8 +25,9 @@ use Rattle.sheet.specs.declared.Table.{Table}
 use Rattle.sheet.specs.Laws.{sheet_ranges, table_ok, table_refused}
 use Rattle.rules.specs.Outcome.{Out, done, refused, map_out, reading}
 use Rattle.rules.specs.Explain.{Exit, get}
-use Rattle.rules.specs.Explain.Erasure.{forget, get_erases}
-use Rattle.rules.specs.Explain.Chain.{get_chain}
+use Rattle.rules.specs.Explain.Erasure.{forget}
+use Rattle.rules.proofs.Explain.Erasure.{get_erases}
+use Rattle.rules.proofs.Explain.Chain.{get_chain}
 use Rattle.rules.specs.Explain.Calls.{before, afterwards, explained, explain_get}
 use Rattle.rules.specs.Answer.{get_walk, get_bytes}
 use Rattle.rules.specs.Laws.Answers.{DoorOpens}
@@ -189,7 +191,8 @@ module _ {sheet plan : List ℕ} {table : Table} {sc : Scope} {allowance : ℕ} 
           let d = had (top.gives.told w.sh w.read w.μ plan_env) (decoded_done a₂ level_limit r e) in
           rw f (done_explains d.is explain_is)
 
-      pub get_done : {len n : ℕ} → is_refusal r ≡ false → len ≡ len_of r → n ≡ steps_of r → PlanWalked get_output (get_bytes sheet plan allowance) b a₂ (Done len n)
+      pub get_done : {len n : ℕ} → is_refusal r ≡ false → len ≡ len_of r → n ≡ steps_of r → PlanWalked get_output (get_bytes sheet plan allowance) b a₂
+          (Done len n)
       unfolding run map_out forget
       get_done {len} {n} e f q =
           let d = had (top.gives.told w.sh w.read w.μ plan_env) (decoded_done a₂ level_limit r e) in

@@ -1,5 +1,5 @@
 -- What an answer says: a value and where it stands, or a refusal and the nodes down to where it was met, which stand in the arena.
-use Rattle.std.specs.Prelude.{◌≡◌, Bool, List, [], ◌∷◌, ℕ, zero, suc, ◌+◌, ◌-◌, ◌%◌, ◌≤◌, ◌<◌, length, get_or, set}
+use Rattle.std.specs.Prelude.{◌≡◌, Bool, List, [], ◌∷◌, ℕ, zero, suc, ◌+◌, ◌%◌, ◌≤◌, ◌<◌, length, get_or, set}
 use Rattle.std.proofs.Math.Path.{refl, ap}
 use Rattle.std.proofs.Common.{sym, ◌∙◌, get_or-set_same, get_or-set_other}
 use Rattle.std.proofs.Math.Bool.{true, false}
@@ -29,8 +29,8 @@ use Rattle.outcome.specs.Outcome.{
   later_refused,
   later_done,
 }
-use Rattle.arena.specs.Chain.{chain_at, in_chain, chained, left_as, in_place, chained_refused, chained_done, left_refused, left_done}
-use Rattle.rules.specs.Numbers.{level_limit, scratch_size, chain_start}
+use Rattle.arena.specs.Chain.{chain_at, chained, left_as, in_place, chained_refused, chained_done, left_refused, left_done}
+use Rattle.rules.specs.Numbers.{scratch_size, chain_start}
 use Rattle.rules.specs.Explain.{Cause, own, barred}
 
 -- a value that starts there and is so long, or nothing where a view was put back, and the steps taken; or a refusal

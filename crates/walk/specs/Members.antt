@@ -9,7 +9,7 @@ use native.Mathlib.Omega.{arith}
 use Rattle.std.proofs.Math.ListN.{take, get_elem?}
 use Rattle.value.specs.Value.{Value, Values, list, nil, cons, encode, encodes, size, sizes}
 use Rattle.shapes.specs.Parts.{middle_of}
-use Rattle.shapes.specs.PartsLaws.{shape}
+use Rattle.shapes.proofs.PartsLaws.{shape}
 use Rattle.rules.specs.Outcome.{when}
 use Rattle.rules.specs.Semantics
 use Rattle.rules.specs.Semantics.{two, rest_of}

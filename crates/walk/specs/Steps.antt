@@ -28,7 +28,8 @@ use Rattle.rules.specs.Explain.{
   put_each,
   put_node,
 }
-use Rattle.rules.specs.Explain.Erasure.{strip, erases_few, get_erases, put_erases, get_node_erases, get_each_erases, put_each_erases, put_node_erases}
+use Rattle.rules.specs.Explain.Erasure.{strip}
+use Rattle.rules.proofs.Explain.Erasure.{erases_few, get_erases, put_erases, get_node_erases, get_each_erases, put_each_erases, put_node_erases}
 
 pub record Frugal {A : Type 0} (m : Explained A) : Type 0 where
   pub few : (left : ℕ) {a : A} {s : ℕ} → within left m ≡ got a s → s ≤ left

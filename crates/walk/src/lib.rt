@@ -2,6 +2,8 @@
 //!
 //! The arena is 65,536 bytes: the plan from 0, the 256 bytes of each cell from 4,096, and from 32,256 a stack of the values
 //! that are being built; the last 49 bytes are for the chain of a refusal. A walk at `top` leaves the stack below `top` and the plan alone.
+#![tactic(auto)]
+
 ghost use Rattle.std.specs.Prelude.{◌≡◌};
 ghost use Rattle.rules.specs.Answer.{get_bytes, put_bytes};
 ghost use Rattle.rules.specs.Numbers.{get_output, put_output};

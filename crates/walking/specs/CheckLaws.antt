@@ -13,13 +13,13 @@ use Rattle.rules.specs.Outcome.{Out, done, refused, reading, map_out}
 use Rattle.rules.specs.Counting.{Env}
 use Rattle.rules.specs.Answer.{get_walk, get_bytes}
 use Rattle.rules.specs.Nodes.{everywhere, among_all}
-use Rattle.rules.specs.Laws.Refusals.{table, Lists, l_done, l_refused, lists_get_bytes}
+use Rattle.rules.proofs.Laws.Refusals.{table, Lists, l_done, l_refused, lists_get_bytes}
 use Rattle.venue.specs.Accepts.{kept, or_code, result, judged_of, accepts_of}
 use Rattle.accepts.specs.declared.Verdict.{Verdict}
 use Rattle.accepts.specs.declared.Verdict.TheVariants.{Yes, No, Refused}
 use Rattle.accepts.specs.Accepts.{yes_no, verdict, cleared, Accepted}
 use Rattle.report.specs.Text.{words, refusal_line, ok_line}
-use Rattle.report.specs.TextLaws.{refusal_length}
+use Rattle.report.proofs.TextLaws.{refusal_length}
 use Rattle.report.specs.Writing.{Wrote, wrote_text}
 use Rattle.inputs.specs.declared.fields.Fields.{Fields}
 use Rattle.inputs.specs.declared.fields.Taken.{Taken}

@@ -5,13 +5,13 @@ use Rattle.std.proofs.Math.Option.{Option, none, some}
 use Rattle.rules.specs.Numbers.{scratch_size, chain_limit}
 use Rattle.rules.specs.Explain.{Cause}
 use Rattle.rules.specs.Explain.Calls.{Explanation, success, before, walked, why_get, why_put}
-use Rattle.rules.specs.Explain.Nodes.{Inside, First, nobody, writer}
+use Rattle.rules.proofs.Explain.Nodes.{Inside, First, nobody, writer}
 use Rattle.starts.specs.Starts.{firsts}
 use Rattle.explaining.specs.declared.Explanation.{Explanation as WhyReply}
 use Rattle.explaining.specs.Explain.{unmet, first_number, told_as, WhyAnswered}
 use Rattle.explaining.specs.Explain.Laws.{Proper, why_get_proper, why_put_proper}
 use Rattle.report.specs.Text.{words, refusal_line}
-use Rattle.report.specs.TextLaws.{Below, none as below_none, each, decimal_length, numbers_length, words_append, ok_length, refusal_length}
+use Rattle.report.proofs.TextLaws.{Below, none as below_none, each, decimal_length, numbers_length, words_append, ok_length, refusal_length}
 use Rattle.report.specs.Writing.{Wrote, wrote_text}
 use Rattle.inputs.specs.declared.fields.Fields.{Fields}
 use Rattle.inputs.specs.declared.Job.{Job}

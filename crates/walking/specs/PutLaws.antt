@@ -10,7 +10,7 @@ use Rattle.calls.specs.Reply.{Reply, Done, Refused}
 use Rattle.calls.specs.Calls.{reply, written, cleared, new_starts, new_written, Answered, PutAnswered}
 use Rattle.calls.specs.Small.{Small, small_put}
 use Rattle.report.specs.Text.{words, hex_of, decimal_of, refusal_line, ok_line}
-use Rattle.report.specs.TextLaws.{hex_length, decimal_length, ok_length}
+use Rattle.report.proofs.TextLaws.{hex_length, decimal_length, ok_length}
 use Rattle.report.specs.Writing.{Wrote, wrote_text}
 use Rattle.starts.specs.declared.Starts.{Starts}
 use Rattle.inputs.specs.Numbers.{input_limit}
@@ -20,7 +20,7 @@ use Rattle.inputs.specs.declared.fields.Taken.{Taken}
 use Rattle.inputs.specs.declared.fields.Taken.TheVariants.{Whole, Cut}
 use Rattle.inputs.specs.Format.{fields_of, sheet_of, plan_of, view_of}
 use Rattle.words.specs.Answers.{bits_word}
-use Rattle.words.specs.Starts.{kept, kept_all}
+use Rattle.words.proofs.Starts.{kept, kept_all}
 use Rattle.letters.specs.LookupLaws.{fits_refusal, starts-length}
 use Rattle.walking.specs.Endings.{Ending, made, says, besides, put_line, puts, output_after, scratch_after, Ended, reply_line}
 
@@ -33,7 +33,8 @@ unfolding besides bits_word new_starts words
 besides-length false sheet new n written h = starts-length sheet new h
 besides-length true sheet new n written h = simp (length-append, hex_length) (omega arith)
 
-fits_put : (bits : Bool) (sheet : List ℕ) (written : ℕ) (a : Answer) → Small (reply a) → length (put_line (besides bits (new_starts sheet a) written) a) ≤ line_limit
+fits_put : (bits : Bool) (sheet : List ℕ) (written : ℕ) (a : Answer) → Small (reply a) → length (put_line (besides bits (new_starts sheet a) written) a) ≤
+    line_limit
 unfolding put_line reply words
 fits_put bits sheet written (refusal c) s = fits_refusal c s.1
 fits_put bits sheet written (success new n) s =

@@ -1,4 +1,6 @@
 //! The letters of the program `tools` that walk: each takes the input, makes its call, and writes its line.
+#![tactic(auto)]
+
 mod checks;
 mod explanations;
 mod puts;

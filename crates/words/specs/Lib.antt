@@ -1,4 +1,2 @@
 pub mod Numbers
-pub mod Starts
 pub mod Answers
-pub mod AnswersLaws

@@ -1,4 +1,6 @@
 //! The words of answers: starts, bits, and the line of a refusal that is explained.
+#![tactic(auto)]
+
 ghost use Rattle.std.specs.Prelude.{[], ◌∷◌, map, ◌≤◌, min, length};
 ghost use Rattle.starts.specs.Starts.{firsts};
 ghost use Rattle.report.specs.Text.{decimal_of, words};
@@ -92,7 +94,7 @@ pub fn told_line(refusal: u8, nodes: &[u8], first: u16, text: &mut [u8]) -> usiz
 
 /// The line of a refusal that names a node: its number, and the node.
 pub fn node_line(text: &mut [u8], refusal: u8, node: usize) -> usize
-    ensures { Wrote (nodeLine refusal node) 0 text.old text.new result }
+    ensures { Wrote (node_line refusal node) 0 text.old text.new result }
 {
     let mut end = report::bytes(text, 0, b"no");
     end = report::decimal_word(text, end, refusal as usize);

@@ -1,47 +1,28 @@
 -- From the walk's explanation to the call's.
-use Rattle.std.specs.Prelude.{◌≡◌, List, [], ◌∷◌, ◌++◌, leb, drop, replicate}
+use Rattle.std.specs.Prelude.{◌≡◌, List, [], ◌∷◌, ◌++◌, drop, replicate}
 use Rattle.std.proofs.Math.Path.{refl}
 use Rattle.std.proofs.Common.{sym, ap, ◌∙◌, arith, drop-cons}
 use Rattle.std.proofs.Math.Option.{some}
 use Prim.Native.Nat.{ℕ, zero, suc, ◌+◌, ◌≤◌, ◌<◌}
-use Rattle.std.proofs.Math.Decide.{dec_le}
-use Rattle.std.proofs.lemmas.Bool.{lt-leb}
 use Rattle.std.proofs.Math.ListN.{length, take}
 use Rattle.std.proofs.Math.Seq.{paste}
 use Rattle.rules.specs.Numbers.{allowance_limit, scratch_size, chain_start, chain_limit}
 use Rattle.rules.specs.Outcome.{Out, done, refused}
 use Rattle.rules.specs.Answer.{get_bytes, put_bytes}
-use Rattle.rules.specs.Laws.Answers.{DoorOpens, door-scratch, door_none, door_over}
-use Rattle.rules.specs.Laws.Refusals.{Lists, l_refused, listed_above, lists_get_bytes, lists_put_bytes}
-use Rattle.rules.specs.Explain.Calls.{
-  Explanation,
-  success,
-  before,
-  walked,
-  explain_get,
-  explain_put,
-  unless_before,
-  why_door,
-  why_get,
-  why_put,
-  number,
-  refusal_of,
-  get_number,
-  put_number,
-}
+use Rattle.rules.specs.Laws.Answers.{DoorOpens}
+use Rattle.rules.proofs.Laws.Refusals.{Lists, l_refused, listed_above, lists_get_bytes, lists_put_bytes}
+use Rattle.rules.specs.Explain.Calls.{Explanation, success, before, walked, explain_get, explain_put, unless_before, why_door, number, refusal_of}
+use Rattle.rules.proofs.Explain.Calls.{get_number, put_number}
 use Rattle.starts.specs.Starts.{firsts}
-use Rattle.starts.specs.Lookup.{length-firsts}
+use Rattle.starts.proofs.Lookup.{length-firsts}
 use Rattle.walk.specs.declared.chain.Met.{Met}
-use Rattle.walk.specs.Call.{WalkCall}
 use Rattle.walk.specs.Decoded.{bytes_at, writer, length_bytes}
-use Rattle.walk.specs.Call.Explained.{met_at, why_of, Explains}
+use Rattle.walk.specs.Call.Explained.{met_at, why_of}
 use Rattle.explaining.specs.declared.Explanation.{Explanation as WhyReply}
 use Rattle.calls.specs.Reply.{Reply, Done, Refused}
-use Rattle.buffers.specs.Buffers.{zeroed, copied, copied_room}
-use Rattle.calls.specs.Calls.{after_refusal}
-use Rattle.calls.specs.CallLaws.{zeros_same, at_front}
-use Rattle.arena.specs.Door.{shut, shut_is, shut_open}
-use Rattle.explaining.specs.Explain.{unmet, first_number, told_as, why_cleared, WhyAnswered}
+use Rattle.buffers.specs.Buffers.{copied, copied_room}
+use Rattle.calls.specs.CallLaws.{at_front}
+use Rattle.explaining.specs.Explain.{unmet, first_number, told_as, WhyAnswered}
 
 -- A WALK'S ANSWER, CASE BY CASE
 
@@ -90,13 +71,15 @@ module _ (a : List ℕ) (c d f : ℕ) where
       let n : length {A = ℕ} (replicate chain_limit 0) ≡ chain_limit = refl in
       go d z h (bytes_taken a chain_start d (omega arith)) (e ∙ copied_room chain_start 0 d a (replicate chain_limit 0) (omega arith) (omega arith))
     where
-      go : (k : ℕ) → (k ≡ 0 → ⊥) → k ≤ chain_limit → bytes_at a chain_start k ≡ take k (drop chain_start a) → nodes ≡ paste (replicate chain_limit 0) 0 (drop chain_start a) k
+      go : (k : ℕ) → (k ≡ 0 → ⊥) → k ≤ chain_limit → bytes_at a chain_start k ≡ take k (drop chain_start a) → nodes ≡ paste (replicate chain_limit 0) 0
+          (drop chain_start a) k
           → record { refusal = c; depth = k; chain = nodes; first = f } ≡ told_as (met_at a c k f)
       go zero z h t e = absurd (z refl)
       go (suc k) z h t e =
           let b = bytes_at a chain_start (suc k) in
           let n : length b ≡ suc k = length_bytes a chain_start (suc k) in
-          told_parts (sym n) (e ∙ at_front (replicate chain_limit 0) a b chain_start (suc k) (sym t) ∙ firsts_zeros chain_limit b (suc k) n h) (sym (first_back f))
+          told_parts (sym n) (e ∙ at_front (replicate chain_limit 0) a b chain_start (suc k) (sym t) ∙ firsts_zeros chain_limit b (suc k) n h)
+          (sym (first_back f))
 
 -- THE DOOR
 
@@ -112,54 +95,27 @@ module _ {P : Type 0} (c : ℕ) (e : Explanation) where
   shut_door (no p) h = refl
 
 module _ (allowance : ℕ) {scratch : ℕ} (e : Explanation) where
-  why_open : DoorOpens 0 0 scratch allowance → why_door allowance scratch e ≡ e
+  pub why_open : DoorOpens 0 0 scratch allowance → why_door allowance scratch e ≡ e
   unfolding why_door
   why_open l =
       open_door 2 _ _ l.scratch_long ∙ open_door 3 _ _ l.some_steps ∙ open_door 3 _ _ l.few_steps
 
-  why_2 : scratch < scratch_size → why_door allowance scratch e ≡ before 2
+  pub why_2 : scratch < scratch_size → why_door allowance scratch e ≡ before 2
   unfolding why_door
   why_2 h = shut_door 2 _ _ (λ k. omega arith)
 
-  why_none : scratch_size ≤ scratch → allowance < 1 → why_door allowance scratch e ≡ before 3
+  pub why_none : scratch_size ≤ scratch → allowance < 1 → why_door allowance scratch e ≡ before 3
   unfolding why_door
   why_none q h = open_door 2 _ _ q ∙ shut_door 3 _ _ (λ k. omega arith)
 
-  why_over : scratch_size ≤ scratch → 1 ≤ allowance → allowance_limit < allowance → why_door allowance scratch e ≡ before 3
+  pub why_over : scratch_size ≤ scratch → 1 ≤ allowance → allowance_limit < allowance → why_door allowance scratch e ≡ before 3
   unfolding why_door
   why_over q r h = open_door 2 _ _ q ∙ open_door 3 _ _ r ∙ shut_door 3 _ _ (λ k. omega arith)
-
--- refused at the door
-why_shut : (allowance : ℕ) (s : List ℕ) (e : Explanation) {c : ℕ} → c ≡ shut 0 0 (length s) allowance → (c ≡ 0 → ⊥)
-    → {r : WhyReply} → r ≡ unmet c → WhyAnswered (why_door allowance (length s) e) r s s
-unfolding told_as why_cleared after_refusal
-why_shut allowance s e {c} f z {r} u = go (dec_le scratch_size (length s)) (dec_le 1 allowance) (dec_le allowance allowance_limit)
-  where
-    by : (k : ℕ) → c ≡ k → leb k 3 ≡ leb 3 3 → why_door allowance (length s) e ≡ before k → WhyAnswered (why_door allowance (length s) e) r s s
-    by k q l w = rw w (record { answer = u ∙ ap unmet q; scratch = rw l refl })
-
-    go : Dec (scratch_size ≤ length s) → Dec (1 ≤ allowance) → Dec (allowance ≤ allowance_limit) → WhyAnswered (why_door allowance (length s) e) r s s
-    go (no q) i t = by 2 (f ∙ sym (shut_is _ _ _ _ (door-scratch _ _ _ _ _ (omega arith) (omega arith)))) refl (why_2 allowance e (omega arith))
-    go (yes q) (no i) t = by 3 (f ∙ sym (shut_is _ _ _ _ (door_none _ _ _ _ _ (omega arith) q (omega arith)))) refl (why_none allowance e q (omega arith))
-    go (yes q) (yes i) (no t) =
-        by 3 (f ∙ sym (shut_is _ _ _ _ (door_over _ _ _ _ _ (omega arith) q (omega arith)))) refl (why_over allowance e q i (omega arith))
-    go (yes q) (yes i) (yes t) =
-        let l : DoorOpens 0 0 (length s) allowance = record { output_long = omega arith; scratch_long = q; some_steps = i; few_steps = t } in
-        absurd (z (f ∙ sym (shut_open l)))
-
-module _ (allowance : ℕ) (s : List ℕ) {c : ℕ} (f : c ≡ shut 0 0 (length s) allowance) (z : c ≡ 0 → ⊥) {r : WhyReply} (u : r ≡ unmet c) where
-  pub get_shut : (sheet plan : List ℕ) → WhyAnswered (why_get sheet plan allowance (length s)) r s s
-  unfolding why_get
-  get_shut sheet plan = why_shut allowance s (explain_get sheet plan allowance) f z u
-
-  pub put_shut : (sheet plan view : List ℕ) → WhyAnswered (why_put sheet plan view allowance (length s)) r s s
-  unfolding why_put
-  put_shut sheet plan view = why_shut allowance s (explain_put sheet plan view allowance) f z u
 
 -- BEHIND IT
 
 -- a refusal from before the walk is none of the door's
-abbrev High : Explanation → Type 0
+abbrev pub High : Explanation → Type 0
 High e = (c : ℕ) → e ≡ before c → 3 < c
 
 high_of : {c : ℕ} {A : Type 0} (o : Out A) → Lists o → some c ≡ refusal_of o → 3 < c
@@ -167,45 +123,15 @@ unfolding refusal_of
 high_of {c} (done a n) l e = let z : ◌≡◌ {A = ℕ} 0 1 = cc in absurd (omega arith)
 high_of {c} (refused k n) (l_refused h) e = let z : k ≡ c = cc in rw z at (listed_above k h)
 
-high_get : (sheet plan : List ℕ) (allowance : ℕ) → High (explain_get sheet plan allowance)
+pub high_get : (sheet plan : List ℕ) (allowance : ℕ) → High (explain_get sheet plan allowance)
 unfolding number
 high_get sheet plan allowance c e =
     high_of (get_bytes sheet plan allowance) (lists_get_bytes sheet plan allowance) (sym (ap number e) ∙ get_number sheet plan allowance)
 
-high_put : (sheet plan view : List ℕ) (allowance : ℕ) → High (explain_put sheet plan view allowance)
+pub high_put : (sheet plan view : List ℕ) (allowance : ℕ) → High (explain_put sheet plan view allowance)
 unfolding number
 high_put sheet plan view allowance c e =
     high_of (put_bytes sheet plan view allowance) (lists_put_bytes sheet plan view allowance) (sym (ap number e) ∙ put_number sheet plan view allowance)
-
-cleared_high : (e : Explanation) (s : List ℕ) → High e → zeroed s ≡ why_cleared e s
-unfolding why_cleared after_refusal
-cleared_high success s h = refl
-cleared_high (before c) s h = rw (lt-leb c 3 (h c refl))
-cleared_high (walked y) s h = refl
-
-module _ {allowance : ℕ} {s a : List ℕ} (l : DoorOpens 0 0 (length s) allowance) {U : Type 0} {need : ℕ} {o : Out (List ℕ)} {w : Reply}
-    (g : WalkCall U need o allowance s a w) where
-  pub why_long : scratch_size ≤ length a
-  why_long = omega (arith, g.free.long, l.scratch_long)
-
-  module _ {e : Explanation} {m : Met} (x : Explains e allowance s a w m) {r : WhyReply} {s' : List ℕ} (t : r ≡ told_as (why_of a w m)) (z : s' ≡ zeroed a) where
-    behind : High e → WhyAnswered (why_door allowance (length s) e) r s s'
-    behind h = rw (why_open allowance e l) (record {
-      answer = t ∙ ap told_as (x.why l);
-      scratch = z ∙ zeros_same scratch_size s a g.free.behind ∙ cleared_high e s h;
-    })
-
-module _ {allowance : ℕ} {s a : List ℕ} (l : DoorOpens 0 0 (length s) allowance) {U : Type 0} {need : ℕ} {o : Out (List ℕ)} {w : Reply}
-    (g : WalkCall U need o allowance s a w) {m : Met} {r : WhyReply} {s' : List ℕ} (t : r ≡ told_as (why_of a w m)) (z : s' ≡ zeroed a) where
-  pub get_explained : (sheet plan : List ℕ) → Explains (explain_get sheet plan allowance) allowance s a w m
-      → WhyAnswered (why_get sheet plan allowance (length s)) r s s'
-  unfolding why_get
-  get_explained sheet plan x = behind l g x t z (high_get sheet plan allowance)
-
-  pub put_explained : (sheet plan view : List ℕ) → Explains (explain_put sheet plan view allowance) allowance s a w m
-      → WhyAnswered (why_put sheet plan view allowance (length s)) r s s'
-  unfolding why_put
-  put_explained sheet plan view x = behind l g x t z (high_put sheet plan view allowance)
 
 -- ITS NODES
 

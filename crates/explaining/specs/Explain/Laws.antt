@@ -6,33 +6,15 @@ use Rattle.value.specs.Result.{ok}
 use Rattle.sheet.specs.Sheet.{Sheet, read_sheet}
 use Rattle.rules.specs.Numbers.{get_output, put_output, chain_limit}
 use Rattle.rules.specs.Answer.{Answer, refusal, get_answer, put_answer}
-use Rattle.rules.specs.Answer as Answer
-use Rattle.rules.specs.Laws.Refusals.{Stated, stated_small, get_refusals, put_refusals}
+use Rattle.rules.proofs.Laws.Refusals.{Stated, stated_small, get_refusals, put_refusals}
 use Rattle.rules.specs.Explain.{Cause}
 use Rattle.rules.specs.Explain.Chain.{Leads}
-use Rattle.rules.specs.Explain.Calls.{
-  Explanation,
-  success,
-  before,
-  walked,
-  depth,
-  why_get,
-  why_put,
-  number,
-  answer_number,
-  why_get-number,
-  why_put-number,
-  Traced,
-  traced_chain,
-  chain_depth,
-  chain_deepest,
-  why_get_traced,
-  why_put_traced,
-}
+use Rattle.rules.specs.Explain.Calls.{Explanation, success, before, walked, depth, why_get, why_put, number, answer_number, Traced}
+use Rattle.rules.proofs.Explain.Calls.{why_get-number, why_put-number, traced_chain, chain_depth, chain_deepest, why_get_traced, why_put_traced}
 use Rattle.starts.specs.Starts.{firsts}
 use Rattle.explaining.specs.declared.Explanation.{Explanation as WhyReply}
 use Rattle.explaining.specs.Explain.{unmet, told_as, WhyAnswered}
-use Rattle.rules.specs.Explain.Nodes.{Named, why_get_named, why_put_named}
+use Rattle.rules.proofs.Explain.Nodes.{Named, why_get_named, why_put_named}
 
 -- ITS NUMBER
 

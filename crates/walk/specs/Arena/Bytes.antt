@@ -5,13 +5,14 @@ use Rattle.std.proofs.lemmas.Bool.{false≢true}
 use Rattle.std.proofs.Math.Option.{Option, none, some}
 use Rattle.std.proofs.Math.ListN.{get_elem?}
 use Rattle.value.specs.Value.{Value, Values, vfalse, vtrue, list, number, wide, pair, nil, cons, encode, encodes, size, sizes}
-use Rattle.value.specs.Encoding.{size-encode, size_pos}
-use Rattle.value.specs.Views.{as_list}
-use Rattle.value.specs.Tests.{holds}
-use Rattle.value.specs.Laws.{Readable, readable_front, readable_pair}
+use Rattle.value.proofs.Encoding.{size-encode, size_pos}
+use Rattle.value.proofs.Views.{as_list}
+use Rattle.value.proofs.Tests.{holds}
+use Rattle.value.specs.Laws.{Readable}
+use Rattle.value.proofs.Laws.{readable_front, readable_pair}
 use Rattle.shapes.specs.Parts.{shape_of, passes_bytes}
-use Rattle.shapes.specs.PartsLaws.{shape, shape_whole}
-use Rattle.shapes.specs.TestsLaws.{passes_whole}
+use Rattle.shapes.proofs.PartsLaws.{shape, shape_whole}
+use Rattle.shapes.proofs.TestsLaws.{passes_whole}
 use Rattle.shapes.specs.declared.Shape.{Shape}
 use Rattle.decisions.specs.Decisions.{unfit_rest}
 use Rattle.walk.specs.Arena.Parts.{part, part_split}

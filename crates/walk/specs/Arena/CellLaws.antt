@@ -1,13 +1,14 @@
 -- Cells written to, added and dropped again, and the cells of the variables in scope.
-use Rattle.std.specs.Prelude.{◌≡◌, refl, List, [], ◌∷◌, ◌++◌, ℕ, zero, suc, ◌+◌, ◌-◌, ◌*◌, ◌≤◌, ◌<◌, length, take, drop, get_or, set}
-use Rattle.std.proofs.Common.{sym, ap, ◌∙◌, append_assoc, le_refl, add-one, arith, length-set, length-append, get_or-set_same, get_or-set_other, get_or-append-add, get_or-take, length-take-le, drop-drop, take_at, drop_at}
+use Rattle.std.specs.Prelude.{◌≡◌, refl, List, [], ◌∷◌, ◌++◌, ℕ, zero, suc, ◌+◌, ◌-◌, ◌≤◌, ◌<◌, length, take, drop, get_or, set}
+use Rattle.std.proofs.Common.{sym, ap, ◌∙◌, append_assoc, le_refl, add-one, arith, length-set, length-append, get_or-set_same, get_or-set_other}
+use Rattle.std.proofs.Common.{get_or-append-add, get_or-take, length-take-le, drop-drop, take_at, drop_at}
 use Rattle.std.proofs.Math.Option.{Option, none, some}
 use Rattle.std.proofs.Math.Decide.{dec_lt}
 use Rattle.std.proofs.Math.ListN.{get_or-append}
 use Rattle.std.proofs.Math.Seq.{take-length, paste}
 use Rattle.std.proofs.lemmas.List.Edits.{length-paste, drop-paste}
 use Rattle.value.specs.Value.{Value, encode, size}
-use Rattle.value.specs.Encoding.{size_pos}
+use Rattle.value.proofs.Encoding.{size_pos}
 use Rattle.value.specs.Laws.{Readable}
 use Rattle.rules.specs.Semantics.{two}
 use Rattle.rules.specs.Explain.{Cell, Cells}

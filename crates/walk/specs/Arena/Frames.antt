@@ -38,7 +38,11 @@ pub frame_then : {top top' : ℕ} {c b a : List ℕ} → Frame top c b → Frame
 frame_then f g h p = let k = frame_below g h p in record { plan = k.plan ∙ f.plan; stack = k.stack ∙ f.stack; long = k.long ∙ f.long }
 
 pub kept_frame : {top : ℕ} {b a : List ℕ} → SameBelow top b a → stack_start ≤ top → Frame top b a
-kept_frame {top} {b} {a} k h = record { plan = (kept_below k slots_start (omega arith)).same; stack = part_kept k stack_start (top - stack_start) (omega arith); long = k.long }
+kept_frame {top} {b} {a} k h = record {
+  plan = (kept_below k slots_start (omega arith)).same;
+  stack = part_kept k stack_start (top - stack_start) (omega arith);
+  long = k.long;
+}
 
 module _ {b a : List ℕ} {top : ℕ} (f : Frame top b a) (top' : ℕ) (p : top ≤ top') where
   pub held_framed : {start len : ℕ} {v : Value} → Held b top start len v → Held a top' start len v

@@ -1,6 +1,8 @@
 -- Parts of the arena's bytes, and what a change leaves alone.
 use Rattle.std.specs.Prelude.{◌≡◌, refl, List, [], ◌∷◌, ◌++◌, ℕ, zero, suc, ◌+◌, ◌-◌, ◌≤◌, ◌<◌, length, take, drop, get_or, set}
-use Rattle.std.proofs.Common.{sym, ap, ◌∙◌, append_assoc, zero-add, suc-add, le_refl, add-one, arith, length-set, length-drop, take-take, take-add, drop-drop, get_or-append-add, get_or-drop, get_or-take, length-take-le, take_at, drop_at, drop-cons, get_or-set_same, get_or-set_other, ext_get_or}
+use Rattle.std.proofs.Common.{sym, ap, ◌∙◌, append_assoc, zero-add, suc-add, le_refl, add-one, arith, length-set, length-drop, take-take, take-add}
+use Rattle.std.proofs.Common.{drop-drop, get_or-append-add, get_or-drop, get_or-take, length-take-le, take_at, drop_at, drop-cons, get_or-set_same}
+use Rattle.std.proofs.Common.{get_or-set_other, ext_get_or}
 use Rattle.std.proofs.Math.Decide.{dec_lt}
 use Rattle.std.proofs.Math.Seq.{take-nil, paste, paste-zero, paste-suc, length_paste_head}
 use Rattle.std.proofs.lemmas.List.Edits.{length-paste}

@@ -1,10 +1,10 @@
 -- Which variables a put wrote, as the slots of their cells have it, and as a put gives it beside the walk's answer.
-use Rattle.std.specs.Prelude.{◌≡◌, refl, Bool, List, [], ◌∷◌, map, ℕ, zero, suc, ◌+◌, ◌-◌, ◌*◌, ◌≤◌, ◌<◌, eqb, length, get_or}
+use Rattle.std.specs.Prelude.{◌≡◌, refl, Bool, List, [], ◌∷◌, map, ℕ, suc, ◌+◌, ◌<◌, length, get_or}
 use Rattle.std.proofs.Common.{sym, ap, ap₂, ◌∙◌, arith, eq-eqb, ne_eqb}
 use Rattle.std.proofs.Math.Option.{Option, none}
 use Rattle.rules.specs.Explain.{Cell, Cells}
 use Rattle.rules.specs.Explain.Erasure.{value_of, strip}
-use Rattle.rules.specs.Bits.{bits_of, took, put_written}
+use Rattle.rules.specs.Bits.{took, put_written}
 use Rattle.arena.specs.Bits.{filled, filled_from}
 use Rattle.walk.specs.declared.PutWalked.{PutWalked}
 use Rattle.walk.specs.declared.chain.Met.{Met}

@@ -4,7 +4,7 @@ use Rattle.std.proofs.Common.{sym, ap, ap₂, ◌∙◌, append_assoc, append-ni
 use Rattle.value.specs.Value.{Value, vfalse, encode, flat}
 use Rattle.value.specs.Laws.{Readable}
 use Rattle.value.specs.Spans.{places, starts}
-use Rattle.value.specs.Progress.{starts_filled}
+use Rattle.value.proofs.Progress.{starts_filled}
 use Rattle.rules.specs.Numbers.{scratch_size, stack_start, variable_limit}
 use Rattle.scopes.specs.declared.Scope.{Scope}
 use Rattle.scopes.specs.declared.Span.{Span}

@@ -5,7 +5,7 @@ use Rattle.std.proofs.Math.ListN.{get_or-append}
 use Rattle.value.specs.Result.{Result, ok, refusal, map_result}
 use Rattle.value.specs.All.{All, none, each}
 use Rattle.value.specs.Value.{Value, vfalse, encode, size, flat}
-use Rattle.value.specs.Encoding.{size-encode}
+use Rattle.value.proofs.Encoding.{size-encode}
 use Rattle.value.specs.Laws.{Readable}
 use Rattle.value.specs.Reading.{Found, whole, malformed, too_long, value, nothing, a_value, read_value, on_value, read_values, read_plan}
 use Rattle.value.specs.Spans.{places, starts, spans, within16, spans_of}

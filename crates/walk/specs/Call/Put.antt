@@ -4,7 +4,7 @@ use Rattle.std.proofs.Math.Path.{refl, sym, ap, ap₂}
 use Rattle.std.proofs.Common.{◌∙◌, le_refl, arith}
 use Rattle.std.proofs.Math.Option.{Option, none}
 use mathlib.Core.List.{List, [], ◌∷◌, append-nil}
-use Prim.Native.Nat.{ℕ, zero, suc, ◌+◌, ◌*◌, ◌≤◌, ◌<◌, min}
+use Prim.Native.Nat.{ℕ, zero, suc, ◌+◌, ◌≤◌, ◌<◌, min}
 use Rattle.std.proofs.Math.ListN.{length, take, replicate}
 use Rattle.std.proofs.lemmas.List.{length-replicate, get_or-replicate}
 use Rattle.std.proofs.Math.Seq.{take-length}
@@ -12,23 +12,27 @@ use Rattle.outcome.specs.Outcome.{is_refusal, code_of, start_of, len_of, steps_o
 use Rattle.value.specs.Result.{ok, refusal}
 use Rattle.value.specs.All.{All, none, each}
 use Rattle.value.specs.Value.{Value, vfalse, encode, flat}
-use Rattle.value.specs.Laws.{Readable, read_values_sound, read_values_back}
+use Rattle.value.specs.Laws.{Readable}
+use Rattle.value.proofs.Laws.{read_values_sound, read_values_back}
 use Rattle.value.specs.Reading.{read_plan, read_view}
 use Rattle.value.specs.Spans.{places, starts, view_code}
-use Rattle.value.specs.SpansLaws.{view_ok, view_refusal}
+use Rattle.value.proofs.SpansLaws.{view_ok, view_refusal}
 use Rattle.sheet.specs.Sheet.{Sheet, read_sheet}
 use Rattle.sheet.specs.Table.{table_of}
 use Rattle.sheet.specs.declared.Table.{Table}
 use Rattle.sheet.specs.Laws.{sheet_ranges}
 use Rattle.starts.specs.declared.Loaded.{Loaded}
 use Rattle.starts.specs.Starts.{starts_of, load_of}
-use Rattle.starts.specs.StartsLaws.{load_gives}
+use Rattle.starts.proofs.StartsLaws.{load_gives}
 use Rattle.rules.specs.Outcome.{done, refused, map_out, reading}
 use Rattle.rules.specs.Allowance.{within}
 use Rattle.rules.specs.Counting
-use Rattle.rules.specs.Explain.Erasure.{forget, strip, old_strip, put_erases}
-use Rattle.rules.specs.Explain.Chain.{Chain, Meets, put_chain}
-use Rattle.rules.specs.Explain.Calls.{before as unmet_by, afterwards, explained, explain_put, strip_blank}
+use Rattle.rules.specs.Explain.Erasure.{forget, strip}
+use Rattle.rules.proofs.Explain.Erasure.{old_strip, put_erases}
+use Rattle.rules.specs.Explain.Chain.{Chain, Meets}
+use Rattle.rules.proofs.Explain.Chain.{put_chain}
+use Rattle.rules.specs.Explain.Calls.{before as unmet_by, afterwards, explained, explain_put}
+use Rattle.rules.proofs.Explain.Calls.{strip_blank}
 use Rattle.walk.specs.declared.chain.Met.{Met}
 use Rattle.walk.specs.Call.Explained.{Explains, nowhere, few_nodes, met_explains, done_explains}
 use Rattle.rules.specs.Semantics
@@ -122,7 +126,8 @@ new_count [] (v ∷ μ) e = refl
 new_count (o ∷ X) [] e = refl
 new_count (o ∷ X) (v ∷ μ) e = ap suc (new_count X μ (omega arith))
 
-new_at : (X : Cells) (μ : Env) (i : ℕ) → length X ≡ length μ → i < length μ → get_or (new_plan (strip X) μ) i vfalse ≡ or_old (get_or X i none) (get_or μ i vfalse)
+new_at : (X : Cells) (μ : Env) (i : ℕ) → length X ≡ length μ → i < length μ → get_or (new_plan (strip X) μ) i vfalse ≡ or_old (get_or X i none)
+    (get_or μ i vfalse)
 unfolding new_plan
 new_at X [] i e h = absurd (omega arith)
 new_at [] (v ∷ μ) i e h = absurd (omega arith)

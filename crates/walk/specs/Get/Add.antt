@@ -2,7 +2,7 @@
 use Rattle.std.specs.Prelude.{◌≡◌, true, false, List, set}
 use Rattle.std.proofs.Math.Path.{refl, sym, ap}
 use Rattle.std.proofs.Common.{◌∙◌}
-use Prim.Native.Nat.{ℕ, suc, ◌+◌, ◌-◌, ◌*◌, ◌/◌, ◌%◌, ◌≤◌, ◌<◌}
+use Prim.Native.Nat.{ℕ, suc, ◌+◌, ◌*◌, ◌/◌, ◌%◌, ◌≤◌, ◌<◌}
 use Rattle.std.proofs.Math.Nat.{le_refl}
 use native.Mathlib.Omega.{arith}
 use Rattle.std.proofs.Math.ListN.{length, get_or}
@@ -11,8 +11,7 @@ use Rattle.value.specs.Value.{Value, encode, size}
 use Rattle.shapes.specs.Parts.{shape_of}
 use Rattle.shapes.specs.declared.Shape.TheVariants as shapes
 use Rattle.rules.specs.Semantics
-use Rattle.rules.specs.Explain.{get_node, got}
-use Rattle.rules.specs.Laws.Readable.{number_readable}
+use Rattle.rules.proofs.Laws.Readable.{number_readable}
 use Rattle.rules.specs.Numbers.{scratch_size, chain_start}
 use Rattle.walk.specs.Decoded.{Done, Own, after, refused_decoded, decoded, decoded_done, decoded_refused}
 use Rattle.walk.specs.Arena.Parts.{part, kept_then, kept_set}

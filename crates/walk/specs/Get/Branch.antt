@@ -6,10 +6,9 @@ use Rattle.std.proofs.Math.Bool.{true, false}
 use native.Mathlib.Omega.{arith}
 use Rattle.outcome.specs.Outcome.{is_refusal, done_as, len_of, start_of, steps_of, len_small, start_small, steps_small}
 use Rattle.value.specs.Value.{Value}
-use Rattle.value.specs.Tests.{passes}
+use Rattle.value.proofs.Tests.{passes}
 use Rattle.shapes.specs.Parts.{by_kinds, passes_bytes}
 use Rattle.rules.specs.Semantics
-use Rattle.rules.specs.Explain.{tested}
 use Rattle.rules.specs.Numbers.{stack_start}
 use Rattle.scopes.specs.declared.Scope.{Scope}
 use Rattle.walk.specs.Decoded.{Done, Own, after, done_said, refused_decoded, decoded, decoded_done, decoded_refused}
@@ -98,7 +97,8 @@ judgeable {g = g} w t s n =
     record { inside = omega (arith, t.kept.long, w.long, w.room) }
 
 -- and what it gives
-pub judge_gives : {b a a₂ s : List ℕ} {sc : Scope} {from top left test x l g r : ℕ} → stack_start ≤ top → top ≤ from → GetShows b a s sc from from left g l (enter x)
+pub judge_gives : {b a a₂ s : List ℕ} {sc : Scope} {from top left test x l g r : ℕ} → stack_start ≤ top → top ≤ from → GetShows b a s sc from from left g l
+    (enter x)
     → Judged test top g a a₂ r
     → GetShows b a₂ s sc from top left r l (branch test x)
 judge_gives base down h (passed_on n e f) = rw (e, f) (branch_refused base down h n)

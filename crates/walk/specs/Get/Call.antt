@@ -8,7 +8,6 @@ use Rattle.sheet.specs.Table.{section_at}
 use Rattle.sheet.specs.Laws.{sheet_ranges, section_read}
 use Rattle.rules.specs.Semantics
 use Rattle.rules.specs.Semantics.{Env, two}
-use Rattle.rules.specs.Explain.{get_node}
 use Rattle.rules.specs.Numbers.{chain_start}
 use Rattle.scopes.specs.Scopes.{picked}
 use Rattle.walk.specs.Decoded.{refused_decoded, decoded}

@@ -6,35 +6,16 @@ use Rattle.std.proofs.Math.Option.{none}
 use Rattle.std.proofs.Math.Decide.{dec_lt}
 use Rattle.outcome.specs.Outcome.{is_refusal, later_as, len_of, start_of, steps_of}
 use Rattle.value.specs.Value.{Value, vfalse, vtrue, list, number, wide, pair, nil, cons}
-use Rattle.value.specs.Views.{as_list, as_pair, as_truth}
-use Rattle.value.specs.Tests.{passes, holds, table, class}
+use Rattle.value.proofs.Views.{as_list, as_pair, as_truth}
+use Rattle.value.proofs.Tests.{passes, holds, table, class}
 use Rattle.shapes.specs.Parts.{shape_of}
-use Rattle.shapes.specs.PartsLaws.{shape}
+use Rattle.shapes.proofs.PartsLaws.{shape}
 use Rattle.shapes.specs.declared.Shape.{Shape}
-use Rattle.shapes.specs.declared.Shape.TheVariants as shapes
 use Rattle.sheet.specs.Sheet.{Sheet}
 use Rattle.rules.specs.Outcome.{when}
 use Rattle.rules.specs.Semantics
 use Rattle.rules.specs.Semantics.{Env, on_list, two}
-use Rattle.rules.specs.Explain.{
-  Explained,
-  Getter,
-  Exit,
-  Cause,
-  follow,
-  get,
-  get_node,
-  give,
-  given,
-  got,
-  met,
-  more,
-  next,
-  own as own_rule,
-  tested,
-  wanted,
-  within,
-}
+use Rattle.rules.specs.Explain.{Explained, Getter, Exit, Cause, follow, get, give, given, got, met, more, next, own as own_rule, tested, wanted, within}
 use Rattle.rules.specs.Numbers.{chain_start, variable_limit}
 use Rattle.scopes.specs.declared.Scope.{Scope}
 use Rattle.decisions.specs.declared.Branch.{Branch}

@@ -7,7 +7,6 @@ use Rattle.value.specs.Value.{Value, Values, vfalse, list}
 use Rattle.sheet.specs.Table.{section_at}
 use Rattle.rules.specs.Semantics
 use Rattle.rules.specs.Semantics.{Env}
-use Rattle.rules.specs.Explain.{get_node}
 use Rattle.rules.specs.Numbers.{scratch_size, stack_start, chain_start}
 use Rattle.scopes.specs.declared.Scope.{Scope}
 use Rattle.decisions.specs.Decisions.{unfit_rest}

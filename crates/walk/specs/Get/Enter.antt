@@ -11,14 +11,15 @@ use Rattle.node.specs.declared.Node.TheVariants.{False}
 use Rattle.sheet.specs.Sheet.{Sheet, read_sheet}
 use Rattle.sheet.specs.Table.{offsets}
 use Rattle.sheet.specs.Reading.{Made}
-use Rattle.sheet.specs.Records.{record_at, record_told}
+use Rattle.sheet.proofs.Records.{record_at, record_told}
 use Rattle.sheet.specs.Laws.{Ranged, sheet_ranges, node_made, made_kind, table_start}
 use Rattle.node.specs.Kinds.{width}
-use Rattle.sheet.specs.Rows.{width_8}
+use Rattle.sheet.proofs.Rows.{width_8}
 use Rattle.rules.specs.Semantics
 use Rattle.rules.specs.Semantics.{Env}
 use Rattle.rules.specs.Explain.{Cause, Exit, met, below, entered, within, get, get_node}
-use Rattle.rules.specs.Explain.Chain.{Chain, Meets, stop, get_chain}
+use Rattle.rules.specs.Explain.Chain.{Chain, Meets, stop}
+use Rattle.rules.proofs.Explain.Chain.{get_chain}
 use Rattle.scopes.specs.declared.Scope.{Scope}
 use Rattle.decisions.specs.Decisions.{entry_refusal}
 use Rattle.decisions.specs.DecisionLaws.{no_level, no_step as out_of_steps, both_left}

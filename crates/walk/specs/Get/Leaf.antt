@@ -4,13 +4,13 @@ use Rattle.std.proofs.Common.{ap, ◌∙◌, le_refl, arith, length-set, get_or-
 use Rattle.std.proofs.Math.Decide.{dec_lt}
 use Rattle.std.proofs.Math.Seq.{paste}
 use Rattle.outcome.specs.Outcome.{done_as}
-use Rattle.value.specs.Value.{Value, vfalse, vtrue, list, nil, number, wide, encode, encodes, size, sizes}
+use Rattle.value.specs.Value.{Value, vfalse, vtrue, list, nil, number, encode, encodes, size, sizes}
 use Rattle.value.specs.Laws.{Readable}
 use Rattle.node.specs.Wide.{wide_bytes}
 use Rattle.rules.specs.Semantics
 use Rattle.rules.specs.Semantics.{Env}
-use Rattle.rules.specs.Explain.{get_node, give}
-use Rattle.rules.specs.Laws.Readable.{nil_readable, truth_readable, number_readable, wide_readable}
+use Rattle.rules.specs.Explain.{give}
+use Rattle.rules.proofs.Laws.Readable.{nil_readable, truth_readable, number_readable, wide_readable}
 use Rattle.rules.specs.Numbers.{scratch_size, variable_limit}
 use Rattle.scopes.specs.declared.Scope.{Scope}
 use Rattle.scopes.specs.Scopes.{When}
@@ -131,7 +131,8 @@ number_bytes b top n h k =
     let a : List ℕ = set c (top + 2) (n % 256) in
     let lc : length c ≡ length b = length-set b (top + 1) (n / 256) in
     let la : length a ≡ length b = length-set c (top + 2) (n % 256) ∙ lc in
-    let e₀ : get_or a top 0 ≡ 4 = get_or-set_other c (top + 2) top (n % 256) 0 (λ q. omega arith) ∙ get_or-set_other b (top + 1) top (n / 256) 0 (λ q. omega arith)
+    let e₀ : get_or a top 0 ≡ 4 = get_or-set_other c (top + 2) top (n % 256) 0 (λ q. omega arith) ∙ get_or-set_other b (top + 1) top (n / 256) 0
+    (λ q. omega arith)
     ∙ k in
     let e₁ : get_or a (top + 1) 0 ≡ n / 256 = get_or-set_other c (top + 2) (top + 1) (n % 256) 0 (λ q. omega arith)
     ∙ get_or-set_same b (top + 1) (n / 256) 0 (omega arith) in

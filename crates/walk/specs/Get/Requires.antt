@@ -3,11 +3,11 @@ use Rattle.std.specs.Prelude.{◌≡◌, false, List, ℕ, zero, suc, ◌+◌, �
 use Rattle.std.proofs.Common.{◌∙◌, le_refl, arith}
 use Rattle.outcome.specs.Outcome.{is_refusal, len_of, start_of, steps_of}
 use Rattle.value.specs.Value.{Value}
-use Rattle.sheet.specs.Records.{record_at}
+use Rattle.sheet.proofs.Records.{record_at}
 use Rattle.sheet.specs.Sheet.{Sheet}
 use Rattle.rules.specs.Semantics
 use Rattle.rules.specs.Semantics.{Env}
-use Rattle.rules.specs.Explain.{get, got, within}
+use Rattle.rules.specs.Explain.{got, within}
 use Rattle.rules.specs.Numbers.{allowance_limit, chain_start}
 use Rattle.scopes.specs.declared.Scope.{Scope}
 use Rattle.walk.specs.Decoded.{decoded_done}
@@ -22,7 +22,8 @@ use Rattle.walk.specs.Get.{Task, enter, own, branch, members, run, Known, Ready,
 
 -- a call further on: the arena is kept below the top, and the top is raised
 module _ {s table b : List ℕ} {sc : Scope} {top levels left : ℕ} {t : Task} (w : Ready s table b sc top levels left t) where
-  module _ {a : List ℕ} (kept : SameBelow top b a) (top' levels' left' : ℕ) (p : top ≤ top') (few : left' ≤ allowance_limit) (room : top' + 513 * levels' ≤ chain_start)
+  module _ {a : List ℕ} (kept : SameBelow top b a) (top' levels' left' : ℕ) (p : top ≤ top') (few : left' ≤ allowance_limit)
+      (room : top' + 513 * levels' ≤ chain_start)
     where
       -- in another scope
       pub ready_in : {sc' : Scope} {t' : Task} → sc'.count + 2 * levels' ≤ 112 → Known w.sheet.sh t' → (μ : Env) → Scoped a sc' top' μ

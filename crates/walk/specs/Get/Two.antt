@@ -13,7 +13,7 @@ use Rattle.value.specs.Value.{Value, encode}
 use Rattle.sheet.specs.Sheet.{Sheet, read_sheet}
 use Rattle.rules.specs.Semantics
 use Rattle.rules.specs.Semantics.{Env}
-use Rattle.rules.specs.Explain.{Cause, bounded, get, get_node, given, got, met, within}
+use Rattle.rules.specs.Explain.{Cause, bounded, get, given, got, met, within}
 use Rattle.rules.specs.Numbers.{scratch_size, chain_start}
 use Rattle.decisions.specs.Decisions.{unfit_rest, made_of}
 use Rattle.decisions.specs.DecisionLaws.{made_front, made_pair}

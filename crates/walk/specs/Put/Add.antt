@@ -6,8 +6,7 @@ use Rattle.value.specs.Value.{Value, number, encode}
 use Rattle.shapes.specs.Parts.{shape_of}
 use Rattle.shapes.specs.declared.Shape.TheVariants as shapes
 use Rattle.rules.specs.Semantics
-use Rattle.rules.specs.Explain.{put_node}
-use Rattle.rules.specs.Laws.Readable.{number_readable}
+use Rattle.rules.proofs.Laws.Readable.{number_readable}
 use Rattle.rules.specs.Numbers.{chain_start}
 use Rattle.walk.specs.Decoded.{refused_decoded, decoded}
 use Rattle.walk.specs.Represents.{give_some, give_none, give_yes, give_no}

@@ -1,13 +1,12 @@
 -- Calls: what each return of put shows, and what the section's root asks.
-use Rattle.std.specs.Prelude.{◌≡◌, refl, List, ℕ, suc, ◌+◌, ◌-◌, ◌*◌, ◌≤◌, ◌<◌, get_or}
+use Rattle.std.specs.Prelude.{◌≡◌, refl, List, ℕ, suc, ◌+◌, ◌*◌, ◌≤◌, ◌<◌, get_or}
 use Rattle.std.proofs.Common.{ap, ◌∙◌, arith}
 use Rattle.value.specs.Value.{Value, vfalse}
-use Rattle.shapes.specs.declared.Shape.TheVariants as shapes
 use Rattle.sheet.specs.Sheet.{Sheet}
 use Rattle.sheet.specs.Table.{section_at}
 use Rattle.rules.specs.Semantics
 use Rattle.rules.specs.Semantics.{Env, two}
-use Rattle.rules.specs.Explain.{Cells, put_node}
+use Rattle.rules.specs.Explain.{Cells}
 use Rattle.rules.specs.Numbers.{chain_start}
 use Rattle.scopes.specs.Scopes.{picked, picked_two}
 use Rattle.walk.specs.Decoded.{refused_decoded, decoded}

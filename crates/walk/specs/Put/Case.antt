@@ -7,34 +7,17 @@ use Prim.Native.Nat.{ℕ, zero, suc, ◌+◌, ◌-◌, ◌*◌, ◌≤◌, ◌<�
 use Rattle.outcome.specs.Outcome.{is_refusal, later_as, len_of, start_of, steps_of}
 use Rattle.value.specs.Value.{Value, vfalse, vtrue, list, number, wide, pair as a_pair_of, nil, cons, encode, encodes, size, sizes, truth}
 use Rattle.value.specs.Value.{e_false, e_true, e_list, e_nil}
-use Rattle.value.specs.Views.{as_list, as_pair, as_truth}
-use Rattle.value.specs.Tests.{passes, holds}
+use Rattle.value.proofs.Views.{as_list, as_pair, as_truth}
+use Rattle.value.proofs.Tests.{passes, holds}
 use Rattle.shapes.specs.Parts.{shape_of, passes_bytes}
-use Rattle.shapes.specs.PartsLaws.{shape}
-use Rattle.shapes.specs.TestsLaws.{passes_whole}
+use Rattle.shapes.proofs.PartsLaws.{shape}
+use Rattle.shapes.proofs.TestsLaws.{passes_whole}
 use Rattle.shapes.specs.declared.Shape.{Shape}
 use Rattle.shapes.specs.declared.Shape.TheVariants as shapes
 use Rattle.sheet.specs.Sheet.{Sheet}
 use Rattle.rules.specs.Semantics
 use Rattle.rules.specs.Semantics.{Env, mk_list, mk_pair, on_list, two}
-use Rattle.rules.specs.Explain.{
-  Cells,
-  Explained,
-  Cause,
-  both,
-  choice as choosing,
-  choose,
-  get,
-  given,
-  got,
-  met,
-  own as own_rule,
-  put,
-  put_node,
-  under,
-  wanted,
-  within,
-}
+use Rattle.rules.specs.Explain.{Cells, Explained, Cause, both, choice as choosing, choose, get, given, got, met, own as own_rule, put, under, wanted, within}
 use Rattle.rules.specs.Numbers.{chain_start}
 use Rattle.decisions.specs.declared.Branch.{Branch}
 use Rattle.decisions.specs.declared.Branch.TheVariants.{Plain, Parts, Switch, Refused}
@@ -68,28 +51,8 @@ use Rattle.walk.specs.Get as gets
 use Rattle.walk.specs.Get.{Here, GotAt, Asks, ToldOf}
 use Rattle.walk.specs.Get.Requires.{Sized}
 use Rattle.walk.specs.Get.Case.{Case, lists, truths, splits, parts_of, PartsHeld, parts_held, held_above, parts_known}
-use Rattle.walk.specs.Put.{
-  Task,
-  enter,
-  own,
-  pair,
-  inside,
-  switch_at,
-  with_defaults,
-  run,
-  Known,
-  Wrote,
-  PartsAt,
-  SomeView,
-  Given,
-  Inner,
-  PutHere,
-  put_further,
-  PutAsked,
-  PutAsks,
-  PutTold,
-  PutTells,
-}
+use Rattle.walk.specs.Put.{Task, own, pair, inside, switch_at, with_defaults, run, Known, Wrote, PartsAt, SomeView, Given, Inner, PutHere}
+use Rattle.walk.specs.Put.{put_further, PutAsked, PutAsks, PutTold, PutTells}
 use Rattle.walk.specs.Put.Requires.{ready_for, get_ready, given_later, few}
 use Rattle.walk.specs.Put.Under.{Under, got_parts}
 use Rattle.walk.specs.Put.Switch.{Switching}
@@ -109,7 +72,8 @@ on_two (f ∷ r ∷ μ) k = k f r
 
 unfoldable pub put_branch : ℕ → Sheet → List ℕ → (n kind : ℕ) → Env → List ℕ → Value → Cells → Value → Branch → Explained Cells
 put_branch l sh s n k μ σ v W o (Plain i byte) = both (put l sh) μ σ W (get_or s (n + i) 0) v (get_or s (n + 1) 0) (byte_value byte)
-put_branch l sh s n k μ σ v W o (Parts i mid) = on_two (parts_of o) λ f r. under (put l sh) μ σ W (get_or s (n + i) 0) v (get_or s (n + 1) 0) (maker (made_of k)) f r
+put_branch l sh s n k μ σ v W o (Parts i mid) = on_two (parts_of o) λ f r. under (put l sh) μ σ W (get_or s (n + i) 0) v (get_or s (n + 1) 0)
+    (maker (made_of k)) f r
 put_branch l sh s n k μ σ v W o Switch =
     with_defaults l sh (get_or s (n + 6) 0) (get_or s (n + 7) 0) v λ f r. under (put l sh) μ σ W (get_or s (n + 4) 0) v (get_or s (n + 1) 0) mk_list f r
 put_branch l sh s n k μ σ v W o (Refused c) = λ _. met (own_rule c none) 0
@@ -138,7 +102,8 @@ by_choice f h false true b c = refl
 by_choice f h false false b c = sym (h 53)
 
 module _ (l : ℕ) (sh : Sheet) (s : List ℕ) (n : ℕ) (μ : Env) (σ : List ℕ) (v : Value) (W : Cells) where
-  chosen : (k : ℕ) (o : Value) (t u : ℕ) (b c : Branch) → choose (passes t v) (passes u v) (put_branch l sh s n k μ σ v W o b) (put_branch l sh s n k μ σ v W o c)
+  chosen : (k : ℕ) (o : Value) (t u : ℕ) (b c : Branch) → choose (passes t v) (passes u v) (put_branch l sh s n k μ σ v W o b)
+      (put_branch l sh s n k μ σ v W o c)
       ≡ put_branch l sh s n k μ σ v W o (choice (holds t v) (holds u v) b c)
   unfolding passes put_branch
   chosen k o t u b c = choose_by (passes t v) (passes u v) _ _ ∙ by_choice (put_branch l sh s n k μ σ v W o) (λ c. refl) (holds t v) (holds u v) b c

@@ -5,13 +5,13 @@ use Rattle.std.proofs.Math.Path.{ap}
 use Rattle.std.proofs.Math.Option.{none}
 use Rattle.outcome.specs.Outcome.{is_refusal, later_as, len_of, start_of, steps_of}
 use Rattle.value.specs.Value.{Value, vfalse, list}
-use Rattle.value.specs.Encoding.{size-encode, size_pos}
-use Rattle.value.specs.Views.{as_list}
+use Rattle.value.proofs.Encoding.{size-encode, size_pos}
+use Rattle.value.proofs.Views.{as_list}
 use Rattle.sheet.specs.Sheet.{Sheet}
 use Rattle.sheet.specs.Table.{section_at}
 use Rattle.rules.specs.Semantics
 use Rattle.rules.specs.Semantics.{Env}
-use Rattle.rules.specs.Explain.{Cells, get, put, put_node}
+use Rattle.rules.specs.Explain.{Cells, get, put}
 use Rattle.rules.specs.Numbers.{chain_start}
 use Rattle.decisions.specs.Decisions.{unfit_rest}
 use Rattle.walk.specs.Decoded.{Own, after, later_said, refused_decoded, decoded, decoded_done, decoded_refused}
@@ -155,7 +155,7 @@ module _ {h : PutHere} {view : List ℕ} {x k n g : ℕ} {a : List ℕ} {root : 
       let z : h.top + 513 * suc h.levels ≤ chain_start = asked.room in
       let s = w.got.sized.at w.got.done in
       let u = up in
-      let known = rw w.got.each at asked.known.1.1 in
+      let known = simp w.got.each at asked.known.1.1 in
       let d = had (w.got.gives.told asked.sheet.sh asked.sheet.read asked.env asked.given.scoped) (decoded_done _ _ g w.got.done) in
       record {
         ready = ready_for asked (root_known asked.sheet (each_section asked w.got.each) w.root_is, known.1.1.1.0.inside)

@@ -8,12 +8,13 @@ use Rattle.value.specs.Result.{ok}
 use Rattle.value.specs.Value.{Value}
 use Rattle.node.specs.declared.Node.{Node}
 use Rattle.node.specs.declared.Node.TheVariants.{False}
-use Rattle.sheet.specs.Records.{record_at}
+use Rattle.sheet.proofs.Records.{record_at}
 use Rattle.sheet.specs.Sheet.{Sheet, read_sheet}
 use Rattle.rules.specs.Semantics
 use Rattle.rules.specs.Semantics.{Env}
 use Rattle.rules.specs.Explain.{Cause, Exit, met, Explained, below, entered, within, Cells, get, put_node, put}
-use Rattle.rules.specs.Explain.Chain.{Chain, Meets, stop, put_chain}
+use Rattle.rules.specs.Explain.Chain.{Chain, Meets, stop}
+use Rattle.rules.proofs.Explain.Chain.{put_chain}
 use Rattle.scopes.specs.declared.Scope.{Scope}
 use Rattle.walk.specs.declared.at.At.{At}
 use Rattle.arena.specs.Chain.{chain_at}

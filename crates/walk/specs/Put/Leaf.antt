@@ -9,14 +9,14 @@ use Rattle.std.proofs.Math.ListN.{length, get_or, length-set, get_elem?}
 use Rattle.std.proofs.Math.Seq.{paste}
 use Rattle.outcome.specs.Outcome.{done_as, refused_by}
 use Rattle.value.specs.Value.{Value, vfalse, vtrue, list, number, wide, nil, encode, encodes, size}
-use Rattle.value.specs.Encoding.{size-encode, size_pos}
+use Rattle.value.proofs.Encoding.{size-encode, size_pos}
 use Rattle.shapes.specs.Parts.{same_bytes}
-use Rattle.shapes.specs.PartsLaws.{same_values, other_values}
+use Rattle.shapes.proofs.PartsLaws.{same_values, other_values}
 use Rattle.sheet.specs.Sheet.{Sheet}
 use Rattle.sheet.specs.Laws.{sheet_ranges}
 use Rattle.rules.specs.Semantics
 use Rattle.rules.specs.Semantics.{Env}
-use Rattle.rules.specs.Explain.{own as own_rule, Cell, Cells, constant, put_node, write}
+use Rattle.rules.specs.Explain.{own as own_rule, Cell, Cells, constant}
 use Rattle.rules.specs.Numbers.{scratch_size, variable_limit}
 use Rattle.scopes.specs.declared.Scope.{Scope}
 use Rattle.scopes.specs.Scopes.{note_of, noted_len, noted_by, slot_of}

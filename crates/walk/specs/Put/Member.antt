@@ -13,7 +13,7 @@ use Rattle.value.specs.Result.{ok}
 use Rattle.value.specs.Value.{Value, Values, vfalse, list, nil, cons, encode, size, sizes}
 use Rattle.value.specs.Laws.{Readable}
 use Rattle.shapes.specs.Parts.{shape_of, middle_of}
-use Rattle.shapes.specs.PartsLaws.{shape, shape-encode}
+use Rattle.shapes.proofs.PartsLaws.{shape, shape-encode}
 use Rattle.sheet.specs.Sheet.{Sheet, read_sheet}
 use Rattle.std.proofs.Math.Decide.{dec_le}
 use Rattle.rules.specs.Outcome.{when}
@@ -40,7 +40,7 @@ use Rattle.walk.specs.Steps.{Frugal, frugal_give, frugal_next, frugal_given, get
 use Rattle.walk.specs.Arena.Cells.{Frame, CellsHold, Shown}
 use Rattle.walk.specs.Arena.Frames.{frame_then, kept_frame, held_framed, written_kept}
 use Rattle.walk.specs.Arena.CellLaws.{named_member, written_one, written_less}
-use Rattle.walk.specs.Put.{enter, pair, run, Any, SomeView, Given, Ready, PutShows, Few, Inner, PutHere, PutAsks, PutTold}
+use Rattle.walk.specs.Put.{enter, pair, run, Any, SomeView, Given, Ready, Few, Inner, PutHere, PutAsks, PutTold}
 use Rattle.walk.specs.Put.Switch.{env_none}
 use Rattle.walk.specs.Put.Rebuilt.{HeldAt as Found, held_at}
 
@@ -58,7 +58,8 @@ first_byte_count nil = 0
 first_byte_count (cons m r) = 1 + size m
 
 -- where its rest starts, as the code finds it
-pub first_bytes : {a : List ℕ} {top old len mid : ℕ} {l : Values} → Held a top old len (list l) → mid ≡ middle_of (shape_of (drop old a)) → mid ≡ first_byte_count l
+pub first_bytes : {a : List ℕ} {top old len mid : ℕ} {l : Values} → Held a top old len (list l) → mid ≡ middle_of (shape_of (drop old a)) →
+    mid ≡ first_byte_count l
 unfolding shape middle_of first_byte_count
 first_bytes {a} {old = old} {len = len} {l = l} h e =
     let s : drop old a ≡ encode (list l) ++ drop len (drop old a)
@@ -130,7 +131,8 @@ module _ {s table b : List ℕ} {d old mid top levels left : ℕ} (w : StoodAske
     scoped = env_none b top;
   }
 
-  pub default_stood : {a : List ℕ} {r : ℕ} → mid ≡ 0 → gets.GetShows b a s no_variable top top left r levels (gets.enter d) → Stood s b a d old top levels left r
+  pub default_stood : {a : List ℕ} {r : ℕ} → mid ≡ 0 → gets.GetShows b a s no_variable top top left r levels (gets.enter d) →
+      Stood s b a d old top levels left r
   unfolding Semantics.stood_for on_list first_byte_count gets.run
   default_stood {a} {r} n g = record { kept = g.kept; told = λ {sh} es {l} h. go sh es l (first_bytes h w.middle) }
     where

@@ -9,12 +9,11 @@ use Rattle.std.proofs.Math.ListN.{length, take}
 use Rattle.std.proofs.Math.Seq.{take-suc-set}
 use Rattle.outcome.specs.Outcome.{is_refusal, later_as, len_of, start_of, steps_of}
 use Rattle.value.specs.Value.{Value, Values, vfalse, list, nil, cons, encode, encodes, size, sizes, Encodables, e_nil, e_cons, e_list}
-use Rattle.value.specs.Encoding.{size-encode, size_pos}
-use Rattle.value.specs.Laws.{readable_front}
+use Rattle.value.proofs.Encoding.{size-encode, size_pos}
+use Rattle.value.proofs.Laws.{readable_front}
 use Rattle.shapes.specs.Parts.{shape_of, middle_of, first_part}
-use Rattle.shapes.specs.PartsLaws.{shape_whole, first_of_list, rest_of_list}
+use Rattle.shapes.proofs.PartsLaws.{shape_whole, first_of_list, rest_of_list}
 use Rattle.sheet.specs.Sheet.{Sheet}
-use Rattle.rules.specs.Semantics
 use Rattle.rules.specs.Semantics.{Env, rest_of}
 use Rattle.rules.specs.Explain.{Cells, Explained, ◌>>=◌, get, got, put, within}
 use Rattle.rules.specs.Numbers.{scratch_size}

@@ -1,12 +1,12 @@
 -- The subject rebuilt of what the two variables of its branch stand for: where their values stand, the bytes, and what each return shows.
-use Rattle.std.specs.Prelude.{◌≡◌, refl, true, false, List, ◌∷◌, ◌++◌, ℕ, suc, ◌+◌, ◌*◌, ◌≤◌, ◌<◌, length, take, drop, get_or, set, replicate}
+use Rattle.std.specs.Prelude.{◌≡◌, refl, true, false, List, ◌∷◌, ◌++◌, ℕ, suc, ◌+◌, ◌≤◌, ◌<◌, length, take, drop, get_or, set, replicate}
 use Rattle.std.proofs.Common.{sym, ap, ap₂, ◌∙◌, le_refl, add-one, arith, length-drop, get_or-take, get_or-drop}
 use Rattle.std.proofs.Math.Option.{Option, none, some}
 use Rattle.std.proofs.Math.ListN.{get_elem?}
 use Rattle.std.proofs.Math.Seq.{paste}
 use Rattle.std.proofs.lemmas.List.Edits.{take-paste, length-paste}
 use Rattle.value.specs.Value.{Value, vfalse, encode, size}
-use Rattle.value.specs.Encoding.{size-encode, size_pos}
+use Rattle.value.proofs.Encoding.{size-encode, size_pos}
 use Rattle.value.specs.Laws.{Readable}
 use Rattle.sheet.specs.Sheet.{Sheet}
 use Rattle.rules.specs.Semantics
@@ -37,7 +37,8 @@ pub record HeldAt (a : List ℕ) (p : Span) (v : Value) : Type 0 where
   pub readable : Readable v
   pub inside : p.start + p.len ≤ scratch_size
 
-pub held_at : {a : List ℕ} {top start len c w : ℕ} {o : Option Cell} {v : Value} → Slot a (slot_of c) w o → c < variable_limit → Held a top start len v → stack_start ≤ top
+pub held_at : {a : List ℕ} {top start len c w : ℕ} {o : Option Cell} {v : Value} → Slot a (slot_of c) w o → c < variable_limit → Held a top start len v →
+    stack_start ≤ top
     → top ≤ scratch_size
     → HeldAt a (place_of w c start len) (or_old o v)
 unfolding place_of Semantics.or_old
@@ -91,7 +92,8 @@ both {a} {slots} {n} {start = start} {first = first} {second = second} {X = X} p
     }
 
 -- two values below the top end by it
-pub parts_end : {a : List ℕ} {top start first second : ℕ} → SomeParts a top start first second → stack_start ≤ top → top ≤ scratch_size → start + first ≤ scratch_size
+pub parts_end : {a : List ℕ} {top start first second : ℕ} → SomeParts a top start first second → stack_start ≤ top → top ≤ scratch_size →
+    start + first ≤ scratch_size
 parts_end p base most = omega (arith, below_ends p.parts.two.place base)
 
 -- AT A STAGE: it is known where the two values stand

@@ -10,7 +10,7 @@ use Rattle.std.proofs.Math.Seq.{paste}
 use Rattle.outcome.specs.Outcome.{is_refusal, done_as, later_as, len_of, start_of, steps_of}
 use Rattle.value.specs.Result.{ok}
 use Rattle.value.specs.Value.{Value, encode, size}
-use Rattle.value.specs.Encoding.{size-encode, size_pos}
+use Rattle.value.proofs.Encoding.{size-encode, size_pos}
 use Rattle.sheet.specs.Sheet.{Sheet, read_sheet}
 use Rattle.rules.specs.Explain.{Cells, Explained, get, got, within}
 use Rattle.rules.specs.Numbers.{allowance_limit, scratch_size, stack_start, chain_start}
@@ -194,7 +194,8 @@ module _ {s table b : List ℕ} {sc : Scope} {n top levels left : ℕ} (w : Both
                     (omega arith, omega arith, omega arith);
               }
             where
-              two_defaults : {r : ℕ} (sh : Sheet) (x : Value) → start_of r ≡ len_of f → len_of r ≡ len_of g → steps_of r ≡ steps_of f + steps_of g → (u v : Value)
+              two_defaults : {r : ℕ} (sh : Sheet) (x : Value) → start_of r ≡ len_of f → len_of r ≡ len_of g → steps_of r ≡ steps_of f + steps_of g →
+                  (u v : Value)
                   → within left (get levels sh (get_or s (n + 6) 0) (x ∷ [])) ≡ got u (steps_of f)
                   → within (left - steps_of f) (get levels sh (get_or s (n + 7) 0) (x ∷ [])) ≡ got v (steps_of g)
                   → Held a₁ (top + len_of f) (start_of f) (len_of f) u → Held a₂ (top + len_of f + len_of g) (start_of g) (len_of g) v

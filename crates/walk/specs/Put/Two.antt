@@ -5,15 +5,16 @@ use Rattle.std.proofs.Math.Path.{ap, ap₂}
 use Rattle.std.proofs.lemmas.Bool.{false≢true}
 use Rattle.outcome.specs.Outcome.{is_refusal, later_as, steps_of}
 use Rattle.value.specs.Value.{Value, vfalse, list, pair as a_pair_of, cons, encode}
-use Rattle.value.specs.Laws.{Readable, readable_front, readable_pair}
+use Rattle.value.specs.Laws.{Readable}
+use Rattle.value.proofs.Laws.{readable_front, readable_pair}
 use Rattle.shapes.specs.Parts.{shape_of, first_part, second_part}
-use Rattle.shapes.specs.PartsLaws.{shape, shape_whole, first_of_list, rest_of_list, first_of_pair, second_of_pair}
+use Rattle.shapes.proofs.PartsLaws.{shape, shape_whole, first_of_list, rest_of_list, first_of_pair, second_of_pair}
 use Rattle.shapes.specs.declared.Shape.{Shape}
 use Rattle.shapes.specs.declared.Shape.TheVariants.{False, True, Empty, Front, Number, Pair, Wide, Malformed}
 use Rattle.sheet.specs.Sheet.{Sheet}
 use Rattle.rules.specs.Semantics
 use Rattle.rules.specs.Semantics.{Env}
-use Rattle.rules.specs.Explain.{wanted, Cells, both, given, put, put_node}
+use Rattle.rules.specs.Explain.{wanted, Cells, both, put}
 use Rattle.rules.specs.Numbers.{chain_start}
 use Rattle.decisions.specs.declared.Apart.{Apart}
 use Rattle.decisions.specs.declared.Apart.TheVariants.{At, Other}

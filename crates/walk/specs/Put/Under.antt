@@ -2,7 +2,7 @@
 use Rattle.std.specs.Prelude.{◌≡◌, true, false, List, ◌++◌, ℕ, suc, ◌+◌, ◌-◌, ◌≤◌, length}
 use Rattle.std.proofs.Common.{sym, ◌∙◌, append_assoc, le_refl, arith, length-set, length-append}
 use Rattle.std.proofs.Math.Path.{ap}
-use Rattle.std.proofs.Math.Option.{Option, none, some}
+use Rattle.std.proofs.Math.Option.{Option, none}
 use Rattle.outcome.specs.Outcome.{is_refusal, later_as, len_of, start_of, steps_of}
 use Rattle.value.specs.Value.{Value, vfalse}
 use Rattle.sheet.specs.Sheet.{Sheet}

@@ -1,0 +1,12 @@
+-- `copy_out` meets its contract: both buffers are long enough, and i bytes are copied. Assumes nothing.
+use Prim.Native.Nat.{◌+◌, ◌≤◌, ◌-◌}
+use lib.ListN.{length}
+use Rattle.buffers.specs.Buffers.{Copying}
+use Rattle.buffers.proofs.copy_out.Given as goal
+
+abbrev pub invariant-loop-i : goal.invariant-loop-i
+invariant-loop-i l = (l.i ≤ l.n) × (l.from + l.n ≤ length l.scratch) × (l.to + l.n ≤ length l.initial.out)
+    × Copying l.from l.to l.i l.scratch l.initial.out l.out
+
+abbrev pub decreases-loop-i : goal.decreases-loop-i
+decreases-loop-i l = l.n - l.i

@@ -1,0 +1,2 @@
+pub mod EmbeddingAnswers
+pub mod EmbeddingLaws

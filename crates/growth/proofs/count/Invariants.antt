@@ -1,0 +1,9 @@
+-- `count` meets its contract. The invariant: the nodes from i on are counted. Assumes nothing.
+use Rattle.growth.specs.Tool.{Counts}
+use Rattle.growth.proofs.count.Given as goal
+
+abbrev pub invariant-loop-i : goal.invariant-loop-i
+invariant-loop-i l = Counts l.sheet l.table l.variable l.counts l.i
+
+abbrev pub decreases-loop-i : goal.decreases-loop-i
+decreases-loop-i l = l.i

@@ -1,0 +1,10 @@
+pub mod Beside
+pub mod ClashExample
+pub mod Joined
+pub mod JoinedCalls
+pub mod JoinedClash
+pub mod JoinedGets
+pub mod JoinedPut
+pub mod JoinedPuts
+pub mod JoinedRanges
+pub mod Levels

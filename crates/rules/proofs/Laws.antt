@@ -1,0 +1,14 @@
+pub mod Acceptability
+pub mod Consistency
+pub mod Counting
+pub mod Readable
+pub mod Refusals
+pub mod Scope
+pub mod Trips
+pub mod Answers
+pub mod Related
+pub mod Outcomes
+pub mod Embedding
+pub mod Cells
+pub mod Allowances
+pub mod Invariant

@@ -1,0 +1,4 @@
+pub mod Bits
+pub mod Examples
+pub mod Explain
+pub mod Laws

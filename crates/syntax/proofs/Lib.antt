@@ -1,0 +1,9 @@
+pub mod Alike
+pub mod NameLaws
+pub mod ReadLaws
+pub mod Setting
+pub mod Short
+pub mod Sound
+pub mod TextLaws
+pub mod Texts
+pub mod TextsBack

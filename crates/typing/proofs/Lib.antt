@@ -1,0 +1,10 @@
+pub mod Calls
+pub mod CheckLaws
+pub mod Ends
+pub mod Fits
+pub mod JudgingLaws
+pub mod Never
+pub mod Sound
+pub mod Walks
+pub mod Widths
+pub mod Written

@@ -1,0 +1,5 @@
+pub mod Alike
+pub mod Calls
+pub mod Plans
+pub mod Straight
+pub mod Undo

@@ -1,0 +1,12 @@
+-- `copy_in` meets its contract. The invariant: i bytes are copied.
+-- Assumes nothing.
+use Prim.Native.Nat.{◌≤◌, ◌-◌}
+use lib.ListN.{length}
+use Rattle.walk.specs.Arena.Parts.{CopyingIn}
+use Rattle.walk.proofs.bytes.copy_in.Given as goal
+
+abbrev pub invariant-loop-i : goal.invariant-loop-i
+invariant-loop-i l = (l.i ≤ length l.from) × CopyingIn l.i l.from l.initial.arena l.arena
+
+abbrev pub decreases-loop-i : goal.decreases-loop-i
+decreases-loop-i l = length l.from - l.i
