@@ -189,7 +189,7 @@ pub fn two(text: &[u8], names: &mut [usize], sc: Scope, c: Cursor, mark: u8, det
 }
 
 /// An expression.
-#[cycle(amount_back_branch_branches_case_of_default_each_of_expr_front_let_in_list_list_case_pair_shaped_truth_case)]
+#[cycle(expr)]
 pub fn expr(
     text: &[u8],
     table: &[usize],
@@ -216,7 +216,7 @@ pub fn expr(
 }
 
 // An expression, by what it begins with.
-#[cycle(amount_back_branch_branches_case_of_default_each_of_expr_front_let_in_list_list_case_pair_shaped_truth_case)]
+#[cycle(expr)]
 fn shaped(
     text: &[u8],
     table: &[usize],
@@ -254,7 +254,7 @@ fn shaped(
 }
 
 // A pair, behind its bracket.
-#[cycle(amount_back_branch_branches_case_of_default_each_of_expr_front_let_in_list_list_case_pair_shaped_truth_case)]
+#[cycle(expr)]
 fn pair(
     text: &[u8],
     table: &[usize],
@@ -277,7 +277,7 @@ fn pair(
 }
 
 // A list, behind its bracket.
-#[cycle(amount_back_branch_branches_case_of_default_each_of_expr_front_let_in_list_list_case_pair_shaped_truth_case)]
+#[cycle(expr)]
 fn list(
     text: &[u8],
     table: &[usize],
@@ -298,7 +298,7 @@ fn list(
 }
 
 // A member in front of a list, behind the bracket or the comma.
-#[cycle(amount_back_branch_branches_case_of_default_each_of_expr_front_let_in_list_list_case_pair_shaped_truth_case)]
+#[cycle(expr)]
 fn front(
     text: &[u8],
     table: &[usize],
@@ -319,7 +319,7 @@ fn front(
 }
 
 // The rest of a list, behind a member.
-#[cycle(amount_back_branch_branches_case_of_default_each_of_expr_front_let_in_list_list_case_pair_shaped_truth_case)]
+#[cycle(expr)]
 fn back(
     text: &[u8],
     table: &[usize],
@@ -367,7 +367,7 @@ fn wider(sc: Scope) -> Scope
 }
 
 // `let`, behind the word.
-#[cycle(amount_back_branch_branches_case_of_default_each_of_expr_front_let_in_list_list_case_pair_shaped_truth_case)]
+#[cycle(expr)]
 fn let_in(
     text: &[u8],
     table: &[usize],
@@ -398,7 +398,7 @@ fn let_in(
 }
 
 // A number, or an amount and what it is added to; t is its token.
-#[cycle(amount_back_branch_branches_case_of_default_each_of_expr_front_let_in_list_list_case_pair_shaped_truth_case)]
+#[cycle(expr)]
 fn amount(
     text: &[u8],
     table: &[usize],
@@ -464,7 +464,7 @@ fn leaf(
 }
 
 // `each`, behind the word.
-#[cycle(amount_back_branch_branches_case_of_default_each_of_expr_front_let_in_list_list_case_pair_shaped_truth_case)]
+#[cycle(expr)]
 fn each_of(
     text: &[u8],
     table: &[usize],
@@ -502,7 +502,7 @@ fn each_of(
 }
 
 // `case`, behind the word.
-#[cycle(amount_back_branch_branches_case_of_default_each_of_expr_front_let_in_list_list_case_pair_shaped_truth_case)]
+#[cycle(expr)]
 fn case_of(
     text: &[u8],
     table: &[usize],
@@ -520,7 +520,7 @@ fn case_of(
 }
 
 // The branches of a case, behind `of`; n is the case's number, and its subject's nodes stand behind it.
-#[cycle(amount_back_branch_branches_case_of_default_each_of_expr_front_let_in_list_list_case_pair_shaped_truth_case)]
+#[cycle(expr)]
 fn branches(
     text: &[u8],
     table: &[usize],
@@ -548,7 +548,7 @@ fn branches(
 }
 
 // An arrow and the expression of a branch.
-#[cycle(amount_back_branch_branches_case_of_default_each_of_expr_front_let_in_list_list_case_pair_shaped_truth_case)]
+#[cycle(expr)]
 fn branch(
     text: &[u8],
     table: &[usize],
@@ -566,7 +566,7 @@ fn branch(
 }
 
 // `=` and a default of a case, which sees `sent` alone.
-#[cycle(amount_back_branch_branches_case_of_default_each_of_expr_front_let_in_list_list_case_pair_shaped_truth_case)]
+#[cycle(expr)]
 fn default(
     text: &[u8],
     table: &[usize],
@@ -590,7 +590,7 @@ fn default(
 }
 
 // The branches for false and true, behind `false`.
-#[cycle(amount_back_branch_branches_case_of_default_each_of_expr_front_let_in_list_list_case_pair_shaped_truth_case)]
+#[cycle(expr)]
 fn truth_case(
     text: &[u8],
     table: &[usize],
@@ -624,7 +624,7 @@ fn truth_case(
 }
 
 // The branches for the empty list and any other, behind `[`.
-#[cycle(amount_back_branch_branches_case_of_default_each_of_expr_front_let_in_list_list_case_pair_shaped_truth_case)]
+#[cycle(expr)]
 fn list_case(
     text: &[u8],
     table: &[usize],

@@ -19,7 +19,7 @@ pub fn record_at(sheet: &[u8], start: u16) -> Node
 }
 
 // The node n.
-#[cycle(add_body_branch_defaults_each_front_list_case_list_rest_pair_say_split_truth_case)]
+#[cycle(say)]
 fn say(
     sheet: &[u8],
     table: &[u16; 200],
@@ -56,7 +56,7 @@ fn say(
 }
 
 // A list whose first member is known.
-#[cycle(add_body_branch_defaults_each_front_list_case_list_rest_pair_say_split_truth_case)]
+#[cycle(say)]
 fn front(
     sheet: &[u8],
     table: &[u16; 200],
@@ -82,7 +82,7 @@ fn front(
 }
 
 // The node n as the rest of a list, behind a member; `flat` where the list has no case in it.
-#[cycle(add_body_branch_defaults_each_front_list_case_list_rest_pair_say_split_truth_case)]
+#[cycle(say)]
 fn list_rest(
     sheet: &[u8],
     table: &[u16; 200],
@@ -116,7 +116,7 @@ fn list_rest(
 }
 
 // A pair.
-#[cycle(add_body_branch_defaults_each_front_list_case_list_rest_pair_say_split_truth_case)]
+#[cycle(say)]
 fn pair(
     sheet: &[u8],
     table: &[u16; 200],
@@ -144,7 +144,7 @@ fn pair(
 }
 
 // The node n behind an arrow or an `=`: on the same line, or on lines of its own.
-#[cycle(add_body_branch_defaults_each_front_list_case_list_rest_pair_say_split_truth_case)]
+#[cycle(say)]
 pub fn body(
     sheet: &[u8],
     table: &[u16; 200],
@@ -162,7 +162,7 @@ pub fn body(
 }
 
 // The same, with a test behind it.
-#[cycle(add_body_branch_defaults_each_front_list_case_list_rest_pair_say_split_truth_case)]
+#[cycle(say)]
 fn branch(
     sheet: &[u8],
     table: &[u16; 200],
@@ -181,7 +181,7 @@ fn branch(
 }
 
 // A case on a list.
-#[cycle(add_body_branch_defaults_each_front_list_case_list_rest_pair_say_split_truth_case)]
+#[cycle(say)]
 fn list_case(
     sheet: &[u8],
     table: &[u16; 200],
@@ -222,7 +222,7 @@ fn list_case(
 }
 
 // The two defaults of a case on a list, and its end.
-#[cycle(add_body_branch_defaults_each_front_list_case_list_rest_pair_say_split_truth_case)]
+#[cycle(say)]
 fn defaults(
     sheet: &[u8],
     table: &[u16; 200],
@@ -252,7 +252,7 @@ fn defaults(
 }
 
 // A case on a truth.
-#[cycle(add_body_branch_defaults_each_front_list_case_list_rest_pair_say_split_truth_case)]
+#[cycle(say)]
 fn truth_case(
     sheet: &[u8],
     table: &[u16; 200],
@@ -291,7 +291,7 @@ fn truth_case(
 }
 
 // A `let`.
-#[cycle(add_body_branch_defaults_each_front_list_case_list_rest_pair_say_split_truth_case)]
+#[cycle(say)]
 fn split(
     sheet: &[u8],
     table: &[u16; 200],
@@ -321,7 +321,7 @@ fn split(
 }
 
 // A sum.
-#[cycle(add_body_branch_defaults_each_front_list_case_list_rest_pair_say_split_truth_case)]
+#[cycle(say)]
 fn add(
     sheet: &[u8],
     table: &[u16; 200],
@@ -344,7 +344,7 @@ fn add(
 }
 
 // A call for each member of a list.
-#[cycle(add_body_branch_defaults_each_front_list_case_list_rest_pair_say_split_truth_case)]
+#[cycle(say)]
 fn each(
     sheet: &[u8],
     table: &[u16; 200],

@@ -134,7 +134,8 @@ module _ (sh : Sheet) where
 
   module _ (l : ℕ) (p : Bool) (r : Reach) (i j : ℕ) (few : r.count + 2 * suc l ≤ 2500) {k : List Piece} {b : ℕ} (w : Within k b) where
     abbrev Fits : Node → Type 0
-    Fits n = Within (gap (or_line p (bytes " ") j) ∷ spoken (said sh l) (plain_node sh) p r i n k) (18 + 75 * length (gathered (met_from l sh) (children n)) + b)
+    Fits n = Within (gap (or_line p (bytes " ") j) ∷ spoken (said sh l) (plain_node sh) p r i n k)
+        (18 + 75 * length (gathered (met_from l sh) (children n)) + b)
 
     sa : {n : ℕ} (r : Reach) (i : ℕ) → r.count + 2 * l ≤ 2500 → Short l n → {k : List Piece} {b : ℕ} → Within k b
         → Within (said sh l alone r i n k) (cost l n + b)

@@ -33,7 +33,8 @@ joined : sheet_of (bytes "-- 4. Two blocks joined: the list has the seats of bot
 unfolding run
 joined = refl
 
-swapped : sheet_of (bytes "-- 2. A pair of name and number: the tour wants the number first.\nplan entry\nlist = let (name, number) = entry in (number, name)\n")
+swapped :
+    sheet_of (bytes "-- 2. A pair of name and number: the tour wants the number first.\nplan entry\nlist = let (name, number) = entry in (number, name)\n")
     ≡ says (0x01 ∷ 0x01 ∷ 0x00 ∷ 0x19 ∷ 0x01 ∷ 0x02 ∷ 0x10 ∷ 0x00 ∷ 0x16 ∷ 0x03 ∷ 0x04 ∷ 0x10 ∷ 0x02 ∷ 0x10 ∷ 0x01 ∷ [])
 unfolding run
 swapped = refl

@@ -65,7 +65,7 @@ fn get_leaf(sheet: &[u8], table: &Table, arena: &mut [u8], scope: Scope, own: Po
 }
 
 /// The value of a node: its depth is judged, then the allowance. The sheet's reader lets no kind over 1D through.
-#[cycle(get_add_get_call_get_case_get_each_get_members_get_node_get_two)]
+#[cycle(get)]
 pub fn get_node(
     sheet: &[u8],
     table: &Table,
@@ -117,7 +117,7 @@ pub fn get_node(
 }
 
 // A front (15) or a pair (16).
-#[cycle(get_add_get_call_get_case_get_each_get_members_get_node_get_two)]
+#[cycle(get)]
 fn get_two(sheet: &[u8], table: &Table, arena: &mut [u8], scope: Scope, own: Pos, at: At) -> usize
     requires kind_asked { KindAsked sheet.now table.now arena.old scope own at }
     requires two { Two own.kind }
@@ -152,7 +152,7 @@ fn test_of(sheet: &[u8], place: u16, kind: u8, i: u16) -> u8
 }
 
 // A list case (17), a truth case (18) or a split (19): the subject, and then the branch that it fits.
-#[cycle(get_add_get_call_get_case_get_each_get_members_get_node_get_two)]
+#[cycle(get)]
 fn get_case(sheet: &[u8], table: &Table, arena: &mut [u8], scope: Scope, own: Pos, at: At) -> usize
     requires kind_asked { KindAsked sheet.now table.now arena.old scope own at }
     requires case { Case own.kind }
@@ -184,7 +184,7 @@ fn get_case(sheet: &[u8], table: &Table, arena: &mut [u8], scope: Scope, own: Po
 }
 
 // A call (1A): the section's root, with the caller's two variables alone.
-#[cycle(get_add_get_call_get_case_get_each_get_members_get_node_get_two)]
+#[cycle(get)]
 fn get_call(sheet: &[u8], table: &Table, arena: &mut [u8], scope: Scope, own: Pos, at: At) -> usize
     requires kind_asked { KindAsked sheet.now table.now arena.old scope own at }
     requires kind_value { own.kind ≡ 0x1A }
@@ -205,7 +205,7 @@ fn get_call(sheet: &[u8], table: &Table, arena: &mut [u8], scope: Scope, own: Po
 }
 
 // An amount added (1B).
-#[cycle(get_add_get_call_get_case_get_each_get_members_get_node_get_two)]
+#[cycle(get)]
 fn get_add(sheet: &[u8], table: &Table, arena: &mut [u8], scope: Scope, own: Pos, at: At) -> usize
     requires kind_asked { KindAsked sheet.now table.now arena.old scope own at }
     requires kind_value { own.kind ≡ 0x1B }
@@ -224,7 +224,7 @@ fn get_add(sheet: &[u8], table: &Table, arena: &mut [u8], scope: Scope, own: Pos
 
 // What a section's root gives for each member of the list that stands from `start` to `end`, with the member and the caller's variable x: a
 // list, built from the top on, each member behind its 03.
-#[cycle(get_add_get_call_get_case_get_each_get_members_get_node_get_two)]
+#[cycle(get)]
 fn get_members(
     sheet: &[u8],
     table: &Table,
@@ -268,7 +268,7 @@ fn get_members(
 }
 
 // Each (1C): the subject, a list, and then the list of what the section gives for its members.
-#[cycle(get_add_get_call_get_case_get_each_get_members_get_node_get_two)]
+#[cycle(get)]
 fn get_each(sheet: &[u8], table: &Table, arena: &mut [u8], scope: Scope, own: Pos, at: At) -> usize
     requires kind_asked { KindAsked sheet.now table.now arena.old scope own at }
     requires kind_value { own.kind ≡ 0x1C }

@@ -160,7 +160,7 @@ fn put_leaf(
 }
 
 /// A view put back into a node: its depth is judged, then the allowance. The sheet's reader lets no kind over 1D through.
-#[cycle(put_add_put_all_put_both_put_call_put_case_put_each_put_node_put_one_put_rebuilt_put_switch_put_two_put_under)]
+#[cycle(put)]
 pub fn put_node(
     sheet: &[u8],
     table: &Table,
@@ -215,7 +215,7 @@ pub fn put_node(
 }
 
 // The view into a branch that adds no variables, then the byte that the subject is into its node.
-#[cycle(put_add_put_all_put_both_put_call_put_case_put_each_put_node_put_one_put_rebuilt_put_switch_put_two_put_under)]
+#[cycle(put)]
 fn put_both(
     sheet: &[u8],
     table: &Table,
@@ -245,7 +245,7 @@ fn put_both(
 }
 
 // A front (15) or a pair (16): the view is taken apart, left first.
-#[cycle(put_add_put_all_put_both_put_call_put_case_put_each_put_node_put_one_put_rebuilt_put_switch_put_two_put_under)]
+#[cycle(put)]
 fn put_two(
     sheet: &[u8],
     table: &Table,
@@ -279,7 +279,7 @@ fn put_two(
 }
 
 // The view into a branch with two variables more, each in a new cell; then the subject, rebuilt of what they now stand for, into its node.
-#[cycle(put_add_put_all_put_both_put_call_put_case_put_each_put_node_put_one_put_rebuilt_put_switch_put_two_put_under)]
+#[cycle(put)]
 fn put_under(
     sheet: &[u8],
     table: &Table,
@@ -316,7 +316,7 @@ fn put_under(
 }
 
 // The subject, rebuilt of what the two variables of its branch stand for, into its node. Their cells are the next two.
-#[cycle(put_add_put_all_put_both_put_call_put_case_put_each_put_node_put_one_put_rebuilt_put_switch_put_two_put_under)]
+#[cycle(put)]
 fn put_rebuilt(
     sheet: &[u8],
     table: &Table,
@@ -358,7 +358,7 @@ fn put_rebuilt(
 }
 
 // A list case (17), a truth case (18) or a split (19): the old subject, and then the branch that the view takes.
-#[cycle(put_add_put_all_put_both_put_call_put_case_put_each_put_node_put_one_put_rebuilt_put_switch_put_two_put_under)]
+#[cycle(put)]
 fn put_case(
     sheet: &[u8],
     table: &Table,
@@ -464,7 +464,7 @@ fn defaults(sheet: &[u8], table: &Table, arena: &mut [u8], place: u16, view: &[u
 }
 
 // A switch to the non-empty branch of a list case: the defaults stand for its variables.
-#[cycle(put_add_put_all_put_both_put_call_put_case_put_each_put_node_put_one_put_rebuilt_put_switch_put_two_put_under)]
+#[cycle(put)]
 fn put_switch(
     sheet: &[u8],
     table: &Table,
@@ -505,7 +505,7 @@ fn put_switch(
 }
 
 // A call (1A): the section's root, whose two variables are the caller's under other names.
-#[cycle(put_add_put_all_put_both_put_call_put_case_put_each_put_node_put_one_put_rebuilt_put_switch_put_two_put_under)]
+#[cycle(put)]
 fn put_call(
     sheet: &[u8],
     table: &Table,
@@ -538,7 +538,7 @@ fn put_call(
 }
 
 // An amount added (1B) is subtracted.
-#[cycle(put_add_put_all_put_both_put_call_put_case_put_each_put_node_put_one_put_rebuilt_put_switch_put_two_put_under)]
+#[cycle(put)]
 fn put_add(
     sheet: &[u8],
     table: &Table,
@@ -593,7 +593,7 @@ fn stood_for(
 // A member of the view into the section's root, whose variable 0 is the member's, in a new cell, and whose variable 1 is the caller's own. What
 // the member is then stands behind a 03 in `whole`, which has `built` bytes of the list so far. The answer has for its start how many bytes of
 // the old list the member took, and for its length how many `whole` has more.
-#[cycle(put_add_put_all_put_both_put_call_put_case_put_each_put_node_put_one_put_rebuilt_put_switch_put_two_put_under)]
+#[cycle(put)]
 fn put_one(
     sheet: &[u8],
     table: &Table,
@@ -644,7 +644,7 @@ fn put_one(
 }
 
 // The members of the view, from the left, and then the list of what they are into the subject.
-#[cycle(put_add_put_all_put_both_put_call_put_case_put_each_put_node_put_one_put_rebuilt_put_switch_put_two_put_under)]
+#[cycle(put)]
 fn put_all(
     sheet: &[u8],
     table: &Table,
@@ -694,7 +694,7 @@ fn put_all(
 }
 
 // Each (1C): the members of the view, each into the section's root, and then the list of what they are into the subject.
-#[cycle(put_add_put_all_put_both_put_call_put_case_put_each_put_node_put_one_put_rebuilt_put_switch_put_two_put_under)]
+#[cycle(put)]
 fn put_each(
     sheet: &[u8],
     table: &Table,

@@ -3,7 +3,7 @@
 use Prim.Native.Nat.{◌-◌, ◌+◌, ◌*◌}
 use lib.ListN.{length}
 use Rattle.walk.specs.Put.Members.{Turned}
-use Rattle.walk.proofs.putter.+put_add_put_all_put_both_put_call_put_case_put_each_put_node_put_one_put_rebuilt_put_switch_put_two_put_under.Given as goal
+use Rattle.walk.proofs.putter.+put.Given as goal
 
 abbrev pub decreases-put_add : goal.decreases-put_add
 decreases-put_add l = 8 * l.at.levels + 4

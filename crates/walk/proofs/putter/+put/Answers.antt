@@ -45,7 +45,7 @@ use Rattle.walk.specs.Put.Rebuilt as of_rebuilt
 use Rattle.walk.specs.Put.Switch as of_switch
 use Rattle.walk.specs.Put.Two as of_two
 use Rattle.walk.specs.Put.Under as of_under
-use Rattle.walk.proofs.putter.+put_add_put_all_put_both_put_call_put_case_put_each_put_node_put_one_put_rebuilt_put_switch_put_two_put_under.Goals as goal
+use Rattle.walk.proofs.putter.+put.Goals as goal
 
 pub put_add-returns-in_default : goal.put_add-returns-in_default
 put_add-returns-in_default t c =

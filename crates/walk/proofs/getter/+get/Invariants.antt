@@ -3,7 +3,7 @@
 use Prim.Native.Nat.{◌+◌, ◌-◌, ◌*◌}
 use Rattle.walk.specs.Scope.{TwoOf}
 use Rattle.walk.specs.Get.Members.{Building}
-use Rattle.walk.proofs.getter.+get_add_get_call_get_case_get_each_get_members_get_node_get_two.Given as goal
+use Rattle.walk.proofs.getter.+get.Given as goal
 
 abbrev pub decreases-get_add : goal.decreases-get_add
 decreases-get_add l = 3 * l.at.levels + 2

@@ -31,7 +31,7 @@ use Rattle.walk.specs.Get.Add.{add_asks, addable, add_told}
 use Rattle.walk.specs.Get.Members.{TellsMembers, members_here, building_none, rest_inside, members_end}
 use Rattle.walk.specs.Get.Each.{EachGot, Listed, each_asks, each_refused, each_43, each_42, members_asks, list_movable, each_told, members_as, told_members_as}
 use Rattle.walk.specs.Get.Turn.{Turning, Fronted, fronted_by, member_there, turn_here, turn_asks, turn_refused, turn_steps, turn_done}
-use Rattle.walk.proofs.getter.+get_add_get_call_get_case_get_each_get_members_get_node_get_two.Goals as goal
+use Rattle.walk.proofs.getter.+get.Goals as goal
 
 pub get_add-get_node-got-requires : goal.get_add-get_node-got-requires
 get_add-get_node-got-requires t c =

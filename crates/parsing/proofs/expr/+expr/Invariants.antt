@@ -2,7 +2,7 @@
 -- those that it calls at the same number.
 -- Assumes nothing.
 use Prim.Native.Nat.{ℕ, ◌+◌, ◌-◌, ◌*◌}
-use Rattle.parsing.proofs.expr.+amount_back_branch_branches_case_of_default_each_of_expr_front_let_in_list_list_case_pair_shaped_truth_case.Given as goal
+use Rattle.parsing.proofs.expr.+expr.Given as goal
 
 abbrev left : ℕ → ℕ → ℕ
 left count more = 16 * (200 - count) + more

@@ -4,7 +4,7 @@
 -- defaults below a case.
 -- Assumes nothing.
 use Prim.Native.Nat.{◌+◌, ◌-◌, ◌*◌}
-use Rattle.printing.proofs.nodes.+add_body_branch_defaults_each_front_list_case_list_rest_pair_say_split_truth_case.Given as goal
+use Rattle.printing.proofs.nodes.+say.Given as goal
 
 abbrev pub decreases-add : goal.decreases-add
 decreases-add l = 4 * (200 - l.n)

@@ -10,9 +10,9 @@ use Rattle.node.specs.declared.Node.TheVariants.{Front}
 use Rattle.node.specs.Decoding.{node_at}
 use Rattle.printing.proofs.Tags.{not-front, not_pair, not-list_case, not-truth_case, not-split, not-add, not-each, tail_other}
 use Rattle.node.specs.Kinds.{row}
-use Rattle.printing.proofs.nodes.+add_body_branch_defaults_each_front_list_case_list_rest_pair_say_split_truth_case.Goals as goal
-use Rattle.printing.proofs.nodes.+add_body_branch_defaults_each_front_list_case_list_rest_pair_say_split_truth_case.Goals.{list_rest-In-Front}
-use Rattle.printing.proofs.nodes.+add_body_branch_defaults_each_front_list_case_list_rest_pair_say_split_truth_case.Goals.{say-After-record_at-node}
+use Rattle.printing.proofs.nodes.+say.Goals as goal
+use Rattle.printing.proofs.nodes.+say.Goals.{list_rest-In-Front}
+use Rattle.printing.proofs.nodes.+say.Goals.{say-After-record_at-node}
 
 -- ADD
 pub add-returns-in_default : goal.add-returns-in_default

@@ -10,13 +10,13 @@ use Rattle.parsing.specs.ConstructLaws.{shaped_each, shaped_pair, shaped_list, t
 use borrow.Author.Rules.{rules}
 use lib.ListN.{length-set, length}
 use Prim.Native.Nat.{ℕ, ◌+◌, ◌≤◌, ◌<◌}
-use Rattle.parsing.proofs.expr.+amount_back_branch_branches_case_of_default_each_of_expr_front_let_in_list_list_case_pair_shaped_truth_case.Goals as goal
-use Rattle.parsing.proofs.expr.+amount_back_branch_branches_case_of_default_each_of_expr_front_let_in_list_list_case_pair_shaped_truth_case.Goals.{list_case-After-again-member}
-use Rattle.parsing.proofs.expr.+amount_back_branch_branches_case_of_default_each_of_expr_front_let_in_list_list_case_pair_shaped_truth_case.Goals.{list_case-After-again-rest}
-use Rattle.parsing.proofs.expr.+amount_back_branch_branches_case_of_default_each_of_expr_front_let_in_list_list_case_pair_shaped_truth_case.Goals.{list_case-After-symbol-close}
-use Rattle.parsing.proofs.expr.+amount_back_branch_branches_case_of_default_each_of_expr_front_let_in_list_list_case_pair_shaped_truth_case.Goals.{list_case-After-symbol-none}
-use Rattle.parsing.proofs.expr.+amount_back_branch_branches_case_of_default_each_of_expr_front_let_in_list_list_case_pair_shaped_truth_case.Goals.{list_case-After-wider}
-use Rattle.parsing.proofs.expr.+amount_back_branch_branches_case_of_default_each_of_expr_front_let_in_list_list_case_pair_shaped_truth_case.Goals.{list_case-Start}
+use Rattle.parsing.proofs.expr.+expr.Goals as goal
+use Rattle.parsing.proofs.expr.+expr.Goals.{list_case-After-again-member}
+use Rattle.parsing.proofs.expr.+expr.Goals.{list_case-After-again-rest}
+use Rattle.parsing.proofs.expr.+expr.Goals.{list_case-After-symbol-close}
+use Rattle.parsing.proofs.expr.+expr.Goals.{list_case-After-symbol-none}
+use Rattle.parsing.proofs.expr.+expr.Goals.{list_case-After-wider}
+use Rattle.parsing.proofs.expr.+expr.Goals.{list_case-Start}
 
 -- AMOUNT
 pub amount-number-v-requires : goal.amount-number-v-requires
