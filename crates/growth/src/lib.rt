@@ -9,7 +9,7 @@ use node::Node;
 use sheet::Table;
 
 /// How often the records of a variable are entered; or a refusal's number.
-#[derive(Drop)]
+#[derive(Clone, Copy)]
 pub enum Growing {
     Times(u16),
     Refused(u8),

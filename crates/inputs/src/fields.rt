@@ -14,7 +14,7 @@ pub struct Fields {
 }
 
 /// All fields are there, or a part is cut.
-#[derive(Drop)]
+#[derive(Clone, Copy)]
 pub enum Taken {
     Whole(Fields),
     Cut,

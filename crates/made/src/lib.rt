@@ -2,7 +2,7 @@
 #![tactic(auto)]
 
 /// How many bytes were written, at the front of the output; or a refusal's number, and none was.
-#[derive(Drop)]
+#[derive(Clone, Copy)]
 pub enum Made {
     Done(usize),
     Refused(u8),

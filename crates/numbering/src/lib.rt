@@ -17,7 +17,7 @@ pub const OUTPUT: usize = 2_048;
 
 /// What numbering gives: the length of the sheet in the one numbering, which is at the front of the output; a refusal's number; or 81, with
 /// the lowest node that is used twice.
-#[derive(Drop)]
+#[derive(Clone, Copy)]
 pub enum Numbered {
     Done(usize),
     Refused(u8),

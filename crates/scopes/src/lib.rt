@@ -18,7 +18,7 @@ pub struct Scope {
 }
 
 /// Where a value stands.
-#[derive(Drop)]
+#[derive(Clone, Copy)]
 pub struct Span {
     pub start: usize,
     pub len: usize,

@@ -80,7 +80,7 @@ pub fn part(kind: u8, i: u16) -> u8
 }
 
 /// The nodes that a record names, in body order: `count` numbers, at the front of `nodes`, with zeros behind them.
-#[derive(Drop)]
+#[derive(Clone, Copy)]
 pub struct Children {
     pub count: usize,
     pub nodes: [u8; 8],

@@ -14,21 +14,21 @@ pub struct Starts {
 }
 
 /// What loading gives: refusal 0 and the starts of the plan's values; or a refusal's number and no start.
-#[derive(Drop)]
+#[derive(Clone, Copy)]
 pub struct Loaded {
     pub refusal: u8,
     pub starts: Starts,
 }
 
 /// Where a value stands in its plan: from byte `start` on, up to the byte before `end`; or a refusal's number.
-#[derive(Drop)]
+#[derive(Clone, Copy)]
 pub enum Found {
     At { start: usize, end: usize },
     Refused(u8),
 }
 
 /// A plan that is put together value by value: how many bytes it has so far, and where its values start.
-#[derive(Drop)]
+#[derive(Clone, Copy)]
 pub struct NewPlan {
     pub len: usize,
     pub starts: Starts,

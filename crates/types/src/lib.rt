@@ -15,7 +15,7 @@ use crate::lent::read_types;
 use crate::uses::first_used_twice;
 
 /// What the check says: the sheet passes; a refusal's number; or 81 or 82 with the lowest node that it is about.
-#[derive(Drop)]
+#[derive(Clone, Copy)]
 pub enum Checked {
     Passes,
     Refused(u8),
@@ -23,7 +23,7 @@ pub enum Checked {
 }
 
 /// The lowest node of which something holds.
-#[derive(Drop)]
+#[derive(Clone, Copy)]
 pub enum Lowest {
     At(usize),
     Nothing,

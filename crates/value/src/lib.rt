@@ -9,7 +9,7 @@ ghost use Rattle.value.specs.Result.{refusal};
 ghost use Rattle.value.specs.Spans.{next_of, spans, spans_of, view_code};
 
 // What the bytes begin with: a whole value and its length, or why none.
-#[derive(Drop)]
+#[derive(Clone, Copy)]
 pub enum Read {
     Whole(usize),
     Malformed,
@@ -179,7 +179,7 @@ fn wide(s: &[u8], room: usize) -> usize
 }
 
 // What stands where the next of several values should begin: its length, or why there is none.
-#[derive(Drop)]
+#[derive(Clone, Copy)]
 enum Next {
     Value(usize),
     Malformed,
