@@ -7,7 +7,7 @@ use Rattle.decisions.specs.declared.Apart.TheVariants.{At, Other}
 use Rattle.outcome.specs.Outcome.{done_as, is_refusal, len_of, steps_of}
 use Rattle.value.specs.Value.{Value}
 use Rattle.value.specs.Laws.{Readable}
-use Rattle.value.proofs.Tests.{holds}
+use Rattle.value.specs.Tests.{holds}
 use Rattle.shapes.specs.Needs.{Agrees}
 use Rattle.shapes.specs.declared.Shape.{Shape}
 use Rattle.shapes.specs.declared.Shape.TheVariants.{False, True, Empty, Front, Number, Pair, Wide, Malformed}

@@ -11,7 +11,8 @@ use Rattle.std.proofs.Math.ListN.{length, get_or, get_or-eq_default}
 use Rattle.node.specs.declared.Node.{Node}
 use Rattle.node.specs.declared.Node.TheVariants.{False}
 use Rattle.node.specs.Kinds.{children, variables}
-use Rattle.sheet.proofs.Rows.{Every, children_behind}
+use Rattle.sheet.specs.Rows.{Every}
+use Rattle.sheet.proofs.Rows.{children_behind}
 use Rattle.sheet.specs.Sheet.{Sheet}
 use Rattle.sheet.specs.Laws.{Child, Ranges}
 use Rattle.growth.specs.Growth.{own, total, walked, entered, capped_from, capped}

@@ -5,7 +5,7 @@ use Rattle.std.proofs.Math.ListN.{length}
 use borrow.Author.Tests.{le-leb, lt-leb, eq-eqb, ne_eqb}
 use Rattle.value.specs.Result.{Result, ok, refusal, and_then, unless}
 use Rattle.sheet.specs.Sheet.{Sheet, read_sheet}
-use Rattle.sheet.proofs.Rows.{sheet_written}
+use Rattle.sheet.specs.Rows.{sheet_written}
 use Rattle.joined.specs.Joined.{joined}
 use Rattle.joined.specs.JoinedCalls.{joined_bytes, Joins}
 use Rattle.joined.proofs.JoinedCalls.{unless-ok, joined_told, joined_short}

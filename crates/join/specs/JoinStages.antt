@@ -8,7 +8,7 @@ use Rattle.sheet.specs.declared.Table.{Table}
 use Rattle.sheet.specs.Sheet.{Sheet, read_sheet}
 use Rattle.sheet.specs.Table.{table_of}
 use Rattle.sheet.specs.Laws.{Reads, table_reads, table_refused}
-use Rattle.sheet.proofs.Rows.{sheet_written}
+use Rattle.sheet.specs.Rows.{sheet_written}
 use Rattle.sheet.proofs.Written.{Bytes}
 use Rattle.made.specs.declared.Made.TheVariants.{Done, Refused}
 use Rattle.made.specs.Made.{Makes, makes_no, makes_text}

@@ -16,7 +16,7 @@ use Rattle.sheet.specs.Sheet.{Sheet, read_sheet}
 use Rattle.sheet.specs.Table.{table_of, section_at}
 use Rattle.node.specs.Forms.{listing}
 use Rattle.sheet.specs.Laws.{Child, Ranges, sheet_ranges, section_read}
-use Rattle.sheet.proofs.Rows.{all_written, sheet_written}
+use Rattle.sheet.specs.Rows.{all_written, sheet_written}
 use Rattle.sheet.proofs.Written.{Bytes}
 use Rattle.sheet.proofs.Ranging.{every_map, children_in, calls_in}
 use Rattle.records.specs.declared.Anew.{Anew}

@@ -8,8 +8,8 @@ use Prim.Native.Nat.{ℕ, zero, suc, ◌+◌, ◌≤◌}
 use Rattle.std.proofs.Math.Decide.{dec_le}
 use Rattle.std.proofs.Math.ListN.{get_elem?}
 use Rattle.value.specs.Value.{Value, Values, vfalse, vtrue, list, number, wide, nil, cons, size, same_value}
-use Rattle.value.proofs.Views.{as_list, as_front, as_pair, as_number, as_truth}
-use Rattle.value.proofs.Tests.{passes}
+use Rattle.value.specs.Views.{as_list, as_front, as_pair, as_number, as_truth}
+use Rattle.value.specs.Tests.{passes}
 use Rattle.node.specs.declared.Node.{Node}
 use Rattle.node.specs.declared.Node.TheVariants.{Var, False, True, Empty, Number, Front, Pair, ListCase, TruthCase, Split, Call, Add, Each, Wide}
 use Rattle.sheet.specs.Sheet.{Sheet}

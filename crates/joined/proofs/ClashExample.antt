@@ -13,7 +13,7 @@ use Rattle.sheet.specs.Sheet.{in_range, read_header}
 use Rattle.sheet.specs.Sheet.{read_sheet}
 use Rattle.node.specs.Kinds.{form_of, body_width, make, node_in_range, written}
 use Rattle.sheet.specs.Renumbering.{of_kind, renumber}
-use Rattle.sheet.proofs.Rows.{sheet_written}
+use Rattle.sheet.specs.Rows.{sheet_written}
 use Rattle.rules.specs.Outcome.{done, plus, steps, when, map_out, ◌>>=◌, given, reading}
 use Rattle.rules.specs.Allowance.{cap, within}
 use Rattle.rules.specs.Semantics

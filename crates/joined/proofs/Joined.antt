@@ -10,7 +10,7 @@ use Rattle.std.proofs.Math.Decide.{dec_le}
 use Rattle.std.proofs.lemmas.List.{length-map}
 use Rattle.std.proofs.Math.ListN.{get_or-append}
 use Rattle.value.specs.Value.{Value, pair, size}
-use Rattle.value.proofs.Views.{as_pair}
+use Rattle.value.specs.Views.{as_pair}
 use Rattle.node.specs.declared.Node.TheVariants.{False}
 use Rattle.sheet.specs.Renumbering.{renumber}
 use Rattle.sheet.specs.Sheet.{Sheet}

@@ -5,7 +5,7 @@ use Rattle.std.proofs.Common.{◌∙◌, arith, leb-true, eqb-true}
 use Rattle.std.proofs.Math.Option.{none}
 use Rattle.value.specs.Result.{Result, ok, refusal, and_then, unless}
 use Rattle.value.specs.Value.{vfalse, pair, encode, flat}
-use Rattle.value.proofs.Views.{as_pair}
+use Rattle.value.specs.Views.{as_pair}
 use Rattle.value.specs.Reading.{read_plan, read_view}
 use Rattle.sheet.specs.Sheet.{Sheet, read_sheet}
 use Rattle.sheet.specs.Laws.{Ranges, sheet_ranges}

@@ -6,7 +6,7 @@ use Rattle.std.specs.Prelude.{◌⊎◌, [], ◌∷◌, ℕ, zero, suc, ◌+◌,
 use Rattle.std.proofs.Math.Logic.{inl, inr}
 use Rattle.std.proofs.Math.Option.{Option, none, some, none-ne-some, some-injective}
 use Rattle.value.specs.Value.{Value, pair}
-use Rattle.value.proofs.Views.{as_pair}
+use Rattle.value.specs.Views.{as_pair}
 use Rattle.sheet.specs.Sheet.{Sheet}
 use Rattle.sheet.specs.Laws.{Ranges}
 use Rattle.rules.specs.Outcome.{Out, done, refused, plus, steps, ◌>>=◌, given}

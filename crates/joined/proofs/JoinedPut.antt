@@ -5,7 +5,7 @@ use Rattle.std.proofs.Common.{ap, sym, ◌∙◌}
 use Rattle.std.proofs.Math.Option.{Option, none, some, none-ne-some}
 use native.Mathlib.Omega.{arith}
 use Rattle.value.specs.Value.{Value, pair}
-use Rattle.value.proofs.Views.{as_pair}
+use Rattle.value.specs.Views.{as_pair}
 use Rattle.sheet.specs.Sheet.{Sheet}
 use Rattle.sheet.specs.Laws.{Ranges}
 use Rattle.rules.specs.Outcome.{Out, done, refused, plus, ◌>>=◌, given}

@@ -2,7 +2,7 @@
 use Rattle.std.specs.Prelude.{◌≡◌, List, ℕ, suc, ◌+◌, ◌≤◌, leb, eqb, length}
 use Rattle.value.specs.Result.{Result, ok, and_then, unless}
 use Rattle.sheet.specs.Sheet.{Sheet, read_sheet}
-use Rattle.sheet.proofs.Rows.{sheet_written}
+use Rattle.sheet.specs.Rows.{sheet_written}
 use Rattle.joined.specs.Joined.{joined}
 
 -- 83 k differs; 84 over 200 nodes or 8 sections; after both sheets' own refusals, the first sheet's first

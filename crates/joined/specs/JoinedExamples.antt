@@ -5,7 +5,7 @@ use Rattle.sheet.specs.Sheet.{read_nodes, one_section, if_section, read_records,
 use Rattle.sheet.specs.Sheet.{read_header, read_sheet}
 use Rattle.node.specs.Kinds.{form_of, body_width, make, node_in_range, written}
 use Rattle.sheet.specs.Renumbering.{of_kind, renumber}
-use Rattle.sheet.proofs.Rows.{sheet_written}
+use Rattle.sheet.specs.Rows.{sheet_written}
 use Rattle.rules.proofs.Examples.{P, T}
 use Rattle.joined.specs.Joined.{joined}
 use Rattle.joined.specs.JoinedCalls.{joined_bytes}

@@ -12,7 +12,7 @@ use Rattle.value.specs.Result.{Result, ok, refusal}
 use Rattle.words.specs.Numbers.{line_limit}
 use Rattle.sheet.specs.Sheet.{Sheet, read_sheet}
 use Rattle.sheet.specs.Laws.{sheet_ranges}
-use Rattle.sheet.proofs.Rows.{sheet_written}
+use Rattle.sheet.specs.Rows.{sheet_written}
 use Rattle.preorder.specs.Numbering.{numbered}
 use Rattle.preorder.specs.Uses.{lowest_twice}
 use Rattle.preorder.specs.NumberAnswer.{Answer, done, refused, twice, sheet_answer, number_answer}

@@ -14,7 +14,7 @@ use Rattle.sheet.specs.declared.Children.{Children}
 use Rattle.node.specs.Kinds.{children}
 use Rattle.sheet.specs.Sheet.{Sheet, read_sheet}
 use Rattle.sheet.specs.Laws.{Child}
-use Rattle.sheet.proofs.Rows.{Every}
+use Rattle.sheet.specs.Rows.{Every}
 use Rattle.sheet.proofs.Ranging.{every_map, children_in}
 use Rattle.report.specs.Writing.{Wrote}
 use Rattle.numbering.specs.declared.Nodes.{Nodes}

@@ -11,7 +11,7 @@ use Rattle.node.specs.Kinds.{children, calls}
 use Rattle.sheet.specs.Sheet.{Sheet}
 use Rattle.sheet.specs.Table.{section_at}
 use Rattle.node.specs.Forms.{listing}
-use Rattle.sheet.proofs.Rows.{all_written, sheet_written}
+use Rattle.sheet.specs.Rows.{all_written, sheet_written}
 use Rattle.sheet.proofs.Written.{Bytes}
 use Rattle.sheet.proofs.Ranging.{every_map, map_at, calls_in}
 use Rattle.records.specs.declared.Anew.{Anew}

@@ -7,7 +7,7 @@ use mathlib.Core.List.{List, [], ◌∷◌, ◌++◌}
 use Rattle.std.proofs.Math.ListN.{take}
 use Rattle.std.proofs.lemmas.Bool.{lt-leb}
 use Rattle.report.specs.Writing.{Wrote, wrote_front}
-use Rattle.sheet.proofs.Rows.{roots_written, all_written, sheet_written}
+use Rattle.sheet.specs.Rows.{roots_written, all_written, sheet_written}
 use Rattle.tokens.specs.Tokens.{between, tokens}
 use Rattle.syntax.specs.Reader.{Out, ok, fault, ◌>>=◌, Name, find, text_of_tokens, sheet_of_tokens, says, placed, sheet_of}
 use Rattle.tokens.specs.Ahead.{place_at}

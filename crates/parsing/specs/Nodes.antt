@@ -8,7 +8,8 @@ use Rattle.report.specs.Writing.{Wrote, wrote_text, wrote_then}
 use Rattle.node.specs.declared.Node.{Node}
 use Rattle.node.specs.Kinds.{row, form_of, width, body_width, written}
 use Rattle.node.specs.Decoding.{kind_width, form_width}
-use Rattle.sheet.proofs.Rows.{all_written, width_8}
+use Rattle.sheet.specs.Rows.{all_written}
+use Rattle.sheet.proofs.Rows.{width_8}
 use Rattle.node.specs.declared.Node.TheVariants as node
 
 abbrev pub slot : List ℕ → ℕ → List ℕ

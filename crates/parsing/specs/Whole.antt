@@ -6,7 +6,7 @@ use mathlib.Core.List.{List, [], ◌∷◌, ◌++◌, append_assoc, append-nil}
 use native.Mathlib.Omega.{arith}
 use Rattle.node.specs.declared.Node.{Node}
 use Rattle.sheet.specs.Sheet.{Sheet}
-use Rattle.sheet.proofs.Rows.{roots_written}
+use Rattle.sheet.specs.Rows.{roots_written}
 use Rattle.tokens.specs.Quoted.{bytes}
 use Rattle.tokens.specs.Tokens.{Token, between, tokens, first, rest, word_of, mark_of, same}
 use Rattle.syntax.specs.Reader.{Out, ok, fault, ◌>>=◌, Name, Scope, scope, find, is_some, is_name, wild, symbol, keyword, bind, section_name, unknown}

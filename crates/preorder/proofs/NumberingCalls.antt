@@ -5,7 +5,7 @@ use Rattle.value.specs.Result.{Result, ok, refusal, and_then}
 use Rattle.value.specs.Reading.{read_plan}
 use Rattle.sheet.specs.Sheet.{Sheet, read_sheet}
 use Rattle.sheet.specs.Laws.{Ranges, sheet_ranges}
-use Rattle.sheet.proofs.Rows.{sheet_written}
+use Rattle.sheet.specs.Rows.{sheet_written}
 use Rattle.rules.specs.Answer.{get_answer, put_answer}
 use Rattle.rules.specs.Bits.{put_written}
 use Rattle.starts.specs.Starts.{loaded, load_of}

@@ -9,7 +9,8 @@ use Rattle.node.specs.Kinds.{children, calls}
 use Rattle.sheet.specs.Renumbering.{renumber}
 use Rattle.sheet.specs.Sheet.{Sheet, read_sheet}
 use Rattle.sheet.specs.Laws.{Ranges, sheet_ranges}
-use Rattle.sheet.proofs.Rows.{sheet_written, renumbered_alike, renumbered_twice}
+use Rattle.sheet.specs.Rows.{sheet_written}
+use Rattle.sheet.proofs.Rows.{renumbered_alike, renumbered_twice}
 use Rattle.sheet.proofs.Written.{Bytes, sheet_written_back}
 use Rattle.rules.specs.Answer.{count}
 use Rattle.rules.specs.Explain.Chain.{◌∈◌, here, there}

@@ -4,7 +4,7 @@ use Rattle.std.proofs.Common.{ap, arith, ltb-true}
 use Rattle.std.proofs.Math.Decide.{ℕ_discrete, dec_le}
 use Rattle.value.specs.Result.{Result, ok, refusal}
 use Rattle.sheet.specs.Sheet.{Sheet, read_sheet}
-use Rattle.sheet.proofs.Rows.{sheet_written}
+use Rattle.sheet.specs.Rows.{sheet_written}
 use Rattle.preorder.specs.Numbering.{numbered}
 use Rattle.preorder.specs.NumberingLaws.{uses}
 use Rattle.preorder.specs.Uses.{times, lowest_from, lowest_twice, lowest_here, lowest_later}

@@ -3,7 +3,7 @@ use Rattle.std.specs.Prelude.{◌≡◌, cond, List, ℕ, ◌≤◌, ◌<◌, le
 use borrow.Author.Tests.{le-leb, lt-leb, lt-ltb, le-ltb}
 use Rattle.value.specs.Result.{Result, ok, refusal}
 use Rattle.sheet.specs.Sheet.{Sheet, read_sheet}
-use Rattle.sheet.proofs.Rows.{sheet_written}
+use Rattle.sheet.specs.Rows.{sheet_written}
 use Rattle.preorder.specs.Numbering.{numbered}
 use Rattle.preorder.specs.Uses.{lowest_twice}
 

@@ -14,7 +14,7 @@ use Rattle.node.specs.declared.Node.TheVariants.{False}
 use Rattle.node.specs.Kinds.{children}
 use Rattle.sheet.specs.Renumbering.{renumber}
 use Rattle.sheet.specs.Sheet.{Sheet}
-use Rattle.sheet.proofs.Rows.{Every}
+use Rattle.sheet.specs.Rows.{Every}
 use Rattle.rules.specs.Counting.{pick}
 use Rattle.rules.specs.Explain.Chain.{◌∈◌, here, there}
 use Rattle.rules.specs.Laws.Embedding.{itself}

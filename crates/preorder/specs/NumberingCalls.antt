@@ -2,7 +2,7 @@
 use Rattle.std.specs.Prelude.{◌≡◌, List, ℕ}
 use Rattle.value.specs.Result.{ok}
 use Rattle.sheet.specs.Sheet.{Sheet, read_sheet}
-use Rattle.sheet.proofs.Rows.{sheet_written}
+use Rattle.sheet.specs.Rows.{sheet_written}
 use Rattle.preorder.specs.Numbering.{numbered}
 use Rattle.preorder.specs.NumberingLaws.{Once, uses}
 

@@ -9,7 +9,7 @@ use Rattle.std.proofs.Math.ListN.{length, get_or}
 use Rattle.node.specs.declared.Node.{Node}
 use Rattle.node.specs.Kinds.{children}
 use Rattle.sheet.specs.Sheet.{Sheet}
-use Rattle.sheet.proofs.Rows.{Every}
+use Rattle.sheet.specs.Rows.{Every}
 use Rattle.rules.specs.Explain.Chain.{◌∈◌, here, there}
 use Rattle.preorder.specs.Numbering.{gathered, roots, place_of, in_front, in_either}
 use Rattle.preorder.specs.Numbering.{in_at, in_rest, place_first, place_later}

@@ -5,7 +5,7 @@ use Rattle.std.proofs.Math.Path.{ap}
 use Rattle.std.proofs.lemmas.Bool.{lt-leb}
 use Rattle.value.specs.Result.{Result, ok, refusal}
 use Rattle.sheet.specs.Sheet.{Sheet, read_sheet}
-use Rattle.sheet.proofs.Rows.{sheet_written}
+use Rattle.sheet.specs.Rows.{sheet_written}
 use Rattle.preorder.specs.Numbering.{numbered}
 use Rattle.preorder.specs.Uses.{lowest_twice}
 use Rattle.preorder.specs.NumberAnswer.{Answer, done, refused, twice, sheet_answer, number_answer}

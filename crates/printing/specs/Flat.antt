@@ -12,7 +12,7 @@ use Rattle.node.specs.Kinds.{children}
 use Rattle.sheet.specs.Sheet.{Sheet}
 use Rattle.node.specs.Decoding.{node_at}
 use Rattle.sheet.specs.Laws.{Reads, Ranges, Child}
-use Rattle.sheet.proofs.Rows.{Every}
+use Rattle.sheet.specs.Rows.{Every}
 use Rattle.sheet.proofs.Ranging.{children_in}
 use Rattle.preorder.specs.Numbering.{node_of}
 use Rattle.syntax.specs.Printer.{no_case, all_plain, plain_from, plain_node}

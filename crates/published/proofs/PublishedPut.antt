@@ -7,9 +7,9 @@ use Rattle.std.proofs.Math.Option.{Option, none, some, some-injective, map-eq-so
 use mathlib.Core.List.{List, [], ◌∷◌, ◌++◌, append-nil}
 use Rattle.std.proofs.Math.ListN.{get_elem?}
 use Rattle.value.specs.Value.{Value, Values, vfalse, vtrue, list, number, wide, pair, nil, cons, size, truth}
-use Rattle.value.proofs.Views.{as_list, as_front, as_pair, as_truth}
+use Rattle.value.specs.Views.{as_list, as_front, as_pair, as_truth}
 use Rattle.value.proofs.Encoding.{size_pos}
-use Rattle.value.proofs.Tests.{Passes, passes}
+use Rattle.value.specs.Tests.{Passes, passes}
 use Rattle.node.specs.declared.Node.{Node}
 use Rattle.node.specs.declared.Node.TheVariants.{Var, False, True, Empty, Number, Front, Pair, ListCase, TruthCase, Split, Call, Add, Each, Wide}
 use Rattle.sheet.specs.Sheet.{Sheet}

@@ -19,7 +19,8 @@ use Rattle.sheet.specs.Table.{table_of, section_at, first_node}
 use Rattle.node.specs.Forms.{listing}
 use Rattle.sheet.specs.Reading.{Made}
 use Rattle.sheet.specs.Laws.{node_made, table_start, sheet_ranges}
-use Rattle.sheet.proofs.Rows.{Every, renumbered_alike, all_written, roots_written}
+use Rattle.sheet.specs.Rows.{Every, all_written, roots_written}
+use Rattle.sheet.proofs.Rows.{renumbered_alike}
 use Rattle.sheet.proofs.Written.{Bytes}
 use Rattle.sheet.specs.Parts.{part_at, byte_anew, record_anew}
 use Rattle.sheet.proofs.PartsLaws.{record_anew_lem}

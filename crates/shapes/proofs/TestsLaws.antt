@@ -6,7 +6,7 @@ use Rattle.std.proofs.lemmas.List.{get_or_at, take-append-le}
 use Rattle.std.proofs.Math.Seq.{take-append-add}
 use Rattle.value.specs.Value.{Value, Values, vfalse, vtrue, list, number, wide, pair, nil, cons, encode, encodes, size, sizes}
 use Rattle.value.proofs.Encoding.{size-encode, size_pos, prefix}
-use Rattle.value.proofs.Tests.{class, table, holds}
+use Rattle.value.specs.Tests.{class, table, holds}
 use Rattle.shapes.specs.Needs.{past_first, need, Agrees}
 use Rattle.value.specs.Reading.{Kind, Found, whole, malformed, too_long, value, nothing, a_value, kind_of, read_value}
 use Rattle.value.specs.Laws.{Readable, Names, is0, is1, is2, is3, is4, is5, is6, is_other}

@@ -1,7 +1,7 @@
 -- How far the tests look: how many of a value's bytes each needs.
 use Rattle.std.specs.Prelude.{◌≡◌, Bool, List, [], ◌∷◌, ℕ, ◌+◌, get_or, take}
 use Rattle.value.specs.Value.{Value, vfalse, vtrue, list, number, wide, pair, nil, cons, encode, size}
-use Rattle.value.proofs.Tests.{holds}
+use Rattle.value.specs.Tests.{holds}
 use Rattle.value.specs.Laws.{Readable}
 
 -- how many of a value's bytes tests 5 and 6 need: the kind byte, and of a list with members all as far as the byte that follows the first

@@ -12,7 +12,8 @@ use Rattle.node.specs.declared.Node.TheVariants.{False}
 use Rattle.node.specs.Kinds.{children, calls}
 use Rattle.sheet.specs.Sheet.{Sheet, nodes_in_range, roots_in_range, in_range, read_sheet}
 use Rattle.sheet.specs.Laws.{Child, Ranged, Ranges}
-use Rattle.sheet.proofs.Rows.{Every, children_behind, calls_inside, in_range_lem, width_8, written-length, all_written, roots_written, sheet_written}
+use Rattle.sheet.specs.Rows.{Every, all_written, roots_written, sheet_written}
+use Rattle.sheet.proofs.Rows.{children_behind, calls_inside, in_range_lem, width_8, written-length}
 use Rattle.sheet.proofs.Rows.{sheet_written_lem}
 
 -- LISTS

@@ -1,4 +1,4 @@
--- What a record says: the node that the body behind a kind byte makes, read off the row of its kind.
+-- Laws of what a record says: its row, and the record that stands at a byte.
 use Rattle.std.specs.Prelude.{◌≡◌, List}
 use Rattle.std.proofs.Common.{sym, ◌∙◌}
 use Rattle.std.proofs.Math.Path.{ap}
@@ -8,17 +8,9 @@ use Rattle.std.proofs.Math.ListN.{get_or}
 use Rattle.node.specs.Kinds.{Form, ◌is◌, row, made, roles_of, values_of, form_at, form_of, make}
 use Rattle.node.specs.Forms.{fields_of, form_told, row_made, length_values}
 use Rattle.sheet.specs.Reading.{Made}
+use Rattle.sheet.specs.Records.{of_bytes, record_at}
 use Rattle.node.specs.declared.Node.{Node}
 use Rattle.node.specs.declared.Node.TheVariants.{False}
-
--- the node of the form that the bytes b make; False where there is no form
-abbrev pub of_bytes : Option Form → (ℕ → ℕ) → Node
-of_bytes none b = False
-of_bytes (some f) b = made f (values_of (roles_of f) b)
-
--- the node of kind k whose record starts at byte n of the sheet s: at a known kind it computes to the node
-abbrev pub record_at : (k : ℕ) (s : List ℕ) (n : ℕ) → Node
-record_at k s n = of_bytes (form_at k) (λ i. get_or s (n + suc i) 0)
 
 -- its row: the fields of the form, with the bytes' values
 pub record_row : (k : ℕ) (s : List ℕ) (n : ℕ) {f : Form} → form_of k ≡ some f

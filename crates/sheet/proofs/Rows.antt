@@ -19,6 +19,7 @@ use Rattle.sheet.specs.Sheet.{Sheet, Records, read_nodes, one_section, if_sectio
 use Rattle.node.specs.Decoding.{node_of, of_form, if_whole}
 use Rattle.node.specs.Forms.{no_form, fields_of, Told, form_told, built, roles_of_lem, row_made}
 use Rattle.sheet.specs.Laws.{Child, InRange, AllFit, Ranged}
+use Rattle.sheet.specs.Rows.{Every, limit, Small, all_written, roots_written, sheet_written}
 use Rattle.node.specs.declared.Node.{Node}
 
 -- A NODE OF THE SAME KIND, WITH OTHER VALUES
@@ -93,11 +94,6 @@ map_same [] = refl
 map_same (x ∷ xs) = ap (λ (l : List ℕ). x ∷ l) (map_same xs)
 
 -- RENUMBERING
-
--- P at every number of a list
-abbrev pub Every : (ℕ → Type 0) → List ℕ → Type 0
-Every P [] = Unit
-Every P (x ∷ xs) = P x × Every P xs
 
 -- P at every child and Q at every section called
 abbrev Named : (P Q : ℕ → Type 0) → List Field → Type 0
@@ -343,10 +339,6 @@ module _ (n : Node) (l : List ℕ) where
       drop_at (body_bytes (row n).body) l (body_width (built n).form) (sym body_width_lem) in
       rw ((built n).known, le-leb _ _ body_whole, body_made, d)
 
-abbrev pub all_written : List Node → List ℕ
-all_written [] = []
-all_written (n ∷ ns) = written n ++ all_written ns
-
 pub nodes_written : (ns : List Node) (left : ℕ) → length ns ≤ left → read_nodes left (all_written ns) ≡ ok ns
 unfolding read_nodes map_result
 nodes_written [] zero h = refl
@@ -354,19 +346,7 @@ nodes_written [] (suc left) h = refl
 nodes_written (n ∷ ns) zero h = absurd (omega arith)
 nodes_written (n ∷ ns) (suc left) h = node_written n (all_written ns) left ∙ ap (map_result (λ ms. n ∷ ms)) (nodes_written ns left (omega arith))
 
--- and its bytes are bytes, where each number fits its field
-abbrev pub limit : Role → ℕ
-limit a_node = 256
-limit a_section = 256
-limit a_variable = 256
-limit a_test = 256
-limit a_number = 65536
-limit a_wide = 4294967296
-
-abbrev pub Small : List Field → Type 0
-Small [] = Unit
-Small (f ∷ fs) = (f.value < limit f.role) × Small fs
-
+-- its bytes are bytes, where each number fits its field
 every_append : (P : ℕ → Type 0) (xs ys : List ℕ) → Every P xs → Every P ys → Every P (xs ++ ys)
 every_append P [] ys a b = b
 every_append P (x ∷ xs) ys a b = (a.0, every_append P xs ys a.1 b)
@@ -406,13 +386,6 @@ unfolding written
 written_bytes n h = (omega (arith, (kind_near n).1), body_bytes_lem (row n).body h)
 
 -- A SHEET WRITTEN
-
-abbrev pub roots_written : List ℕ → List ℕ → List ℕ
-roots_written [] l = l
-roots_written (r ∷ rs) l = 0x20 ∷ r ∷ roots_written rs l
-
-unfoldable pub sheet_written : Sheet → List ℕ
-sheet_written sh = 0x01 ∷ sh.k ∷ sh.root ∷ roots_written sh.sections (all_written sh.nodes)
 
 no_section : (n : Node) (left : ℕ) (l : List ℕ) (ns : List Node) → read_nodes 200 (written n ++ l) ≡ ok ns → read_records left (written n ++ l) ≡ ok ([], ns)
 unfolding written read_records if_section map_result

@@ -11,7 +11,7 @@ use Rattle.sheet.specs.Sheet.{Sheet, Records, read_nodes, one_section, if_sectio
 use Rattle.node.specs.Decoding.{node_of}
 use Rattle.node.specs.Forms.{listing, fields_of, form_told, row_made, length_values, wide_form, node_whole}
 use Rattle.sheet.specs.Reading.{Made, Fine, fine, refused, fine_or, fine_unless, fine_map, fine_then, fine_ok}
-use Rattle.sheet.proofs.Rows.{Every, limit, Small, all_written, roots_written, sheet_written}
+use Rattle.sheet.specs.Rows.{Every, limit, Small, all_written, roots_written, sheet_written}
 use Rattle.node.specs.declared.Node.{Node}
 
 -- BYTES

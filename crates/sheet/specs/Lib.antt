@@ -4,3 +4,5 @@ pub mod Table
 pub mod Reading
 pub mod Laws
 pub mod Parts
+pub mod Records
+pub mod Rows

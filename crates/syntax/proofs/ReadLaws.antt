@@ -12,7 +12,7 @@ use Rattle.node.specs.Kinds.{row, children, form_of}
 use Rattle.sheet.specs.Renumbering.{renumber, of_kind}
 use Rattle.sheet.specs.Sheet.{Sheet}
 use Rattle.sheet.specs.Laws.{Ranged}
-use Rattle.sheet.proofs.Rows.{Small}
+use Rattle.sheet.specs.Rows.{Small}
 use Rattle.preorder.specs.Numbering.{gathered, node_of, met_from}
 use Rattle.tokens.specs.Quoted.{bytes}
 use Rattle.tokens.specs.Tokens.{Token, hash, mark, first, rest, word_of, mark_of, same}

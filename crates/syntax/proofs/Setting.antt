@@ -8,7 +8,7 @@ use Rattle.std.proofs.lemmas.Bool.{lt-leb}
 use Rattle.node.specs.declared.Node.{Node}
 use Rattle.node.specs.declared.Node.TheVariants.{Var, False, True, Empty, Number, Front, Pair, ListCase, TruthCase, Split, Call, Add, Each, Wide}
 use Rattle.sheet.specs.Sheet.{Sheet}
-use Rattle.sheet.proofs.Rows.{Every}
+use Rattle.sheet.specs.Rows.{Every}
 use Rattle.preorder.specs.Numbering.{node_of}
 use Rattle.tokens.specs.Quoted.{bytes}
 use Rattle.tokens.specs.Tokens.{Token, word, digits, hash, mark, letter, digit, class_of, same}

@@ -14,7 +14,7 @@ use Rattle.node.specs.declared.Node.TheVariants.{Var, False, True, Empty, Number
 use Rattle.node.specs.Kinds.{row, children}
 use Rattle.sheet.specs.Sheet.{Sheet, read_sheet}
 use Rattle.sheet.specs.Laws.{Ranges, Ranged, Child, sheet_ranges}
-use Rattle.sheet.proofs.Rows.{Small, Every}
+use Rattle.sheet.specs.Rows.{Small, Every}
 use Rattle.value.specs.Result.{Result, ok, refusal}
 use Rattle.sheet.proofs.Written.{Bytes}
 use Rattle.sheet.proofs.Ranging.{children_in}

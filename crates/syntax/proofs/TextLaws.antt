@@ -14,7 +14,7 @@ use Rattle.node.specs.declared.Node.{Node}
 use Rattle.node.specs.Kinds.{row, children}
 use Rattle.sheet.specs.Sheet.{Sheet}
 use Rattle.sheet.specs.Laws.{Ranges, Child}
-use Rattle.sheet.proofs.Rows.{Small, Every}
+use Rattle.sheet.specs.Rows.{Small, Every}
 use Rattle.rules.specs.Answer.{count}
 use Rattle.rules.specs.Laws.Embedding.{itself}
 use Rattle.sheet.proofs.Ranging.{children_in}

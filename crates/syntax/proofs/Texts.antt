@@ -3,7 +3,7 @@ use Rattle.std.specs.Prelude.{◌≡◌, List, ℕ, length}
 use Rattle.std.proofs.Common.{sym, ap, ◌∙◌, arith, le-ltb}
 use Rattle.sheet.specs.Sheet.{Sheet}
 use Rattle.sheet.specs.Laws.{Ranges, sheet_ranges}
-use Rattle.sheet.proofs.Rows.{sheet_written}
+use Rattle.sheet.specs.Rows.{sheet_written}
 use Rattle.sheet.proofs.Written.{Bytes}
 use Rattle.preorder.specs.Numbering.{numbered}
 use Rattle.preorder.specs.NumberingLaws.{Once, uses}

@@ -1,7 +1,7 @@
 -- Worked texts with their bytes, and faults with their places.
 use Rattle.std.specs.Prelude.{◌≡◌, refl, List, [], ◌∷◌, ◌++◌, ℕ}
 use Rattle.node.specs.Kinds.{written}
-use Rattle.sheet.proofs.Rows.{sheet_written}
+use Rattle.sheet.specs.Rows.{sheet_written}
 use Rattle.tokens.specs.Quoted.{bytes}
 use Rattle.tokens.specs.Tokens.{class_of, begin, on_word, on_digits, act, last, tokens, held, places, first, rest, word_of, mark_of, same}
 use Rattle.syntax.specs.Reader.{◌>>=◌, find, is_name, symbol, keyword, bind, section_name, known, value, zero_first, valued, number, by_number}

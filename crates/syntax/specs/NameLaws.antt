@@ -6,7 +6,7 @@ use Rattle.std.proofs.Math.Option.{none, some}
 use mathlib.Core.List.{List, [], ◌∷◌}
 use Prim.Native.Nat.{ℕ, zero, suc, ◌+◌, ◌*◌, ◌-◌, ◌/◌, ◌%◌, ◌≤◌, ◌<◌}
 use Rattle.std.proofs.Math.Decide.{dec_lt, ℕ_discrete}
-use Rattle.sheet.proofs.Rows.{Every}
+use Rattle.sheet.specs.Rows.{Every}
 use Rattle.tokens.specs.Tokens.{same}
 use Rattle.tokens.specs.Same.{and-true, same_self, same_not}
 use Rattle.syntax.specs.Reader.{Name, find, words, wild, sent, is_name, value, Valued, is, over}

@@ -5,7 +5,7 @@ use Rattle.value.specs.Result.{Result, ok, refusal}
 use Rattle.node.specs.Kinds.{row}
 use Rattle.sheet.specs.Sheet.{Sheet, read_sheet}
 use Rattle.sheet.specs.Laws.{node_made}
-use Rattle.sheet.proofs.Rows.{Small}
+use Rattle.sheet.specs.Rows.{Small}
 use Rattle.sheet.proofs.Written.{Bytes, read_small}
 use Rattle.preorder.specs.Numbering.{node_of}
 use Rattle.preorder.specs.Uses.{lowest_twice}

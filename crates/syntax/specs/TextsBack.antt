@@ -7,7 +7,8 @@ use Rattle.node.specs.declared.Node.TheVariants.{False}
 use Rattle.node.specs.Kinds.{Role, a_node, a_section, a_variable, a_test, a_number, a_wide, Field, row, written}
 use Rattle.sheet.specs.Sheet.{Sheet}
 use Rattle.sheet.specs.Laws.{InRange, AllFit, Ranges}
-use Rattle.sheet.proofs.Rows.{Every, limit, Small, all_written, roots_written, sheet_written, written_bytes}
+use Rattle.sheet.specs.Rows.{Every, limit, Small, all_written, roots_written, sheet_written}
+use Rattle.sheet.proofs.Rows.{written_bytes}
 use Rattle.sheet.proofs.Written.{Bytes}
 use Rattle.sheet.proofs.Ranging.{read_back}
 use Rattle.preorder.proofs.Uses.{once_all}

@@ -13,7 +13,7 @@ use Rattle.node.specs.declared.Node.TheVariants.{False}
 use Rattle.node.specs.Kinds.{Role, a_node, a_section, a_variable, a_test, a_number, a_wide, Field, ◌of◌, row, pick, children}
 use Rattle.sheet.specs.Sheet.{Sheet}
 use Rattle.sheet.specs.Laws.{Child, InRange, AllFit, Ranged, Ranges}
-use Rattle.sheet.proofs.Rows.{Every}
+use Rattle.sheet.specs.Rows.{Every}
 use Rattle.rules.specs.Answer.{count}
 use Rattle.rules.specs.Explain.Chain.{◌∈◌, here, there}
 use Rattle.preorder.specs.Numbering.{gathered, node_of, met_from, roots, order, numbered, in_front, in_behind, in_either, every_at, every_of}

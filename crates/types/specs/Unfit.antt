@@ -14,7 +14,8 @@ use Rattle.node.specs.declared.Node.{Node}
 use Rattle.node.specs.declared.Node.TheVariants.{Var, False, True, Empty, Number, Front, Pair, ListCase, TruthCase, Split, Call, Add, Each, Wide}
 use Rattle.sheet.specs.declared.Table.{Table}
 use Rattle.node.specs.Kinds.{children}
-use Rattle.sheet.proofs.Rows.{Every, children_behind}
+use Rattle.sheet.specs.Rows.{Every}
+use Rattle.sheet.proofs.Rows.{children_behind}
 use Rattle.sheet.specs.Sheet.{Sheet}
 use Rattle.sheet.specs.Laws.{Child, Ranged, Ranges, Reads}
 use Rattle.node.specs.Decoding.{node_at}

@@ -14,7 +14,8 @@ use borrow.Author.Tests.{eqb-true, eq-eqb, ltb-true, ltb-false}
 use Rattle.node.specs.declared.Node.{Node}
 use Rattle.node.specs.declared.Node.TheVariants.{Var, False, True, Empty, Number, Front, Pair, ListCase, TruthCase, Split, Call, Add, Each, Wide}
 use Rattle.node.specs.Kinds.{children}
-use Rattle.sheet.proofs.Rows.{Every, children_behind}
+use Rattle.sheet.specs.Rows.{Every}
+use Rattle.sheet.proofs.Rows.{children_behind}
 use Rattle.sheet.specs.Sheet.{Sheet}
 use Rattle.sheet.specs.Laws.{Child, Ranged, Ranges}
 use Rattle.typing.specs.Types.{Ty}

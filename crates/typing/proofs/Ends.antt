@@ -5,7 +5,7 @@ use Rattle.std.proofs.Math.Option.{Option, none, some}
 use Prim.Native.Nat.{ℕ, zero, suc, ◌-◌, ◌≤◌}
 use Rattle.std.proofs.Common.{arith}
 use Rattle.value.specs.Value.{Value, Values, list, number, wide, pair, nil, cons, truth}
-use Rattle.value.proofs.Views.{as_list, as_front, as_pair, as_number, as_truth}
+use Rattle.value.specs.Views.{as_list, as_front, as_pair, as_number, as_truth}
 use Rattle.node.specs.declared.Node.{Node}
 use Rattle.node.specs.declared.Node.TheVariants.{Front, Add}
 use Rattle.sheet.specs.Sheet.{Sheet}

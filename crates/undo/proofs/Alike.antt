@@ -11,7 +11,7 @@ use Rattle.value.specs.Value.{Value, Values, vfalse, vtrue, list, number, wide, 
 use Rattle.node.specs.declared.Node.{Node}
 use Rattle.node.specs.declared.Node.TheVariants.{Var, False, True, Empty, Number, Front, Pair, ListCase, TruthCase, Split, Call, Add, Each, Wide}
 use Rattle.node.specs.Kinds.{variables}
-use Rattle.sheet.proofs.Rows.{Every}
+use Rattle.sheet.specs.Rows.{Every}
 use Rattle.sheet.specs.Sheet.{Sheet}
 use Rattle.rules.specs.Outcome.{Out, ◌>>=◌, plus, given, choose}
 use Rattle.rules.specs.Semantics

@@ -8,7 +8,7 @@ use Rattle.std.proofs.Math.Nat.{add-sub_cancel}
 use Rattle.std.proofs.Math.ListN.{length, get_elem?, length-append}
 use Rattle.std.proofs.Math.Seq.{length-take-le}
 use Rattle.value.specs.Value.{Value, vfalse, vtrue, list, number, wide, pair, nil, cons, size, Fits}
-use Rattle.value.proofs.Views.{as_list, as_front, as_pair, as_number}
+use Rattle.value.specs.Views.{as_list, as_front, as_pair, as_number}
 use Rattle.node.specs.declared.Node.{Node}
 use Rattle.node.specs.declared.Node.TheVariants.{Var, False, True, Empty, Number, Front, Pair, ListCase, TruthCase, Split, Call, Add, Each, Wide}
 use Rattle.node.specs.Kinds.{children, calls}

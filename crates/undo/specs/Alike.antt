@@ -7,7 +7,7 @@ use Rattle.std.proofs.Math.ListN.{get_elem?}
 use Rattle.node.specs.declared.Node.{Node}
 use Rattle.node.specs.declared.Node.TheVariants.{False}
 use Rattle.node.specs.Kinds.{variables}
-use Rattle.sheet.proofs.Rows.{Every}
+use Rattle.sheet.specs.Rows.{Every}
 use Rattle.sheet.specs.Sheet.{Sheet}
 use Rattle.rules.specs.Counting.{Env, Cells}
 

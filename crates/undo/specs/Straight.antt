@@ -5,7 +5,7 @@ use Rattle.value.specs.Value.{Value}
 use Rattle.node.specs.declared.Node.{Node}
 use Rattle.node.specs.declared.Node.TheVariants.{False}
 use Rattle.node.specs.Kinds.{row, children, calls}
-use Rattle.sheet.proofs.Rows.{Every}
+use Rattle.sheet.specs.Rows.{Every}
 use Rattle.sheet.specs.Sheet.{Sheet}
 use Rattle.rules.specs.Outcome.{Out}
 use Rattle.rules.specs.Counting.{Env}

@@ -15,7 +15,7 @@ use Rattle.std.specs.Prelude.{◌≡◌, List, [], ℕ, suc, ◌+◌, ◌*◌, �
 use Rattle.std.proofs.Common.{ap}
 use Rattle.value.specs.Result.{ok}
 use Rattle.value.specs.Value.{Value, Values, vfalse}
-use Rattle.sheet.proofs.Records.{record_at}
+use Rattle.sheet.specs.Records.{record_at}
 use Rattle.sheet.specs.Sheet.{Sheet, read_sheet}
 use Rattle.sheet.specs.Table.{table_of}
 use Rattle.sheet.specs.Laws.{Ranged}

@@ -19,8 +19,8 @@ use Rattle.std.proofs.Math.ListN.{get_elem?}
 use Rattle.outcome.specs.Outcome.{is_refusal, steps_of}
 use Rattle.value.specs.Result.{ok}
 use Rattle.value.specs.Value.{Value, size}
-use Rattle.value.proofs.Views.{as_list}
-use Rattle.sheet.proofs.Records.{record_at}
+use Rattle.value.specs.Views.{as_list}
+use Rattle.sheet.specs.Records.{record_at}
 use Rattle.sheet.specs.Sheet.{Sheet, read_sheet}
 use Rattle.sheet.specs.Laws.{Ranged}
 use Rattle.rules.specs.Outcome.{when}

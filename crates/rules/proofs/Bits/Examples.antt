@@ -3,8 +3,8 @@ use Rattle.std.specs.Prelude.{◌≡◌, refl, List, [], ◌∷◌, map, ℕ}
 use Rattle.std.proofs.Math.Decide.{dec_le, ℕ_discrete}
 use Rattle.value.specs.Result.{and_then, map_result, or_refuse, unless}
 use Rattle.value.specs.Value.{encode, encodes, size, sizes, same_value}
-use Rattle.value.proofs.Views.{as_list, as_front, as_pair, as_number, if_small, as_truth}
-use Rattle.value.proofs.Tests.{class, table, holds, passes}
+use Rattle.value.specs.Views.{as_list, as_front, as_pair, as_number, if_small, as_truth}
+use Rattle.value.specs.Tests.{class, table, holds, passes}
 use Rattle.value.specs.Reading.{
   on_whole,
   kind_of,

@@ -9,7 +9,7 @@ use Rattle.std.proofs.Math.Nat.{add-sub_cancel}
 use Rattle.std.proofs.Math.ListN.{get_elem?}
 use Rattle.value.specs.Value.{Value, Values, vfalse, vtrue, list, number, wide, pair, nil, cons, size, sizes, Fits}
 use Rattle.value.proofs.Encoding.{size_pos}
-use Rattle.value.proofs.Views.{as_list, as_front, as_pair, as_number, as_truth}
+use Rattle.value.specs.Views.{as_list, as_front, as_pair, as_number, as_truth}
 use Rattle.node.specs.declared.Node.{Node}
 use Rattle.node.specs.declared.Node.TheVariants.{Var, False, True, Empty, Number, Front, Pair, ListCase, TruthCase, Split, Call, Add, Each, Wide}
 use Rattle.sheet.specs.Sheet.{Sheet}

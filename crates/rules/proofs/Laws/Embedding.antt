@@ -15,7 +15,8 @@ use Rattle.node.specs.declared.Node.TheVariants.{Var, False, True, Empty, Number
 use Rattle.node.specs.Kinds.{form_of, children, calls}
 use Rattle.sheet.specs.Renumbering.{of_kind, renumber}
 use Rattle.sheet.specs.Sheet.{Sheet}
-use Rattle.sheet.proofs.Rows.{Every, renumbered_same}
+use Rattle.sheet.specs.Rows.{Every}
+use Rattle.sheet.proofs.Rows.{renumbered_same}
 use Rattle.rules.specs.Semantics
 use Rattle.rules.specs.Semantics.{Reading, Env, two, pick, on_list}
 use Rattle.rules.specs.Laws.Embedding.{Sent, Holds, Relates, itself}

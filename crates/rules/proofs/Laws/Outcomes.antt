@@ -5,7 +5,7 @@ use Rattle.std.proofs.Common.{ap, arith}
 use Rattle.std.proofs.Math.Option.{Option, none, some}
 use Rattle.std.proofs.Math.Decide.{dec_le}
 use Rattle.value.specs.Value.{Value, Values, number, nil, cons}
-use Rattle.value.proofs.Views.{as_number, if_small}
+use Rattle.value.specs.Views.{as_number, if_small}
 use Rattle.rules.specs.Outcome.{Out, done, refused, plus, when, ◌>>=◌, given, choose}
 use Rattle.rules.specs.Counting.{on_list}
 use Rattle.rules.specs.Laws.Outcomes.{After, finished, stopped, DoneWithin}

@@ -32,7 +32,7 @@ use Rattle.value.specs.Value.{
 }
 use Rattle.value.specs.Laws.{Readable}
 use Rattle.value.proofs.Laws.{readable_front, readable_pair, encodable_front}
-use Rattle.value.proofs.Views.{as_list}
+use Rattle.value.specs.Views.{as_list}
 use Rattle.node.specs.declared.Node.{Node}
 use Rattle.node.specs.declared.Node.TheVariants.{Var, False, True, Empty, Number, Front, Pair, ListCase, TruthCase, Split, Call, Add, Each, Wide}
 use Rattle.sheet.specs.Sheet.{Sheet}

@@ -9,7 +9,7 @@ use Rattle.node.specs.declared.Node.TheVariants.{False}
 use Rattle.node.specs.Kinds.{children, calls}
 use Rattle.sheet.specs.Renumbering.{renumber}
 use Rattle.sheet.specs.Sheet.{Sheet}
-use Rattle.sheet.proofs.Rows.{Every}
+use Rattle.sheet.specs.Rows.{Every}
 use Rattle.rules.specs.Semantics.{Reading}
 
 -- TWO SHEETS

@@ -6,8 +6,8 @@ use Rattle.std.proofs.Math.Option.{Option, none, some}
 use Rattle.std.proofs.Math.ListN.{get_elem?}
 use Rattle.value.specs.Value.{Value, Values, vfalse, vtrue, list, number, wide, pair, nil, cons, encode, encodes, size, sizes}
 use Rattle.value.proofs.Encoding.{size-encode, size_pos}
-use Rattle.value.proofs.Views.{as_list}
-use Rattle.value.proofs.Tests.{holds}
+use Rattle.value.specs.Views.{as_list}
+use Rattle.value.specs.Tests.{holds}
 use Rattle.value.specs.Laws.{Readable}
 use Rattle.value.proofs.Laws.{readable_front, readable_pair}
 use Rattle.shapes.specs.Parts.{shape_of, passes_bytes}

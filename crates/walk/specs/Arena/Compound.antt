@@ -3,7 +3,7 @@ use Rattle.std.specs.Prelude.{◌≡◌, refl, true, false, ◌∷◌, ◌++◌,
 use Rattle.std.proofs.Math.Option.{Option, none, some, map}
 use Rattle.std.proofs.Common.{arith}
 use Rattle.value.specs.Value.{Value, Values, vfalse, vtrue, list, number, wide, pair, nil, cons, encode, encodes, size, sizes, Encodable, e_pair}
-use Rattle.value.proofs.Views.{as_list}
+use Rattle.value.specs.Views.{as_list}
 use Rattle.value.proofs.Laws.{encodable_front}
 use Rattle.rules.specs.Semantics.{mk_list, mk_pair}
 use Rattle.rules.specs.Explain.{wanted, Explained, given}

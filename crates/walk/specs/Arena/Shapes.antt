@@ -4,7 +4,7 @@ use Rattle.std.proofs.Math.Option.{none, some}
 use Rattle.std.proofs.Math.Decide.{dec_le}
 use Rattle.std.proofs.Common.{arith}
 use Rattle.value.specs.Value.{Value, Values, vfalse, vtrue, list, number, wide, pair, nil, cons, size, Encodable, e_number}
-use Rattle.value.proofs.Views.{as_front, as_pair, as_number, if_small}
+use Rattle.value.specs.Views.{as_front, as_pair, as_number, if_small}
 use Rattle.value.specs.Laws.{Readable}
 use Rattle.shapes.proofs.PartsLaws.{shape, which, unlike}
 use Rattle.shapes.specs.declared.Shape.TheVariants as is

@@ -6,7 +6,7 @@ use Rattle.std.proofs.Math.Bool.{true, false}
 use native.Mathlib.Omega.{arith}
 use Rattle.outcome.specs.Outcome.{is_refusal, done_as, len_of, start_of, steps_of, len_small, start_small, steps_small}
 use Rattle.value.specs.Value.{Value}
-use Rattle.value.proofs.Tests.{passes}
+use Rattle.value.specs.Tests.{passes}
 use Rattle.shapes.specs.Parts.{by_kinds, passes_bytes}
 use Rattle.rules.specs.Semantics
 use Rattle.rules.specs.Numbers.{stack_start}

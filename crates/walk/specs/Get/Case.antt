@@ -6,8 +6,8 @@ use Rattle.std.proofs.Math.Option.{none}
 use Rattle.std.proofs.Math.Decide.{dec_lt}
 use Rattle.outcome.specs.Outcome.{is_refusal, later_as, len_of, start_of, steps_of}
 use Rattle.value.specs.Value.{Value, vfalse, vtrue, list, number, wide, pair, nil, cons}
-use Rattle.value.proofs.Views.{as_list, as_pair, as_truth}
-use Rattle.value.proofs.Tests.{passes, holds, table, class}
+use Rattle.value.specs.Views.{as_list, as_pair, as_truth}
+use Rattle.value.specs.Tests.{passes, holds, table, class}
 use Rattle.shapes.specs.Parts.{shape_of}
 use Rattle.shapes.proofs.PartsLaws.{shape}
 use Rattle.shapes.specs.declared.Shape.{Shape}

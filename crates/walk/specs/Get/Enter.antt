@@ -11,7 +11,8 @@ use Rattle.node.specs.declared.Node.TheVariants.{False}
 use Rattle.sheet.specs.Sheet.{Sheet, read_sheet}
 use Rattle.sheet.specs.Table.{offsets}
 use Rattle.sheet.specs.Reading.{Made}
-use Rattle.sheet.proofs.Records.{record_at, record_told}
+use Rattle.sheet.specs.Records.{record_at}
+use Rattle.sheet.proofs.Records.{record_told}
 use Rattle.sheet.specs.Laws.{Ranged, sheet_ranges, node_made, made_kind, table_start}
 use Rattle.node.specs.Kinds.{width}
 use Rattle.sheet.proofs.Rows.{width_8}

@@ -3,7 +3,7 @@ use Rattle.std.specs.Prelude.{◌≡◌, false, List, ℕ, zero, suc, ◌+◌, �
 use Rattle.std.proofs.Common.{◌∙◌, le_refl, arith}
 use Rattle.outcome.specs.Outcome.{is_refusal, len_of, start_of, steps_of}
 use Rattle.value.specs.Value.{Value}
-use Rattle.sheet.proofs.Records.{record_at}
+use Rattle.sheet.specs.Records.{record_at}
 use Rattle.sheet.specs.Sheet.{Sheet}
 use Rattle.rules.specs.Semantics
 use Rattle.rules.specs.Semantics.{Env}

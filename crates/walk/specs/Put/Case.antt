@@ -7,8 +7,8 @@ use Prim.Native.Nat.{ℕ, zero, suc, ◌+◌, ◌-◌, ◌*◌, ◌≤◌, ◌<�
 use Rattle.outcome.specs.Outcome.{is_refusal, later_as, len_of, start_of, steps_of}
 use Rattle.value.specs.Value.{Value, vfalse, vtrue, list, number, wide, pair as a_pair_of, nil, cons, encode, encodes, size, sizes, truth}
 use Rattle.value.specs.Value.{e_false, e_true, e_list, e_nil}
-use Rattle.value.proofs.Views.{as_list, as_pair, as_truth}
-use Rattle.value.proofs.Tests.{passes, holds}
+use Rattle.value.specs.Views.{as_list, as_pair, as_truth}
+use Rattle.value.specs.Tests.{passes, holds}
 use Rattle.shapes.specs.Parts.{shape_of, passes_bytes}
 use Rattle.shapes.proofs.PartsLaws.{shape}
 use Rattle.shapes.proofs.TestsLaws.{passes_whole}

@@ -6,7 +6,7 @@ use Rattle.std.proofs.Math.Option.{none}
 use Rattle.outcome.specs.Outcome.{is_refusal, later_as, len_of, start_of, steps_of}
 use Rattle.value.specs.Value.{Value, vfalse, list}
 use Rattle.value.proofs.Encoding.{size-encode, size_pos}
-use Rattle.value.proofs.Views.{as_list}
+use Rattle.value.specs.Views.{as_list}
 use Rattle.sheet.specs.Sheet.{Sheet}
 use Rattle.sheet.specs.Table.{section_at}
 use Rattle.rules.specs.Semantics

@@ -8,7 +8,7 @@ use Rattle.value.specs.Result.{ok}
 use Rattle.value.specs.Value.{Value}
 use Rattle.node.specs.declared.Node.{Node}
 use Rattle.node.specs.declared.Node.TheVariants.{False}
-use Rattle.sheet.proofs.Records.{record_at}
+use Rattle.sheet.specs.Records.{record_at}
 use Rattle.sheet.specs.Sheet.{Sheet, read_sheet}
 use Rattle.rules.specs.Semantics
 use Rattle.rules.specs.Semantics.{Env}
