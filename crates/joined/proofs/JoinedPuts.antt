@@ -7,7 +7,7 @@ use Rattle.std.proofs.Math.Option.{Option, none, some}
 use Rattle.value.specs.Result.{ok}
 use Rattle.value.specs.All.{none, each}
 use Rattle.value.specs.Value.{Value, vfalse, pair, encode, flat, size, e_pair}
-use Rattle.value.proofs.Views.{as_pair}
+use Rattle.value.specs.Views.{as_pair}
 use Rattle.value.proofs.Encoding.{size-encode}
 use Rattle.value.specs.Reading.{read_plan, read_view}
 use Rattle.value.specs.Laws.{Readable}
@@ -34,12 +34,8 @@ use Rattle.joined.proofs.Levels.{done_deep, put_more, put_fewer}
 use Rattle.joined.proofs.JoinedPut.{plus-done, given-done, Parts, put_walk_both, put_walk_parts}
 use Rattle.joined.proofs.JoinedClash.{Clash, merge_at, merge_of, put_walk_clash}
 use Rattle.joined.specs.JoinedCalls.{Joins}
+use Rattle.joined.specs.JoinedPuts.{PutsWithin, Apart}
 use Rattle.joined.proofs.JoinedCalls.{joined_read, joined_put}
-
--- putting the view enters no node deeper than l: with l levels it is not refused with 40
-pub record PutsWithin (l : ℕ) (sheet plan view : List ℕ) : Type 0 where
-  pub no_deeper : {sh : Sheet} {μ : Env} {vs : List Value} → read_sheet sheet ≡ ok sh → read_plan sh.k plan ≡ ok μ → read_view view ≡ ok vs
-      → NoDeeper (put_from l sh sh.root μ (get_or vs 0 vfalse))
 
 -- so it is where the put succeeds with l levels
 module _ (sheet plan view : List ℕ) (l : ℕ) where
@@ -338,26 +334,6 @@ module _ {s t u : List ℕ} (h : Joins s t u) (plan x y p q : List ℕ) (A B out
 
 -- AND THE OTHER WAY ROUND: where the joined put succeeds, so did both, with no node deeper than 47, and no variable takes two values
 module _ {s t u : List ℕ} (h : Joins s t u) (plan view : List ℕ) (allowance output scratch : ℕ) where
-  pub record Apart (n : ℕ) : Type 0 where
-    pub x : List ℕ
-    pub y : List ℕ
-    pub view_is : view ≡ 0x05 ∷ x ++ y
-    pub p : List ℕ
-    pub q : List ℕ
-    pub m : ℕ
-    pub l : ℕ
-    pub first : put_answer s plan x allowance output scratch ≡ success p m
-    pub second : put_answer t plan y allowance output scratch ≡ success q l
-    pub counted : n ≡ 1 + m + l
-    pub shallow : PutsWithin 47 s plan x
-    pub shallow' : PutsWithin 47 t plan y
-    pub ν₁ : Env
-    pub ν₂ : Env
-    pub read₁ : read_plan h.first.k p ≡ ok ν₁
-    pub read₂ : read_plan h.first.k q ≡ ok ν₂
-    pub agree : (i : ℕ) → bit i (put_written s plan x allowance) ≡ true → bit i (put_written t plan y allowance) ≡ true →
-        get_or ν₁ i vfalse ≡ get_or ν₂ i vfalse
-
   -- one part of it, alone
   record Part (sheet : List ℕ) (k : ℕ) (μ : Env) (v : Value) (X : Cells) (m : ℕ) : Type 0 where
     answers : put_answer sheet plan (encode v) allowance output scratch ≡ success (flat (new_plan X μ)) m
@@ -393,15 +369,29 @@ module _ {s t u : List ℕ} (h : Joins s t u) (plan view : List ℕ) (allowance 
         }
 
   -- the two parts together
-  record Halves (n : ℕ) : Type 0 where
-    μ : Env
-    v : Value
-    w : Value
-    Z : Cells
-    of-pair : view ≡ encode (pair v w)
-    ps : Parts h.first h.second μ v w Z n
-    f : Part s h.first.k μ v ps.first ps.steps
-    g : Part t h.first.k μ w ps.second ps.others
+  apart : {μ : Env} {v w : Value} {Z : Cells} {n : ℕ} → view ≡ encode (pair v w) → (ps : Parts h.first h.second μ v w Z n)
+      → Part s h.first.k μ v ps.first ps.steps → Part t h.first.k μ w ps.second ps.others → Apart h plan view allowance output scratch n
+  unfolding encode
+  apart {μ} {v} {w} ev ps f g = record {
+    x = encode v;
+    y = encode w;
+    view_is = ev;
+    p = flat (new_plan ps.first μ);
+    q = flat (new_plan ps.second μ);
+    m = ps.steps;
+    l = ps.others;
+    first = f.answers;
+    second = g.answers;
+    counted = ps.counted;
+    shallow = f.shallow;
+    shallow' = g.shallow;
+    ν₁ = new_plan ps.first μ;
+    ν₂ = new_plan ps.second μ;
+    read₁ = f.new_read;
+    read₂ = g.new_read;
+    agree = λ i b b'. new_at ps.first μ i f.cells ∙ sym (merged_first (merge_at i ps.together) _ (sym (f.bits i) ∙ b))
+        ∙ merged_second (merge_at i ps.together) _ (sym (g.bits i) ∙ b') ∙ sym (new_at ps.second μ i g.cells);
+  }
 
   -- the view of a joined put that succeeds is of a pair
   pair_put : (μ : Env) {v : Value} {Z : Cells} {n : ℕ} → put_walk allowance (joined h.first h.second) μ v ≡ done Z n
@@ -411,50 +401,23 @@ module _ {s t u : List ℕ} (h : Joins s t u) (plan view : List ℕ) (allowance 
       (given-done 51 (as_pair v) _ (plus-done 1 _ whole).1).0
 
   from_walk : {μ : Env} {v : Value} {Z : Cells} {n : ℕ} → DoorOpens put_output output scratch allowance → read_plan h.first.k plan ≡ ok μ
-      → Readable v → view ≡ encode v → n ≤ allowance → put_walk allowance (joined h.first h.second) μ v ≡ done Z n → Halves n
+      → Readable v → view ≡ encode v → n ≤ allowance → put_walk allowance (joined h.first h.second) μ v ≡ done Z n
+      → Apart h plan view allowance output scratch n
   from_walk {μ} {v} {Z} {n} opened ep g ev few e =
       let (x, y, q) = pair_put μ e in
       let ps : Parts h.first h.second μ x y Z n = put_walk_parts (ra h) (rb h) allowance μ x y (rw q at e) in
       let gs : Readable x × Readable y = readable_pair (rw q at g) in
       let ep' : read_plan h.second.k plan ≡ ok μ = rw h.variables at ep in
-      record {
-        μ = μ;
-        v = x;
-        w = y;
-        Z = Z;
-        of-pair = ev ∙ ap encode q;
-        ps = ps;
-        f = part_of opened h.read_first ep gs.0 ps.puts_first (omega (arith, ps.counted)) h.first.k refl;
-        g = part_of opened h.read_second ep' gs.1 ps.puts_second (omega (arith, ps.counted)) h.first.k (sym h.variables);
-      }
+      apart (ev ∙ ap encode q) ps (part_of opened h.read_first ep gs.0 ps.puts_first (omega (arith, ps.counted)) h.first.k refl)
+      (part_of opened h.read_second ep' gs.1 ps.puts_second (omega (arith, ps.counted)) h.first.k (sym h.variables))
 
-  pub joined_put_apart : {new : List ℕ} {n : ℕ} → put_answer u plan view allowance output scratch ≡ success new n → Apart n
-  unfolding put_walk encode
+  pub joined_put_apart : {new : List ℕ} {n : ℕ} → put_answer u plan view allowance output scratch ≡ success new n → Apart h plan view allowance output scratch n
+  unfolding put_walk
   joined_put_apart {n = n} e =
       let (opened, d) = put_shows e in
       let w = put_writes d in
       let qs : d.sh ≡ joined h.first h.second = let z = d.sheet_read in let r = joined_read h in cc in
       let walk : put level_limit (joined h.first h.second) (joined h.first h.second).root d.μ (count 0 (length d.μ))
       (get_or d.vs 0 vfalse) (replicate (length d.μ) none) ≡ done d.X n = rw qs at d.walk in
-      let k : Halves n = from_walk opened (plan_from h plan (rw qs at d.plan_read)) w.view_readable w.view_bytes d.few
-      (ap (within allowance) walk ∙ done-within allowance d.X n d.few) in
-      record {
-        x = encode k.v;
-        y = encode k.w;
-        view_is = k.of-pair;
-        p = flat (new_plan k.ps.first k.μ);
-        q = flat (new_plan k.ps.second k.μ);
-        m = k.ps.steps;
-        l = k.ps.others;
-        first = k.f.answers;
-        second = k.g.answers;
-        counted = k.ps.counted;
-        shallow = k.f.shallow;
-        shallow' = k.g.shallow;
-        ν₁ = new_plan k.ps.first k.μ;
-        ν₂ = new_plan k.ps.second k.μ;
-        read₁ = k.f.new_read;
-        read₂ = k.g.new_read;
-        agree = λ i b b'. new_at k.ps.first k.μ i k.f.cells ∙ sym (merged_first (merge_at i k.ps.together) _ (sym (k.f.bits i) ∙ b))
-            ∙ merged_second (merge_at i k.ps.together) _ (sym (k.g.bits i) ∙ b') ∙ sym (new_at k.ps.second k.μ i k.g.cells);
-      }
+      from_walk opened (plan_from h plan (rw qs at d.plan_read)) w.view_readable w.view_bytes d.few
+      (ap (within allowance) walk ∙ done-within allowance d.X n d.few)

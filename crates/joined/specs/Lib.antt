@@ -1,4 +1,5 @@
 pub mod Joined
 pub mod Levels
 pub mod JoinedCalls
+pub mod JoinedPuts
 pub mod JoinedExamples
