@@ -1,12 +1,13 @@
 -- `entry` meets its contract.
+use Rattle.std.proofs.Common.{rules}
 use Rattle.decisions.specs.DecisionLaws.{no_level, no_step, both_left}
 use Rattle.decisions.proofs.entry.Goals as goal
 
 pub returns-then-levels-eq0 : goal.returns-then-levels-eq0
-returns-then-levels-eq0 c = no_level _ c.args.left c.if-levels-eq0.true
+returns-then-levels-eq0 c = search (rules, no_level)
 
 pub returns-then-left-eq0 : goal.returns-then-left-eq0
-returns-then-left-eq0 c = no_step c.args.levels _ c.if-levels-eq0.false c.if-left-eq0.true
+returns-then-left-eq0 c = search (rules, no_step)
 
 pub returns : goal.returns
-returns c = both_left c.args.levels c.args.left c.if-levels-eq0.false c.if-left-eq0.false
+returns c = search (rules, both_left)
