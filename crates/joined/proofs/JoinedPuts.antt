@@ -37,7 +37,7 @@ use Rattle.joined.specs.JoinedCalls.{Joins}
 use Rattle.joined.specs.JoinedPuts.{PutsWithin, Apart}
 use Rattle.joined.proofs.JoinedCalls.{joined_read, joined_put}
 
--- so it is where the put succeeds with l levels
+-- no node is deeper than l where the put succeeds with l levels
 module _ (sheet plan view : List ℕ) (l : ℕ) where
   pub puts_within : {sh : Sheet} → read_sheet sheet ≡ ok sh → {μ : Env} → read_plan sh.k plan ≡ ok μ → {v : Value} → read_view view ≡ ok (v ∷ [])
       → {X : Cells} {m : ℕ} → put_from l sh sh.root μ v ≡ done X m → PutsWithin l sheet plan view
