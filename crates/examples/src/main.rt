@@ -167,8 +167,12 @@ fn run_file<R: io::Read, W: Write>(file: &mut R, to: &mut W) -> io::Result<()> {
     Ok(())
 }
 
+// A file that cannot be opened is named on standard error, and passed over.
 fn run_named(rt: &HostRuntime, name: &str) -> io::Result<()> {
-    run_file(&mut File::open(rt, name)?, &mut rt.stdout())
+    match File::open(rt, name) {
+        Ok(mut file) => run_file(&mut file, &mut rt.stdout()),
+        Err(error) => eprintln!(rt; "{name}: {error}"),
+    }
 }
 
 fn main(rt: HostRuntime) -> io::Result<()> {
