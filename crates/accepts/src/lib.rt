@@ -19,7 +19,7 @@ use value::Spans;
 use walk::Reply;
 
 /// Whether a new plan stands: it reads out to the list, and keeps what no record names; or a refusal's number.
-#[derive(Clone, Copy)]
+#[derive(Clone, Copy, Debug, PartialEq, Eq)]
 pub enum Verdict {
     Yes,
     No,

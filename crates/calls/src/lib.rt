@@ -18,7 +18,7 @@ pub use walk::Reply;
 
 /// What a put answers: the reply, where the values of its new plan start, and which plan variables took a view, bit i for
 /// variable i, also where its value is the old one. With a refusal there is no start, and no bit is set.
-#[derive(Clone, Copy)]
+#[derive(Clone, Copy, Debug, PartialEq, Eq)]
 pub struct PutReply {
     pub reply: Reply,
     pub starts: Starts,

@@ -27,7 +27,7 @@ use shapes::Shape;
 /// A branch of a case: one without variables, by the byte of the case's record that has its node, and the one byte of the subject that it
 /// stands for; one with two variables, by that byte, and where the subject's second part starts; the one with variables, after a switch to it;
 /// or a refusal. The byte behind the node's has its test, but for a split.
-#[derive(Clone, Copy)]
+#[derive(Clone, Copy, Debug, PartialEq, Eq)]
 pub enum Branch {
     Plain(u16, u8),
     Parts(u16, usize),
@@ -36,7 +36,7 @@ pub enum Branch {
 }
 
 /// A view of two parts: where the second starts; or another view.
-#[derive(Clone, Copy)]
+#[derive(Clone, Copy, Debug, PartialEq, Eq)]
 pub enum Apart {
     At(usize),
     Other,

@@ -13,7 +13,7 @@ use walk::{Met, Reply};
 
 /// Why a call is refused: the refusal's number, 0 for a success; how many nodes its chain has, 0 for a success and for a refusal from before
 /// the walk; the chain's nodes, the root first, and zeros behind them; and of 54 one more than the node that wrote first, 0 otherwise.
-#[derive(Clone, Copy)]
+#[derive(Clone, Copy, Debug, PartialEq, Eq)]
 pub struct Explanation {
     pub refusal: u8,
     pub depth: u8,

@@ -9,7 +9,7 @@ use node::Node;
 use sheet::Table;
 
 /// How often the records of a variable are entered; or a refusal's number.
-#[derive(Clone, Copy)]
+#[derive(Clone, Copy, Debug, PartialEq, Eq)]
 pub enum Growing {
     Times(u16),
     Refused(u8),

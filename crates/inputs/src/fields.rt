@@ -6,7 +6,7 @@ ghost use Rattle.inputs.specs.Starts.{starts_in};
 use starts::Starts;
 
 /// The fields behind the letter of a get or a put: the allowance, and the lengths of the sheet and of the plan.
-#[derive(Clone, Copy)]
+#[derive(Clone, Copy, Debug, PartialEq, Eq)]
 pub struct Fields {
     pub allowance: u32,
     pub sheet: usize,
@@ -14,7 +14,7 @@ pub struct Fields {
 }
 
 /// All fields are there, or a part is cut.
-#[derive(Clone, Copy)]
+#[derive(Clone, Copy, Debug, PartialEq, Eq)]
 pub enum Taken {
     Whole(Fields),
     Cut,

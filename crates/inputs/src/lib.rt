@@ -17,7 +17,7 @@ pub use reading::read_front;
 pub const INPUT: usize = 8_192;
 
 /// A get or a put, with its fields; or no job.
-#[derive(Clone, Copy)]
+#[derive(Clone, Copy, Debug, PartialEq, Eq)]
 pub enum Job {
     Get(Fields),
     Put(Fields),

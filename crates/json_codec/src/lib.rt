@@ -24,7 +24,7 @@ pub const VALUE: usize = 256;
 // How deep arrays and objects nest at most.
 const LEVELS: usize = 48;
 // What a reader or a writer within a call answers: the places behind what it read and behind what it wrote, or the number of a refusal.
-#[derive(Clone, Copy)]
+#[derive(Clone, Copy, Debug, PartialEq, Eq)]
 enum Step {
     Done(usize, usize),
     Refused(u8),

@@ -17,7 +17,7 @@ pub const ARROW: u8 = b'A';
 pub const END: u8 = b'Z';
 
 /// A token: its kind, and the places where it begins and ends.
-#[derive(Clone, Copy)]
+#[derive(Clone, Copy, Debug, PartialEq, Eq)]
 pub struct Lexeme {
     pub kind: u8,
     pub at: usize,

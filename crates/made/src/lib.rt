@@ -2,7 +2,7 @@
 #![tactic(auto)]
 
 /// How many bytes were written, at the front of the output; or a refusal's number, and none was.
-#[derive(Clone, Copy)]
+#[derive(Clone, Copy, Debug, PartialEq, Eq)]
 pub enum Made {
     Done(usize),
     Refused(u8),

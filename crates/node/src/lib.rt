@@ -8,7 +8,7 @@ ghost use Rattle.node.specs.Decoding.{node_of, node_at, kind_width};
 ghost use Rattle.node.specs.Wide.{wide_bytes};
 
 /// A node of a sheet: one variant a kind, 10 to 1D in order. Numbers of nodes, sections and variables are `usize`.
-#[derive(Clone, Copy)]
+#[derive(Clone, Copy, Debug, PartialEq, Eq)]
 pub enum Node {
     Var(usize),
     False,

@@ -17,7 +17,7 @@ pub const OUTPUT: usize = 2_048;
 
 /// What numbering gives: the length of the sheet in the one numbering, which is at the front of the output; a refusal's number; or 81, with
 /// the lowest node that is used twice.
-#[derive(Clone, Copy)]
+#[derive(Clone, Copy, Debug, PartialEq, Eq)]
 pub enum Numbered {
     Done(usize),
     Refused(u8),
@@ -25,7 +25,7 @@ pub enum Numbered {
 }
 
 // A list of nodes: `count` numbers, at the front of `nodes`.
-#[derive(Clone, Copy)]
+#[derive(Clone, Copy, Debug, PartialEq, Eq)]
 struct Nodes {
     count: usize,
     nodes: [u8; 256],

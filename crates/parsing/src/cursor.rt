@@ -4,7 +4,7 @@ ghost use Rattle.parsing.specs.Cursor.{fault_at, behind, entered};
 
 /// A place behind what was read, with the number of nodes met so far and the number read last (of a variable, a test, a section, a value, or the
 /// place of a name); or, where `code` is not 0, a fault: its number, its place and its detail.
-#[derive(Clone, Copy)]
+#[derive(Clone, Copy, Debug, PartialEq, Eq)]
 pub struct Cursor {
     pub at: usize,
     pub count: usize,

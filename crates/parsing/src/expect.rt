@@ -15,7 +15,7 @@ use crate::names::{is_name, is_same, is_word, lookup};
 use lexing::{HASH, Lexeme, WORD, class, next};
 
 /// The names in scope, `many` of them from `base` on; and the detail for a name that is none of them.
-#[derive(Clone, Copy)]
+#[derive(Clone, Copy, Debug, PartialEq, Eq)]
 pub struct Scope {
     pub base: usize,
     pub many: usize,

@@ -16,7 +16,7 @@ pub const OUTPUT: usize = 2_048;
 
 /// How many bytes the sheet has, at the front of the output; a refusal's number; or one that is met in the text, with how many bytes stand
 /// before it and what was expected.
-#[derive(Clone, Copy)]
+#[derive(Clone, Copy, Debug, PartialEq, Eq)]
 pub enum Reading {
     Done(usize),
     Refused(u8),

@@ -10,7 +10,7 @@ use report::{byte, bytes, decimal, place};
 
 /// How far names reach, and how deep a line stands: the number of variables in scope, whether the first is what was sent, and the blanks before
 /// a line.
-#[derive(Clone, Copy)]
+#[derive(Clone, Copy, Debug, PartialEq, Eq)]
 pub struct Scope {
     pub count: usize,
     pub sent: bool,

@@ -9,7 +9,7 @@ ghost use Rattle.report.specs.Writing.{Wrote};
 use sheet::Table;
 
 /// How a sheet is written anew: these nodes, `count` of them, at the front of `order`; and the new number of each node and of each section.
-#[derive(Clone, Copy)]
+#[derive(Clone, Copy, Debug, PartialEq, Eq)]
 pub struct Anew {
     pub count: usize,
     pub order: [u8; 256],

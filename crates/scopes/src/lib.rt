@@ -10,7 +10,7 @@ ghost use Rattle.scopes.specs.Scopes.{When, front_two, picked_two, added_two, pi
 use outcome::{done, refused};
 
 /// The variables in scope, at most rules::VARIABLES: where each one's bytes start, and how many they are less one.
-#[derive(Clone, Copy)]
+#[derive(Clone, Copy, Debug, PartialEq, Eq)]
 pub struct Scope {
     pub count: u16,
     pub starts: [u16; rules::VARIABLES],
@@ -18,7 +18,7 @@ pub struct Scope {
 }
 
 /// Where a value stands.
-#[derive(Clone, Copy)]
+#[derive(Clone, Copy, Debug, PartialEq, Eq)]
 pub struct Span {
     pub start: usize,
     pub len: usize,

@@ -9,7 +9,7 @@ ghost use Rattle.shapes.specs.Parts.{shape_of, middle_of, first_part, second_par
 use value::Read;
 
 // A value taken apart. A list with members and a pair hold the position where their second part starts.
-#[derive(Clone, Copy)]
+#[derive(Clone, Copy, Debug, PartialEq, Eq)]
 pub enum Shape {
     False,
     True,

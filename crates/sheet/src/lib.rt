@@ -11,7 +11,7 @@ use node::{byte_of, record_in_range, record_width};
 
 /// What reading a sheet gives. A refusal is its number and zeros. Otherwise `refusal` is 0, and `starts` has the
 /// place of each node's record, in file order, with zeros behind.
-#[derive(Clone, Copy)]
+#[derive(Clone, Copy, Debug, PartialEq, Eq)]
 pub struct Table {
     pub refusal: u8,
     pub k: usize,
@@ -80,7 +80,7 @@ pub fn part(kind: u8, i: u16) -> u8
 }
 
 /// The nodes that a record names, in body order: `count` numbers, at the front of `nodes`, with zeros behind them.
-#[derive(Clone, Copy)]
+#[derive(Clone, Copy, Debug, PartialEq, Eq)]
 pub struct Children {
     pub count: usize,
     pub nodes: [u8; 8],

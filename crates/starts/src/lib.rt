@@ -7,28 +7,28 @@ ghost use Rattle.starts.specs.NewPlan.{plan_of, grown_by};
 
 /// Where each value of a plan starts: `count` numbers, at the front of `at`. Those that this program gives have zeros behind them; those
 /// that a caller kept may be any numbers, and `find` judges them.
-#[derive(Clone, Copy)]
+#[derive(Clone, Copy, Debug, PartialEq, Eq)]
 pub struct Starts {
     pub count: u8,
     pub at: [u16; 16],
 }
 
 /// What loading gives: refusal 0 and the starts of the plan's values; or a refusal's number and no start.
-#[derive(Clone, Copy)]
+#[derive(Clone, Copy, Debug, PartialEq, Eq)]
 pub struct Loaded {
     pub refusal: u8,
     pub starts: Starts,
 }
 
 /// Where a value stands in its plan: from byte `start` on, up to the byte before `end`; or a refusal's number.
-#[derive(Clone, Copy)]
+#[derive(Clone, Copy, Debug, PartialEq, Eq)]
 pub enum Found {
     At { start: usize, end: usize },
     Refused(u8),
 }
 
 /// A plan that is put together value by value: how many bytes it has so far, and where its values start.
-#[derive(Clone, Copy)]
+#[derive(Clone, Copy, Debug, PartialEq, Eq)]
 pub struct NewPlan {
     pub len: usize,
     pub starts: Starts,

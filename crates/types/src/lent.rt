@@ -32,7 +32,7 @@ pub const NODES: usize = 41;
 pub const PAST: usize = 241;
 
 /// Where the types of all slots start, and behind them where the last one ends; not fine: 80.
-#[derive(Clone, Copy)]
+#[derive(Clone, Copy, Debug, PartialEq, Eq)]
 pub struct Lent {
     pub fine: bool,
     pub starts: [u16; 242],

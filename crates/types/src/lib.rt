@@ -15,7 +15,7 @@ use crate::lent::read_types;
 use crate::uses::first_used_twice;
 
 /// What the check says: the sheet passes; a refusal's number; or 81 or 82 with the lowest node that it is about.
-#[derive(Clone, Copy)]
+#[derive(Clone, Copy, Debug, PartialEq, Eq)]
 pub enum Checked {
     Passes,
     Refused(u8),
@@ -23,7 +23,7 @@ pub enum Checked {
 }
 
 /// The lowest node of which something holds.
-#[derive(Clone, Copy)]
+#[derive(Clone, Copy, Debug, PartialEq, Eq)]
 pub enum Lowest {
     At(usize),
     Nothing,

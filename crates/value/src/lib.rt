@@ -9,7 +9,7 @@ ghost use Rattle.value.specs.Result.{refusal};
 ghost use Rattle.value.specs.Spans.{next_of, spans, spans_of, view_code};
 
 // What the bytes begin with: a whole value and its length, or why none.
-#[derive(Clone, Copy)]
+#[derive(Clone, Copy, Debug, PartialEq, Eq)]
 pub enum Read {
     Whole(usize),
     Malformed,
@@ -179,7 +179,7 @@ fn wide(s: &[u8], room: usize) -> usize
 }
 
 // What stands where the next of several values should begin: its length, or why there is none.
-#[derive(Clone, Copy)]
+#[derive(Clone, Copy, Debug, PartialEq, Eq)]
 enum Next {
     Value(usize),
     Malformed,
@@ -202,7 +202,7 @@ fn next_value(s: &[u8]) -> Next
 }
 
 // Where the values of a plan stand: refusal 0, and the start and the length of each; or a refusal and zeros.
-#[derive(Clone, Copy)]
+#[derive(Clone, Copy, Debug, PartialEq, Eq)]
 pub struct Spans {
     pub refusal: u8,
     pub starts: [u16; 16],

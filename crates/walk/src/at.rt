@@ -10,7 +10,7 @@ use outcome::{len_of, start_of, steps_of};
 pub type Table = [u16; 200];
 
 /// The node that a walk is in: its number, the byte of the sheet at which its record starts, and its kind byte.
-#[derive(Clone, Copy)]
+#[derive(Clone, Copy, Debug, PartialEq, Eq)]
 pub struct Pos {
     pub node: usize,
     pub from: u16,
@@ -18,7 +18,7 @@ pub struct Pos {
 }
 
 /// Where a walk is: the levels and the steps that are left, the top of the stack, and the number of cells (a get has no use for them).
-#[derive(Clone, Copy)]
+#[derive(Clone, Copy, Debug, PartialEq, Eq)]
 pub struct At {
     pub levels: usize,
     pub left: usize,

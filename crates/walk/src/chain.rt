@@ -8,7 +8,7 @@ use outcome::{len_of, start_of};
 
 /// Where a refusal was met: how many nodes its chain has, which then stand from byte 65,487 of the arena on, the root first, none of a refusal
 /// from before the walk; and one more than the number of the node that wrote first, or 0.
-#[derive(Clone, Copy)]
+#[derive(Clone, Copy, Debug, PartialEq, Eq)]
 pub struct Met {
     pub depth: u8,
     pub first: u16,

@@ -41,14 +41,14 @@ use starts::{NewPlan, Starts};
 
 /// What a walk gives, and what a call answers: the length of the output and the steps taken, or a refusal's number in document 01's table. A
 /// walk leaves the output at the top of its stack, and a call moves it to its caller's buffer.
-#[derive(Clone, Copy)]
+#[derive(Clone, Copy, Debug, PartialEq, Eq)]
 pub enum Reply {
     Done { len: usize, steps: usize },
     Refused(u8),
 }
 
 /// What a get gives: the walk's answer, and where a refusal was met.
-#[derive(Clone, Copy)]
+#[derive(Clone, Copy, Debug, PartialEq, Eq)]
 pub struct GetWalked {
     pub walked: Reply,
     pub met: Met,
@@ -56,7 +56,7 @@ pub struct GetWalked {
 
 /// What a put gives: the walk's answer, where the values of the new plan start, which variables took a view, bit i for
 /// variable i, and where a refusal was met. With a refusal there is no start, and no bit is set.
-#[derive(Clone, Copy)]
+#[derive(Clone, Copy, Debug, PartialEq, Eq)]
 pub struct PutWalked {
     pub walked: Reply,
     pub starts: Starts,

@@ -54,7 +54,7 @@ type Slots = [u16; rules::VARIABLES];
 type Cells = [u8; rules::VARIABLES];
 
 /// A branch that adds no variables: its node, the subject's, and the byte that the subject then is.
-#[derive(Clone, Copy)]
+#[derive(Clone, Copy, Debug, PartialEq, Eq)]
 pub struct Plain {
     pub branch: usize,
     pub subject: usize,
@@ -63,7 +63,7 @@ pub struct Plain {
 
 /// A branch that adds two variables: its node and the subject's, the byte that the subject begins with, 3 for a list and 5 for a pair; and its two
 /// parts, which stand one after the other: where the first starts, and how long each is.
-#[derive(Clone, Copy)]
+#[derive(Clone, Copy, Debug, PartialEq, Eq)]
 pub struct Parts {
     pub kind: u8,
     pub branch: usize,
@@ -75,7 +75,7 @@ pub struct Parts {
 
 /// What each (1C) goes by from member to member: the subject's node, the caller's variable, the section's root, the default's node, and where
 /// the old members that are left stand, as a list.
-#[derive(Clone, Copy)]
+#[derive(Clone, Copy, Debug, PartialEq, Eq)]
 pub struct Members {
     pub subject: usize,
     pub x: usize,
@@ -85,7 +85,7 @@ pub struct Members {
 }
 
 /// The next member of an each: by what it goes, how many bytes of the new list are built, and where the walk is.
-#[derive(Clone, Copy)]
+#[derive(Clone, Copy, Debug, PartialEq, Eq)]
 pub struct Turn {
     pub by: Members,
     pub built: usize,
