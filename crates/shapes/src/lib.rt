@@ -2,11 +2,11 @@
 //! docs/SHEETS.md, "Values" and "Tests").
 #![tactic(auto)]
 
-ghost use Rattle.std.specs.Prelude.{◌≡◌};
+ghost use Rattle.std.specs.Prelude.{◌≡◌, ◌-◌, length, take, drop, leb};
 ghost use Rattle.shapes.specs.Needs.{Enough};
-ghost use Rattle.shapes.specs.Parts.{shape_of, middle_of, first_part, second_part, kind_at, rest_kind, passes_bytes, same_bytes};
+ghost use Rattle.shapes.specs.Parts.{shape_of, middle_of, first_part, second_part, part_where, kind_at, rest_kind, passes_bytes, same_bytes};
 
-// A value taken apart. A list with members and a pair hold the position where their second part starts.
+/// A value taken apart. A list with members and a pair hold the position where their second part starts.
 #[derive(Clone, Copy, Debug, PartialEq, Eq)]
 pub enum Shape {
     False,
@@ -19,7 +19,7 @@ pub enum Shape {
     Malformed,
 }
 
-// The shape of the value that the bytes begin with; of a second part nothing is read.
+/// The shape of the value that the bytes begin with; of a second part nothing is read.
 pub fn shape_of(v: &[u8]) -> Shape
     ensures { result ≡ shape_of v.now }
 {
@@ -66,21 +66,29 @@ pub fn middle(v: &[u8]) -> Option<usize>
     }
 }
 
-// The first part of a value whose second part starts at `at`.
+// The bytes from `from` up to `to`; none where that is out of range.
+fn part(v: &[u8], from: usize, to: usize) -> &[u8]
+    ensures { result.now ≡ part_where (leb to (length v.now)) (take (to - from) (drop from v.now)) }
+{
+    if from <= to && to <= v.len() {
+        &v[from..to]
+    } else {
+        &v[..0]
+    }
+}
+
+/// The first part of a value whose second part starts at `at`; no byte where `at` is 0 or out of range.
 pub fn first_part(v: &[u8], at: usize) -> &[u8]
     ensures { result.now ≡ first_part v.now at }
 {
-    if at == 0 {
-        return &v[..0];
-    }
-    if at <= v.len() { &v[1..at] } else { &v[..0] }
+    part(v, 1, at)
 }
 
-// The second part of a value, which starts at `at`.
+/// The second part of a value, which starts at `at`; no byte where `at` is out of range.
 pub fn second_part(v: &[u8], at: usize) -> &[u8]
     ensures { result.now ≡ second_part v.now at }
 {
-    if at <= v.len() { &v[at..] } else { &v[..0] }
+    part(v, at, v.len())
 }
 
 // The byte at `at`; 255, which is no kind, where none is.
@@ -103,8 +111,8 @@ fn rest_kind(v: &[u8]) -> u8
     }
 }
 
-// Whether a test says yes to a value: 0 anything, 1 empty list, 2 list with members, 3 False, 4 True, 5 exactly one
-// member, 6 two or more. Tests 1 to 4 read the kind byte, 5 and 6 of a list with members also the first and the byte that follows it.
+/// Whether a test says yes to a value: 0 anything, 1 empty list, 2 list with members, 3 False, 4 True, 5 exactly one
+/// member, 6 two or more. Tests 1 to 4 read the kind byte, 5 and 6 of a list with members also the first and the byte that follows it.
 pub fn passes(test: u8, v: &[u8]) -> bool
     ensures value { result ≡ passes_bytes test v.now }
     ensures enough { Enough test v.now result }
@@ -121,20 +129,9 @@ pub fn passes(test: u8, v: &[u8]) -> bool
     }
 }
 
-// Whether two values are the same: equal values are equal bytes.
+/// Whether two values are the same: equal values are equal bytes.
 pub fn same(a: &[u8], b: &[u8]) -> bool
     ensures { result ≡ same_bytes a.now b.now }
 {
-    if a.len() != b.len() {
-        return false;
-    }
-    let mut equal = true;
-    let mut i = 0;
-    while i < a.len() {
-        if a[i] != b[i] {
-            equal = false;
-        }
-        i += 1;
-    }
-    equal
+    a == b
 }
