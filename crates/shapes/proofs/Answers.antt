@@ -1,5 +1,7 @@
 -- What the code's tests say of the definitions of `Parts`: a lemma for each way to answer.
-use Rattle.std.specs.Prelude.{◌≡◌, refl, Some, None, Ok, Err, Bool, true, ◌&&◌, ◌⊎◌, List, [], ◌∷◌, ℕ, zero, suc, ◌+◌, ◌-◌, ◌*◌, ◌≤◌, ◌<◌, eqb, leb, length, take}
+use Rattle.std.specs.Option.{option_eq}
+use borrow.Author.Tests.{eqb-true, eq-eqb, ne_eqb}
+use Rattle.std.specs.Prelude.{◌≡◌, refl, not, unwrap_or, Option, Some, None, Ok, Err, Bool, true, ◌&&◌, ◌⊎◌, List, [], ◌∷◌, ℕ, zero, suc, ◌+◌, ◌-◌, ◌*◌, ◌≤◌, ◌<◌, eqb, leb, length, take}
 use Rattle.std.proofs.Math.Path.{sym, ap}
 use Rattle.std.proofs.Common.{◌∙◌, inl, inr, ⊎_elim, arith, le-leb}
 use Rattle.std.proofs.Math.Bool.{false}
@@ -166,11 +168,21 @@ same_pointwise [] (y ∷ b) = refl
 same_pointwise (x ∷ a) [] = refl
 same_pointwise (x ∷ a) (y ∷ b) = rw (same_pointwise a b) (and_both (eqb x y) (same_bytes a b))
 
--- kind_at
-pub kind_there : (v : List ℕ) (at : ℕ) → at < length v → get_or v at 0 ≡ kind_at v at
-kind_there [] at h = absurd (omega arith)
-kind_there (b ∷ v) zero h = refl
-kind_there (b ∷ v) (suc at) h = kind_there v at (omega arith)
+-- kind_at: a byte is told from one that is not there
+pub kind_is : (o : Option ℕ) {k : ℕ} (n : ℕ) → n < 255 → unwrap_or o 255 ≡ k → option_eq eqb o (Some n) ≡ eqb k n
+kind_is (Some x) n h e = rw e
+kind_is None n h e = rw (← e) (sym (ne_eqb 255 n (λ z. omega arith)))
+
+module _ (o : Option ℕ) {k : ℕ} (e : unwrap_or o 255 ≡ k) where
+  pub is_three : false ≡ not (option_eq eqb o (Some 3)) → k ≡ 3
+  is_three h = go (eqb k 3) refl (h ∙ ap not (kind_is o 3 (omega arith) e))
+    where
+      go : (b : Bool) → eqb k 3 ≡ b → false ≡ not b → k ≡ 3
+      go true q z = eqb-true k 3 q
+      go false q z = absurd (cc)
+
+  pub no_three : true ≡ not (option_eq eqb o (Some 3)) → k ≡ 3 → ⊥
+  no_three h z = let q : true ≡ false = h ∙ ap not (kind_is o 3 (omega arith) e ∙ eq-eqb k 3 z) in absurd (cc)
 
 -- rest_kind: a list with members whose first is refused, and one whose first is read
 front_there : (v : List ℕ) → kind_at v 0 ≡ 3 → (length v ≡ 0 → ⊥) × (get_or v 0 0 ≡ 3)

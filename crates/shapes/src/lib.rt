@@ -2,7 +2,7 @@
 //! docs/SHEETS.md, "Values" and "Tests").
 #![tactic(auto)]
 
-ghost use Rattle.std.specs.Prelude.{◌≡◌, ◌-◌, length, take, drop, leb};
+ghost use Rattle.std.specs.Prelude.{◌≡◌, ◌-◌, length, take, drop, leb, unwrap_or};
 ghost use Rattle.shapes.specs.Needs.{Enough};
 ghost use Rattle.shapes.specs.Parts.{shape_of, middle_of, first_part, second_part, part_where, kind_at, rest_kind, passes_bytes, same_bytes};
 
@@ -91,24 +91,21 @@ pub fn second_part(v: &[u8], at: usize) -> &[u8]
     part(v, at, v.len())
 }
 
-// The byte at `at`; 255, which is no kind, where none is.
-fn kind_at(v: &[u8], at: usize) -> u8
-    ensures { result ≡ kind_at v.now at }
+// The byte at `at`; `None` where none is.
+fn kind_at(v: &[u8], at: usize) -> Option<u8>
+    ensures { unwrap_or result 255 ≡ kind_at v.now at }
 {
-    if at < v.len() { v[at] } else { 255 }
+    v.get(at).copied()
 }
 
-// The kind byte of a list's rest: the byte that follows the first member. Nothing behind it is read; 255 where it is not there.
-fn rest_kind(v: &[u8]) -> u8
-    ensures { result ≡ rest_kind v.now }
+// The kind byte of a list's rest: the byte that follows the first member. Nothing behind it is read; `None` where it is not there.
+fn rest_kind(v: &[u8]) -> Option<u8>
+    ensures { unwrap_or result 255 ≡ rest_kind v.now }
 {
-    if kind_at(v, 0) != 3 {
-        return 255;
+    if kind_at(v, 0) != Some(3) {
+        return None;
     }
-    match middle(v) {
-        Some(rest) => kind_at(v, rest),
-        None => 255,
-    }
+    kind_at(v, middle(v)?)
 }
 
 /// Whether a test says yes to a value: 0 anything, 1 empty list, 2 list with members, 3 False, 4 True, 5 exactly one
@@ -119,12 +116,12 @@ pub fn passes(test: u8, v: &[u8]) -> bool
 {
     match test {
         0 => true,
-        1 => kind_at(v, 0) == 2,
-        2 => kind_at(v, 0) == 3,
-        3 => kind_at(v, 0) == 0,
-        4 => kind_at(v, 0) == 1,
-        5 => rest_kind(v) == 2,
-        6 => rest_kind(v) == 3,
+        1 => kind_at(v, 0) == Some(2),
+        2 => kind_at(v, 0) == Some(3),
+        3 => kind_at(v, 0) == Some(0),
+        4 => kind_at(v, 0) == Some(1),
+        5 => rest_kind(v) == Some(2),
+        6 => rest_kind(v) == Some(3),
         _ => false,
     }
 }
