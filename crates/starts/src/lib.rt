@@ -65,9 +65,8 @@ fn is_proper(starts: Starts, len: usize) -> bool
         return false;
     }
     let mut low = 0;
-    let mut i = 0;
-    while i < starts.count as usize {
-        let start = starts.at[i] as usize;
+    for start in &starts.at[..usize::from(starts.count)] {
+        let start = usize::from(*start);
         if start < low {
             return false;
         }
@@ -75,7 +74,6 @@ fn is_proper(starts: Starts, len: usize) -> bool
             return false;
         }
         low = start + 1;
-        i += 1;
     }
     true
 }
@@ -88,15 +86,15 @@ pub fn find(starts: Starts, len: usize, variable: usize) -> Result<Place, Refusa
     if !is_proper(starts, len) {
         return Err(Refusal::Starts);
     }
-    let count = starts.count as usize;
+    let count = usize::from(starts.count);
     if count <= variable {
         return Err(Refusal::Variable);
     }
-    let start = starts.at[variable] as usize;
+    let start = usize::from(starts.at[variable]);
     if variable + 1 == count {
         return Ok(Place { start, end: len });
     }
-    let end = starts.at[variable + 1] as usize;
+    let end = usize::from(starts.at[variable + 1]);
     Ok(Place { start, end })
 }
 
