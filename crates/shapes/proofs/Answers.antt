@@ -1,7 +1,8 @@
 -- What the code's tests say of the definitions of `Parts`: a lemma for each way to answer.
 use Rattle.std.specs.Option.{option_eq}
 use borrow.Author.Tests.{eqb-true, eq-eqb, ne_eqb}
-use Rattle.std.specs.Prelude.{◌≡◌, refl, not, unwrap_or, Option, Some, None, Ok, Err, Bool, true, ◌&&◌, ◌⊎◌, List, [], ◌∷◌, ℕ, zero, suc, ◌+◌, ◌-◌, ◌*◌, ◌≤◌, ◌<◌, eqb, leb, length, take}
+use Rattle.std.specs.Prelude.{◌≡◌, refl, not, unwrap_or, Option, Some, None, Ok, Err}
+use Rattle.std.specs.Prelude.{Bool, true, ◌&&◌, ◌⊎◌, List, [], ◌∷◌, ℕ, zero, suc, ◌+◌, ◌-◌, ◌*◌, ◌≤◌, ◌<◌, eqb, leb, length, take}
 use Rattle.std.proofs.Math.Path.{sym, ap}
 use Rattle.std.proofs.Common.{◌∙◌, inl, inr, ⊎_elim, arith, le-leb}
 use Rattle.std.proofs.Math.Bool.{false}
@@ -17,7 +18,8 @@ use Rattle.value.specs.Reader.{Read, outcome, from}
 use Rattle.value.proofs.Reader.{from-drop}
 use Rattle.shapes.specs.Needs.{Enough}
 use Rattle.shapes.proofs.TestsLaws.{passes_enough}
-use Rattle.shapes.specs.Parts.{behind, number_in, shape_as, shape_of, middle_of, part_where, kind_at, kind_behind, rest_kind, by_kinds, passes_bytes, both, same_bytes}
+use Rattle.shapes.specs.Parts.{behind, number_in, shape_as, shape_of, middle_of, part_where}
+use Rattle.shapes.specs.Parts.{kind_at, kind_behind, rest_kind, by_kinds, passes_bytes, both, same_bytes}
 use Rattle.shapes.specs.declared.Shape.{Shape}
 use Rattle.shapes.specs.declared.Shape.TheVariants.{Front, Number, Pair, Malformed}
 
