@@ -64,7 +64,8 @@ pub enum Node {
 // The bytes of a node record, the kind byte with them: kinds 10 to 1D in order.
 const WIDTHS: [u8; 14] = [2, 1, 1, 1, 3, 3, 3, 8, 6, 3, 4, 4, 5, 5];
 
-/// The bytes of a node record of this kind; 0 where no node has the kind.
+/// The bytes of a node record of this kind; 0 where no node has the kind. It is 0 and no `None`, since all callers but one go on with it: such a
+/// record has no byte.
 pub fn record_width(kind: u8) -> usize
     ensures { result ≡ kind_width kind }
 {
@@ -156,7 +157,8 @@ fn each(r: &[u8]) -> Node
     }
 }
 
-// The node whose whole record these bytes begin with; `False` where no node has the kind.
+// The node whose whole record these bytes begin with; `False` where no node has the kind, as the contract of `node_at` has it. The kind is told
+// by its byte, as document 01 asks.
 fn decode(r: &[u8]) -> Node
     requires { (1 ≤ length r.now) × (kind_width (get_or r.now 0 0) ≤ length r.now) }
     ensures { result ≡ node_of r.now }

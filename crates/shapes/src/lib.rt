@@ -19,7 +19,7 @@ pub enum Shape {
     Malformed,
 }
 
-/// The shape of the value that the bytes begin with; of a second part nothing is read.
+/// The shape of the value that the bytes begin with; of a second part nothing is read. The kind is told by its byte, as document 01 asks.
 pub fn shape_of(v: &[u8]) -> Shape
     ensures { result ≡ shape_of v.now }
 {
@@ -108,8 +108,9 @@ fn rest_kind(v: &[u8]) -> Option<u8>
     kind_at(v, middle(v)?)
 }
 
-/// Whether a test says yes to a value: 0 anything, 1 empty list, 2 list with members, 3 False, 4 True, 5 exactly one
-/// member, 6 two or more. Tests 1 to 4 read the kind byte, 5 and 6 of a list with members also the first and the byte that follows it.
+/// Whether a test says yes to a value: 0 anything, 1 empty list, 2 list with members, 3 False, 4 True, 5 exactly one member, 6 two or more; no
+/// other number is a test. Tests 1 to 4 read the kind byte, 5 and 6 of a list with members also the first and the byte that follows it. Tests
+/// are told by their numbers, as document 01 asks.
 pub fn passes(test: u8, v: &[u8]) -> bool
     ensures value { result ≡ passes_bytes test v.now }
     ensures enough { Enough test v.now result }

@@ -12,7 +12,7 @@ use node::{byte_of, record_in_range, record_width};
 use refusal::Refusal;
 
 /// What reading a sheet gives: how many variables its plan has, its root node, how many sections and nodes it has, and the byte where each
-/// node's record starts, in file order, with zeros behind.
+/// node's record starts, in file order, with zeros behind. It is an array with a count, since the core has no heap.
 #[derive(Clone, Copy, Debug, PartialEq, Eq)]
 pub struct Table {
     pub k: usize,
@@ -62,7 +62,8 @@ pub fn part(kind: u8, i: u16) -> u8
     ((parts >> (4 * u32::from(i))) % 16) as u8
 }
 
-/// The nodes that a record names, in body order: `count` numbers, at the front of `nodes`, with zeros behind them.
+/// The nodes that a record names, in body order: `count` numbers, at the front of `nodes`, with zeros behind them. It is an array with a count,
+/// since the core has no heap.
 #[derive(Clone, Copy, Debug, PartialEq, Eq)]
 pub struct Children {
     pub count: usize,
@@ -104,7 +105,8 @@ pub fn children_at(s: &[u8], at: u16) -> Children
     c
 }
 
-/// The root of section `i`; 0 where the sheet ends before it.
+/// The root of section `i`; 0 where the sheet ends before it. It is 0 and no `None`, since callers ask for sections of a sheet that was read, and
+/// those are there.
 pub fn section_root(s: &[u8], i: usize) -> usize
     ensures { result ≡ section_at s.now i }
 {

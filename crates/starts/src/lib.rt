@@ -9,7 +9,7 @@ ghost use Rattle.starts.specs.NewPlan.{plan_of, grown_by};
 use refusal::Refusal;
 
 /// Where each value of a plan starts: `count` numbers, at the front of `at`. Those that this program gives have zeros behind them; those
-/// that a caller kept may be any numbers, and `find` judges them.
+/// that a caller kept may be any numbers, and `find` judges them. It is an array with a count, since C lends it so.
 #[derive(Clone, Copy, Debug, PartialEq, Eq)]
 pub struct Starts {
     pub count: u8,
@@ -98,7 +98,7 @@ pub fn find(starts: Starts, len: usize, variable: usize) -> Result<Place, Refusa
     Ok(Place { start, end })
 }
 
-/// The value of a variable, as the part of the plan's own bytes; the empty part, which no value is, where `find` refuses.
+/// The value of a variable, as the part of the plan's own bytes; the empty part, which no value is, where `find` refuses. `find` tells which refusal.
 pub fn part(starts: Starts, plan: &[u8], variable: usize) -> &[u8]
     ensures { result.now ≡ part_of (find_of starts (length plan.now) variable) plan.now }
 {
@@ -109,7 +109,8 @@ pub fn part(starts: Starts, plan: &[u8], variable: usize) -> &[u8]
 }
 
 /// A plan that has `count` values gets one of n bytes more, which starts at byte `start`, where the others end. Its start is written to `at`, and the
-/// answer is where it ends. Nothing changes, and the answer is `start`, where there are 16 values, or would be over 65,535 bytes.
+/// answer is where it ends. Nothing changes, and the answer is `start`, where there are 16 values, or would be over 65,535 bytes; it is no `None`,
+/// since the one caller has fewer of both, and goes on with where its next value starts.
 pub fn grow(at: &mut [u16; 16], count: usize, start: usize, n: usize) -> usize
     ensures value { result ≡ (grown_by (plan_of count at.old start) n).len }
     ensures at_after { at.new ≡ (grown_by (plan_of count at.old start) n).starts.at }

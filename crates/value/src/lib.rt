@@ -28,7 +28,8 @@ pub fn read_value(s: &[u8]) -> Result<usize, Fault>
     value(s, MOST)
 }
 
-// A value of any kind, of at most `room` bytes. A pair owes two values in place of one.
+// A value of any kind, of at most `room` bytes. A pair owes two values in place of one. Kinds are told by their bytes, as document 01's table has
+// them: each is met in one place, where an enum would only name it again.
 #[cycle(list_part_value)]
 fn value(s: &[u8], room: usize) -> Result<usize, Fault>
     requires { room ≤ 256 }
@@ -140,7 +141,7 @@ fn next_value(s: &[u8]) -> Option<Result<usize, Fault>>
 }
 
 /// Where the values of a plan stand: the start and the length of each, in bytes, with zeros behind the last. They are two arrays, since the
-/// starts are handed on whole (crate `starts`), as C lends them.
+/// starts are handed on whole (crate `starts`), as C lends them; and of 16, since the core has no heap.
 #[derive(Clone, Copy, Debug, PartialEq, Eq)]
 pub struct Spans {
     pub starts: [u16; 16],
