@@ -78,6 +78,7 @@ fn part(v: &[u8], from: usize, to: usize) -> &[u8]
 }
 
 /// The first part of a value whose second part starts at `at`; no byte where `at` is 0 or out of range.
+#[tactic(auto, unfolding(crate::specs::Parts::first_part))]
 pub fn first_part(v: &[u8], at: usize) -> &[u8]
     ensures { result.now ≡ first_part v.now at }
 {

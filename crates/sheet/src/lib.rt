@@ -71,6 +71,7 @@ pub struct Children {
 }
 
 // With one byte more of a record, where that is a node's number.
+#[tactic(auto, unfolding(crate::specs::Parts::with_node))]
 fn with_node(c: Children, part: u8, b: u8) -> Children
     ensures { result ≡ with_node c part b }
 {
@@ -107,6 +108,7 @@ pub fn children_at(s: &[u8], at: u16) -> Children
 
 /// The root of section `i`; 0 where the sheet ends before it. It is 0 and no `None`, since callers ask for sections of a sheet that was read, and
 /// those are there.
+#[tactic(auto, unfolding(crate::specs::Table::section_at))]
 pub fn section_root(s: &[u8], i: usize) -> usize
     ensures { result ≡ section_at s.now i }
 {

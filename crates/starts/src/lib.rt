@@ -31,6 +31,7 @@ pub struct NewPlan {
 }
 
 /// No start: what stands where a call is refused.
+#[tactic(auto, unfolding(crate::specs::Starts::no_starts))]
 pub fn none() -> Starts
     ensures { result ≡ no_starts }
 {
