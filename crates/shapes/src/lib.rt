@@ -67,6 +67,7 @@ pub fn middle(v: &[u8]) -> Option<usize>
 }
 
 // The bytes from `from` up to `to`; none where that is out of range.
+#[tactic(auto, using(crate::proofs::Answers::no_part), unfolding(crate::specs::Parts::part_where))]
 fn part(v: &[u8], from: usize, to: usize) -> &[u8]
     ensures { result.now ≡ part_where (leb to (length v.now)) (take (to - from) (drop from v.now)) }
 {
@@ -86,6 +87,7 @@ pub fn first_part(v: &[u8], at: usize) -> &[u8]
 }
 
 /// The second part of a value, which starts at `at`; no byte where `at` is out of range.
+#[tactic(auto, using(crate::proofs::Answers::part_to_end))]
 pub fn second_part(v: &[u8], at: usize) -> &[u8]
     ensures { result.now ≡ second_part v.now at }
 {
@@ -129,6 +131,7 @@ pub fn passes(test: u8, v: &[u8]) -> bool
 }
 
 /// Whether two values are the same: equal values are equal bytes.
+#[tactic(auto, using(crate::proofs::Answers::same_pointwise))]
 pub fn same(a: &[u8], b: &[u8]) -> bool
     ensures { result ≡ same_bytes a.now b.now }
 {

@@ -112,6 +112,7 @@ pub fn part(starts: Starts, plan: &[u8], variable: usize) -> &[u8]
 /// A plan that has `count` values gets one of n bytes more, which starts at byte `start`, where the others end. Its start is written to `at`, and the
 /// answer is where it ends. Nothing changes, and the answer is `start`, where there are 16 values, or would be over 65,535 bytes; it is no `None`,
 /// since the one caller has fewer of both, and goes on with where its next value starts.
+#[tactic(auto, unfolding(crate::specs::NewPlan::grown_by))]
 pub fn grow(at: &mut [u16; 16], count: usize, start: usize, n: usize) -> usize
     ensures value { result ≡ (grown_by (plan_of count at.old start) n).len }
     ensures at_after { at.new ≡ (grown_by (plan_of count at.old start) n).starts.at }

@@ -131,6 +131,7 @@ fn number_of<const WIDTH: usize>(s: &[u8], room: usize) -> Result<usize, Fault>
 }
 
 // The next of several values; `None` where the bytes end.
+#[tactic(auto, using(crate::proofs::Progress::next_none, crate::proofs::Progress::next_some))]
 fn next_value(s: &[u8]) -> Option<Result<usize, Fault>>
     ensures { result ≡ next_of s.now }
 {
