@@ -11,7 +11,8 @@ ghost use Rattle.arena.specs.Chain.{in_chain, chained, left_as};
 ghost use Rattle.arena.specs.Bits.{filled, filled_from};
 ghost use Rattle.arena.specs.Door.{shut};
 
-use outcome::{deeper, done, is_refused, later, refused};
+use outcome::Answer;
+use refusal::Refusal;
 
 /// What a walk refuses before it reads anything, 0 for nothing: 2 too little scratch, 3 an allowance of 0 or one that is too large.
 pub fn door(scratch: usize, allowance: usize) -> u8
@@ -37,7 +38,7 @@ pub fn write(
     c: usize,
     node: usize,
     view: &[u8],
-) -> usize
+) -> Answer
     ensures when { When (Takes arena.old c node view.now) result
         (write_answer arena.old slots.old c view.now) 42 }
     ensures when_2 { When (Takes arena.old c node view.now) arena.new
@@ -46,27 +47,27 @@ pub fn write(
         (written_notes slots.old c node view.now) slots.old }
 {
     if rules::VARIABLES <= c {
-        return refused(42);
+        return Answer::refused(Refusal::Scope);
     }
     let slot = scopes::slot_of(c);
     if arena.len() < slot + rules::SLOT {
-        return refused(42);
+        return Answer::refused(Refusal::Scope);
     }
     if 254 < node {
-        return refused(42);
+        return Answer::refused(Refusal::Scope);
     }
     let len = view.len();
     if len == 0 {
-        return refused(42);
+        return Answer::refused(Refusal::Scope);
     }
     if rules::SLOT < len {
-        return refused(42);
+        return Answer::refused(Refusal::Scope);
     }
     let note = slots[c];
     if note == 0 {
         scopes::store(arena, slot, view);
         slots[c] = scopes::note_of(node as u8, len);
-        return done(0, 0, 0);
+        return Answer::done(0, 0, 0);
     }
     let end = slot + scopes::noted_len(note);
     decisions::put_again(note, &arena[slot..end], view)
@@ -87,15 +88,15 @@ fn name(arena: &mut [u8], node: usize, levels: usize)
 }
 
 /// The answer of a node that was entered with so many levels left, or was refused entry: a step more; or, of a refusal, one node more.
-pub fn leave(arena: &mut [u8], answer: usize, node: usize, levels: usize) -> usize
+pub fn leave(arena: &mut [u8], answer: Answer, node: usize, levels: usize) -> Answer
     ensures value { result ≡ left_as answer }
     ensures arena_after { arena.new ≡ chained arena.old answer node levels }
 {
-    if is_refused(answer) {
+    if answer.is_refused() {
         name(arena, node, levels);
-        return deeper(answer);
+        return answer.deeper();
     }
-    later(answer, 1)
+    answer.later(1)
 }
 
 // The bit of a cell with this note: a note of 0 is that of a slot to which nothing was written.

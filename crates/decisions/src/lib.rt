@@ -3,11 +3,12 @@
 #![tactic(auto)]
 
 ghost use Rattle.std.specs.Prelude.{◌≡◌, [], ◌∷◌, ◌+◌, ◌/◌, ◌%◌, ltb};
+ghost use Rattle.refusal.specs.Refusal.{number_of};
 ghost use Rattle.shapes.specs.Parts.{passes_bytes, same_bytes};
 ghost use Rattle.outcome.specs.Outcome.{refused_by};
 ghost use Rattle.scopes.specs.Scopes.{noted_by};
 ghost use Rattle.decisions.specs.Decisions.{
-  entry_refusal,
+  Enters,
   fits_kind,
   fit_of,
   other_of,
@@ -21,7 +22,8 @@ ghost use Rattle.decisions.specs.Decisions.{
   fronted_as,
 };
 
-use outcome::{done, is_refused, len_of, refused, refused_by, steps_of};
+use outcome::Answer;
+use refusal::Refusal;
 use shapes::Shape;
 
 /// A branch of a case: one without variables, by the byte of the case's record that has its node, and the one byte of the subject that it
@@ -32,7 +34,7 @@ pub enum Branch {
     Plain(u16, u8),
     Parts(u16, usize),
     Switch,
-    Refused(u8),
+    Refused(Refusal),
 }
 
 /// A view of two parts: where the second starts; or another view.
@@ -42,17 +44,17 @@ pub enum Apart {
     Other,
 }
 
-/// What entering a node is refused with: 40 where no level is left, then 41 where no step is; 0 where it may be entered.
-pub fn entry(levels: usize, left: usize) -> u8
-    ensures { result ≡ entry_refusal levels left }
+/// Whether a node may be entered: refused as too deep where no level is left, then as spent where no step is.
+pub fn entry(levels: usize, left: usize) -> Result<(), Refusal>
+    ensures { Enters levels left result }
 {
     if levels == 0 {
-        return 40;
+        return Err(Refusal::Depth);
     }
     if left == 0 {
-        return 41;
+        return Err(Refusal::Spent);
     }
-    0
+    Ok(())
 }
 
 // The branch, where the case is of that kind.
@@ -62,7 +64,7 @@ fn on(kind: u8, is: u8, branch: Branch) -> Branch
     if kind == is {
         return branch;
     }
-    Branch::Refused(43)
+    Branch::Refused(Refusal::ValueKind)
 }
 
 /// The branch of a case (17, 18 or 19) that its subject fits; 43 where it fits none.
@@ -75,7 +77,7 @@ pub fn fits(kind: u8, subject: Shape) -> Branch
         Shape::False => on(kind, 0x18, Branch::Plain(2, 0)),
         Shape::True => on(kind, 0x18, Branch::Plain(4, 1)),
         Shape::Pair(mid) => on(kind, 0x19, Branch::Parts(2, mid)),
-        _ => Branch::Refused(43),
+        _ => Branch::Refused(Refusal::ValueKind),
     }
 }
 
@@ -99,7 +101,7 @@ fn choose(kept: Branch, other: Branch, kept_test: u8, other_test: u8, view: &[u8
     if shapes::passes(other_test, view) {
         return other;
     }
-    Branch::Refused(53)
+    Branch::Refused(Refusal::NoBranch)
 }
 
 /// The branch of a case that a view takes, where its old subject has that shape: the one that the subject fits where its test says yes, or else
@@ -139,7 +141,7 @@ pub fn takes(kind: u8, subject: Shape, first_test: u8, second_test: u8, view: &[
                 view,
             )
         }
-        _ => Branch::Refused(43),
+        _ => Branch::Refused(Refusal::ValueKind),
     }
 }
 
@@ -178,46 +180,46 @@ pub fn made(kind: u8) -> u8
 }
 
 // No step of its own, where two values are the same; or else a refusal.
-fn judge(code: u8, a: &[u8], b: &[u8]) -> usize
-    ensures { result ≡ judged code (same_bytes a.now b.now) }
+fn judge(refusal: Refusal, a: &[u8], b: &[u8]) -> Answer
+    ensures { result ≡ judged (number_of refusal) (same_bytes a.now b.now) }
 {
     if shapes::same(a, b) {
-        return done(0, 0, 0);
+        return Answer::done(0, 0, 0);
     }
-    refused(code)
+    Answer::refused(refusal)
 }
 
 /// A second view for a written variable must equal the first, which its slot's note has the writer of.
-pub fn put_again(note: u16, written: &[u8], view: &[u8]) -> usize
+pub fn put_again(note: u16, written: &[u8], view: &[u8]) -> Answer
     ensures { result ≡ judged (refused_by 54 (noted_by note)) (same_bytes written.now view.now) }
 {
     if shapes::same(written, view) {
-        return done(0, 0, 0);
+        return Answer::done(0, 0, 0);
     }
-    refused_by(54, scopes::noted_by(note))
+    Answer::refused_by(Refusal::Clash, scopes::noted_by(note))
 }
 
 /// A view for a constant of one byte, its kind, must equal it.
-pub fn put_constant(kind: u8, view: &[u8]) -> usize
+pub fn put_constant(kind: u8, view: &[u8]) -> Answer
     ensures { result ≡ judged 50 (same_bytes view.now (kind ∷ [])) }
 {
     let constant = [kind];
-    judge(50, view, &constant)
+    judge(Refusal::Constant, view, &constant)
 }
 
 /// A view for a constant number must equal it.
-pub fn put_number(n: u16, view: &[u8]) -> usize
+pub fn put_number(n: u16, view: &[u8]) -> Answer
     ensures { result ≡ judged 50 (same_bytes view.now (4 ∷ n / 256 ∷ n % 256 ∷ [])) }
 {
     let constant = [4, value::high(n), value::low(n)];
-    judge(50, view, &constant)
+    judge(Refusal::Constant, view, &constant)
 }
 
 /// A view for a constant of these bytes must equal it.
-pub fn put_bytes(constant: &[u8], view: &[u8]) -> usize
+pub fn put_bytes(constant: &[u8], view: &[u8]) -> Answer
     ensures { result ≡ judged 50 (same_bytes view.now constant.now) }
 {
-    judge(50, view, constant)
+    judge(Refusal::Constant, view, constant)
 }
 
 /// Whether the rest of a rebuilt list (kind 3) is no list, by the kind bytes of both.
@@ -247,15 +249,15 @@ pub fn overlong(built: usize, size: usize) -> bool
 }
 
 /// A member that was got, behind its 03 at `top`, in a list of `built` bytes so far; 44 where the list is then too long.
-pub fn fronted(got: usize, built: usize, top: usize) -> usize
+pub fn fronted(got: Answer, built: usize, top: usize) -> Answer
     ensures { result ≡ fronted_as got built top }
 {
-    if is_refused(got) {
+    if got.is_refused() {
         return got;
     }
-    let size = 1 + len_of(got);
+    let size = 1 + got.len();
     if overlong(built, size) {
-        return refused(44);
+        return Answer::refused(Refusal::ValueLong);
     }
-    done(top, size, steps_of(got))
+    Answer::done(top, size, got.steps())
 }

@@ -7,7 +7,8 @@ ghost use Rattle.outcome.specs.Outcome.{done_as};
 ghost use Rattle.rules.specs.Numbers.{variable_limit};
 ghost use Rattle.scopes.specs.Scopes.{When, front_two, picked_two, added_two, picked, in_room, nowhere, note_of, noted_len, noted_by, slot_of, place_of};
 
-use outcome::{done, refused};
+use outcome::Answer;
+use refusal::Refusal;
 
 /// The variables in scope, at most rules::VARIABLES: where each one's bytes start, and how many they are less one.
 #[derive(Clone, Copy, Debug, PartialEq, Eq)]
@@ -32,16 +33,16 @@ pub fn length_of(stored: u8) -> usize
 }
 
 /// The value of variable x, which costs no step of its own; refusal 42 where it is not in scope.
-pub fn variable(scope: Scope, x: usize) -> usize
+pub fn variable(scope: Scope, x: usize) -> Answer
     ensures { When ((x < scope.count) × (x < variable_limit)) result (done_as (get_or scope.starts x 0) (get_or scope.lens x 0 + 1) 0) 42 }
 {
     if scope.count as usize <= x {
-        return refused(42);
+        return Answer::refused(Refusal::Scope);
     }
     if rules::VARIABLES <= x {
-        return refused(42);
+        return Answer::refused(Refusal::Scope);
     }
-    done(scope.starts[x] as usize, length_of(scope.lens[x]), 0)
+    Answer::done(scope.starts[x] as usize, length_of(scope.lens[x]), 0)
 }
 
 // A variable's number, or 0 where no scope has room for it.

@@ -4,7 +4,7 @@ ghost use Rattle.outcome.specs.Outcome.{len_of, start_of, steps_of};
 ghost use Rattle.rules.specs.Numbers.{scratch_size, variable_limit};
 ghost use Rattle.walk.specs.Moves.{below_of, raised_of, after_of, behind_of, with_cell_of, with_two_cells_of};
 
-use outcome::{len_of, start_of, steps_of};
+use outcome::Answer;
 
 /// Where the record of each node starts in the sheet.
 pub type Table = [u16; 200];
@@ -54,30 +54,30 @@ impl At {
     }
 
     /// After the steps of an answer.
-    pub fn after(self, answer: usize) -> At
+    pub fn after(self, answer: Answer) -> At
         requires { steps_of answer ≤ self.left }
         ensures { result ≡ after_of self answer }
     {
         At {
             levels: self.levels,
-            left: self.left - steps_of(answer),
+            left: self.left - answer.steps(),
             top: self.top,
             cells: self.cells,
         }
     }
 
     /// After the steps of a get, with the top behind its value.
-    pub fn behind(self, got: usize) -> At
+    pub fn behind(self, got: Answer) -> At
         requires { steps_of got ≤ self.left }
         ensures { result ≡ behind_of self got }
     {
-        let end = start_of(got) + len_of(got);
+        let end = got.start() + got.len();
         if end < self.top {
             return self.after(got);
         }
         At {
             levels: self.levels,
-            left: self.left - steps_of(got),
+            left: self.left - got.steps(),
             top: end,
             cells: self.cells,
         }

@@ -34,7 +34,6 @@ use crate::putter::put_node;
 use crate::scope::of_spans;
 use arena::{bits_of, door};
 pub use chain::Met;
-use outcome::{code_of, is_refused, len_of, steps_of};
 use scopes::Scope;
 use sheet::Table;
 use starts::{NewPlan, Starts};
@@ -97,14 +96,14 @@ fn get_plan(
     };
     let got = get_node(sheet, &table.starts, arena, scope, table.root, at);
     let got = bring(arena, got, rules::STACK);
-    if is_refused(got) {
-        let walked = Reply::Refused(code_of(got));
+    if let Some(refusal) = got.refusal() {
+        let walked = Reply::Refused(refusal.number());
         let met = met_at(got);
         return GetWalked { walked, met };
     }
     let walked = Reply::Done {
-        len: len_of(got),
-        steps: steps_of(got),
+        len: got.len(),
+        steps: got.steps(),
     };
     let met = nowhere();
     GetWalked { walked, met }
@@ -218,12 +217,12 @@ fn put_plan(
         view,
         at,
     );
-    if is_refused(put) {
-        return refused(code_of(put), met_at(put));
+    if let Some(refusal) = put.refusal() {
+        return refused(refusal.number(), met_at(put));
     }
     let new = gather(arena, &slots, scope);
     let len = new.len;
-    let steps = steps_of(put);
+    let steps = put.steps();
     let walked = Reply::Done { len, steps };
     let starts = new.starts;
     let written = bits_of(&slots, k);
