@@ -14,6 +14,7 @@ const START: usize = 16777216;
 const STEPS: usize = 1099511627776;
 
 /// A value was got, or a view was put back, in so many steps. Of numbers that do not fit, what fits is kept.
+#[tactic(auto, unfolding(crate::specs::Outcome::done_as))]
 pub fn done(start: usize, len: usize, steps: usize) -> usize
     ensures { result ≡ done_as start len steps }
 {
@@ -24,17 +25,19 @@ pub fn done(start: usize, len: usize, steps: usize) -> usize
 pub fn refused(code: u8) -> usize
     ensures { result ≡ code }
 {
-    code as usize
+    usize::from(code)
 }
 
 /// A refusal, by its number, which is not 0, for the sake of what the node `first` wrote.
+#[tactic(auto, unfolding(crate::specs::Outcome::refused_by))]
 pub fn refused_by(code: u8, first: u8) -> usize
     ensures { result ≡ refused_by code first }
 {
-    code as usize + START * (first as usize + 1)
+    usize::from(code) + START * (usize::from(first) + 1)
 }
 
 /// Whether an answer is a refusal.
+#[tactic(auto, unfolding(crate::specs::Outcome::is_refusal))]
 pub fn is_refused(answer: usize) -> bool
     ensures { result ≡ is_refusal answer }
 {
@@ -42,6 +45,7 @@ pub fn is_refused(answer: usize) -> bool
 }
 
 /// The number of a refusal.
+#[tactic(auto, unfolding(crate::specs::Outcome::code_of))]
 pub fn code_of(answer: usize) -> u8
     ensures { result ≡ code_of answer }
 {
@@ -49,6 +53,7 @@ pub fn code_of(answer: usize) -> u8
 }
 
 /// The length of the value that was got.
+#[tactic(auto, unfolding(crate::specs::Outcome::len_of))]
 pub fn len_of(answer: usize) -> usize
     ensures { result ≡ len_of answer }
 {
@@ -56,6 +61,7 @@ pub fn len_of(answer: usize) -> usize
 }
 
 /// Where it starts.
+#[tactic(auto, unfolding(crate::specs::Outcome::start_of))]
 pub fn start_of(answer: usize) -> usize
     ensures { result ≡ start_of answer }
 {
@@ -63,6 +69,7 @@ pub fn start_of(answer: usize) -> usize
 }
 
 /// The steps taken.
+#[tactic(auto, unfolding(crate::specs::Outcome::steps_of))]
 pub fn steps_of(answer: usize) -> usize
     ensures { result ≡ steps_of answer }
 {
