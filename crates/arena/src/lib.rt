@@ -3,12 +3,12 @@
 //! its byte at the arena's end, written on the way out of it. And the door, which judges whether an arena and an allowance will do for a walk.
 #![tactic(auto)]
 
-ghost use Rattle.std.specs.Prelude.{cond, ◌≡◌, min};
+ghost use Rattle.std.specs.Prelude.{◌≡◌, min};
 ghost use Rattle.rules.specs.Bits.{bits_of};
 ghost use Rattle.scopes.specs.Scopes.{When};
 ghost use Rattle.arena.specs.Writing.{Takes, write_answer, written_bytes, written_notes};
 ghost use Rattle.arena.specs.Chain.{in_chain, chained, left_as};
-ghost use Rattle.arena.specs.Bits.{filled, filled_from};
+ghost use Rattle.arena.specs.Bits.{filled_from};
 ghost use Rattle.arena.specs.Door.{shut};
 
 use outcome::Answer;
@@ -74,6 +74,7 @@ pub fn write(
 }
 
 // A node's byte in the chain, where it was entered with so many levels left; nothing changes where there is no such place.
+#[tactic(auto, using(crate::specs::Chain::in_place, crate::specs::Chain::no_place, crate::specs::Chain::place_out))]
 fn name(arena: &mut [u8], node: usize, levels: usize)
     ensures { arena.new ≡ in_chain arena.old node levels }
 {
@@ -88,6 +89,7 @@ fn name(arena: &mut [u8], node: usize, levels: usize)
 }
 
 /// The answer of a node that was entered with so many levels left, or was refused entry: a step more; or, of a refusal, one node more.
+#[tactic(auto, using(crate::specs::Chain::leaving))]
 pub fn leave(arena: &mut [u8], answer: Answer, node: usize, levels: usize) -> Answer
     ensures value { result ≡ left_as answer }
     ensures arena_after { arena.new ≡ chained arena.old answer node levels }
@@ -99,32 +101,14 @@ pub fn leave(arena: &mut [u8], answer: Answer, node: usize, levels: usize) -> An
     answer.later(1)
 }
 
-// The bit of a cell with this note: a note of 0 is that of a slot to which nothing was written.
-fn bit_of(note: u16) -> u16
-    ensures { result ≡ cond (filled note) 1 0 }
-{
-    if note == 0 {
-        return 0;
-    }
-    1
-}
-
-// As many of k cells as have a bit.
-fn counted(k: usize) -> usize
-    ensures { result ≡ min k 16 }
-{
-    if k < 16 { k } else { 16 }
-}
-
 /// Which of the first k cells took a view: bit i for cell i. A plan has at most 16 variables, and no cell behind them has a bit.
 pub fn bits_of(slots: &[u16; rules::VARIABLES], k: usize) -> u16
     ensures { result ≡ bits_of (filled_from slots.now 0 (min k 16)) }
 {
     let mut bits = 0;
-    let mut i = counted(k);
-    while 0 < i {
-        i -= 1;
-        bits = bit_of(slots[i]) + 2 * bits;
+    for i in (0..k.min(16)).rev() {
+        // a note of 0 is that of a slot to which nothing was written
+        bits = u16::from(slots[i] != 0) + 2 * bits;
     }
     bits
 }

@@ -12,7 +12,7 @@ use Rattle.refusal.specs.declared.Refusal.TheVariants.{ValueKind, NoBranch}
 use Rattle.decisions.specs.declared.Branch.{Branch}
 use Rattle.decisions.specs.declared.Branch.TheVariants.{Plain, Parts, Switch, Refused}
 use Rattle.decisions.specs.declared.Apart.TheVariants.{At, Other}
-use Rattle.outcome.specs.Outcome.{done_as, is_refusal, len_of, steps_of}
+use Rattle.outcome.specs.Outcome.{done_as, is_refusal, len_of, steps_of, len_small}
 use Rattle.decisions.specs.Decisions.{
   where_so,
   entry_refusal,
@@ -68,14 +68,6 @@ judged_no c e t = rw (← e, t)
 pub other_kind : (kind rest : ℕ) → (kind ≡ 3 → ⊥) → false ≡ unfit_rest kind rest
 unfolding unfit_rest
 other_kind kind rest n = rw (ne_eqb kind 3 n)
-
-pub too_low : (kind rest : ℕ) → kind ≡ 3 → rest < 2 → true ≡ unfit_rest kind rest
-unfolding unfit_rest
-too_low kind rest e h = rw (eq-eqb kind 3 e, lt-ltb rest 2 h)
-
-pub by_height : (kind rest : ℕ) → kind ≡ 3 → 2 ≤ rest → ltb 3 rest ≡ unfit_rest kind rest
-unfolding unfit_rest
-by_height kind rest e h = rw (eq-eqb kind 3 e, le-ltb rest 2 h)
 
 -- where a number is that one, and where it is not
 module _ {A : Type 0} {n m : ℕ} (x y : A) where
@@ -359,3 +351,6 @@ module _ (got built top : ℕ) where
     pub front_done : {n : ℕ} → ltb 256 (built + (1 + l) + 1) ≡ false → n ≡ steps_of got → done_as top (1 + l) n ≡ fronted_as got built top
     unfolding fronted_as where_so
     front_done e steps = rw (there, ← len, e, steps)
+
+-- what `fronted` answers
+pub ruleset fronts = (front_refused, front_long, front_done, len_small)

@@ -45,6 +45,7 @@ pub enum Apart {
 }
 
 /// Whether a node may be entered: refused as too deep where no level is left, then as spent where no step is.
+#[tactic(auto, using(crate::specs::DecisionLaws::no_level, crate::specs::DecisionLaws::no_step, crate::specs::DecisionLaws::both_left))]
 pub fn entry(levels: usize, left: usize) -> Result<(), Refusal>
     ensures { Enters levels left result }
 {
@@ -58,6 +59,7 @@ pub fn entry(levels: usize, left: usize) -> Result<(), Refusal>
 }
 
 // The branch, where the case is of that kind.
+#[tactic(auto, using(crate::specs::DecisionLaws::on_kind, crate::specs::DecisionLaws::on_other))]
 fn on(kind: u8, is: u8, branch: Branch) -> Branch
     ensures { result ≡ fits_kind kind is branch }
 {
@@ -68,6 +70,7 @@ fn on(kind: u8, is: u8, branch: Branch) -> Branch
 }
 
 /// The branch of a case (17, 18 or 19) that its subject fits; 43 where it fits none.
+#[tactic(auto, using(crate::proofs::Tags::fittings))]
 pub fn fits(kind: u8, subject: Shape) -> Branch
     ensures { result ≡ fit_of kind subject }
 {
@@ -82,6 +85,7 @@ pub fn fits(kind: u8, subject: Shape) -> Branch
 }
 
 // The second branch of a case whose subject fits the first.
+#[tactic(auto, using(crate::specs::DecisionLaws::second_list, crate::specs::DecisionLaws::second_truth))]
 fn second(kind: u8) -> Branch
     ensures { result ≡ other_of kind }
 {
@@ -92,6 +96,7 @@ fn second(kind: u8) -> Branch
 }
 
 // The branch that is kept where its test says yes to the view, or else the other where that one's does; 53 where neither says yes.
+#[tactic(auto, using(crate::specs::DecisionLaws::kept_yes, crate::specs::DecisionLaws::other_yes, crate::specs::DecisionLaws::neither_says))]
 fn choose(kept: Branch, other: Branch, kept_test: u8, other_test: u8, view: &[u8]) -> Branch
     ensures { result ≡ choice (passes_bytes kept_test view.now) (passes_bytes other_test view.now) kept other }
 {
@@ -146,6 +151,7 @@ pub fn takes(kind: u8, subject: Shape, first_test: u8, second_test: u8, view: &[
 }
 
 /// A view taken apart for a front (15) or a pair (16).
+#[tactic(auto, using(crate::proofs::Tags::apart))]
 pub fn take_apart(kind: u8, view: Shape) -> Apart
     ensures { result ≡ apart_of kind view }
 {
@@ -167,19 +173,18 @@ pub fn take_apart(kind: u8, view: Shape) -> Apart
 }
 
 /// The kind of the value that a node makes of two: 3, a list, for a front (15) and a list case (17); 5, a pair, for others.
+#[tactic(auto, using(crate::specs::DecisionLaws::made_front, crate::specs::DecisionLaws::made_list, crate::specs::DecisionLaws::made_pair))]
 pub fn made(kind: u8) -> u8
     ensures { result ≡ made_of kind }
 {
-    if kind == 0x15 {
-        return 3;
-    }
-    if kind == 0x17 {
+    if matches!(kind, 0x15 | 0x17) {
         return 3;
     }
     5
 }
 
 // No step of its own, where two values are the same; or else a refusal.
+#[tactic(auto, using(crate::specs::DecisionLaws::judged_yes, crate::specs::DecisionLaws::judged_no))]
 fn judge(refusal: Refusal, a: &[u8], b: &[u8]) -> Answer
     ensures { result ≡ judged (number_of refusal) (same_bytes a.now b.now) }
 {
@@ -190,6 +195,7 @@ fn judge(refusal: Refusal, a: &[u8], b: &[u8]) -> Answer
 }
 
 /// A second view for a written variable must equal the first, which its slot's note has the writer of.
+#[tactic(auto, using(crate::specs::DecisionLaws::judged_yes, crate::specs::DecisionLaws::judged_no))]
 pub fn put_again(note: u16, written: &[u8], view: &[u8]) -> Answer
     ensures { result ≡ judged (refused_by 54 (noted_by note)) (same_bytes written.now view.now) }
 {
@@ -211,7 +217,8 @@ pub fn put_constant(kind: u8, view: &[u8]) -> Answer
 pub fn put_number(n: u16, view: &[u8]) -> Answer
     ensures { result ≡ judged 50 (same_bytes view.now (4 ∷ n / 256 ∷ n % 256 ∷ [])) }
 {
-    let constant = [4, value::high(n), value::low(n)];
+    let [high, low] = n.to_be_bytes();
+    let constant = [4, high, low];
     judge(Refusal::Constant, view, &constant)
 }
 
@@ -223,16 +230,11 @@ pub fn put_bytes(constant: &[u8], view: &[u8]) -> Answer
 }
 
 /// Whether the rest of a rebuilt list (kind 3) is no list, by the kind bytes of both.
+#[tactic(auto, using(crate::specs::DecisionLaws::other_kind), unfolding(crate::specs::Decisions::unfit_rest))]
 pub fn unfit(kind: u8, rest: u8) -> bool
     ensures { result ≡ unfit_rest kind rest }
 {
-    if kind != 3 {
-        return false;
-    }
-    if rest < 2 {
-        return true;
-    }
-    3 < rest
+    kind == 3 && !matches!(rest, 2 | 3)
 }
 
 /// Whether a list of `built` bytes so far is too long with `size` bytes more and the 02 that would end it.
@@ -249,6 +251,7 @@ pub fn overlong(built: usize, size: usize) -> bool
 }
 
 /// A member that was got, behind its 03 at `top`, in a list of `built` bytes so far; 44 where the list is then too long.
+#[tactic(auto, using(crate::specs::DecisionLaws::fronts))]
 pub fn fronted(got: Answer, built: usize, top: usize) -> Answer
     ensures { result ≡ fronted_as got built top }
 {

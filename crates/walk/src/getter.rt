@@ -27,13 +27,9 @@ fn get_number(sheet: &[u8], arena: &mut [u8], place: u16, top: usize) -> Answer
     ensures { (arena.new ≡ numbered arena.old top
         (256 * get_or sheet.now (place + 1) 0 + get_or sheet.now (place + 2) 0)) × (result ≡ done_as top 3 0) }
 {
-    let number = value::number(
-        node::byte_of(sheet, place, 1),
-        node::byte_of(sheet, place, 2),
-    );
     arena[top] = 4;
-    arena[top + 1] = value::high(number);
-    arena[top + 2] = value::low(number);
+    arena[top + 1] = node::byte_of(sheet, place, 1);
+    arena[top + 2] = node::byte_of(sheet, place, 2);
     Answer::done(top, 3, 0)
 }
 
@@ -192,7 +188,7 @@ fn get_call(sheet: &[u8], table: &Table, arena: &mut [u8], scope: Scope, own: Po
 {
     let x = node::number_of(sheet, own.from, 2);
     let y = node::number_of(sheet, own.from, 3);
-    let count = scope.count as usize;
+    let count = usize::from(scope.count);
     if count <= x {
         return Answer::refused(Refusal::Scope);
     }
@@ -215,10 +211,10 @@ fn get_add(sheet: &[u8], table: &Table, arena: &mut [u8], scope: Scope, own: Pos
     let node = node::number_of(sheet, own.from, 1);
     let got = get_node(sheet, table, arena, scope, node, at);
     let a = bring(arena, got, top);
-    let amount = value::number(
+    let amount = u16::from_be_bytes([
         node::byte_of(sheet, own.from, 2),
         node::byte_of(sheet, own.from, 3),
-    );
+    ]);
     added(arena, a, amount, top)
 }
 
@@ -284,7 +280,8 @@ fn get_each(sheet: &[u8], table: &Table, arena: &mut [u8], scope: Scope, own: Po
         return Answer::refused(Refusal::ValueKind);
     }
     let x = node::number_of(sheet, own.from, 3);
-    if scope.count as usize <= x {
+    let count = usize::from(scope.count);
+    if count <= x {
         return Answer::refused(Refusal::Scope);
     }
     let root = sheet::section_root(sheet, node::number_of(sheet, own.from, 2));

@@ -110,8 +110,8 @@ pub fn added(arena: &mut [u8], got: Answer, amount: u16, top: usize) -> Answer
     if 65535 - n < amount {
         return Answer::refused(Refusal::Sum);
     }
-    let sum = n + amount;
-    arena[top + 1] = value::high(sum);
-    arena[top + 2] = value::low(sum);
+    let [high, low] = (n + amount).to_be_bytes();
+    arena[top + 1] = high;
+    arena[top + 2] = low;
     got
 }

@@ -148,14 +148,12 @@ fn gather(arena: &mut [u8], slots: &[u16; rules::VARIABLES], scope: Scope) -> Ne
 {
     let mut at = [0u16; 16];
     let mut len = 0;
-    let mut i = 0;
-    while i < scope.count as usize {
+    for i in 0..usize::from(scope.count) {
         let stood = scopes::length_of(scope.lens[i]);
-        let start = scope.starts[i] as usize;
+        let start = usize::from(scope.starts[i]);
         let from = scopes::place_of(slots[i], i, start, stood);
         copy(arena, from.start, rules::STACK + len, from.len);
         len = starts::grow(&mut at, i, len, from.len);
-        i += 1;
     }
     let count = scope.count as u8;
     let starts = Starts { count, at };
@@ -198,7 +196,7 @@ fn put_plan(
 {
     copy_in(plan, arena);
     let mut slots = [0u16; rules::VARIABLES];
-    let k = scope.count as usize;
+    let k = usize::from(scope.count);
     let cells = first_cells(k);
     let at = At {
         levels: rules::LEVELS,

@@ -37,7 +37,7 @@ ghost use Rattle.walk.specs.Put.Member.{StoodAsked, Stood, MembersAsked, MemberT
 ghost use Rattle.walk.specs.Put.Members.{SomeList, MembersTold};
 
 use crate::at::{At, Pos, Table};
-use crate::bytes::{copy, fill, rebuild};
+use crate::bytes::{copy, fill, number, rebuild};
 use crate::getter::get_node;
 use crate::got::{bring, shape_at};
 use crate::scope::{member, none, single, with_two};
@@ -112,10 +112,10 @@ fn parts_of(kind: u8, branch: usize, subject: usize, got: Answer, mid: usize) ->
 fn put_number(sheet: &[u8], place: u16, view: &[u8]) -> Answer
     ensures { result ≡ judged 50 (same_bytes view.now (number_bytes sheet.now place)) }
 {
-    let number = value::number(
+    let number = u16::from_be_bytes([
         node::byte_of(sheet, place, 1),
         node::byte_of(sheet, place, 2),
-    );
+    ]);
     decisions::put_number(number, view)
 }
 
@@ -152,11 +152,11 @@ fn put_leaf(
         return decisions::put_constant(kind - 0x11, view);
     }
     let x = node::number_of(sheet, own.from, 1);
-    let count = scope.count as usize;
+    let count = usize::from(scope.count);
     if count <= x {
         return Answer::refused(Refusal::Scope);
     }
-    let c = cells[x] as usize;
+    let c = usize::from(cells[x]);
     write(arena, slots, c, own.node, view)
 }
 
@@ -303,7 +303,7 @@ fn put_under(
     slots[c + 1] = 0;
     let inner = with_two(scope, parts.start, parts.first, parts.second);
     let mut more = *cells;
-    scopes::add_cells(&mut more, scope.count as usize, c);
+    scopes::add_cells(&mut more, usize::from(scope.count), c);
     let to = at.with_two_cells();
     let branch = parts.branch;
     let one = put_node(sheet, table, arena, slots, inner, &more, branch, view, to);
@@ -524,7 +524,7 @@ fn put_call(
 {
     let x = node::number_of(sheet, own.from, 2);
     let y = node::number_of(sheet, own.from, 3);
-    let count = scope.count as usize;
+    let count = usize::from(scope.count);
     if count <= x {
         return Answer::refused(Refusal::Scope);
     }
@@ -558,15 +558,14 @@ fn put_add(
     let Shape::Number(m) = shapes::shape_of(view) else {
         return Answer::refused(Refusal::ViewKind);
     };
-    let amount = value::number(
+    let amount = u16::from_be_bytes([
         node::byte_of(sheet, own.from, 2),
         node::byte_of(sheet, own.from, 3),
-    );
+    ]);
     if m < amount {
         return Answer::refused(Refusal::ViewBelow);
     }
-    let rest = m - amount;
-    let less = [4, value::high(rest), value::low(rest)];
+    let less = number(m - amount);
     let node = node::number_of(sheet, own.from, 1);
     put_node(sheet, table, arena, slots, scope, cells, node, &less, at)
 }
@@ -724,7 +723,7 @@ fn put_each(
         return Answer::refused(Refusal::ValueKind);
     }
     let x = node::number_of(sheet, own.from, 3);
-    let count = scope.count as usize;
+    let count = usize::from(scope.count);
     if count <= x {
         return Answer::refused(Refusal::Scope);
     }

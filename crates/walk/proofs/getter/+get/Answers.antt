@@ -49,7 +49,7 @@ get_add-returns t c =
     let v : AtTop (here c.requires.kind_asked) c.bring-a.new.arena c.bring-a.result (get_or c.args.sheet.now (c.args.own.from + 1) 0) =
     at_top (add_asks c.requires.kind_asked c.requires.kind_value) (as_node c.number_of-node.ensures c.get_node-got.ensures.get_shows)
     c.get_node-got.ensures.sized c.bring-a.ensures in
-    add_told c.requires.kind_asked c.requires.kind_value v (rw (sum_as c.number-amount.ensures c.byte_of.ensures c.byte_of-2.ensures) at c.added.ensures)
+    add_told c.requires.kind_asked c.requires.kind_value v (rw (sum_as _ _ c.from_be_bytes-amount.ensures c.byte_of.ensures c.byte_of-2.ensures) at c.added.ensures)
 
 pub get_call-returns-then-count-x : goal.get_call-returns-then-count-x
 get_call-returns-then-count-x t c =
@@ -673,8 +673,8 @@ get_each-returns-then-unfit t c =
     each_43 g (ap (λ (i : ℕ). unfit_rest 3 (get_or c.get_node-got.new.arena i 0)) (sym c.start-start.ensures) ∙ sym c.unfit.ensures ∙
     c.if-unfit.true) c.refused.ensures
 
-pub get_each-returns-then-scope-x : goal.get_each-returns-then-scope-x
-get_each-returns-then-scope-x t c =
+pub get_each-returns-then-count-x : goal.get_each-returns-then-count-x
+get_each-returns-then-count-x t c =
     let d : is_refusal c.get_node-got.result ≡ false = sym c.is_refused.ensures ∙ c.if-is_refused.false in
     let g : EachGot (here c.requires.kind_asked) c.args.own.kind c.args.own.from c.get_node-got.result c.get_node-got.new.arena =
     record {
@@ -685,7 +685,7 @@ get_each-returns-then-scope-x t c =
       done = d;
     } in
     each_42 g (ap (λ (i : ℕ). unfit_rest 3 (get_or c.get_node-got.new.arena i 0)) (sym c.start-start.ensures) ∙ sym c.unfit.ensures ∙
-    c.if-unfit.false) (omega (arith, c.number_of-x.ensures, c.if-scope-x.true)) c.refused-then-scope-x.ensures
+    c.if-unfit.false) (omega (arith, c.number_of-x.ensures, c.if-count-x.true)) c.refused-then-count-x.ensures
 
 pub get_each-get_members-list-requires : goal.get_each-get_members-list-requires
 get_each-get_members-list-requires t c =
@@ -702,7 +702,7 @@ get_each-get_members-list-requires t c =
     c.section_root-root.result = record {
       got = g;
       fit = ap (λ (i : ℕ). unfit_rest 3 (get_or c.get_node-got.new.arena i 0)) (sym c.start-start.ensures) ∙ sym c.unfit.ensures ∙ c.if-unfit.false;
-      inside = omega (arith, c.number_of-x.ensures, c.if-scope-x.false);
+      inside = omega (arith, c.number_of-x.ensures, c.if-count-x.false);
       root_is = c.section_root-root.ensures ∙ ap (section_at c.args.sheet.now) c.number_of.ensures;
     } in
     let e : c.start-start.result + c.len.result ≡ start_of c.get_node-got.result + len_of c.get_node-got.result = ap₂ ◌+◌ c.start-start.ensures
@@ -725,7 +725,7 @@ get_each-bring-list-requires t c =
     c.section_root-root.result = record {
       got = g;
       fit = ap (λ (i : ℕ). unfit_rest 3 (get_or c.get_node-got.new.arena i 0)) (sym c.start-start.ensures) ∙ sym c.unfit.ensures ∙ c.if-unfit.false;
-      inside = omega (arith, c.number_of-x.ensures, c.if-scope-x.false);
+      inside = omega (arith, c.number_of-x.ensures, c.if-count-x.false);
       root_is = c.section_root-root.ensures ∙ ap (section_at c.args.sheet.now) c.number_of.ensures;
     } in
     let e : c.start-start.result + c.len.result ≡ start_of c.get_node-got.result + len_of c.get_node-got.result = ap₂ ◌+◌ c.start-start.ensures
@@ -752,7 +752,7 @@ get_each-returns t c =
     c.section_root-root.result = record {
       got = g;
       fit = ap (λ (i : ℕ). unfit_rest 3 (get_or c.get_node-got.new.arena i 0)) (sym c.start-start.ensures) ∙ sym c.unfit.ensures ∙ c.if-unfit.false;
-      inside = omega (arith, c.number_of-x.ensures, c.if-scope-x.false);
+      inside = omega (arith, c.number_of-x.ensures, c.if-count-x.false);
       root_is = c.section_root-root.ensures ∙ ap (section_at c.args.sheet.now) c.number_of.ensures;
     } in
     let e : c.start-start.result + c.len.result ≡ start_of c.get_node-got.result + len_of c.get_node-got.result = ap₂ ◌+◌ c.start-start.ensures

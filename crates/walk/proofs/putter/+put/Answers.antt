@@ -54,16 +54,15 @@ put_add-returns-in_default t c =
 pub put_add-returns-then-m-amount : goal.put_add-returns-then-m-amount
 put_add-returns-then-m-amount t c =
     let n : Number c.in-Number.m ≡ shape_of c.args.view.now = sym c.in-Number.is ∙ c.shape_of.ensures in
-    let m : c.number-amount.result ≡ amount_at c.args.sheet.now c.args.own.from = sum_as c.number-amount.ensures c.byte_of.ensures c.byte_of-2.ensures in
+    let m : c.from_be_bytes-amount.result ≡ amount_at c.args.sheet.now c.args.own.from = sum_as _ _ c.from_be_bytes-amount.ensures c.byte_of.ensures c.byte_of-2.ensures in
     of_add.add_52 c.requires.kind_asked c.requires.kind_value n (omega (arith, m, c.if-m-amount.true)) c.refused-then-m-amount.ensures
 
 pub put_add-put_node-requires : goal.put_add-put_node-requires
 put_add-put_node-requires t c =
     let n : Number c.in-Number.m ≡ shape_of c.args.view.now = sym c.in-Number.is ∙ c.shape_of.ensures in
-    let m : c.number-amount.result ≡ amount_at c.args.sheet.now c.args.own.from = sum_as c.number-amount.ensures c.byte_of.ensures c.byte_of-2.ensures in
-    let v : 4 ∷ c.high.result ∷ c.low.result ∷ [] ≡ of_add.less_view c.requires.kind_asked c.requires.kind_value n =
-    ap₂ (λ (x y : ℕ). 4 ∷ x ∷ y ∷ []) (c.high.ensures ∙ ap (λ (x : ℕ). (c.in-Number.m - x) / 256) m) (c.low.ensures ∙
-    ap (λ (x : ℕ). (c.in-Number.m - x) % 256) m) in (
+    let m : c.from_be_bytes-amount.result ≡ amount_at c.args.sheet.now c.args.own.from = sum_as _ _ c.from_be_bytes-amount.ensures c.byte_of.ensures c.byte_of-2.ensures in
+    let v : c.number-less.result ≡ of_add.less_view c.requires.kind_asked c.requires.kind_value n =
+    c.number-less.ensures ∙ ap (λ (x : ℕ). 4 ∷ (c.in-Number.m - x) / 256 ∷ (c.in-Number.m - x) % 256 ∷ []) m in (
       omega (arith, c.decreases),
       ready_view v (ready_as {at = c.args.at} refl refl refl c.number_of-node.ensures (of_add.add_asks c.requires.kind_asked
           c.requires.kind_value n)),
@@ -72,10 +71,9 @@ put_add-put_node-requires t c =
 pub put_add-returns : goal.put_add-returns
 put_add-returns t c =
     let n : Number c.in-Number.m ≡ shape_of c.args.view.now = sym c.in-Number.is ∙ c.shape_of.ensures in
-    let m : c.number-amount.result ≡ amount_at c.args.sheet.now c.args.own.from = sum_as c.number-amount.ensures c.byte_of.ensures c.byte_of-2.ensures in
-    let v : 4 ∷ c.high.result ∷ c.low.result ∷ [] ≡ of_add.less_view c.requires.kind_asked c.requires.kind_value n =
-    ap₂ (λ (x y : ℕ). 4 ∷ x ∷ y ∷ []) (c.high.ensures ∙ ap (λ (x : ℕ). (c.in-Number.m - x) / 256) m) (c.low.ensures ∙
-    ap (λ (x : ℕ). (c.in-Number.m - x) % 256) m) in
+    let m : c.from_be_bytes-amount.result ≡ amount_at c.args.sheet.now c.args.own.from = sum_as _ _ c.from_be_bytes-amount.ensures c.byte_of.ensures c.byte_of-2.ensures in
+    let v : c.number-less.result ≡ of_add.less_view c.requires.kind_asked c.requires.kind_value n =
+    c.number-less.ensures ∙ ap (λ (x : ℕ). 4 ∷ (c.in-Number.m - x) / 256 ∷ (c.in-Number.m - x) % 256 ∷ []) m in
     of_add.add_told c.requires.kind_asked c.requires.kind_value n (omega (arith, m, c.if-m-amount.false))
     (gives_view v (shows_as {at = c.args.at} refl refl refl c.number_of-node.ensures c.put_node.ensures.task_tells))
 
@@ -1122,7 +1120,7 @@ put_under-put_node-one-requires t c =
       ),
       omega (arith, c.requires.inner.variables, c.requires.inner.some),
     ) in
-    let k : c.add_cells.new.cells ≡ added_two c.args.cells.now c.args.scope.count c.args.at.cells (c.args.at.cells + 1) = c.add_cells.ensures.inside r in
+    let k : c.add_cells.new.cells ≡ added_two c.args.cells.now c.args.scope.count c.args.at.cells (c.args.at.cells + 1) = (rw c.from.ensures at c.add_cells.ensures).inside r in
     let l = levels_as c.with_two_cells-to.ensures in
     (omega (arith, c.decreases), ready_as c.with_two_cells-to.ensures c.with_two-inner.ensures k refl (of_under.under_asks₁ a))
 
@@ -1141,7 +1139,7 @@ put_under-returns-then-is_refused t c =
       ),
       omega (arith, c.requires.inner.variables, c.requires.inner.some),
     ) in
-    let k : c.add_cells.new.cells ≡ added_two c.args.cells.now c.args.scope.count c.args.at.cells (c.args.at.cells + 1) = c.add_cells.ensures.inside r in
+    let k : c.add_cells.new.cells ≡ added_two c.args.cells.now c.args.scope.count c.args.at.cells (c.args.at.cells + 1) = (rw c.from.ensures at c.add_cells.ensures).inside r in
     let o : PutTold (of_under.inner_here a) (Shown c.args.view.now) c.put_node-one.new.arena c.put_node-one.new.slots c.put_node-one.result
     (enter c.args.parts.branch) =
     shows_as c.with_two_cells-to.ensures c.with_two-inner.ensures k refl c.put_node-one.ensures.task_tells in
@@ -1168,7 +1166,7 @@ put_under-put_rebuilt-two-requires t c =
       ),
       omega (arith, c.requires.inner.variables, c.requires.inner.some),
     ) in
-    let k : c.add_cells.new.cells ≡ added_two c.args.cells.now c.args.scope.count c.args.at.cells (c.args.at.cells + 1) = c.add_cells.ensures.inside r in
+    let k : c.add_cells.new.cells ≡ added_two c.args.cells.now c.args.scope.count c.args.at.cells (c.args.at.cells + 1) = (rw c.from.ensures at c.add_cells.ensures).inside r in
     let o : PutTold (of_under.inner_here a) (Shown c.args.view.now) c.put_node-one.new.arena c.put_node-one.new.slots c.put_node-one.result
     (enter c.args.parts.branch) =
     shows_as c.with_two_cells-to.ensures c.with_two-inner.ensures k refl c.put_node-one.ensures.task_tells in
@@ -1196,7 +1194,7 @@ put_under-returns t c =
       ),
       omega (arith, c.requires.inner.variables, c.requires.inner.some),
     ) in
-    let k : c.add_cells.new.cells ≡ added_two c.args.cells.now c.args.scope.count c.args.at.cells (c.args.at.cells + 1) = c.add_cells.ensures.inside r in
+    let k : c.add_cells.new.cells ≡ added_two c.args.cells.now c.args.scope.count c.args.at.cells (c.args.at.cells + 1) = (rw c.from.ensures at c.add_cells.ensures).inside r in
     let o : PutTold (of_under.inner_here a) (Shown c.args.view.now) c.put_node-one.new.arena c.put_node-one.new.slots c.put_node-one.result
     (enter c.args.parts.branch) =
     shows_as c.with_two_cells-to.ensures c.with_two-inner.ensures k refl c.put_node-one.ensures.task_tells in

@@ -35,17 +35,14 @@ returns-then-count-x c =
       c.if-count-x.true,
     )) c.refused.ensures
 
-pub overflow_cast-c : goal.overflow_cast-c
-overflow_cast-c c = record { fits = omega (arith, (writable (goal.at.overflow_cast-c c).Else-count-x).cell) }
-
 pub returns : goal.returns
 returns c =
     let w = c.requires.kind_asked in
     let g = write_by (writable (goal.at.returns c).Else-count-x) (node_few w.sheet w.known.0) (
-      c.write.ensures.when,
+      rw c.from-c.ensures at c.write.ensures.when,
       (
-        c.write.ensures.when_2,
-        c.write.ensures.when_3,
+        rw c.from-c.ensures at c.write.ensures.when_2,
+        rw c.from-c.ensures at c.write.ensures.when_3,
       ),
     ) in
     var_told w (is-variable (goal.at.returns c).After-number_of-x) (omega (arith, c.number_of-x.ensures, c.if-count-x.false))
