@@ -50,4 +50,3 @@ bits_more {slots} {k} {i} {b} {c} h l d =
 -- 16 of them are a number of 16 bits
 pub bits_fit : {slots : List ℕ} {k i b : ℕ} → k ≤ 16 → BitsFrom slots k i b → b < 65536
 bits_fit {slots} {k} {i} l h = rw h.is (bits_below (filled_from slots i (k - i)) 16 (omega (arith, filled_length slots i (k - i))))
-

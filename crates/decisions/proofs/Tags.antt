@@ -7,7 +7,20 @@ use Rattle.shapes.specs.declared.Shape.TheVariants.{False, True, Empty, Front, N
 use Rattle.decisions.specs.declared.Branch.{Branch}
 use Rattle.decisions.specs.declared.Branch.TheVariants.{Plain, Parts, Switch, Refused}
 use Rattle.decisions.specs.DecisionLaws.{
-  neither, whole, unfitting, fits_empty, fits_front, fits_false, fits_true, fits_pair, fits_none, apart_front, front_other, pair_other, apart_pair, no_apart,
+  neither,
+  whole,
+  unfitting,
+  fits_empty,
+  fits_front,
+  fits_false,
+  fits_true,
+  fits_pair,
+  fits_none,
+  apart_front,
+  front_other,
+  pair_other,
+  apart_pair,
+  no_apart,
 }
 
 pub fits_neither :
