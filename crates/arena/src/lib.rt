@@ -9,25 +9,25 @@ ghost use Rattle.scopes.specs.Scopes.{When};
 ghost use Rattle.arena.specs.Writing.{Takes, write_answer, written_bytes, written_notes};
 ghost use Rattle.arena.specs.Chain.{in_chain, chained, left_as};
 ghost use Rattle.arena.specs.Bits.{filled_from};
-ghost use Rattle.arena.specs.Door.{shut};
+ghost use Rattle.arena.specs.Door.{Judges};
 
 use outcome::Answer;
 use refusal::Refusal;
 
-/// What a walk refuses before it reads anything, 0 for nothing: 2 too little scratch, 3 an allowance of 0 or one that is too large.
-pub fn door(scratch: usize, allowance: usize) -> u8
-    ensures { result ≡ shut 0 0 scratch allowance }
+/// What a walk refuses before it reads anything: too little scratch, then an allowance of 0 or one that is too large.
+pub fn door(scratch: usize, allowance: usize) -> Result<(), Refusal>
+    ensures { Judges 0 0 scratch allowance result }
 {
     if scratch < rules::SCRATCH {
-        return 2;
+        return Err(Refusal::ScratchSmall);
     }
     if allowance == 0 {
-        return 3;
+        return Err(Refusal::AllowanceRange);
     }
     if rules::ALLOWANCE < allowance {
-        return 3;
+        return Err(Refusal::AllowanceRange);
     }
-    0
+    Ok(())
 }
 
 /// A view for the cell c: the node writes it where nothing was written, and it is noted; or else it must equal what was. Nothing changes, and

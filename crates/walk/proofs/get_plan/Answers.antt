@@ -1,6 +1,5 @@
 -- `get_plan` meets its contract.
 -- Assumes nothing.
-use mathlib.Core.Path.{◌∙◌}
 use Rattle.outcome.proofs.Numbers.{no_refusal}
 use Rattle.walk.specs.Get.Top.{movable}
 use Rattle.walk.specs.Call.{plan_fits, plan_ready, few_met, get_met, get_unmet, get_refused, get_done}
@@ -25,8 +24,8 @@ pub returns-in-Some : goal.returns-in-Some
 returns-in-Some c =
     let e = c.in-Some.ensures.0 in record {
       plan_walked = get_refused c.requires c.copy_in.ensures c.get_node-got.ensures.get_shows c.get_node-got.ensures.sized c.bring-got.ensures e
-          (c.number.ensures ∙ c.in-Some.ensures.1);
-      explains = get_met c.requires c.copy_in.ensures c.get_node-got.ensures.get_shows c.get_node-got.ensures.sized c.bring-got.ensures e (c.number.ensures ∙ c.in-Some.ensures.1)
+          c.in-Some.ensures.1;
+      explains = get_met c.requires c.copy_in.ensures c.get_node-got.ensures.get_shows c.get_node-got.ensures.sized c.bring-got.ensures e c.in-Some.ensures.1
           c.met_at-met.ensures;
     }
 

@@ -34,12 +34,12 @@ returns-in-Some c =
     let e = c.refused.ensures in record {
       plan_walked = rw (walked_is _ _ e) (put_refused c.requires.planned c.requires.viewed c.copy_in.ensures (rw c.from-k.ensures at c.first_cells-cells.ensures)
           (rw c.from-k.ensures at c.put_node-put.ensures.task_tells)
-          c.in-Some.ensures.0 (c.number.ensures ∙ c.in-Some.ensures.1));
+          c.in-Some.ensures.0 c.in-Some.ensures.1);
       starts_value = none_with _ _ e _ _;
       written_value = none_set _ _ e _ _ _ _;
       explains = rw (walked_is _ _ e) (put_met c.requires.planned c.requires.viewed c.copy_in.ensures (rw c.from-k.ensures at c.first_cells-cells.ensures)
           (rw c.from-k.ensures at c.put_node-put.ensures.task_tells)
-          c.in-Some.ensures.0 (c.number.ensures ∙ c.in-Some.ensures.1) (met_is _ _ e ∙ c.met_at.ensures));
+          c.in-Some.ensures.0 c.in-Some.ensures.1 (met_is _ _ e ∙ c.met_at.ensures));
     }
 
 pub shape_of-arena-in-Some : goal.shape_of-arena-in-Some
