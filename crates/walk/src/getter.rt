@@ -13,7 +13,7 @@ ghost use Rattle.walk.specs.Get.Leaf.{Childless, numbered};
 ghost use Rattle.walk.specs.Get.Members.{MembersAsked, MembersTold};
 
 use crate::at::{At, Pos, Table};
-use crate::got::{added, bring, joined, judge, middle_at, shape_at};
+use crate::got::{added, bring, first_bytes, joined, judge, shape_at};
 use crate::scope::with_two;
 use arena::leave;
 use decisions::Branch;
@@ -241,7 +241,7 @@ fn get_members(
     let mut inner = scope;
     inner.count = 2;
     while arena[next] == 3 {
-        let mid = middle_at(arena, next, end);
+        let mid = first_bytes(arena, next, end);
         inner.starts[0] = (next + 1) as u16;
         inner.starts[1] = scope.starts[x];
         inner.lens[0] = (mid - 2) as u8;

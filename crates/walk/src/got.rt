@@ -1,8 +1,9 @@
 //! What is done behind a call of get, with its answer: the value's shape, its move to the top, and what a node's own rule makes of it.
 ghost use Rattle.std.specs.Prelude.{◌≡◌, false, ◌+◌, ◌-◌, ◌≤◌, ◌<◌, length};
 ghost use Rattle.outcome.specs.Outcome.{is_refusal, len_of, start_of};
-ghost use Rattle.shapes.specs.Parts.{shape_of, middle_of, passes_bytes};
+ghost use Rattle.shapes.specs.Parts.{shape_of, passes_bytes};
 ghost use Rattle.walk.specs.Arena.Parts.{part};
+ghost use Rattle.walk.specs.Members.{first_bytes_of};
 ghost use Rattle.walk.specs.Get.Top.{Movable, Brought};
 ghost use Rattle.walk.specs.Get.Branch.{Judgeable, Judged};
 ghost use Rattle.walk.specs.Get.Two.{Joinable, Joined};
@@ -23,12 +24,12 @@ pub fn shape_at(arena: &[u8], got: Answer) -> Shape
     shapes::shape_of(&arena[start..end])
 }
 
-/// Where the second part of the value that stands from `start` to `end` starts in it.
-pub fn middle_at(arena: &[u8], start: usize, end: usize) -> usize
+/// How many bytes the first member of the list that stands from `start` to `end` takes, with the 03 before it; 0 of an empty list.
+pub fn first_bytes(arena: &[u8], start: usize, end: usize) -> usize
     requires { (start ≤ end) × (end ≤ length arena.now) }
-    ensures { result ≡ middle_of (shape_of (part arena.now start (end - start))) }
+    ensures { result ≡ first_bytes_of (shape_of (part arena.now start (end - start))) }
 {
-    shapes::middle(&arena[start..end])
+    shapes::middle(&arena[start..end]).unwrap_or(0)
 }
 
 /// A value that was got, brought to the top of the stack.

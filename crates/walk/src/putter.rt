@@ -570,23 +570,23 @@ fn put_add(
     put_node(sheet, table, arena, slots, scope, cells, node, &less, at)
 }
 
-// What the next member stands for: the first of the old ones that are left, whose rest is `mid` bytes further, or past their end (`mid` is 0)
-// the default, got anew in an empty scope.
+// What the next member stands for: the first of the old ones that are left, whose rest is `mid` bytes further, or past their end the default,
+// got anew in an empty scope.
 fn stood_for(
     sheet: &[u8],
     table: &Table,
     arena: &mut [u8],
     by: Members,
-    mid: usize,
+    mid: Option<usize>,
     at: At,
 ) -> Answer
     requires { StoodAsked sheet.now table.now arena.old by.default by.old mid at.top at.levels at.left }
     ensures { Stood sheet.now arena.old arena.new by.default by.old at.top at.levels at.left result }
 {
-    if mid != 0 {
-        return Answer::done(by.old + 1, mid - 1, 0);
+    match mid {
+        Some(mid) => Answer::done(by.old + 1, mid - 1, 0),
+        None => get_node(sheet, table, arena, none(), by.default, at),
     }
-    get_node(sheet, table, arena, none(), by.default, at)
 }
 
 // A member of the view into the section's root, whose variable 0 is the member's, in a new cell, and whose variable 1 is the caller's own. What
@@ -639,7 +639,7 @@ fn put_one(
     }
     whole[built] = 3;
     fill(whole, built + 1, arena, now.start, now.len);
-    Answer::done(mid, size, stood.steps() + put.steps())
+    Answer::done(mid.unwrap_or(0), size, stood.steps() + put.steps())
 }
 
 // The members of the view, from the left, and then the list of what they are into the subject.
@@ -667,7 +667,7 @@ fn put_all(
     let mut built = 0;
     while view[from] == 3 {
         let rest = &view[from..];
-        let mid = shapes::middle(rest);
+        let mid = shapes::middle(rest).unwrap_or(0);
         let first = shapes::first_part(rest, mid);
         let turn = Turn {
             by: next,

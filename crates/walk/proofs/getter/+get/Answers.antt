@@ -776,8 +776,8 @@ get_members-bounds-arena-next t c =
     × (length c.loop-arena.arena ≡ scratch_size) = (z.low, omega (arith, z.short), y.0, omega (arith, c.requires.room), z.kept.long ∙ c.requires.asked.long) in
     omega (arith, b.2, b.3, b.4)
 
-pub get_members-middle_at-mid-requires : goal.get_members-middle_at-mid-requires
-get_members-middle_at-mid-requires t c =
+pub get_members-first_bytes-mid-requires : goal.get_members-first_bytes-mid-requires
+get_members-first_bytes-mid-requires t c =
     let z = c.loop-arena.invariant.0 in
     let y = rest_inside c.requires c.loop-arena.invariant.0 in
     let b : (c.args.at.top ≤ c.loop-arena.to.top) × (c.loop-arena.to.top < scratch_size) × (c.loop-arena.next < c.args.end) × (c.args.end < scratch_size)
@@ -787,24 +787,24 @@ get_members-middle_at-mid-requires t c =
 pub get_members-overflow_cast-inner : goal.get_members-overflow_cast-inner
 get_members-overflow_cast-inner t c =
     let u : Turning (members_here c.requires) c.args.x c.args.root c.args.start c.args.end c.loop-arena.arena c.loop-arena.to c.loop-arena.next
-    c.middle_at-mid.result =
-    record { asked = c.requires; built = c.loop-arena.invariant.0; front = c.loop-arena-test.true; middle = c.middle_at-mid.ensures } in
+    c.first_bytes-mid.result =
+    record { asked = c.requires; built = c.loop-arena.invariant.0; front = c.loop-arena-test.true; middle = c.first_bytes-mid.ensures } in
     let m = member_there u in
     omega (arith, m.1)
 
 pub get_members-overflow_sub-inner : goal.get_members-overflow_sub-inner
 get_members-overflow_sub-inner t c =
     let u : Turning (members_here c.requires) c.args.x c.args.root c.args.start c.args.end c.loop-arena.arena c.loop-arena.to c.loop-arena.next
-    c.middle_at-mid.result =
-    record { asked = c.requires; built = c.loop-arena.invariant.0; front = c.loop-arena-test.true; middle = c.middle_at-mid.ensures } in
+    c.first_bytes-mid.result =
+    record { asked = c.requires; built = c.loop-arena.invariant.0; front = c.loop-arena-test.true; middle = c.first_bytes-mid.ensures } in
     let m = member_there u in
     omega (arith, m.2)
 
 pub get_members-overflow_cast-inner-in-loop-arena : goal.get_members-overflow_cast-inner-in-loop-arena
 get_members-overflow_cast-inner-in-loop-arena t c =
     let u : Turning (members_here c.requires) c.args.x c.args.root c.args.start c.args.end c.loop-arena.arena c.loop-arena.to c.loop-arena.next
-    c.middle_at-mid.result =
-    record { asked = c.requires; built = c.loop-arena.invariant.0; front = c.loop-arena-test.true; middle = c.middle_at-mid.ensures } in
+    c.first_bytes-mid.result =
+    record { asked = c.requires; built = c.loop-arena.invariant.0; front = c.loop-arena-test.true; middle = c.first_bytes-mid.ensures } in
     let m = member_there u in
     omega (arith, m.3)
 
@@ -815,13 +815,13 @@ get_members-get_node-got-requires t c =
     let b : (c.args.at.top ≤ c.loop-arena.to.top) × (c.loop-arena.to.top < scratch_size) × (c.loop-arena.next < c.args.end) × (c.args.end < scratch_size)
     × (length c.loop-arena.arena ≡ scratch_size) = (z.low, omega (arith, z.short), y.0, omega (arith, c.requires.room), z.kept.long ∙ c.requires.asked.long) in
     let u : Turning (members_here c.requires) c.args.x c.args.root c.args.start c.args.end c.loop-arena.arena c.loop-arena.to c.loop-arena.next
-    c.middle_at-mid.result =
-    record { asked = c.requires; built = c.loop-arena.invariant.0; front = c.loop-arena-test.true; middle = c.middle_at-mid.ensures } in
+    c.first_bytes-mid.result =
+    record { asked = c.requires; built = c.loop-arena.invariant.0; front = c.loop-arena-test.true; middle = c.first_bytes-mid.ensures } in
     let k : Marked 3 c.loop-arena.to.top c.loop-arena.arena (set c.loop-arena.arena c.loop-arena.to.top 3) = marked 3 _ _ (omega (arith, b.1, b.4)) in
     let m = member_there u in
-    let i : renewed c.loop-arena.inner (c.loop-arena.next + 1) (c.middle_at-mid.result - 2) (get_or c.args.scope.starts c.args.x 0)
+    let i : renewed c.loop-arena.inner (c.loop-arena.next + 1) (c.first_bytes-mid.result - 2) (get_or c.args.scope.starts c.args.x 0)
     (get_or c.args.scope.lens c.args.x 0)
-    ≡ with_member c.args.scope c.args.x (c.loop-arena.next + 1) (c.middle_at-mid.result - 1) = two_member _ _ _ (omega (arith, m.2)) c.loop-arena.invariant.1 in
+    ≡ with_member c.args.scope c.args.x (c.loop-arena.next + 1) (c.first_bytes-mid.result - 1) = two_member _ _ _ (omega (arith, m.2)) c.loop-arena.invariant.1 in
     let l = levels_as c.raised-one.ensures in
     (omega (arith, c.decreases, c.loop-arena.invariant.0.level), ready_as c.raised-one.ensures i refl (turn_asks u k))
 
@@ -832,13 +832,13 @@ get_members-returns-then-is_refused t c =
     let b : (c.args.at.top ≤ c.loop-arena.to.top) × (c.loop-arena.to.top < scratch_size) × (c.loop-arena.next < c.args.end) × (c.args.end < scratch_size)
     × (length c.loop-arena.arena ≡ scratch_size) = (z.low, omega (arith, z.short), y.0, omega (arith, c.requires.room), z.kept.long ∙ c.requires.asked.long) in
     let u : Turning (members_here c.requires) c.args.x c.args.root c.args.start c.args.end c.loop-arena.arena c.loop-arena.to c.loop-arena.next
-    c.middle_at-mid.result =
-    record { asked = c.requires; built = c.loop-arena.invariant.0; front = c.loop-arena-test.true; middle = c.middle_at-mid.ensures } in
+    c.first_bytes-mid.result =
+    record { asked = c.requires; built = c.loop-arena.invariant.0; front = c.loop-arena-test.true; middle = c.first_bytes-mid.ensures } in
     let k : Marked 3 c.loop-arena.to.top c.loop-arena.arena (set c.loop-arena.arena c.loop-arena.to.top 3) = marked 3 _ _ (omega (arith, b.1, b.4)) in
     let m = member_there u in
-    let i : renewed c.loop-arena.inner (c.loop-arena.next + 1) (c.middle_at-mid.result - 2) (get_or c.args.scope.starts c.args.x 0)
+    let i : renewed c.loop-arena.inner (c.loop-arena.next + 1) (c.first_bytes-mid.result - 2) (get_or c.args.scope.starts c.args.x 0)
     (get_or c.args.scope.lens c.args.x 0)
-    ≡ with_member c.args.scope c.args.x (c.loop-arena.next + 1) (c.middle_at-mid.result - 1) = two_member _ _ _ (omega (arith, m.2)) c.loop-arena.invariant.1 in
+    ≡ with_member c.args.scope c.args.x (c.loop-arena.next + 1) (c.first_bytes-mid.result - 1) = two_member _ _ _ (omega (arith, m.2)) c.loop-arena.invariant.1 in
     let v : AtTop (turn_here u k) c.bring-a.new.arena c.bring-a.result c.args.root =
     at_top (turn_asks u k) (shows_as c.raised-one.ensures i refl c.get_node-got.ensures.get_shows)
     (sized_as c.raised-one.ensures c.get_node-got.ensures.sized) (brought_as c.raised-one.ensures c.bring-a.ensures) in
@@ -852,13 +852,13 @@ get_members-behind-to-requires t c =
     let b : (c.args.at.top ≤ c.loop-arena.to.top) × (c.loop-arena.to.top < scratch_size) × (c.loop-arena.next < c.args.end) × (c.args.end < scratch_size)
     × (length c.loop-arena.arena ≡ scratch_size) = (z.low, omega (arith, z.short), y.0, omega (arith, c.requires.room), z.kept.long ∙ c.requires.asked.long) in
     let u : Turning (members_here c.requires) c.args.x c.args.root c.args.start c.args.end c.loop-arena.arena c.loop-arena.to c.loop-arena.next
-    c.middle_at-mid.result =
-    record { asked = c.requires; built = c.loop-arena.invariant.0; front = c.loop-arena-test.true; middle = c.middle_at-mid.ensures } in
+    c.first_bytes-mid.result =
+    record { asked = c.requires; built = c.loop-arena.invariant.0; front = c.loop-arena-test.true; middle = c.first_bytes-mid.ensures } in
     let k : Marked 3 c.loop-arena.to.top c.loop-arena.arena (set c.loop-arena.arena c.loop-arena.to.top 3) = marked 3 _ _ (omega (arith, b.1, b.4)) in
     let m = member_there u in
-    let i : renewed c.loop-arena.inner (c.loop-arena.next + 1) (c.middle_at-mid.result - 2) (get_or c.args.scope.starts c.args.x 0)
+    let i : renewed c.loop-arena.inner (c.loop-arena.next + 1) (c.first_bytes-mid.result - 2) (get_or c.args.scope.starts c.args.x 0)
     (get_or c.args.scope.lens c.args.x 0)
-    ≡ with_member c.args.scope c.args.x (c.loop-arena.next + 1) (c.middle_at-mid.result - 1) = two_member _ _ _ (omega (arith, m.2)) c.loop-arena.invariant.1 in
+    ≡ with_member c.args.scope c.args.x (c.loop-arena.next + 1) (c.first_bytes-mid.result - 1) = two_member _ _ _ (omega (arith, m.2)) c.loop-arena.invariant.1 in
     let v : AtTop (turn_here u k) c.bring-a.new.arena c.bring-a.result c.args.root =
     at_top (turn_asks u k) (shows_as c.raised-one.ensures i refl c.get_node-got.ensures.get_shows)
     (sized_as c.raised-one.ensures c.get_node-got.ensures.sized) (brought_as c.raised-one.ensures c.bring-a.ensures) in
@@ -873,16 +873,16 @@ get_members-overflow_add-next t c =
     let b : (c.args.at.top ≤ c.loop-arena.to.top) × (c.loop-arena.to.top < scratch_size) × (c.loop-arena.next < c.args.end) × (c.args.end < scratch_size)
     × (length c.loop-arena.arena ≡ scratch_size) = (z.low, omega (arith, z.short), y.0, omega (arith, c.requires.room), z.kept.long ∙ c.requires.asked.long) in
     let u : Turning (members_here c.requires) c.args.x c.args.root c.args.start c.args.end c.loop-arena.arena c.loop-arena.to c.loop-arena.next
-    c.middle_at-mid.result =
-    record { asked = c.requires; built = c.loop-arena.invariant.0; front = c.loop-arena-test.true; middle = c.middle_at-mid.ensures } in
+    c.first_bytes-mid.result =
+    record { asked = c.requires; built = c.loop-arena.invariant.0; front = c.loop-arena-test.true; middle = c.first_bytes-mid.ensures } in
     let m = member_there u in
     record { fits = omega (arith, m.4, b.3) }
 
 pub get_members-loop-arena-smaller : goal.get_members-loop-arena-smaller
 get_members-loop-arena-smaller t c =
     let u : Turning (members_here c.requires) c.args.x c.args.root c.args.start c.args.end c.loop-arena.arena c.loop-arena.to c.loop-arena.next
-    c.middle_at-mid.result =
-    record { asked = c.requires; built = c.loop-arena.invariant.0; front = c.loop-arena-test.true; middle = c.middle_at-mid.ensures } in
+    c.first_bytes-mid.result =
+    record { asked = c.requires; built = c.loop-arena.invariant.0; front = c.loop-arena-test.true; middle = c.first_bytes-mid.ensures } in
     let m = member_there u in
     omega (arith, m.2, m.4)
 
@@ -893,13 +893,13 @@ get_members-loop-arena-preserved t c =
     let b : (c.args.at.top ≤ c.loop-arena.to.top) × (c.loop-arena.to.top < scratch_size) × (c.loop-arena.next < c.args.end) × (c.args.end < scratch_size)
     × (length c.loop-arena.arena ≡ scratch_size) = (z.low, omega (arith, z.short), y.0, omega (arith, c.requires.room), z.kept.long ∙ c.requires.asked.long) in
     let u : Turning (members_here c.requires) c.args.x c.args.root c.args.start c.args.end c.loop-arena.arena c.loop-arena.to c.loop-arena.next
-    c.middle_at-mid.result =
-    record { asked = c.requires; built = c.loop-arena.invariant.0; front = c.loop-arena-test.true; middle = c.middle_at-mid.ensures } in
+    c.first_bytes-mid.result =
+    record { asked = c.requires; built = c.loop-arena.invariant.0; front = c.loop-arena-test.true; middle = c.first_bytes-mid.ensures } in
     let k : Marked 3 c.loop-arena.to.top c.loop-arena.arena (set c.loop-arena.arena c.loop-arena.to.top 3) = marked 3 _ _ (omega (arith, b.1, b.4)) in
     let m = member_there u in
-    let i : renewed c.loop-arena.inner (c.loop-arena.next + 1) (c.middle_at-mid.result - 2) (get_or c.args.scope.starts c.args.x 0)
+    let i : renewed c.loop-arena.inner (c.loop-arena.next + 1) (c.first_bytes-mid.result - 2) (get_or c.args.scope.starts c.args.x 0)
     (get_or c.args.scope.lens c.args.x 0)
-    ≡ with_member c.args.scope c.args.x (c.loop-arena.next + 1) (c.middle_at-mid.result - 1) = two_member _ _ _ (omega (arith, m.2)) c.loop-arena.invariant.1 in
+    ≡ with_member c.args.scope c.args.x (c.loop-arena.next + 1) (c.first_bytes-mid.result - 1) = two_member _ _ _ (omega (arith, m.2)) c.loop-arena.invariant.1 in
     let v : AtTop (turn_here u k) c.bring-a.new.arena c.bring-a.result c.args.root =
     at_top (turn_asks u k) (shows_as c.raised-one.ensures i refl c.get_node-got.ensures.get_shows)
     (sized_as c.raised-one.ensures c.get_node-got.ensures.sized) (brought_as c.raised-one.ensures c.bring-a.ensures) in

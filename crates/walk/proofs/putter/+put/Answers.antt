@@ -9,6 +9,9 @@ use lib.Seq.{take_all}
 use borrow.Author.Tests.{ltb-true, ltb-false}
 use Rattle.outcome.specs.Outcome.{is_refusal, done_as, start_of, len_of, steps_of, start_small, later_as_lem, len_small, steps_small}
 use Rattle.rules.specs.Numbers.{variable_limit}
+use Rattle.std.specs.Option.{unwrap_or}
+use Rattle.std.specs.Prelude.{Option}
+use Rattle.walk.specs.Members.{first_bytes_of}
 use Rattle.shapes.specs.Parts.{shape_of, middle_of, first_part, passes_bytes}
 use Rattle.shapes.specs.declared.Shape.TheVariants.{Number}
 use Rattle.sheet.specs.Table.{section_at}
@@ -1592,8 +1595,8 @@ put_one-returns t c =
     ∙ ap₂ (place_of (get_or c.put_node-put.new.slots c.args.turn.at.cells 0) c.args.turn.at.cells) c.start-start.ensures c.len-len.ensures in
     let e : c.args.turn.built + (1 + c.place_of-now.result.len) + 1 ≤ 256 = ltb-false 256 (c.args.turn.built + (1 + c.place_of-now.result.len) + 1)
     (sym c.overlong.ensures ∙ c.if-overlong.false) in
-    of_member.member_done s h o d f n (omega (arith, e)) c.requires.whole_len.0 c.fill.ensures.0 c.fill.ensures.1 m
-    (c.done.ensures ∙ ap₂ (λ (x y : ℕ). done_as c.middle-mid.result (1 + c.place_of-now.result.len) (x + y)) c.steps.ensures c.steps-2.ensures)
+    of_member.member_done s h o d f n (omega (arith, e)) c.requires.whole_len.0 c.fill.ensures.0 c.fill.ensures.1 m c.unwrap_or.ensures
+    (c.done.ensures ∙ ap₂ (λ (x y : ℕ). done_as c.unwrap_or.result (1 + c.place_of-now.result.len) (x + y)) c.steps.ensures c.steps-2.ensures)
 
 pub put_all-loop-from-init : goal.put_all-loop-from-init
 put_all-loop-from-init t c =
@@ -1632,10 +1635,10 @@ put_all-put_one-put-requires t c =
     let i : take (length c.args.view.now - c.loop-from.from) (drop c.loop-from.from c.args.view.now) ≡ drop c.loop-from.from c.args.view.now =
     take_all (length c.args.view.now - c.loop-from.from) (drop c.loop-from.from c.args.view.now) (omega (arith, length-drop c.loop-from.from c.args.view.now))
     in
-    let m : c.middle-mid.result ≡ middle_of (shape_of (drop c.loop-from.from c.args.view.now)) = c.middle-mid.ensures ∙
-    ap (λ (x : List ℕ). middle_of (shape_of x)) i in
-    let f : c.first_part-first.result.now ≡ first_part (drop c.loop-from.from c.args.view.now) c.middle-mid.result = c.first_part-first.ensures ∙
-    ap (λ (x : List ℕ). first_part x c.middle-mid.result) i in
+    let m : c.unwrap_or-mid.result ≡ first_bytes_of (shape_of (drop c.loop-from.from c.args.view.now)) = c.unwrap_or-mid.ensures
+    ∙ ap (λ (o : Option ℕ). unwrap_or o 0) (c.middle.ensures ∙ ap (λ (x : List ℕ). middle_of (shape_of x)) i) in
+    let f : c.first_part-first.result.now ≡ first_part (drop c.loop-from.from c.args.view.now) c.unwrap_or-mid.result = c.first_part-first.ensures ∙
+    ap (λ (x : List ℕ). first_part x c.unwrap_or-mid.result) i in
     let k = c.loop-from.invariant in
     let l = levels_as k.place in (
       omega (arith, c.decreases),
@@ -1654,15 +1657,15 @@ put_all-returns-then-is_refused t c =
     let i : take (length c.args.view.now - c.loop-from.from) (drop c.loop-from.from c.args.view.now) ≡ drop c.loop-from.from c.args.view.now =
     take_all (length c.args.view.now - c.loop-from.from) (drop c.loop-from.from c.args.view.now) (omega (arith, length-drop c.loop-from.from c.args.view.now))
     in
-    let m : c.middle-mid.result ≡ middle_of (shape_of (drop c.loop-from.from c.args.view.now)) = c.middle-mid.ensures ∙
-    ap (λ (x : List ℕ). middle_of (shape_of x)) i in
-    let f : c.first_part-first.result.now ≡ first_part (drop c.loop-from.from c.args.view.now) c.middle-mid.result = c.first_part-first.ensures ∙
-    ap (λ (x : List ℕ). first_part x c.middle-mid.result) i in
+    let m : c.unwrap_or-mid.result ≡ first_bytes_of (shape_of (drop c.loop-from.from c.args.view.now)) = c.unwrap_or-mid.ensures
+    ∙ ap (λ (o : Option ℕ). unwrap_or o 0) (c.middle.ensures ∙ ap (λ (x : List ℕ). middle_of (shape_of x)) i) in
+    let f : c.first_part-first.result.now ≡ first_part (drop c.loop-from.from c.args.view.now) c.unwrap_or-mid.result = c.first_part-first.ensures ∙
+    ap (λ (x : List ℕ). first_part x c.unwrap_or-mid.result) i in
     let k = c.loop-from.invariant in
     let o : of_member.MemberTold c.args.sheet.now c.loop-from.arena c.put_one-put.new.arena c.loop-from.slots c.put_one-put.new.slots c.loop-from.whole
     c.put_one-put.new.whole c.args.scope
     c.args.cells.now (record { subject = c.args.by.subject; x = c.args.by.x; root = c.args.by.root; default = c.args.by.default; old = c.loop-from.next.old })
-    (first_part (drop c.loop-from.from c.args.view.now) c.middle-mid.result) c.loop-from.built c.args.at.cells c.args.at.top c.args.at.levels
+    (first_part (drop c.loop-from.from c.args.view.now) c.unwrap_or-mid.result) c.loop-from.built c.args.at.cells c.args.at.top c.args.at.levels
     c.loop-from.to.left c.put_one-put.result =
     of_members.member_as k.place k.same f c.put_one-put.ensures in
     of_members.member_stops w c.loop-from-test.true m o (sym c.is_refused.ensures ∙ c.if-is_refused.true)
@@ -1676,15 +1679,15 @@ put_all-after-to-requires t c =
     let i : take (length c.args.view.now - c.loop-from.from) (drop c.loop-from.from c.args.view.now) ≡ drop c.loop-from.from c.args.view.now =
     take_all (length c.args.view.now - c.loop-from.from) (drop c.loop-from.from c.args.view.now) (omega (arith, length-drop c.loop-from.from c.args.view.now))
     in
-    let m : c.middle-mid.result ≡ middle_of (shape_of (drop c.loop-from.from c.args.view.now)) = c.middle-mid.ensures ∙
-    ap (λ (x : List ℕ). middle_of (shape_of x)) i in
-    let f : c.first_part-first.result.now ≡ first_part (drop c.loop-from.from c.args.view.now) c.middle-mid.result = c.first_part-first.ensures ∙
-    ap (λ (x : List ℕ). first_part x c.middle-mid.result) i in
+    let m : c.unwrap_or-mid.result ≡ first_bytes_of (shape_of (drop c.loop-from.from c.args.view.now)) = c.unwrap_or-mid.ensures
+    ∙ ap (λ (o : Option ℕ). unwrap_or o 0) (c.middle.ensures ∙ ap (λ (x : List ℕ). middle_of (shape_of x)) i) in
+    let f : c.first_part-first.result.now ≡ first_part (drop c.loop-from.from c.args.view.now) c.unwrap_or-mid.result = c.first_part-first.ensures ∙
+    ap (λ (x : List ℕ). first_part x c.unwrap_or-mid.result) i in
     let k = c.loop-from.invariant in
     let o : of_member.MemberTold c.args.sheet.now c.loop-from.arena c.put_one-put.new.arena c.loop-from.slots c.put_one-put.new.slots c.loop-from.whole
     c.put_one-put.new.whole c.args.scope
     c.args.cells.now (record { subject = c.args.by.subject; x = c.args.by.x; root = c.args.by.root; default = c.args.by.default; old = c.loop-from.next.old })
-    (first_part (drop c.loop-from.from c.args.view.now) c.middle-mid.result) c.loop-from.built c.args.at.cells c.args.at.top c.args.at.levels
+    (first_part (drop c.loop-from.from c.args.view.now) c.unwrap_or-mid.result) c.loop-from.built c.args.at.cells c.args.at.top c.args.at.levels
     c.loop-from.to.left c.put_one-put.result =
     of_members.member_as k.place k.same f c.put_one-put.ensures in
     let d : is_refusal c.put_one-put.result ≡ false = sym c.is_refused.ensures ∙ c.if-is_refused.false in
@@ -1709,8 +1712,8 @@ put_all-overflow_add-from t c =
     let i : take (length c.args.view.now - c.loop-from.from) (drop c.loop-from.from c.args.view.now) ≡ drop c.loop-from.from c.args.view.now =
     take_all (length c.args.view.now - c.loop-from.from) (drop c.loop-from.from c.args.view.now) (omega (arith, length-drop c.loop-from.from c.args.view.now))
     in
-    let m : c.middle-mid.result ≡ middle_of (shape_of (drop c.loop-from.from c.args.view.now)) = c.middle-mid.ensures ∙
-    ap (λ (x : List ℕ). middle_of (shape_of x)) i in
+    let m : c.unwrap_or-mid.result ≡ first_bytes_of (shape_of (drop c.loop-from.from c.args.view.now)) = c.unwrap_or-mid.ensures
+    ∙ ap (λ (o : Option ℕ). unwrap_or o 0) (c.middle.ensures ∙ ap (λ (x : List ℕ). middle_of (shape_of x)) i) in
     let k = of_members.mid_inside w c.loop-from-test.true m in
     record { fits = omega (arith, k.1, k.2) }
 
@@ -1729,8 +1732,8 @@ put_all-loop-from-smaller t c =
     let i : take (length c.args.view.now - c.loop-from.from) (drop c.loop-from.from c.args.view.now) ≡ drop c.loop-from.from c.args.view.now =
     take_all (length c.args.view.now - c.loop-from.from) (drop c.loop-from.from c.args.view.now) (omega (arith, length-drop c.loop-from.from c.args.view.now))
     in
-    let m : c.middle-mid.result ≡ middle_of (shape_of (drop c.loop-from.from c.args.view.now)) = c.middle-mid.ensures ∙
-    ap (λ (x : List ℕ). middle_of (shape_of x)) i in
+    let m : c.unwrap_or-mid.result ≡ first_bytes_of (shape_of (drop c.loop-from.from c.args.view.now)) = c.unwrap_or-mid.ensures
+    ∙ ap (λ (o : Option ℕ). unwrap_or o 0) (c.middle.ensures ∙ ap (λ (x : List ℕ). middle_of (shape_of x)) i) in
     let k = of_members.mid_inside w c.loop-from-test.true m in
     omega (arith, k)
 
@@ -1743,15 +1746,15 @@ put_all-loop-from-preserved t c =
     let i : take (length c.args.view.now - c.loop-from.from) (drop c.loop-from.from c.args.view.now) ≡ drop c.loop-from.from c.args.view.now =
     take_all (length c.args.view.now - c.loop-from.from) (drop c.loop-from.from c.args.view.now) (omega (arith, length-drop c.loop-from.from c.args.view.now))
     in
-    let m : c.middle-mid.result ≡ middle_of (shape_of (drop c.loop-from.from c.args.view.now)) = c.middle-mid.ensures ∙
-    ap (λ (x : List ℕ). middle_of (shape_of x)) i in
-    let f : c.first_part-first.result.now ≡ first_part (drop c.loop-from.from c.args.view.now) c.middle-mid.result = c.first_part-first.ensures ∙
-    ap (λ (x : List ℕ). first_part x c.middle-mid.result) i in
+    let m : c.unwrap_or-mid.result ≡ first_bytes_of (shape_of (drop c.loop-from.from c.args.view.now)) = c.unwrap_or-mid.ensures
+    ∙ ap (λ (o : Option ℕ). unwrap_or o 0) (c.middle.ensures ∙ ap (λ (x : List ℕ). middle_of (shape_of x)) i) in
+    let f : c.first_part-first.result.now ≡ first_part (drop c.loop-from.from c.args.view.now) c.unwrap_or-mid.result = c.first_part-first.ensures ∙
+    ap (λ (x : List ℕ). first_part x c.unwrap_or-mid.result) i in
     let k = c.loop-from.invariant in
     let o : of_member.MemberTold c.args.sheet.now c.loop-from.arena c.put_one-put.new.arena c.loop-from.slots c.put_one-put.new.slots c.loop-from.whole
     c.put_one-put.new.whole c.args.scope
     c.args.cells.now (record { subject = c.args.by.subject; x = c.args.by.x; root = c.args.by.root; default = c.args.by.default; old = c.loop-from.next.old })
-    (first_part (drop c.loop-from.from c.args.view.now) c.middle-mid.result) c.loop-from.built c.args.at.cells c.args.at.top c.args.at.levels
+    (first_part (drop c.loop-from.from c.args.view.now) c.unwrap_or-mid.result) c.loop-from.built c.args.at.cells c.args.at.top c.args.at.levels
     c.loop-from.to.left c.put_one-put.result =
     of_members.member_as k.place k.same f c.put_one-put.ensures in
     let d : is_refusal c.put_one-put.result ≡ false = sym c.is_refused.ensures ∙ c.if-is_refused.false in
