@@ -17,7 +17,7 @@ use Rattle.value.specs.Laws.{ReadAs}
 use Rattle.value.proofs.Laws.{read_values_sound}
 use Rattle.value.specs.Reading.{read_plan}
 use Rattle.value.specs.Spans.{places, starts, spans, spans_of}
-use Rattle.value.proofs.SpansLaws.{plan_read}
+use Rattle.value.proofs.SpansLaws.{plan_read as spans_read}
 use Rattle.value.proofs.Progress.{starts-length}
 use Rattle.value.specs.declared.Spans.{Spans}
 use Rattle.sheet.specs.Sheet.{Sheet, read_sheet}
@@ -178,7 +178,7 @@ module _ {sheet plan : List ℕ} {table : Table} {sc : Scope} {allowance : ℕ} 
       unfolding run
       get_met e f g =
           let d = not_had (top.gives.told w.sh w.read w.μ plan_env) (decoded_refused a₂ level_limit r e) in
-          rw g (met_explains a₂ r w.sh table.root (get_chain level_limit w.sh table.root w.μ allowance) d.1 f w.lent explain_is)
+          rw g (met_explains a₂ r w.sh table.root (get_chain level_limit w.sh table.root w.μ allowance) d.1 _ f w.lent explain_is)
 
       pub few_met : is_refusal r ≡ true → len_of r ≤ chain_limit
       unfolding run
@@ -241,14 +241,14 @@ pub data Bars (sheet plan : List ℕ) (scratch allowance c : ℕ) : Type 0 where
 pub plan_values : {sheet plan : List ℕ} {scratch allowance : ℕ} {table : Table} {sc : Scope} (o : Opens sheet plan scratch allowance table sc)
     → (μ : List Value) × (read_plan o.read.sh.k plan ≡ ok μ)
 plan_values {plan = plan} {table = table} o =
-    let p = plan_read table.k plan o.spans_are in
+    let p = spans_read table.k plan o.spans_are in
     (p.vs, ap (λ (k : ℕ). read_plan k plan) (sym o.read.k_is) ∙ p.found)
 
 pub planned : {sheet plan : List ℕ} {allowance : ℕ} {table : Table} {sc : Scope} (b : List ℕ) → Opens sheet plan (length b) allowance table sc
     → Planned sheet plan table sc allowance (take scratch_size b)
 unfolding spans
 planned {plan = plan} {table = table} b o =
-    let p = plan_read table.k plan o.spans_are in
+    let p = spans_read table.k plan o.spans_are in
     let v = plan_values o in
     record {
       sh = o.read.sh;

@@ -11,8 +11,8 @@ use Rattle.walk.proofs.get.Goals as goal
 pub slice_bounds-get_plan-end : goal.slice_bounds-get_plan-end
 slice_bounds-get_plan-end c = c.in-Ok.ensures.lent.scratch_long
 
-pub slice_bounds-get_plan-end-2 : goal.slice_bounds-get_plan-end-2
-slice_bounds-get_plan-end-2 c = sym (length-take-le scratch_size c.args.arena.now c.in-Ok.ensures.lent.scratch_long)
+pub slice_bounds-get_plan-end-in-Ok : goal.slice_bounds-get_plan-end-in-Ok
+slice_bounds-get_plan-end-in-Ok c = sym (length-take-le scratch_size c.args.arena.now c.in-Ok.ensures.lent.scratch_long)
 
 pub get_plan-requires : goal.get_plan-requires
 get_plan-requires c = planned c.args.arena.now c.in-Ok.ensures

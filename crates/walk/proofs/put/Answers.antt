@@ -14,8 +14,8 @@ use Rattle.walk.proofs.put.Goals as goal
 pub slice_bounds-put_plan-end : goal.slice_bounds-put_plan-end
 slice_bounds-put_plan-end c = c.in-Ok.ensures.0.lent.scratch_long
 
-pub slice_bounds-put_plan-end-2 : goal.slice_bounds-put_plan-end-2
-slice_bounds-put_plan-end-2 c = sym (length-take-le scratch_size c.args.arena.now c.in-Ok.ensures.0.lent.scratch_long)
+pub slice_bounds-put_plan-end-in-Ok : goal.slice_bounds-put_plan-end-in-Ok
+slice_bounds-put_plan-end-in-Ok c = sym (length-take-le scratch_size c.args.arena.now c.in-Ok.ensures.0.lent.scratch_long)
 
 pub put_plan-requires : goal.put_plan-requires
 put_plan-requires c = record { planned = planned c.args.arena.now c.in-Ok.ensures.0; viewed = c.in-Ok.ensures.1 }

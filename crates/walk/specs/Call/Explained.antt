@@ -98,9 +98,9 @@ module _ {A : Type 0} (a : List ℕ) (r : ℕ) (sh : Sheet) (n : ℕ) {t : Exit 
   pub few_nodes : len_of r ≤ chain_limit
   few_nodes = omega (arith, nodes, chain.short)
 
-  met_why : {x : Refusal} → number_of x ≡ code_of r → why_of a (Err x) (record { depth = len_of r; first = start_of r }) ≡ explained t
+  met_why : (x : Refusal) → number_of x ≡ code_of r → why_of a (Err x) (record { depth = len_of r; first = start_of r }) ≡ explained t
   unfolding why_of met_at explained why_in
-  met_why c = ap (λ (n : ℕ). met_at a n (len_of r) (start_of r)) c ∙ go (len_of r) refl ∙ sym (ap explained d)
+  met_why x c = ap (λ (n : ℕ). met_at a n (len_of r) (start_of r)) c ∙ go (len_of r) refl ∙ sym (ap explained d)
     where
       go : (k : ℕ) → len_of r ≡ k → met_at a (code_of r) (len_of r) (start_of r) ≡ walked (why_in a level_limit r)
       go zero e = absurd (omega (arith, nodes, e))
@@ -117,9 +117,9 @@ module _ {A : Type 0} (a : List ℕ) (r : ℕ) (sh : Sheet) (n : ℕ) {t : Exit 
       first zero = refl
       first (suc n) = refl
 
-  pub met_explains : {e : Explanation} {allowance : ℕ} {b : List ℕ} {x : Refusal} → number_of x ≡ code_of r → DoorOpens 0 0 (length b) allowance
+  pub met_explains : {e : Explanation} {allowance : ℕ} {b : List ℕ} (x : Refusal) → number_of x ≡ code_of r → DoorOpens 0 0 (length b) allowance
       → e ≡ explained t → Explains e allowance b a (Err x) (record { depth = len_of r; first = start_of r })
-  met_explains c l f = record { few = few_nodes; why = λ _. met_why c ∙ sym f; place = λ _. met_place ∙ sym (ap met_by f); idle = λ n. absurd (n l) }
+  met_explains x c l f = record { few = few_nodes; why = λ _. met_why x c ∙ sym f; place = λ _. met_place ∙ sym (ap met_by f); idle = λ n. absurd (n l) }
 
 done_why : {A : Type 0} (a : List ℕ) (w : Done) (m : Met) {s : ℕ} {t : Exit A} {v : A} → t ≡ got v s → why_of a (Ok w) m ≡ explained t
 unfolding why_of explained

@@ -259,7 +259,7 @@ module _ {sheet plan view : List ℕ} {table : Table} {sc : Scope} {allowance : 
       unfolding run
       put_met e f h =
           let d = not_had (g.told put_given) (decoded_refused a level_limit r e) in
-          rw h (met_explains a r w.sh table.root walk_chain d.1 f w.lent explain_put_lem)
+          rw h (met_explains a r w.sh table.root walk_chain d.1 _ f w.lent explain_put_lem)
 
       pub few_met : is_refusal r ≡ true → len_of r ≤ chain_limit
       unfolding run
