@@ -2,8 +2,7 @@
 //! made of two values, and whether a constant or a written value takes a view.
 #![tactic(auto)]
 
-ghost use Rattle.std.specs.Prelude.{◌≡◌, [], ◌∷◌, ◌+◌, ◌/◌, ◌%◌, ltb};
-ghost use Rattle.refusal.specs.Refusal.{number_of};
+ghost use Rattle.std.specs.Prelude.{◌≡◌, ◌+◌, ltb};
 ghost use Rattle.shapes.specs.Parts.{passes_bytes, same_bytes};
 ghost use Rattle.outcome.specs.Outcome.{refused_by};
 ghost use Rattle.scopes.specs.Scopes.{noted_by};
@@ -25,6 +24,8 @@ ghost use Rattle.decisions.specs.Decisions.{
 use outcome::Answer;
 use refusal::Refusal;
 use shapes::Shape;
+
+// Kinds of nodes and tests are told by their bytes: document 01, "What form each place needs".
 
 /// A branch of a case: one without variables, by the byte of the case's record that has its node, and the one byte of the subject that it
 /// stands for; one with two variables, by that byte, and where the subject's second part starts; the one with variables, after a switch to it;

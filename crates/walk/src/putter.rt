@@ -2,11 +2,9 @@
 //! beside what a get is lent, the `slots` and the `cells`.
 ghost use Rattle.std.specs.Prelude.{◌≡◌, [], ◌∷◌, ◌+◌, ◌*◌, ◌≤◌, length};
 ghost use Rattle.value.specs.Value.{Value, vfalse};
-ghost use Rattle.shapes.specs.Parts.{same_bytes};
-ghost use Rattle.node.specs.Wide.{wide_bytes};
 ghost use Rattle.rules.specs.Numbers.{chain_start};
 ghost use Rattle.outcome.specs.Outcome.{len_of};
-ghost use Rattle.decisions.specs.Decisions.{judged, made_of};
+ghost use Rattle.decisions.specs.Decisions.{made_of};
 ghost use Rattle.walk.specs.Arena.Cells.{Shown};
 ghost use Rattle.walk.specs.Get.Two.{Two};
 ghost use Rattle.walk.specs.Get.Case.{Case};
@@ -30,7 +28,6 @@ ghost use Rattle.walk.specs.Put.{
   rebuilt_of,
   switch_at,
 };
-ghost use Rattle.walk.specs.Put.Leaf.{number_bytes};
 ghost use Rattle.walk.specs.Put.Under.{got_parts};
 ghost use Rattle.walk.specs.Put.Switch.{BothAsked, Sees, DefaultsAsked, Defaults};
 ghost use Rattle.walk.specs.Put.Member.{StoodAsked, Stood, MembersAsked, MemberTold};
@@ -147,6 +144,7 @@ fn put_leaf(
 }
 
 /// A view put back into a node: its depth is judged, then the allowance. The sheet's reader lets no kind over 1D through.
+// The kind is told by its byte, by `if`s, as in `get_node`.
 #[cycle(put)]
 pub fn put_node(
     sheet: &[u8],
@@ -659,6 +657,7 @@ fn put_all(
     let mut next = by;
     let mut from = 0;
     let mut built = 0;
+    // `while`: where the next member starts is read from this one, and an iterator would read it the same way
     while view[from] == 3 {
         let rest = &view[from..];
         let mid = shapes::middle(rest).unwrap_or(0);
