@@ -2,8 +2,7 @@
 //! made of two values, and whether a constant or a written value takes a view.
 #![tactic(auto)]
 
-ghost use Rattle.std.specs.Prelude.{◌≡◌, [], ◌∷◌, ◌+◌, ◌/◌, ◌%◌, ltb};
-ghost use Rattle.refusal.specs.Refusal.{number_of};
+ghost use Rattle.std.specs.Prelude.{◌≡◌, ◌+◌, ltb};
 ghost use Rattle.shapes.specs.Parts.{passes_bytes, same_bytes};
 ghost use Rattle.outcome.specs.Outcome.{refused_by};
 ghost use Rattle.scopes.specs.Scopes.{noted_by};
@@ -25,6 +24,8 @@ ghost use Rattle.decisions.specs.Decisions.{
 use outcome::Answer;
 use refusal::Refusal;
 use shapes::Shape;
+
+// Kinds of nodes and tests are told by their bytes: document 01, "What form each place needs".
 
 /// A branch of a case: one without variables, by the byte of the case's record that has its node, and the one byte of the subject that it
 /// stands for; one with two variables, by that byte, and where the subject's second part starts; the one with variables, after a switch to it;
@@ -183,17 +184,6 @@ pub fn made(kind: u8) -> u8
     5
 }
 
-// No step of its own, where two values are the same; or else a refusal.
-#[tactic(auto, using(crate::specs::DecisionLaws::judged_yes, crate::specs::DecisionLaws::judged_no))]
-fn judge(refusal: Refusal, a: &[u8], b: &[u8]) -> Answer
-    ensures { result ≡ judged (number_of refusal) (same_bytes a.now b.now) }
-{
-    if shapes::same(a, b) {
-        return Answer::done(0, 0, 0);
-    }
-    Answer::refused(refusal)
-}
-
 /// A second view for a written variable must equal the first, which its slot's note has the writer of.
 #[tactic(auto, using(crate::specs::DecisionLaws::judged_yes, crate::specs::DecisionLaws::judged_no))]
 pub fn put_again(note: u16, written: &[u8], view: &[u8]) -> Answer
@@ -205,28 +195,15 @@ pub fn put_again(note: u16, written: &[u8], view: &[u8]) -> Answer
     Answer::refused_by(Refusal::Clash, scopes::noted_by(note))
 }
 
-/// A view for a constant of one byte, its kind, must equal it.
-pub fn put_constant(kind: u8, view: &[u8]) -> Answer
-    ensures { result ≡ judged 50 (same_bytes view.now (kind ∷ [])) }
-{
-    let constant = [kind];
-    judge(Refusal::Constant, view, &constant)
-}
-
-/// A view for a constant number must equal it.
-pub fn put_number(n: u16, view: &[u8]) -> Answer
-    ensures { result ≡ judged 50 (same_bytes view.now (4 ∷ n / 256 ∷ n % 256 ∷ [])) }
-{
-    let [high, low] = n.to_be_bytes();
-    let constant = [4, high, low];
-    judge(Refusal::Constant, view, &constant)
-}
-
 /// A view for a constant of these bytes must equal it.
+#[tactic(auto, using(crate::specs::DecisionLaws::judged_yes, crate::specs::DecisionLaws::judged_no))]
 pub fn put_bytes(constant: &[u8], view: &[u8]) -> Answer
     ensures { result ≡ judged 50 (same_bytes view.now constant.now) }
 {
-    judge(Refusal::Constant, view, constant)
+    if shapes::same(view, constant) {
+        return Answer::done(0, 0, 0);
+    }
+    Answer::refused(Refusal::Constant)
 }
 
 /// Whether the rest of a rebuilt list (kind 3) is no list, by the kind bytes of both.

@@ -119,6 +119,7 @@ pub fn add_cells(cells: &mut [u8; rules::VARIABLES], n: usize, c: usize)
 
 /// What is noted of a slot that node `by` writes `len` bytes to: one more than the node, and one less than the length. It is not 0, which is
 /// noted of a slot that nothing was written to.
+// A number and no `Option`: docs/DECISIONS.md names it, and `arena::write` promises what becomes of it.
 #[tactic(auto, unfolding(crate::specs::Scopes::note_of))]
 pub fn note_of(by: u8, len: usize) -> u16
     ensures { When ((by < 255) × (1 ≤ len) × (len ≤ 256)) result (note_of by len) 0 }

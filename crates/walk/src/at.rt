@@ -2,7 +2,7 @@
 ghost use Rattle.std.specs.Prelude.{◌≡◌, ◌+◌, ◌≤◌};
 ghost use Rattle.outcome.specs.Outcome.{len_of, start_of, steps_of};
 ghost use Rattle.rules.specs.Numbers.{scratch_size, variable_limit};
-ghost use Rattle.walk.specs.Moves.{below_of, raised_of, after_of, behind_of, with_cell_of, with_two_cells_of};
+ghost use Rattle.walk.specs.Moves.{below_of, raised_of, after_of, behind_of, with_cells_of};
 
 use outcome::Answer;
 
@@ -35,8 +35,7 @@ impl At {
         At {
             levels: self.levels - 1,
             left: self.left - 1,
-            top: self.top,
-            cells: self.cells,
+            ..self
         }
     }
 
@@ -46,10 +45,8 @@ impl At {
         ensures { result ≡ raised_of self n }
     {
         At {
-            levels: self.levels,
-            left: self.left,
             top: self.top + n,
-            cells: self.cells,
+            ..self
         }
     }
 
@@ -59,10 +56,8 @@ impl At {
         ensures { result ≡ after_of self answer }
     {
         At {
-            levels: self.levels,
             left: self.left - answer.steps(),
-            top: self.top,
-            cells: self.cells,
+            ..self
         }
     }
 
@@ -76,36 +71,20 @@ impl At {
             return self.after(got);
         }
         At {
-            levels: self.levels,
             left: self.left - got.steps(),
             top: end,
-            cells: self.cells,
+            ..self
         }
     }
 
-    /// With one cell more.
-    pub fn with_cell(self) -> At
-        requires { self.cells + 1 ≤ variable_limit }
-        ensures { result ≡ with_cell_of self }
+    /// With n cells more.
+    pub fn with_cells(self, n: usize) -> At
+        requires { self.cells + n ≤ variable_limit }
+        ensures { result ≡ with_cells_of self n }
     {
         At {
-            levels: self.levels,
-            left: self.left,
-            top: self.top,
-            cells: self.cells + 1,
-        }
-    }
-
-    /// With two cells more.
-    pub fn with_two_cells(self) -> At
-        requires { self.cells + 2 ≤ variable_limit }
-        ensures { result ≡ with_two_cells_of self }
-    {
-        At {
-            levels: self.levels,
-            left: self.left,
-            top: self.top,
-            cells: self.cells + 2,
+            cells: self.cells + n,
+            ..self
         }
     }
 }

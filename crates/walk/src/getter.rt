@@ -21,7 +21,7 @@ use outcome::Answer;
 use refusal::Refusal;
 use scopes::Scope;
 
-// The number of a constant (14).
+// The number of a constant (14). Beside `get_wide`: the bytes go straight into the arena, where one function of both would copy them twice.
 fn get_number(sheet: &[u8], arena: &mut [u8], place: u16, top: usize) -> Answer
     requires { (top + 3 ≤ length arena.old) × (top < scratch_size) }
     ensures { (arena.new ≡ numbered arena.old top
@@ -62,6 +62,7 @@ fn get_leaf(sheet: &[u8], table: &Table, arena: &mut [u8], scope: Scope, own: Po
 }
 
 /// The value of a node: its depth is judged, then the allowance. The sheet's reader lets no kind over 1D through.
+// The kind is told by its byte (document 01, "What form each place needs"), by `if`s: one `match` with ranges was tried and took longer.
 #[cycle(get)]
 pub fn get_node(
     sheet: &[u8],
@@ -240,6 +241,7 @@ fn get_members(
     let mut next = start;
     let mut inner = scope;
     inner.count = 2;
+    // `while`: where the next member starts is read from this one, and an iterator would read it the same way
     while arena[next] == 3 {
         let mid = first_bytes(arena, next, end);
         inner.starts[0] = (next + 1) as u16;

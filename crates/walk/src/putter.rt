@@ -2,11 +2,9 @@
 //! beside what a get is lent, the `slots` and the `cells`.
 ghost use Rattle.std.specs.Prelude.{◌≡◌, [], ◌∷◌, ◌+◌, ◌*◌, ◌≤◌, length};
 ghost use Rattle.value.specs.Value.{Value, vfalse};
-ghost use Rattle.shapes.specs.Parts.{same_bytes};
-ghost use Rattle.node.specs.Wide.{wide_bytes};
 ghost use Rattle.rules.specs.Numbers.{chain_start};
 ghost use Rattle.outcome.specs.Outcome.{len_of};
-ghost use Rattle.decisions.specs.Decisions.{judged, made_of};
+ghost use Rattle.decisions.specs.Decisions.{made_of};
 ghost use Rattle.walk.specs.Arena.Cells.{Shown};
 ghost use Rattle.walk.specs.Get.Two.{Two};
 ghost use Rattle.walk.specs.Get.Case.{Case};
@@ -30,7 +28,6 @@ ghost use Rattle.walk.specs.Put.{
   rebuilt_of,
   switch_at,
 };
-ghost use Rattle.walk.specs.Put.Leaf.{number_bytes};
 ghost use Rattle.walk.specs.Put.Under.{got_parts};
 ghost use Rattle.walk.specs.Put.Switch.{BothAsked, Sees, DefaultsAsked, Defaults};
 ghost use Rattle.walk.specs.Put.Member.{StoodAsked, Stood, MembersAsked, MemberTold};
@@ -108,25 +105,6 @@ fn parts_of(kind: u8, branch: usize, subject: usize, got: Answer, mid: usize) ->
     }
 }
 
-// A constant number (14) must equal the view.
-fn put_number(sheet: &[u8], place: u16, view: &[u8]) -> Answer
-    ensures { result ≡ judged 50 (same_bytes view.now (number_bytes sheet.now place)) }
-{
-    let number = u16::from_be_bytes([
-        node::byte_of(sheet, place, 1),
-        node::byte_of(sheet, place, 2),
-    ]);
-    decisions::put_number(number, view)
-}
-
-// A constant number of four bytes (1D) must equal the view.
-fn put_wide(sheet: &[u8], place: u16, view: &[u8]) -> Answer
-    ensures { result ≡ judged 50 (same_bytes view.now (wide_bytes sheet.now place)) }
-{
-    let number = node::wide_bytes(sheet, place);
-    decisions::put_bytes(&number, view)
-}
-
 // A constant (11 to 14) must equal the view; a variable (10) takes it.
 fn put_leaf(
     sheet: &[u8],
@@ -146,10 +124,15 @@ fn put_leaf(
 {
     let kind = own.kind;
     if kind == 0x14 {
-        return put_number(sheet, own.from, view);
+        let constant = [
+            4,
+            node::byte_of(sheet, own.from, 1),
+            node::byte_of(sheet, own.from, 2),
+        ];
+        return decisions::put_bytes(&constant, view);
     }
     if kind != 0x10 {
-        return decisions::put_constant(kind - 0x11, view);
+        return decisions::put_bytes(&[kind - 0x11], view);
     }
     let x = node::number_of(sheet, own.from, 1);
     let count = usize::from(scope.count);
@@ -161,6 +144,7 @@ fn put_leaf(
 }
 
 /// A view put back into a node: its depth is judged, then the allowance. The sheet's reader lets no kind over 1D through.
+// The kind is told by its byte, by `if`s, as in `get_node`.
 #[cycle(put)]
 pub fn put_node(
     sheet: &[u8],
@@ -210,7 +194,8 @@ pub fn put_node(
         return leave(arena, put, node, at.levels);
     }
     // 1D: no other kind is left
-    let put = put_wide(sheet, from, view);
+    let constant = node::wide_bytes(sheet, from);
+    let put = decisions::put_bytes(&constant, view);
     leave(arena, put, node, at.levels)
 }
 
@@ -304,7 +289,7 @@ fn put_under(
     let inner = with_two(scope, parts.start, parts.first, parts.second);
     let mut more = *cells;
     scopes::add_cells(&mut more, usize::from(scope.count), c);
-    let to = at.with_two_cells();
+    let to = at.with_cells(2);
     let branch = parts.branch;
     let one = put_node(sheet, table, arena, slots, inner, &more, branch, view, to);
     if one.is_refused() {
@@ -444,7 +429,14 @@ fn two_defaults(
 
 // The defaults of a list case, got in a scope of one variable, the view: it stands at the top while they are got behind it, and then they are
 // brought down to where it stood.
-fn defaults(sheet: &[u8], table: &Table, arena: &mut [u8], place: u16, view: &[u8], at: At) -> Answer
+fn defaults(
+    sheet: &[u8],
+    table: &Table,
+    arena: &mut [u8],
+    place: u16,
+    view: &[u8],
+    at: At,
+) -> Answer
     requires { DefaultsAsked sheet.now table.now arena.old view.now place at.top at.levels at.left }
     ensures { Defaults sheet.now place (Shown view.now) arena.old arena.new at.top at.levels at.left
         result }
@@ -627,7 +619,7 @@ fn put_one(
     slots[cell] = 0;
     let inner = member(scope, by.x, start, len);
     let two = scopes::member_cells(cells, cell, by.x);
-    let to = at.behind(stood).with_cell();
+    let to = at.behind(stood).with_cells(1);
     let put = put_node(sheet, table, arena, slots, inner, &two, by.root, view, to);
     if put.is_refused() {
         return put;
@@ -665,6 +657,7 @@ fn put_all(
     let mut next = by;
     let mut from = 0;
     let mut built = 0;
+    // `while`: where the next member starts is read from this one, and an iterator would read it the same way
     while view[from] == 3 {
         let rest = &view[from..];
         let mid = shapes::middle(rest).unwrap_or(0);

@@ -432,7 +432,7 @@ put_node-returns t c =
     own_as c.below-to.ensures (body_ready b) in
     let p : TaskTells c.args.sheet.now c.args.arena.now c.leave-2.new.arena c.args.slots.now c.args.slots.now c.args.scope c.args.cells.now c.args.view.now
     c.args.at c.leave-2.result (enter c.args.node) × Few c.args.at.left c.leave-2.result = body_told b (gives_at c.below-to.ensures
-    (wide_told a k c.put_wide-put.ensures)) (left_by (node_few c.requires.sheet c.requires.known) (omega (arith, c.requires.room))
+    (wide_told a k (rw c.wide_bytes-constant.ensures at c.put_bytes-put.ensures))) (left_by (node_few c.requires.sheet c.requires.known) (omega (arith, c.requires.room))
     (c.leave-2.ensures.value, c.leave-2.ensures.arena_after)) in
     record { task_tells = p.0; few = p.1 }
 
@@ -1096,8 +1096,8 @@ put_under-with_two-inner-requires t c =
     } in
     of_under.under_stored a
 
-pub put_under-with_two_cells-to-requires : goal.put_under-with_two_cells-to-requires
-put_under-with_two_cells-to-requires t c =
+pub put_under-with_cells-to-requires : goal.put_under-with_cells-to-requires
+put_under-with_cells-to-requires t c =
     let r : (c.args.at.cells + 2 ≤ variable_limit) × (c.args.scope.count + 2 ≤ variable_limit) = (
       omega (
         arith,
@@ -1124,8 +1124,8 @@ put_under-put_node-one-requires t c =
       omega (arith, c.requires.inner.variables, c.requires.inner.some),
     ) in
     let k : c.add_cells.new.cells ≡ added_two c.args.cells.now c.args.scope.count c.args.at.cells (c.args.at.cells + 1) = (rw c.from.ensures at c.add_cells.ensures).inside r in
-    let l = levels_as c.with_two_cells-to.ensures in
-    (omega (arith, c.decreases), ready_as c.with_two_cells-to.ensures c.with_two-inner.ensures k refl (of_under.under_asks₁ a))
+    let l = levels_as c.with_cells-to.ensures in
+    (omega (arith, c.decreases), ready_as c.with_cells-to.ensures c.with_two-inner.ensures k refl (of_under.under_asks₁ a))
 
 pub put_under-returns-then-is_refused : goal.put_under-returns-then-is_refused
 put_under-returns-then-is_refused t c =
@@ -1145,12 +1145,12 @@ put_under-returns-then-is_refused t c =
     let k : c.add_cells.new.cells ≡ added_two c.args.cells.now c.args.scope.count c.args.at.cells (c.args.at.cells + 1) = (rw c.from.ensures at c.add_cells.ensures).inside r in
     let o : PutTold (of_under.inner_here a) (Shown c.args.view.now) c.put_node-one.new.arena c.put_node-one.new.slots c.put_node-one.result
     (enter c.args.parts.branch) =
-    shows_as c.with_two_cells-to.ensures c.with_two-inner.ensures k refl c.put_node-one.ensures.task_tells in
+    shows_as c.with_cells-to.ensures c.with_two-inner.ensures k refl c.put_node-one.ensures.task_tells in
     of_under.under_refused a o (sym c.is_refused.ensures ∙ c.if-is_refused.true)
 
 pub put_under-after-then-requires : goal.put_under-after-then-requires
 put_under-after-then-requires t c =
-    let f : Few c.args.at.left c.put_node-one.result = few_at c.with_two_cells-to.ensures c.put_node-one.ensures.few in
+    let f : Few c.args.at.left c.put_node-one.result = few_at c.with_cells-to.ensures c.put_node-one.ensures.few in
     let d : is_refusal c.put_node-one.result ≡ false = sym c.is_refused.ensures ∙ c.if-is_refused.false in
     f.at d
 
@@ -1172,7 +1172,7 @@ put_under-put_rebuilt-two-requires t c =
     let k : c.add_cells.new.cells ≡ added_two c.args.cells.now c.args.scope.count c.args.at.cells (c.args.at.cells + 1) = (rw c.from.ensures at c.add_cells.ensures).inside r in
     let o : PutTold (of_under.inner_here a) (Shown c.args.view.now) c.put_node-one.new.arena c.put_node-one.new.slots c.put_node-one.result
     (enter c.args.parts.branch) =
-    shows_as c.with_two_cells-to.ensures c.with_two-inner.ensures k refl c.put_node-one.ensures.task_tells in
+    shows_as c.with_cells-to.ensures c.with_two-inner.ensures k refl c.put_node-one.ensures.task_tells in
     let d : is_refusal c.put_node-one.result ≡ false = sym c.is_refused.ensures ∙ c.if-is_refused.false in
     let l = levels_as c.after-then.ensures in (
       omega (arith, c.decreases),
@@ -1200,9 +1200,9 @@ put_under-returns t c =
     let k : c.add_cells.new.cells ≡ added_two c.args.cells.now c.args.scope.count c.args.at.cells (c.args.at.cells + 1) = (rw c.from.ensures at c.add_cells.ensures).inside r in
     let o : PutTold (of_under.inner_here a) (Shown c.args.view.now) c.put_node-one.new.arena c.put_node-one.new.slots c.put_node-one.result
     (enter c.args.parts.branch) =
-    shows_as c.with_two_cells-to.ensures c.with_two-inner.ensures k refl c.put_node-one.ensures.task_tells in
+    shows_as c.with_cells-to.ensures c.with_two-inner.ensures k refl c.put_node-one.ensures.task_tells in
     let d : is_refusal c.put_node-one.result ≡ false = sym c.is_refused.ensures ∙ c.if-is_refused.false in
-    let f : Few c.args.at.left c.put_node-one.result = few_at c.with_two_cells-to.ensures c.put_node-one.ensures.few in
+    let f : Few c.args.at.left c.put_node-one.result = few_at c.with_cells-to.ensures c.put_node-one.ensures.few in
     of_under.under_told a o d f (few_at c.after-then.ensures c.put_rebuilt-two.ensures.few)
     (of_under.rest_as c.after-then.ensures c.put_rebuilt-two.ensures.put_shows) (later_as_lem _ c.steps.ensures c.later.ensures)
 
@@ -1310,8 +1310,8 @@ put_one-behind-requires t c =
     let h : is_refusal c.stood_for-stood.result ≡ false = sym c.is_refused.ensures ∙ c.if-is_refused.false in
     (of_member.stood_sizes s h).3
 
-pub put_one-with_cell-to-requires : goal.put_one-with_cell-to-requires
-put_one-with_cell-to-requires t c =
+pub put_one-with_cells-to-requires : goal.put_one-with_cells-to-requires
+put_one-with_cells-to-requires t c =
     let r : (c.args.turn.at.cells + 1 ≤ 109) × (c.args.turn.by.x < variable_limit) = (
       omega (
         arith,
@@ -1352,7 +1352,7 @@ put_one-put_node-put-requires t c =
     c.member-inner.ensures ∙ ap₂ (with_member c.args.scope c.args.turn.by.x) c.start-start.ensures c.len-len.ensures in
     let k : c.member_cells-two.result ≡ front_two c.args.cells.now c.args.turn.at.cells (get_or c.args.cells.now c.args.turn.by.x
     0) = c.member_cells-two.ensures.inside (omega (arith, r.0), r.1) in
-    let p : c.with_cell-to.result ≡ with_cell_of (behind_of c.args.turn.at c.stood_for-stood.result) = c.with_cell-to.ensures ∙
+    let p : c.with_cells-to.result ≡ with_cell_of (behind_of c.args.turn.at c.stood_for-stood.result) = c.with_cells-to.ensures ∙
     ap with_cell_of c.behind.ensures in
     let l = levels_as p in
     (omega (arith, c.decreases), ready_as p i k refl (of_member.member_asks s h c.requires.some_view))
@@ -1381,7 +1381,7 @@ put_one-returns-then-is_refused-2 t c =
     c.member-inner.ensures ∙ ap₂ (with_member c.args.scope c.args.turn.by.x) c.start-start.ensures c.len-len.ensures in
     let k : c.member_cells-two.result ≡ front_two c.args.cells.now c.args.turn.at.cells (get_or c.args.cells.now c.args.turn.by.x
     0) = c.member_cells-two.ensures.inside (omega (arith, r.0), r.1) in
-    let p : c.with_cell-to.result ≡ with_cell_of (behind_of c.args.turn.at c.stood_for-stood.result) = c.with_cell-to.ensures ∙
+    let p : c.with_cells-to.result ≡ with_cell_of (behind_of c.args.turn.at c.stood_for-stood.result) = c.with_cells-to.ensures ∙
     ap with_cell_of c.behind.ensures in
     let o : PutTold (of_member.member_here s h) (Shown c.args.view.now) c.put_node-put.new.arena c.put_node-put.new.slots c.put_node-put.result
     (enter c.args.turn.by.root) =
@@ -1446,7 +1446,7 @@ put_one-overflow_add-size t c =
     c.member-inner.ensures ∙ ap₂ (with_member c.args.scope c.args.turn.by.x) c.start-start.ensures c.len-len.ensures in
     let k : c.member_cells-two.result ≡ front_two c.args.cells.now c.args.turn.at.cells (get_or c.args.cells.now c.args.turn.by.x
     0) = c.member_cells-two.ensures.inside (omega (arith, r.0), r.1) in
-    let p : c.with_cell-to.result ≡ with_cell_of (behind_of c.args.turn.at c.stood_for-stood.result) = c.with_cell-to.ensures ∙
+    let p : c.with_cells-to.result ≡ with_cell_of (behind_of c.args.turn.at c.stood_for-stood.result) = c.with_cells-to.ensures ∙
     ap with_cell_of c.behind.ensures in
     let o : PutTold (of_member.member_here s h) (Shown c.args.view.now) c.put_node-put.new.arena c.put_node-put.new.slots c.put_node-put.result
     (enter c.args.turn.by.root) =
@@ -1484,7 +1484,7 @@ put_one-returns-then-overlong t c =
     c.member-inner.ensures ∙ ap₂ (with_member c.args.scope c.args.turn.by.x) c.start-start.ensures c.len-len.ensures in
     let k : c.member_cells-two.result ≡ front_two c.args.cells.now c.args.turn.at.cells (get_or c.args.cells.now c.args.turn.by.x
     0) = c.member_cells-two.ensures.inside (omega (arith, r.0), r.1) in
-    let p : c.with_cell-to.result ≡ with_cell_of (behind_of c.args.turn.at c.stood_for-stood.result) = c.with_cell-to.ensures ∙
+    let p : c.with_cells-to.result ≡ with_cell_of (behind_of c.args.turn.at c.stood_for-stood.result) = c.with_cells-to.ensures ∙
     ap with_cell_of c.behind.ensures in
     let o : PutTold (of_member.member_here s h) (Shown c.args.view.now) c.put_node-put.new.arena c.put_node-put.new.slots c.put_node-put.result
     (enter c.args.turn.by.root) =
@@ -1533,7 +1533,7 @@ put_one-fill-requires t c =
     c.member-inner.ensures ∙ ap₂ (with_member c.args.scope c.args.turn.by.x) c.start-start.ensures c.len-len.ensures in
     let k : c.member_cells-two.result ≡ front_two c.args.cells.now c.args.turn.at.cells (get_or c.args.cells.now c.args.turn.by.x
     0) = c.member_cells-two.ensures.inside (omega (arith, r.0), r.1) in
-    let p : c.with_cell-to.result ≡ with_cell_of (behind_of c.args.turn.at c.stood_for-stood.result) = c.with_cell-to.ensures ∙
+    let p : c.with_cells-to.result ≡ with_cell_of (behind_of c.args.turn.at c.stood_for-stood.result) = c.with_cells-to.ensures ∙
     ap with_cell_of c.behind.ensures in
     let o : PutTold (of_member.member_here s h) (Shown c.args.view.now) c.put_node-put.new.arena c.put_node-put.new.slots c.put_node-put.result
     (enter c.args.turn.by.root) =
@@ -1583,7 +1583,7 @@ put_one-returns t c =
     c.member-inner.ensures ∙ ap₂ (with_member c.args.scope c.args.turn.by.x) c.start-start.ensures c.len-len.ensures in
     let k : c.member_cells-two.result ≡ front_two c.args.cells.now c.args.turn.at.cells (get_or c.args.cells.now c.args.turn.by.x
     0) = c.member_cells-two.ensures.inside (omega (arith, r.0), r.1) in
-    let p : c.with_cell-to.result ≡ with_cell_of (behind_of c.args.turn.at c.stood_for-stood.result) = c.with_cell-to.ensures ∙
+    let p : c.with_cells-to.result ≡ with_cell_of (behind_of c.args.turn.at c.stood_for-stood.result) = c.with_cells-to.ensures ∙
     ap with_cell_of c.behind.ensures in
     let o : PutTold (of_member.member_here s h) (Shown c.args.view.now) c.put_node-put.new.arena c.put_node-put.new.slots c.put_node-put.result
     (enter c.args.turn.by.root) =
