@@ -55,7 +55,7 @@ use Rattle.refusal.specs.declared.Refusal.TheVariants.{
   TextFull,
 }
 use Rattle.refusal.specs.Refusal.{number_of, Decodes}
-use Rattle.outcome.specs.Outcome.{done_as, is_refusal, code_of, Numbered, Refuses, done_there, small_refusal, len_of, start_of}
+use Rattle.outcome.specs.Outcome.{done_as, is_refusal, code_of, Numbered, Refuses, done_there}
 
 -- no refusal has the number 0, and each is a byte
 pub number_fits : (r : Refusal) → (1 ≤ number_of r) × (number_of r < 256)
@@ -110,10 +110,6 @@ number_fits TextFull = (omega arith, omega arith)
 pub no_refusal : (a : ℕ) (r : Option Refusal) → Refuses a r → ((x : Refusal) → r ≡ Some x → ⊥) → is_refusal a ≡ false
 no_refusal a None h n = h
 no_refusal a (Some x) h n = absurd (n x refl)
-
--- what a refusal that is made says
-pub refusal_made : (r : Refusal) → (is_refusal (number_of r) ≡ true) × (code_of (number_of r) ≡ number_of r) × (len_of (number_of r) ≡ 0) × (start_of (number_of r) ≡ 0)
-refusal_made r = let z = number_fits r in small_refusal z.0 z.1
 
 pub done_numbered : (start len steps : ℕ) → Numbered (done_as start len steps)
 done_numbered start len steps e = absurd (false≢true (sym (done_there start len steps) ∙ e))

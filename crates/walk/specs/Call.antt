@@ -249,13 +249,12 @@ pub planned : {sheet plan : List ℕ} {allowance : ℕ} {table : Table} {sc : Sc
 unfolding spans
 planned {plan = plan} {table = table} b o =
     let p = spans_read table.k plan o.spans_are in
-    let v = plan_values o in
     record {
       sh = o.read.sh;
-      μ = v.0;
+      μ = p.vs;
       read = o.read.read;
       is = o.read.is;
-      values = v.1;
+      values = ap (λ (k : ℕ). read_plan k plan) (sym o.read.k_is) ∙ p.found;
       spanned = spanned_as o.read.k_is (ap (λ (s : Spans). s.starts) p.spans_are) (ap (λ (s : Spans). s.lens) p.spans_are) o.spanned;
       lent = lent_front b o.lent;
       long = length-take-le scratch_size b o.lent.scratch_long;

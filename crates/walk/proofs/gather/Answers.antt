@@ -32,12 +32,14 @@ overflow_add-len c = omega (arith, few (goal.at.overflow_add-len c).In-loop-i, c
 
 pub copy-requires : goal.copy-requires
 copy-requires c =
-    gather_fits c.loop-i.invariant.1 c.requires (rw c.from-i-end.ensures at c.loop-i-test.true) c.length_of-stood.ensures (rw c.from-start.ensures at c.place_of-from.ensures)
+    gather_fits c.loop-i.invariant.1 c.requires (rw c.from-i-end.ensures at c.loop-i-test.true) c.length_of-stood.ensures
+    (rw c.from-start.ensures at c.place_of-from.ensures)
 
 pub loop-i-preserved : goal.loop-i-preserved
 loop-i-preserved c = (
   omega (arith, c.loop-i-test.true, c.from-i-end.ensures),
-  grown_more c.loop-i.invariant.1 c.requires (rw c.from-i-end.ensures at c.loop-i-test.true) c.length_of-stood.ensures (rw c.from-start.ensures at c.place_of-from.ensures)
+  grown_more c.loop-i.invariant.1 c.requires (rw c.from-i-end.ensures at c.loop-i-test.true) c.length_of-stood.ensures
+      (rw c.from-start.ensures at c.place_of-from.ensures)
       c.copy.ensures c.grow-len.ensures.value c.grow-len.ensures.at_after,
 )
 

@@ -26,13 +26,15 @@ put_node-put-requires c =
 
 pub met_at-requires : goal.met_at-requires
 met_at-requires c =
-    few_met c.requires.planned c.requires.viewed c.copy_in.ensures (rw c.from-k.ensures at c.first_cells-cells.ensures) (rw c.from-k.ensures at c.put_node-put.ensures.task_tells)
+    few_met c.requires.planned c.requires.viewed c.copy_in.ensures (rw c.from-k.ensures at c.first_cells-cells.ensures)
+    (rw c.from-k.ensures at c.put_node-put.ensures.task_tells)
     c.in-Some.ensures.0
 
 pub returns-in-Some : goal.returns-in-Some
 returns-in-Some c =
     let e = c.refused.ensures in record {
-      plan_walked = rw (walked_is _ _ e) (put_refused c.requires.planned c.requires.viewed c.copy_in.ensures (rw c.from-k.ensures at c.first_cells-cells.ensures)
+      plan_walked = rw (walked_is _ _ e) (put_refused c.requires.planned c.requires.viewed c.copy_in.ensures
+          (rw c.from-k.ensures at c.first_cells-cells.ensures)
           (rw c.from-k.ensures at c.put_node-put.ensures.task_tells)
           c.in-Some.ensures.0 c.in-Some.ensures.1);
       starts_value = none_with _ _ e _ _;
@@ -47,18 +49,22 @@ shape_of-arena-in-Some c = (returns-in-Some c).plan_walked.long
 
 pub gather-new-requires : goal.gather-new-requires
 gather-new-requires c =
-    put_placed c.requires.planned c.requires.viewed c.copy_in.ensures (rw c.from-k.ensures at c.first_cells-cells.ensures) (rw c.from-k.ensures at c.put_node-put.ensures.task_tells)
+    put_placed c.requires.planned c.requires.viewed c.copy_in.ensures (rw c.from-k.ensures at c.first_cells-cells.ensures)
+    (rw c.from-k.ensures at c.put_node-put.ensures.task_tells)
     (fine (goal.at.gather-new-requires c).In_default)
 
 pub returns : goal.returns
 returns c = record {
   plan_walked = put_done c.requires.planned c.requires.viewed c.copy_in.ensures (rw c.from-k.ensures at c.first_cells-cells.ensures)
       (rw c.from-k.ensures at c.put_node-put.ensures.task_tells) (fine (goal.at.returns c).In_default) c.gather-new.ensures c.steps-steps.ensures;
-  starts_value = put_starts c.requires.planned c.requires.viewed c.copy_in.ensures (rw c.from-k.ensures at c.first_cells-cells.ensures) (rw c.from-k.ensures at c.put_node-put.ensures.task_tells)
+  starts_value = put_starts c.requires.planned c.requires.viewed c.copy_in.ensures (rw c.from-k.ensures at c.first_cells-cells.ensures)
+      (rw c.from-k.ensures at c.put_node-put.ensures.task_tells)
       (fine (goal.at.returns c).In_default) c.gather-new.ensures _;
-  written_value = put_written_lem c.requires.planned c.requires.viewed c.copy_in.ensures (rw c.from-k.ensures at c.first_cells-cells.ensures) (rw c.from-k.ensures at c.put_node-put.ensures.task_tells)
+  written_value = put_written_lem c.requires.planned c.requires.viewed c.copy_in.ensures (rw c.from-k.ensures at c.first_cells-cells.ensures)
+      (rw c.from-k.ensures at c.put_node-put.ensures.task_tells)
       (fine (goal.at.returns c).In_default) (rw c.from-k.ensures at c.bits_of-written.ensures) refl _ _;
-  explains = put_unmet c.requires.planned c.requires.viewed c.copy_in.ensures (rw c.from-k.ensures at c.first_cells-cells.ensures) (rw c.from-k.ensures at c.put_node-put.ensures.task_tells)
+  explains = put_unmet c.requires.planned c.requires.viewed c.copy_in.ensures (rw c.from-k.ensures at c.first_cells-cells.ensures)
+      (rw c.from-k.ensures at c.put_node-put.ensures.task_tells)
       (fine (goal.at.returns c).In_default) c.nowhere-met.ensures;
 }
 

@@ -1,6 +1,7 @@
 -- Parts of the arena's bytes, and what a change leaves alone.
 use Rattle.std.specs.Prelude.{◌≡◌, refl, List, [], ◌∷◌, ◌++◌, ℕ, zero, suc, ◌+◌, ◌≤◌, ◌<◌, length, take, drop, get_or, set}
-use Rattle.std.proofs.Common.{sym, ap, ◌∙◌, append_assoc, zero-add, suc-add, le_refl, add-one, arith, length-set, length-append, length-drop, take-take, take-add}
+use Rattle.std.proofs.Common.{sym, ap, ◌∙◌, append_assoc, zero-add, suc-add, le_refl}
+use Rattle.std.proofs.Common.{add-one, arith, length-set, length-append, length-drop, take-take, take-add}
 use Rattle.std.proofs.Common.{drop-drop, length-take-le, take_at, drop_at, drop-cons, get_or-set_same}
 use Rattle.std.proofs.Math.Seq.{take-nil, paste}
 use Rattle.std.proofs.lemmas.List.Edits.{length-paste}

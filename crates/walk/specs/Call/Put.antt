@@ -60,7 +60,8 @@ use Rattle.walk.specs.Call.NewStarts.{new_starts}
 use Rattle.walk.specs.Call.Bits.{new_written, slots_took}
 use Rattle.arena.specs.Bits.{filled_from}
 use Rattle.walk.specs.Call.Gather.{Rests, Placed, SomePlaced, AllGathered, Counted}
-use Rattle.walk.specs.Call.{Unread, Bars, at_door, at_sheet, at_plan, says_done, says_refused, WalkCall, Planned, PlanWalked, plan_small, plan_env, root_is, call_shut, call_refused}
+use Rattle.walk.specs.Call.{Unread, Bars, at_door, at_sheet, at_plan, says_done, says_refused}
+use Rattle.walk.specs.Call.{WalkCall, Planned, PlanWalked, plan_small, plan_env, root_is, call_shut, call_refused}
 
 -- the view is read
 pub record Viewed (view : List ℕ) : Type 0 where
@@ -270,7 +271,8 @@ module _ {sheet plan view : List ℕ} {table : Table} {sc : Scope} {allowance : 
         unfolding run
         wrote = had (g.told put_given) (decoded_done a level_limit r e)
 
-        pub put_unmet : {a' : List ℕ} {len n : ℕ} {m' : Met} → m' ≡ nowhere → Explains (explain_put sheet plan view allowance) allowance b a' (finished len n) m'
+        pub put_unmet : {a' : List ℕ} {len n : ℕ} {m' : Met} → m' ≡ nowhere → Explains (explain_put sheet plan view allowance) allowance b a'
+            (finished len n) m'
         put_unmet f = rw f (done_explains wrote.is explain_put_lem)
 
         -- the bits of the slots are those of the cells

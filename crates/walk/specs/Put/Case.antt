@@ -97,7 +97,8 @@ choose_by {p = false} {q = true} (no d) (no e) x y = absurd (e refl)
 choose_by {p = false} {q = false} (no d) (yes e) x y = absurd (let z : ◌≡◌ {A = ℕ} 0 1 = cc in omega arith)
 choose_by {p = false} {q = false} (no d) (no e) x y = refl
 
-by_choice : (f : Branch → Explained Cells) → ((c : Refusal) → f (Refused c) ≡ (λ _. met (own_rule (number_of c) none) 0)) → (p q : Bool) (b c : Branch) → either p q (f b)
+by_choice : (f : Branch → Explained Cells) → ((c : Refusal) → f (Refused c) ≡ (λ _. met (own_rule (number_of c) none) 0)) → (p q : Bool) (b c : Branch)
+    → either p q (f b)
     (f c) ≡ f (choice p q b c)
 unfolding either choice
 by_choice f h true q b c = refl

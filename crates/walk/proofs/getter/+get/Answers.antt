@@ -49,7 +49,8 @@ get_add-returns t c =
     let v : AtTop (here c.requires.kind_asked) c.bring-a.new.arena c.bring-a.result (get_or c.args.sheet.now (c.args.own.from + 1) 0) =
     at_top (add_asks c.requires.kind_asked c.requires.kind_value) (as_node c.number_of-node.ensures c.get_node-got.ensures.get_shows)
     c.get_node-got.ensures.sized c.bring-a.ensures in
-    add_told c.requires.kind_asked c.requires.kind_value v (rw (sum_as _ _ c.from_be_bytes-amount.ensures c.byte_of.ensures c.byte_of-2.ensures) at c.added.ensures)
+    add_told c.requires.kind_asked c.requires.kind_value v (rw
+    (sum_as _ _ c.from_be_bytes-amount.ensures c.byte_of.ensures c.byte_of-2.ensures) at c.added.ensures)
 
 pub get_call-returns-then-count-x : goal.get_call-returns-then-count-x
 get_call-returns-then-count-x t c =
@@ -821,7 +822,8 @@ get_members-get_node-got-requires t c =
     let m = member_there u in
     let i : renewed c.loop-arena.inner (c.loop-arena.next + 1) (c.first_bytes-mid.result - 2) (get_or c.args.scope.starts c.args.x 0)
     (get_or c.args.scope.lens c.args.x 0)
-    ≡ with_member c.args.scope c.args.x (c.loop-arena.next + 1) (c.first_bytes-mid.result - 1) = two_member _ _ _ (omega (arith, m.2)) c.loop-arena.invariant.1 in
+    ≡ with_member c.args.scope c.args.x (c.loop-arena.next + 1) (c.first_bytes-mid.result - 1) = two_member _ _ _ (omega
+    (arith, m.2)) c.loop-arena.invariant.1 in
     let l = levels_as c.raised-one.ensures in
     (omega (arith, c.decreases, c.loop-arena.invariant.0.level), ready_as c.raised-one.ensures i refl (turn_asks u k))
 
@@ -838,7 +840,8 @@ get_members-returns-then-is_refused t c =
     let m = member_there u in
     let i : renewed c.loop-arena.inner (c.loop-arena.next + 1) (c.first_bytes-mid.result - 2) (get_or c.args.scope.starts c.args.x 0)
     (get_or c.args.scope.lens c.args.x 0)
-    ≡ with_member c.args.scope c.args.x (c.loop-arena.next + 1) (c.first_bytes-mid.result - 1) = two_member _ _ _ (omega (arith, m.2)) c.loop-arena.invariant.1 in
+    ≡ with_member c.args.scope c.args.x (c.loop-arena.next + 1) (c.first_bytes-mid.result - 1) = two_member _ _ _ (omega
+    (arith, m.2)) c.loop-arena.invariant.1 in
     let v : AtTop (turn_here u k) c.bring-a.new.arena c.bring-a.result c.args.root =
     at_top (turn_asks u k) (shows_as c.raised-one.ensures i refl c.get_node-got.ensures.get_shows)
     (sized_as c.raised-one.ensures c.get_node-got.ensures.sized) (brought_as c.raised-one.ensures c.bring-a.ensures) in
@@ -858,7 +861,8 @@ get_members-behind-to-requires t c =
     let m = member_there u in
     let i : renewed c.loop-arena.inner (c.loop-arena.next + 1) (c.first_bytes-mid.result - 2) (get_or c.args.scope.starts c.args.x 0)
     (get_or c.args.scope.lens c.args.x 0)
-    ≡ with_member c.args.scope c.args.x (c.loop-arena.next + 1) (c.first_bytes-mid.result - 1) = two_member _ _ _ (omega (arith, m.2)) c.loop-arena.invariant.1 in
+    ≡ with_member c.args.scope c.args.x (c.loop-arena.next + 1) (c.first_bytes-mid.result - 1) = two_member _ _ _ (omega
+    (arith, m.2)) c.loop-arena.invariant.1 in
     let v : AtTop (turn_here u k) c.bring-a.new.arena c.bring-a.result c.args.root =
     at_top (turn_asks u k) (shows_as c.raised-one.ensures i refl c.get_node-got.ensures.get_shows)
     (sized_as c.raised-one.ensures c.get_node-got.ensures.sized) (brought_as c.raised-one.ensures c.bring-a.ensures) in
@@ -899,7 +903,8 @@ get_members-loop-arena-preserved t c =
     let m = member_there u in
     let i : renewed c.loop-arena.inner (c.loop-arena.next + 1) (c.first_bytes-mid.result - 2) (get_or c.args.scope.starts c.args.x 0)
     (get_or c.args.scope.lens c.args.x 0)
-    ≡ with_member c.args.scope c.args.x (c.loop-arena.next + 1) (c.first_bytes-mid.result - 1) = two_member _ _ _ (omega (arith, m.2)) c.loop-arena.invariant.1 in
+    ≡ with_member c.args.scope c.args.x (c.loop-arena.next + 1) (c.first_bytes-mid.result - 1) = two_member _ _ _ (omega
+    (arith, m.2)) c.loop-arena.invariant.1 in
     let v : AtTop (turn_here u k) c.bring-a.new.arena c.bring-a.result c.args.root =
     at_top (turn_asks u k) (shows_as c.raised-one.ensures i refl c.get_node-got.ensures.get_shows)
     (sized_as c.raised-one.ensures c.get_node-got.ensures.sized) (brought_as c.raised-one.ensures c.bring-a.ensures) in

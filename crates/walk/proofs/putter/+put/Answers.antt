@@ -57,13 +57,15 @@ put_add-returns-in_default t c =
 pub put_add-returns-then-m-amount : goal.put_add-returns-then-m-amount
 put_add-returns-then-m-amount t c =
     let n : Number c.in-Number.m ≡ shape_of c.args.view.now = sym c.in-Number.is ∙ c.shape_of.ensures in
-    let m : c.from_be_bytes-amount.result ≡ amount_at c.args.sheet.now c.args.own.from = sum_as _ _ c.from_be_bytes-amount.ensures c.byte_of.ensures c.byte_of-2.ensures in
+    let m : c.from_be_bytes-amount.result ≡ amount_at c.args.sheet.now c.args.own.from
+    = sum_as _ _ c.from_be_bytes-amount.ensures c.byte_of.ensures c.byte_of-2.ensures in
     of_add.add_52 c.requires.kind_asked c.requires.kind_value n (omega (arith, m, c.if-m-amount.true)) c.refused-then-m-amount.ensures
 
 pub put_add-put_node-requires : goal.put_add-put_node-requires
 put_add-put_node-requires t c =
     let n : Number c.in-Number.m ≡ shape_of c.args.view.now = sym c.in-Number.is ∙ c.shape_of.ensures in
-    let m : c.from_be_bytes-amount.result ≡ amount_at c.args.sheet.now c.args.own.from = sum_as _ _ c.from_be_bytes-amount.ensures c.byte_of.ensures c.byte_of-2.ensures in
+    let m : c.from_be_bytes-amount.result ≡ amount_at c.args.sheet.now c.args.own.from
+    = sum_as _ _ c.from_be_bytes-amount.ensures c.byte_of.ensures c.byte_of-2.ensures in
     let v : c.number-less.result ≡ of_add.less_view c.requires.kind_asked c.requires.kind_value n =
     c.number-less.ensures ∙ ap (λ (x : ℕ). 4 ∷ (c.in-Number.m - x) / 256 ∷ (c.in-Number.m - x) % 256 ∷ []) m in (
       omega (arith, c.decreases),
@@ -74,7 +76,8 @@ put_add-put_node-requires t c =
 pub put_add-returns : goal.put_add-returns
 put_add-returns t c =
     let n : Number c.in-Number.m ≡ shape_of c.args.view.now = sym c.in-Number.is ∙ c.shape_of.ensures in
-    let m : c.from_be_bytes-amount.result ≡ amount_at c.args.sheet.now c.args.own.from = sum_as _ _ c.from_be_bytes-amount.ensures c.byte_of.ensures c.byte_of-2.ensures in
+    let m : c.from_be_bytes-amount.result ≡ amount_at c.args.sheet.now c.args.own.from
+    = sum_as _ _ c.from_be_bytes-amount.ensures c.byte_of.ensures c.byte_of-2.ensures in
     let v : c.number-less.result ≡ of_add.less_view c.requires.kind_asked c.requires.kind_value n =
     c.number-less.ensures ∙ ap (λ (x : ℕ). 4 ∷ (c.in-Number.m - x) / 256 ∷ (c.in-Number.m - x) % 256 ∷ []) m in
     of_add.add_told c.requires.kind_asked c.requires.kind_value n (omega (arith, m, c.if-m-amount.false))
@@ -432,7 +435,8 @@ put_node-returns t c =
     own_as c.below-to.ensures (body_ready b) in
     let p : TaskTells c.args.sheet.now c.args.arena.now c.leave-2.new.arena c.args.slots.now c.args.slots.now c.args.scope c.args.cells.now c.args.view.now
     c.args.at c.leave-2.result (enter c.args.node) × Few c.args.at.left c.leave-2.result = body_told b (gives_at c.below-to.ensures
-    (wide_told a k (rw c.wide_bytes-constant.ensures at c.put_bytes-put.ensures))) (left_by (node_few c.requires.sheet c.requires.known) (omega (arith, c.requires.room))
+    (wide_told a k (rw c.wide_bytes-constant.ensures at c.put_bytes-put.ensures))) (left_by (node_few c.requires.sheet c.requires.known) (omega
+    (arith, c.requires.room))
     (c.leave-2.ensures.value, c.leave-2.ensures.arena_after)) in
     record { task_tells = p.0; few = p.1 }
 
@@ -1123,7 +1127,8 @@ put_under-put_node-one-requires t c =
       ),
       omega (arith, c.requires.inner.variables, c.requires.inner.some),
     ) in
-    let k : c.add_cells.new.cells ≡ added_two c.args.cells.now c.args.scope.count c.args.at.cells (c.args.at.cells + 1) = (rw c.from.ensures at c.add_cells.ensures).inside r in
+    let k : c.add_cells.new.cells ≡ added_two c.args.cells.now c.args.scope.count c.args.at.cells (c.args.at.cells + 1) =
+    (rw c.from.ensures at c.add_cells.ensures).inside r in
     let l = levels_as c.with_cells-to.ensures in
     (omega (arith, c.decreases), ready_as c.with_cells-to.ensures c.with_two-inner.ensures k refl (of_under.under_asks₁ a))
 
@@ -1142,7 +1147,8 @@ put_under-returns-then-is_refused t c =
       ),
       omega (arith, c.requires.inner.variables, c.requires.inner.some),
     ) in
-    let k : c.add_cells.new.cells ≡ added_two c.args.cells.now c.args.scope.count c.args.at.cells (c.args.at.cells + 1) = (rw c.from.ensures at c.add_cells.ensures).inside r in
+    let k : c.add_cells.new.cells ≡ added_two c.args.cells.now c.args.scope.count c.args.at.cells (c.args.at.cells + 1) =
+    (rw c.from.ensures at c.add_cells.ensures).inside r in
     let o : PutTold (of_under.inner_here a) (Shown c.args.view.now) c.put_node-one.new.arena c.put_node-one.new.slots c.put_node-one.result
     (enter c.args.parts.branch) =
     shows_as c.with_cells-to.ensures c.with_two-inner.ensures k refl c.put_node-one.ensures.task_tells in
@@ -1169,7 +1175,8 @@ put_under-put_rebuilt-two-requires t c =
       ),
       omega (arith, c.requires.inner.variables, c.requires.inner.some),
     ) in
-    let k : c.add_cells.new.cells ≡ added_two c.args.cells.now c.args.scope.count c.args.at.cells (c.args.at.cells + 1) = (rw c.from.ensures at c.add_cells.ensures).inside r in
+    let k : c.add_cells.new.cells ≡ added_two c.args.cells.now c.args.scope.count c.args.at.cells (c.args.at.cells + 1) =
+    (rw c.from.ensures at c.add_cells.ensures).inside r in
     let o : PutTold (of_under.inner_here a) (Shown c.args.view.now) c.put_node-one.new.arena c.put_node-one.new.slots c.put_node-one.result
     (enter c.args.parts.branch) =
     shows_as c.with_cells-to.ensures c.with_two-inner.ensures k refl c.put_node-one.ensures.task_tells in
@@ -1197,7 +1204,8 @@ put_under-returns t c =
       ),
       omega (arith, c.requires.inner.variables, c.requires.inner.some),
     ) in
-    let k : c.add_cells.new.cells ≡ added_two c.args.cells.now c.args.scope.count c.args.at.cells (c.args.at.cells + 1) = (rw c.from.ensures at c.add_cells.ensures).inside r in
+    let k : c.add_cells.new.cells ≡ added_two c.args.cells.now c.args.scope.count c.args.at.cells (c.args.at.cells + 1) =
+    (rw c.from.ensures at c.add_cells.ensures).inside r in
     let o : PutTold (of_under.inner_here a) (Shown c.args.view.now) c.put_node-one.new.arena c.put_node-one.new.slots c.put_node-one.result
     (enter c.args.parts.branch) =
     shows_as c.with_cells-to.ensures c.with_two-inner.ensures k refl c.put_node-one.ensures.task_tells in

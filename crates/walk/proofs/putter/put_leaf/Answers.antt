@@ -23,7 +23,8 @@ writable c =
 pub returns-then-kind-eq20 : goal.returns-then-kind-eq20
 returns-then-kind-eq20 c =
     let k : c.byte_of-then-kind-eq20.result < 256 = omega arith in
-    number_told c.requires.kind_asked c.if-kind-eq20.true (rw (number_as c.args.sheet.now c.args.own.from c.byte_of.ensures c.byte_of-then-kind-eq20.ensures k) at c.put_bytes.ensures)
+    number_told c.requires.kind_asked c.if-kind-eq20.true (rw
+    (number_as c.args.sheet.now c.args.own.from c.byte_of.ensures c.byte_of-then-kind-eq20.ensures k) at c.put_bytes.ensures)
 
 pub returns-then-kind-ne16 : goal.returns-then-kind-ne16
 returns-then-kind-ne16 c =
