@@ -19,7 +19,7 @@ fn digit(n: u8) -> u8
 pub fn place(text: &[u8], at: usize) -> usize
     ensures { Wrote [] at text.now text.now result }
 {
-    if at < text.len() { at } else { text.len() }
+    at.min(text.len())
 }
 
 /// One byte.
@@ -37,13 +37,11 @@ pub fn byte(text: &mut [u8], at: usize, b: u8) -> usize
 pub fn bytes(text: &mut [u8], at: usize, bytes: &[u8]) -> usize
     ensures { Wrote bytes.now at text.old text.new result }
 {
-    let mut end = place(text, at);
-    let mut i = 0;
-    while i < bytes.len() {
-        end = byte(text, end, bytes[i]);
-        i += 1;
-    }
-    end
+    let start = place(text, at);
+    let room = text.len() - start;
+    let count = bytes.len().min(room);
+    text[start..start + count].copy_from_slice(&bytes[..count]);
+    start + count
 }
 
 // A byte in upper-case hexadecimal.
@@ -59,10 +57,8 @@ pub fn hex(text: &mut [u8], at: usize, bytes: &[u8]) -> usize
     ensures { Wrote (hex_of bytes.now) at text.old text.new result }
 {
     let mut end = place(text, at);
-    let mut i = 0;
-    while i < bytes.len() {
-        end = hex_byte(text, end, bytes[i]);
-        i += 1;
+    for b in bytes {
+        end = hex_byte(text, end, *b);
     }
     end
 }
