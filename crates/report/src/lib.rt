@@ -8,6 +8,7 @@ ghost use Rattle.report.specs.Text.{digit_of, hex_of, decimal_of, words, refusal
 ghost use Rattle.report.specs.Writing.{Wrote};
 
 // An upper-case hexadecimal digit.
+#[tactic(auto, unfolding(crate::specs::Text::digit_of))]
 fn digit(n: u8) -> u8
     requires { n < 16 }
     ensures { result ≡ digit_of n }
