@@ -8,14 +8,13 @@ use Rattle.std.proofs.lemmas.List.{set_at}
 use Rattle.std.specs.Int.{w8}
 use Rattle.report.specs.Writing.{Wrote, wrote_then, wrote_text}
 use Rattle.value.specs.Result.{ok}
-use Rattle.node.specs.declared.Node.{Node}
 use Rattle.node.specs.declared.Node.TheVariants.{False}
 use Rattle.sheet.specs.declared.Table.{Table}
 use Rattle.node.specs.Kinds.{children, calls, written}
 use Rattle.sheet.specs.Renumbering.{renumber}
 use Rattle.sheet.specs.Sheet.{Sheet, read_sheet}
 use Rattle.node.specs.Decoding.{kind_width}
-use Rattle.sheet.specs.Table.{table_of, section_at, first_node}
+use Rattle.sheet.specs.Table.{table_of, section_at}
 use Rattle.node.specs.Forms.{listing}
 use Rattle.sheet.specs.Reading.{Made}
 use Rattle.sheet.specs.Laws.{node_made, table_start, sheet_ranges}
@@ -131,11 +130,11 @@ module _ {s : List ℕ} {m : Anew} where
   unfolding roots_of
   rooted_none w = record { wrote = w }
 
-  pub rooted_more : {i n v at j k r : ℕ} {b b₁ b₂ b₃ : List ℕ} → Rooted s m i at b b₁ j → n ≡ section_at s i → n < 256 → v ≡ within 256 m.nodes n
-      → Wrote (0x20 ∷ []) j b₁ b₂ k → Wrote (v ∷ []) k b₂ b₃ r → Rooted s m (i + 1) at b b₃ r
+  pub rooted_more : {i n v at j r : ℕ} {b b₁ b₂ : List ℕ} → Rooted s m i at b b₁ j → n ≡ section_at s i → n < 256 → v ≡ within 256 m.nodes n
+      → Wrote (0x20 ∷ v ∷ []) j b₁ b₂ r → Rooted s m (i + 1) at b b₂ r
   unfolding roots_of
-  rooted_more {i} {n} {v} u e z f w x = let root : ℕ → ℕ = λ j. new_node m (section_at s j) in record {
-    wrote = wrote_text (wrote_then u.wrote (wrote_then w x))
+  rooted_more {i} {n} {v} u e z f w = let root : ℕ → ℕ = λ j. new_node m (section_at s j) in record {
+    wrote = wrote_text (wrote_then u.wrote w)
         (sym (ap roots_of (ap (λ (k : ℕ). listing k root) (add-one i) ∙ listing_more i root) ∙ roots_append (listing i root) (root i ∷ [])
         ∙ ap (λ (a : ℕ). roots_of (listing i root) ++ 0x20 ∷ a ∷ []) (sym (f ∙ within_in 256 m.nodes n z ∙ ap (new_node m) e))));
   }

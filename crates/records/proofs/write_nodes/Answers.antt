@@ -1,3 +1,4 @@
+use native.Mathlib.Omega.{arith}
 use Rattle.records.specs.AnewLaws.{listed_none, listed_more, listed_all}
 use Rattle.records.proofs.write_nodes.Goals as goal
 
@@ -6,7 +7,7 @@ loop-i-init c = listed_none c.place-end.ensures
 
 pub loop-i-preserved : goal.loop-i-preserved
 loop-i-preserved c =
-    listed_more c.loop-i.invariant c.loop-i-test.true c.entry-n.ensures c.start-from.ensures c.write_record-end.ensures
+    listed_more c.loop-i.invariant (omega arith) c.entry-n.ensures (rw c.from.ensures at c.start-from.ensures) c.write_record-end.ensures
 
 pub returns : goal.returns
-returns c = listed_all c.loop-i.invariant c.loop-i-test.false
+returns c = listed_all c.loop-i.invariant (omega arith)
