@@ -2,8 +2,8 @@
 //! function takes the buffer and the place, and gives the place behind what it wrote.
 #![tactic(auto)]
 
-ghost use Rattle.std.specs.Prelude.{◌≡◌};
-ghost use Rattle.records.specs.Anew.{within, chosen_of, record_of, records_of, named, sections_of, shifted_by};
+ghost use Rattle.std.specs.Prelude.{◌≡◌, get_or};
+ghost use Rattle.records.specs.Anew.{chosen_of, record_of, records_of, named, sections_of, shifted_by};
 ghost use Rattle.report.specs.Writing.{Wrote};
 
 use sheet::Table;
@@ -59,20 +59,11 @@ fn write_record(s: &[u8], at: u16, m: Anew, out: &mut [u8], to: usize) -> usize
     end
 }
 
-// Entry i of a table; 0 where there is none.
-#[tactic(auto, unfolding(crate::specs::Anew::within))]
-fn entry(table: &[u8; 256], i: usize) -> u8
-    ensures { result ≡ within 256 table.now i }
+// Entry i of a table; `none` where there is no such entry.
+fn entry<T: Copy + Drop>(table: &[T], i: usize, none: T) -> T
+    ensures { result ≡ get_or table.now i none }
 {
-    table.get(i).copied().unwrap_or(0)
-}
-
-// Where the record of node n starts; 0 where there is none.
-#[tactic(auto, unfolding(crate::specs::Anew::within))]
-fn start(starts: &[u16; 200], n: usize) -> u16
-    ensures { result ≡ within 200 starts.now n }
-{
-    starts.get(n).copied().unwrap_or(0)
+    table.get(i).copied().unwrap_or(none)
 }
 
 /// The records of the nodes that `m` names, in its order.
@@ -81,8 +72,8 @@ pub fn write_nodes(s: &[u8], t: Table, m: Anew, out: &mut [u8], at: usize) -> us
 {
     let mut end = report::place(out, at);
     for i in 0..m.count {
-        let n = entry(&m.order, i);
-        let from = start(&t.starts, usize::from(n));
+        let n = entry(&m.order, i, 0);
+        let from = entry(&t.starts, usize::from(n), 0);
         end = write_record(s, from, m, out, end);
     }
     end
@@ -94,7 +85,7 @@ pub fn write_sections(s: &[u8], count: usize, m: Anew, out: &mut [u8], at: usize
 {
     let mut end = report::place(out, at);
     for i in 0..count {
-        let n = entry(&m.nodes, sheet::section_root(s, i));
+        let n = entry(&m.nodes, sheet::section_root(s, i), 0);
         end = report::bytes(out, end, &[0x20, n]);
     }
     end
