@@ -1,11 +1,12 @@
 //! One numbering for a sheet file: nodes are numbered as they are first met (document 02, request 12).
 #![tactic(auto)]
 
-ghost use Rattle.std.specs.Prelude.{◌≡◌, ◌≤◌, ◌<◌, length, set};
+ghost use Rattle.std.specs.Prelude.{◌≡◌, ◌≤◌, ◌<◌, ◌==◌, length, take};
+ghost use Rattle.std.specs.List.{position};
 ghost use Rattle.report.specs.Writing.{Wrote};
 ghost use Rattle.preorder.specs.NumberAnswer.{number_answer};
 ghost use Rattle.numbering.specs.Replies.{reply_of, output_of};
-ghost use Rattle.numbering.specs.Counting.{used, used_all, roots_at, first_two, Fine, Counts};
+ghost use Rattle.numbering.specs.Counting.{used, used_all, roots_at, Fine, Counts};
 ghost use Rattle.numbering.specs.Meeting.{Single, Ordered};
 ghost use Rattle.numbering.specs.Places.{Placed, Numbers, text_anew};
 
@@ -35,7 +36,7 @@ struct Nodes {
 fn count_use(uses: &mut [u8; 256], n: u8)
     ensures { uses.new ≡ used uses.old n }
 {
-    let k = n as usize;
+    let k = usize::from(n);
     if 2 <= uses[k] {
         return;
     }
@@ -46,10 +47,8 @@ fn count_use(uses: &mut [u8; 256], n: u8)
 fn count_all(uses: &mut [u8; 256], ns: &[u8])
     ensures { uses.new ≡ used_all uses.old ns.now }
 {
-    let mut i = 0;
-    while i < ns.len() {
-        count_use(uses, ns[i]);
-        i += 1;
+    for n in ns {
+        count_use(uses, *n);
     }
 }
 
@@ -59,11 +58,9 @@ fn write_roots(sheet: &[u8], t: Table, list: &mut [u8], at: usize) -> usize
     ensures { Wrote (roots_at sheet.now t) at list.old list.new result }
 {
     let mut end = report::byte(list, at, t.root as u8);
-    let mut i = 0;
-    while i < t.sections {
+    for i in 0..t.sections {
         let root = sheet::section_root(sheet, i);
         end = report::byte(list, end, root as u8);
-        i += 1;
     }
     end
 }
@@ -77,30 +74,19 @@ fn count_uses(sheet: &[u8], t: Table) -> [u8; 256]
     let mut roots = [0u8; 9];
     let k = write_roots(sheet, t, &mut roots, 0);
     count_all(&mut uses, &roots[..k]);
-    let mut n = 0;
-    while n < t.nodes {
-        let c = sheet::children_at(sheet, t.starts[n]);
-        let nodes = c.nodes;
-        let count = c.count;
-        count_all(&mut uses, &nodes[..count]);
-        n += 1;
+    for start in &t.starts[..t.nodes] {
+        let c = sheet::children_at(sheet, *start);
+        count_all(&mut uses, &c.nodes[..c.count]);
     }
     uses
 }
 
-// The lowest node that is used twice; `nodes` where none is.
-fn lowest(uses: [u8; 256], nodes: usize) -> usize
+// The lowest of the first nodes that is used twice.
+fn lowest(uses: [u8; 256], nodes: usize) -> Option<usize>
     requires { nodes ≤ 256 }
-    ensures { result ≡ first_two 0 nodes uses }
+    ensures { result ≡ position (λ x. x == 2) (take nodes uses) }
 {
-    let mut n = 0;
-    while n < nodes {
-        if uses[n] == 2 {
-            return n;
-        }
-        n += 1;
-    }
-    n
+    uses[..nodes].iter().position(|times| *times == 2)
 }
 
 // The nodes of a sheet in the order in which they are first met. Those still to be met stand at the end of `todo`, the next one first:
@@ -114,24 +100,16 @@ fn meet(sheet: &[u8], t: Table) -> Nodes
     write_roots(sheet, t, &mut todo, top);
     let mut nodes = [0u8; 256];
     let mut count = 0;
+    // A `for` is no plainer: how many rounds there are is known behind the last one.
     while top < 256 {
         let n = todo[top];
         nodes[count] = n;
         count += 1;
-        let c = sheet::children_at(sheet, t.starts[n as usize]);
-        let below = c.nodes;
-        let many = c.count;
-        top = top + 1 - many;
-        report::bytes(&mut todo, top, &below[..many]);
+        let c = sheet::children_at(sheet, t.starts[usize::from(n)]);
+        top = top + 1 - c.count;
+        report::bytes(&mut todo, top, &c.nodes[..c.count]);
     }
     Nodes { count, nodes }
-}
-
-// One entry of a table.
-fn set_place(places: &mut [u8; 256], n: u8, place: u8)
-    ensures { places.new ≡ set places.old n place }
-{
-    places[n as usize] = place;
 }
 
 // The place of each node of a list.
@@ -140,10 +118,8 @@ fn places(l: Nodes) -> [u8; 256]
     ensures { Placed l result }
 {
     let mut places = [0u8; 256];
-    let mut i = 0;
-    while i < l.count {
-        set_place(&mut places, l.nodes[i], i as u8);
-        i += 1;
+    for (i, n) in l.nodes[..l.count].iter().enumerate() {
+        places[usize::from(*n)] = i as u8;
     }
     places
 }
@@ -170,8 +146,7 @@ fn write(sheet: &[u8], t: Table, m: Anew, out: &mut [u8]) -> usize
     requires { Fine sheet.now t }
     ensures { Wrote (text_anew sheet.now t m) 0 out.old out.new result }
 {
-    let k = t.root;
-    let root = m.nodes[k];
+    let root = m.nodes[t.root];
     let mut end = report::bytes(out, 0, &[0x01u8, t.k as u8, root]);
     end = records::write_sections(sheet, t.sections, m, out, end);
     records::write_nodes(sheet, t, m, out, end)
@@ -191,8 +166,7 @@ pub fn number(sheet: &[u8], out: &mut [u8]) -> Numbered
     if t.refusal != 0 {
         return Numbered::Refused(t.refusal);
     }
-    let n = lowest(count_uses(sheet, t), t.nodes);
-    if n < t.nodes {
+    if let Some(n) = lowest(count_uses(sheet, t), t.nodes) {
         return Numbered::Twice(n);
     }
     let m = in_order(meet(sheet, t));
