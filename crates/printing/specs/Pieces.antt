@@ -1,6 +1,6 @@
 -- THE PARTS OF A TEXT between one node and the next, and that numbers are said as `report` writes them.
 use Rattle.std.specs.Prelude.{◌≡◌, refl, Bool, true, false, List, [], ◌∷◌, ◌++◌, ℕ, zero, suc, min, ◌+◌, ◌/◌, ◌%◌, ◌≤◌, ◌<◌, length, replicate}
-use Rattle.std.proofs.Common.{sym, ap, ◌∙◌, append_assoc, append-nil, arith, add-one, lt-ltb, le-ltb}
+use Rattle.std.proofs.Common.{sym, ap, ◌∙◌, append_assoc, append-nil, arith, lt-ltb, le-ltb}
 use Rattle.report.specs.Text.{digit_of, decimal_of}
 use Rattle.report.proofs.TextLaws.{decimal_small, decimal_more, by_digits}
 use Rattle.report.specs.Writing.{Wrote, wrote_then, wrote_text}
@@ -122,13 +122,6 @@ part_is i = rw (decimal_is i)
 
 abbrev pub blank : ℕ → List ℕ
 blank n = replicate n 32
-
-pub blank_more : (n : ℕ) → blank n ++ (32 ∷ []) ≡ blank (n + 1)
-blank_more n = go n ∙ ap blank (sym (add-one n))
-  where
-    go : (n : ℕ) → blank n ++ (32 ∷ []) ≡ blank (suc n)
-    go zero = refl
-    go (suc n) = ap (λ (l : List ℕ). 32 ∷ l) (go n)
 
 pub line_few : (i : ℕ) → i < 32 → line i ≡ 10 ∷ replicate i 32
 line_few i h = let z : min i 32 ≡ i = omega arith in rw z

@@ -1,5 +1,5 @@
 -- EACH KIND OF NODE, said part by part: from what its parts wrote to what the definition says of the node.
-use Rattle.std.specs.Prelude.{◌≡◌, refl, Bool, true, false, eqb, get_or}
+use Rattle.std.specs.Prelude.{◌≡◌, refl, Bool, true, false, get_or}
 use Rattle.std.proofs.Math.Path.{sym, ap, subst}
 use Rattle.std.proofs.Common.{◌∙◌, arith, add-one}
 use mathlib.Core.List.{List, [], ◌∷◌, ◌++◌, append_assoc}
@@ -64,12 +64,12 @@ plus_two n = omega arith
 
 -- A NODE WITH WHAT IT NAMES
 
-module _ {s starts plain : List ℕ} {n : ℕ} where
+module _ {s starts : List ℕ} {plain : List Bool} {n : ℕ} where
   ranged : {sh : Sheet} {x : Node} → Known s starts plain sh → n < length sh.nodes → node_at s (get_or starts n 0) ≡ x
       → Ranged (length sh.nodes) (length sh.sections) n x
   ranged {sh} {x} k h e = let z : node_of sh n ≡ x = sym (k.node n h) ∙ e in rw z at (k.ranges.node n h)
 
-module _ {s starts plain : List ℕ} {n : ℕ} {w : Scope} where
+module _ {s starts : List ℕ} {plain : List Bool} {n : ℕ} {w : Scope} where
   -- what a node names stands behind it, and may be said
   pub next_ready : (q : Ready s starts plain n w) {c : ℕ} {w' : Scope} → Child (length q.sheet.nodes) n c → w'.count ≤ w.count + 2
       → w'.indent ≤ w.indent + 6 → Ready s starts plain c w'
@@ -101,7 +101,7 @@ module _ {s starts plain : List ℕ} {n : ℕ} {w : Scope} where
     -- the node itself, with one level less for what it names
     tells_deep : {x : Node} → node_at s (get_or starts n 0) ≡ x
         → ((sh : Sheet) → Known s starts plain sh → n < length sh.nodes → (l : ℕ) → length sh.nodes ≤ n + suc l
-        → Says (spoken (said sh l) (plain_node sh) (eqb (get_or plain n 0) 1) (reach_of w) w.indent x) at b b' r)
+        → Says (spoken (said sh l) (plain_node sh) (get_or plain n false) (reach_of w) w.indent x) at b b' r)
         → Tells s starts plain n (Alone w) at b b' r
     unfolding said
     tells_deep {x} e f = record { told = go }
@@ -116,7 +116,7 @@ module _ {s starts plain : List ℕ} {n : ℕ} {w : Scope} where
     pub tells_node : {x : Node} → node_at s (get_or starts n 0) ≡ x
         → ((sh : Sheet) → Known s starts plain sh → Ranged (length sh.nodes) (length sh.sections) n x → (l : ℕ)
         → ((c : ℕ) → Child (length sh.nodes) n c → length sh.nodes ≤ c + l)
-        → Says (spoken (said sh l) (plain_node sh) (eqb (get_or plain n 0) 1) (reach_of w) w.indent x) at b b' r)
+        → Says (spoken (said sh l) (plain_node sh) (get_or plain n false) (reach_of w) w.indent x) at b b' r)
         → Tells s starts plain n (Alone w) at b b' r
     tells_node e f = tells_deep e λ sh k h l d. f sh k (ranged k h e) l (λ c g. omega (arith, g.above))
 
@@ -136,12 +136,12 @@ module _ {s starts plain : List ℕ} {n : ℕ} {w : Scope} where
             subst (λ (y : Node). Says (tailed (said sh l) (plain_node sh) p (plain_node sh n) (reach_of w) w.indent (tail_of y)) at b b' r) (sym z)
             (f sh k h (ranged k h e) l d)
 
-module _ {s starts plain : List ℕ} {n : ℕ} {w : Scope} {node : Node} {kind : ℕ} (q : Standing s starts plain n w node kind) where
+module _ {s starts : List ℕ} {plain : List Bool} {n : ℕ} {w : Scope} {node : Node} {kind : ℕ} (q : Standing s starts plain n w node kind) where
   pub kids : {x : Node} → node ≡ x → Ranged (length q.ready.sheet.nodes) (length q.ready.sheet.sections) n x
   kids e = ranged q.ready.known q.ready.inside (q.is ∙ e)
 
   abbrev flat : Bool
-  flat = eqb (get_or plain n 0) 1
+  flat = get_or plain n false
 
   pub pair_tells : {x y at m₁ m₂ m₃ m₄ m₅ : ℕ} {b b₁ b₂ b₃ b₄ b₅ : List ℕ} → node ≡ Pair x y → Wrote (40 ∷ unless_plain flat) at b b₁ m₁
       → Tells s starts plain x (Alone (deeper w 2)) m₁ b₁ b₂ m₂
@@ -273,7 +273,7 @@ module _ {s starts plain : List ℕ} {n : ℕ} {w : Scope} {node : Node} {kind :
       (λ k. rw (add-one w.count, plus_two w.count))
 
 -- A NODE THAT NAMES NONE
-module _ {s starts plain : List ℕ} {n : ℕ} {w : Scope} {at r : ℕ} {b b' : List ℕ} where
+module _ {s starts : List ℕ} {plain : List Bool} {n : ℕ} {w : Scope} {at r : ℕ} {b b' : List ℕ} where
   pub var_tells : {x : ℕ} → node_at s (get_or starts n 0) ≡ Var x → Wrote (spelled (variable_said (reach_of w) x)) at b b' r
       → Tells s starts plain n (Alone w) at b b' r
   unfolding spoken text_in
@@ -306,13 +306,13 @@ module _ {s starts plain : List ℕ} {n : ℕ} {w : Scope} {at r : ℕ} {b b' : 
       (bytes "(" ∷ spelled (variable_said (reach_of w) x) ∷ bytes ", " ∷ spelled (variable_said (reach_of w) y) ∷ bytes ")" ∷ []) p (λ k. refl)
 
 -- BEHIND AN ARROW, with and without a test
-module _ {s starts plain : List ℕ} {n : ℕ} {w : Scope} {at m r : ℕ} {b b₁ b₂ : List ℕ} where
-  pub body_tells : Wrote (or_line (eqb (get_or plain n 0) 1) (bytes " ") w.indent) at b b₁ m → Tells s starts plain n (Alone w) m b₁ b₂ r
+module _ {s starts : List ℕ} {plain : List Bool} {n : ℕ} {w : Scope} {at m r : ℕ} {b b₁ b₂ : List ℕ} where
+  pub body_tells : Wrote (or_line (get_or plain n false) (bytes " ") w.indent) at b b₁ m → Tells s starts plain n (Alone w) m b₁ b₂ r
       → Tells s starts plain n (Body w) at b b₂ r
   unfolding text_in
   body_tells p t = record {
     told = λ sh k h l d. says_as
-        (says_then (says_text (λ k. gap (or_line (eqb (get_or plain n 0) 1) (bytes " ") w.indent) ∷ k) p (λ k. refl)) (t.told sh k h l d))
+        (says_then (says_text (λ k. gap (or_line (get_or plain n false) (bytes " ") w.indent) ∷ k) p (λ k. refl)) (t.told sh k h l d))
         (λ z. ap (λ (q : Bool). or_line q (bytes " ") w.indent ++ text_in (said sh l alone (reach_of w) w.indent n z)) (sym (k.flat n h)));
   }
 
@@ -321,12 +321,12 @@ unfolding test_said test_text text_in spelled
 test_said_lem zero k = refl
 test_said_lem (suc t) k = simp append_assoc
 
-module _ {s starts plain : List ℕ} {n : ℕ} {w : Scope} {at m r : ℕ} {b b₁ b₂ : List ℕ} where
+module _ {s starts : List ℕ} {plain : List Bool} {n : ℕ} {w : Scope} {at m r : ℕ} {b b₁ b₂ : List ℕ} where
   pub branch_tells : {t : ℕ} → Tells s starts plain n (Body w) at b b₁ m → Wrote (test_text t) m b₁ b₂ r → Tells s starts plain n (Branch w t) at b b₂ r
   branch_tells {t} u p = record { told = λ sh k h l d. says_then (u.told sh k h l d) (says_text (λ k. test_said t k) p (test_said_lem t)) }
 
 -- THE REST OF A LIST
-module _ {s starts plain : List ℕ} {n : ℕ} {w : Scope} (p : Bool) where
+module _ {s starts : List ℕ} {plain : List Bool} {n : ℕ} {w : Scope} (p : Bool) where
   pub end_tells : {at r : ℕ} {b b' : List ℕ} → node_at s (get_or starts n 0) ≡ Empty → Wrote (unless_plain p ++ (93 ∷ [])) at b b' r
       → Tells s starts plain n (Rest p w) at b b' r
   unfolding tailed tail_of text_in spelled

@@ -27,11 +27,9 @@ fn plan(k: usize, out: &mut [u8], at: usize) -> usize
     ensures { Planned (pred k) at out.old out.new result }
 {
     let mut end = bytes(out, at, b"plan a");
-    let mut i = 1;
-    while i < k {
+    for i in 1..k {
         end = bytes(out, end, b", ");
         end = name(false, i, out, end);
-        i += 1;
     }
     end
 }
@@ -49,7 +47,7 @@ fn head(i: usize, out: &mut [u8], at: usize) -> usize
 fn sections(
     sheet: &[u8],
     table: &[u16; 200],
-    plain: &[u8; 200],
+    plain: &[bool; 200],
     count: usize,
     out: &mut [u8],
     at: usize,
@@ -63,8 +61,7 @@ fn sections(
         indent: 2,
     };
     let mut end = report::place(out, at);
-    let mut i = 0;
-    while i < count {
+    for i in 0..count {
         end = head(i, out, end);
         end = body(
             sheet,
@@ -75,7 +72,6 @@ fn sections(
             out,
             end,
         );
-        i += 1;
     }
     end
 }

@@ -57,13 +57,11 @@ pub fn part(i: usize, out: &mut [u8], at: usize) -> usize
 pub fn blanks(n: usize, out: &mut [u8], at: usize) -> usize
     ensures { Wrote (replicate n 32) at out.old out.new result }
 {
-    let mut end = place(out, at);
-    let mut i = 0;
-    while i < n {
-        end = byte(out, end, b' ');
-        i += 1;
-    }
-    end
+    let start = place(out, at);
+    let room = out.len() - start;
+    let count = n.min(room);
+    out[start..start + count].fill(b' ');
+    start + count
 }
 
 /// A new line, indented by so many blanks, but at most 32.
@@ -121,25 +119,15 @@ pub fn comma(plain: bool, indent: usize, out: &mut [u8], at: usize) -> usize
 pub fn test(t: u8, out: &mut [u8], at: usize) -> usize
     ensures { Wrote (test_text t) at out.old out.new result }
 {
-    if t == 0 {
-        return place(out, at);
+    match t {
+        0 => place(out, at),
+        1 => bytes(out, at, b" with empty"),
+        2 => bytes(out, at, b" with members"),
+        3 => bytes(out, at, b" with false"),
+        4 => bytes(out, at, b" with true"),
+        5 => bytes(out, at, b" with one"),
+        _ => bytes(out, at, b" with many"),
     }
-    if t == 1 {
-        return bytes(out, at, b" with empty");
-    }
-    if t == 2 {
-        return bytes(out, at, b" with members");
-    }
-    if t == 3 {
-        return bytes(out, at, b" with false");
-    }
-    if t == 4 {
-        return bytes(out, at, b" with true");
-    }
-    if t == 5 {
-        return bytes(out, at, b" with one");
-    }
-    bytes(out, at, b" with many")
 }
 
 /// A call.
