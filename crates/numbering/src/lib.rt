@@ -25,7 +25,7 @@ pub enum Numbered {
     Twice(usize),
 }
 
-// A list of nodes: `count` numbers, at the front of `nodes`.
+// A list of nodes: `count` numbers, at the front of `nodes`. No heap in the core: so no Vec.
 #[derive(Clone, Copy, Debug, PartialEq, Eq)]
 struct Nodes {
     count: usize,

@@ -12,6 +12,7 @@ use Rattle.syntax.specs.Printer.{Piece, gap, the, sign, space, part_name, called
 use Rattle.syntax.specs.Printer.{reach, root_said, plan_said, sections_said, sheet_said, name_of, suffix}
 use Rattle.syntax.specs.Setting.{text_in}
 use Rattle.syntax.specs.Texts.{text_of}
+use Rattle.printing.specs.declared.pieces.First.TheVariants.{A}
 use Rattle.printing.specs.declared.pieces.Scope.{Scope}
 use Rattle.printing.specs.Flat.{Flats}
 use Rattle.printing.specs.Saying.{Says, says_then, Known, Ready, Body, Tells}
@@ -127,7 +128,7 @@ drop_next (x ∷ l) zero h = refl
 drop_next (x ∷ l) (suc i) h = drop_next l i (omega arith)
 
 pub sections_more : {s starts : List ℕ} {plain : List Bool} {count i n at m₁ m₂ r : ℕ} {b b₁ b₂ b₃ : List ℕ} → SectionsPut s starts plain count i at b b₁ m₁ → i < count
-    → Wrote (head_text i) m₁ b₁ b₂ m₂ → n ≡ section_at s i → Tells s starts plain n (Body (record { count = 2; sent = false; indent = 2 })) m₂ b₂ b₃ r
+    → Wrote (head_text i) m₁ b₁ b₂ m₂ → n ≡ section_at s i → Tells s starts plain n (Body (record { count = 2; first = A; indent = 2 })) m₂ b₂ b₃ r
     → SectionsPut s starts plain count (i + 1) at b b₃ r
 unfolding text_in spelled sections_said head_text called name_of suffix
 sections_more {s} {i = i} {n} u h w e t = record {
@@ -164,7 +165,7 @@ sections_long q u = wrote_long (u.told q.sheet q.known q.roots).put
 -- THE WHOLE
 pub prints : {s : List ℕ} {plain : List Bool} {t : Table} {m₁ m₂ m₃ m₄ r : ℕ} {b b₁ b₂ b₃ b₄ b₅ : List ℕ} → ((sh : Sheet) → Reads s t sh → Flats sh 0 plain)
     → Planned (pred t.k) 0 b b₁ m₁ → Wrote (bytes "\nlist =") m₁ b₁ b₂ m₂
-    → Tells s t.starts plain t.root (Body (record { count = t.k; sent = false; indent = 2 })) m₂ b₂ b₃ m₃
+    → Tells s t.starts plain t.root (Body (record { count = t.k; first = A; indent = 2 })) m₂ b₂ b₃ m₃
     → SectionsPut s t.starts plain t.sections t.sections m₃ b₃ b₄ m₄ → Wrote (bytes "\n") m₄ b₄ b₅ r → Prints s t b b₅ r
 unfolding text_of sheet_said text_in spelled sections_said
 prints {t = t} flats p w body sections v = record {

@@ -9,7 +9,7 @@ ghost use Rattle.printing.specs.Whole.{Planned, head_text, Lent, SectionsPut, Pr
 ghost use Rattle.printing.specs.Answer.{print_answer};
 
 use crate::nodes::body;
-use crate::pieces::{Scope, name, part};
+use crate::pieces::{First, Scope, name, part};
 use crate::plain::plain_nodes;
 use numbering::Numbered;
 use report::{byte, bytes};
@@ -29,7 +29,7 @@ fn plan(k: usize, out: &mut [u8], at: usize) -> usize
     let mut end = bytes(out, at, b"plan a");
     for i in 1..k {
         end = bytes(out, end, b", ");
-        end = name(false, i, out, end);
+        end = name(First::A, i, out, end);
     }
     end
 }
@@ -57,7 +57,7 @@ fn sections(
 {
     let scope = Scope {
         count: 2,
-        sent: false,
+        first: First::A,
         indent: 2,
     };
     let mut end = report::place(out, at);
@@ -85,7 +85,7 @@ fn write(sheet: &[u8], t: Table, out: &mut [u8]) -> usize
     let table = t.starts;
     let scope = Scope {
         count: t.k,
-        sent: false,
+        first: First::A,
         indent: 2,
     };
     let mut end = plan(t.k, out, 0);

@@ -5,8 +5,8 @@ ghost use Rattle.node.specs.Decoding.{node_at};
 ghost use Rattle.printing.specs.Saying.{Ready, Standing, Trailing, Tells, Alone, Body, Branch, Rest, Defaults};
 
 use crate::pieces::{
-    Scope, binders, call, close_mark, comma, each_default, each_open, empty_arrow, first_default,
-    front_arrow, on_line, open_mark, or_line, rest_default, test, variable,
+    First, Scope, binders, call, close_mark, comma, each_default, each_open, empty_arrow,
+    first_default, front_arrow, on_line, open_mark, or_line, rest_default, test, variable,
 };
 use node::{Node, node_at};
 use report::{bytes, decimal};
@@ -241,7 +241,7 @@ fn defaults(
     };
     let sent = Scope {
         count: 1,
-        sent: true,
+        first: First::Sent,
         indent: scope.indent + 6,
     };
     let mut end = first_default(scope, out, at);
@@ -371,7 +371,7 @@ fn each(
     inner.indent += 2;
     let none = Scope {
         count: 0,
-        sent: false,
+        first: First::A,
         indent: scope.indent + 2,
     };
     let mut end = each_open(section, out, at);

@@ -8,6 +8,7 @@ ghost use Rattle.report.specs.Writing.{Wrote};
 
 use sheet::Table;
 
+// No heap in the core: so `count` beside an array, and no Vec.
 /// How a sheet is written anew: these nodes, `count` of them, at the front of `order`; and the new number of each node and of each section.
 #[derive(Clone, Copy, Debug, PartialEq, Eq)]
 pub struct Anew {
