@@ -12,7 +12,7 @@ use Rattle.std.proofs.lemmas.List.{length-replicate, get_or-replicate}
 use Rattle.std.proofs.Math.Seq.{take-append_seam}
 use Rattle.std.proofs.lemmas.Bool.{lt-leb}
 use Rattle.std.specs.Int.{w8}
-use Rattle.value.specs.Result.{ok}
+use Rattle.value.specs.Result.{ok, map_result}
 use Rattle.node.specs.declared.Node.{Node}
 use Rattle.node.specs.declared.Node.TheVariants.{False}
 use Rattle.sheet.specs.declared.Table.{Table}
@@ -196,11 +196,17 @@ module _ {u : List ℕ} {nodes : ℕ} where
 -- A SHEET THAT WAS READ
 
 pub record Fine (s : List ℕ) (t : Table) : Type 0 where
-  pub table : t ≡ table_of (read_sheet s)
-  pub zero : t.refusal ≡ 0
+  pub table : ok t ≡ map_result table_of (read_sheet s)
 
 pub fine_read : {s : List ℕ} {t : Table} → Fine s t → (sh : Sheet) × Reads s t sh
-fine_read {s} f = table_reads s f.table f.zero
+fine_read {s} f = table_reads s f.table
+
+-- the table is that of the sheet
+pub fine_table : {s : List ℕ} {t : Table} (f : Fine s t) → t ≡ table_of (fine_read f).0
+unfolding map_result
+fine_table {t = t} f =
+    let e : ok t ≡ map_result table_of (ok (fine_read f).0) = f.table ∙ ap (map_result table_of) (fine_read f).1.sheet in
+    cc
 
 pub record Sizes (t : Table) : Type 0 where
   pub k : t.k ≤ 16
@@ -302,7 +308,7 @@ named_there {s} {t} f {n} {p} {c} h e q =
     let z = children_few (node_of sh n) in
     let y = named_of (children (node_of sh n)) z in
     let w : c ≡ children_of (children (node_of sh n))
-    = q ∙ ap (children_at s) e ∙ children_told (made_there s f.table r.sheet n (omega (arith, r.nodes))) in
+    = q ∙ ap (children_at s) e ∙ children_told (made_there s (fine_table f) r.sheet n (omega (arith, r.nodes))) in
     rw w (record { few = omega (arith, y.0); many = y.0; are = y.1; long = y.2 })
 
 -- THE COUNT, as far as node n

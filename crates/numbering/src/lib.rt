@@ -5,25 +5,36 @@ ghost use Rattle.std.specs.Prelude.{◌≡◌, ◌≤◌, ◌<◌, ◌==◌, len
 ghost use Rattle.std.specs.List.{position};
 ghost use Rattle.report.specs.Writing.{Wrote};
 ghost use Rattle.preorder.specs.NumberAnswer.{number_answer};
-ghost use Rattle.numbering.specs.Replies.{reply_of, output_of};
+ghost use Rattle.numbering.specs.Replies.{told, reply_of, output_of};
 ghost use Rattle.numbering.specs.Counting.{used, used_all, roots_at, Fine, Counts};
+ghost use Rattle.numbering.specs.declared.Fault.TheVariants.{Refused};
 ghost use Rattle.numbering.specs.Meeting.{Single, Ordered};
 ghost use Rattle.numbering.specs.Places.{Placed, Numbers, text_anew};
 
 use records::Anew;
+use refusal::Refusal;
 use sheet::Table;
 
 /// The bytes of output that numbering takes.
 pub const OUTPUT: usize = 2_048;
 
-/// What numbering gives: the length of the sheet in the one numbering, which is at the front of the output; a refusal's number; or 81, with
-/// the lowest node that is used twice.
+/// Why a sheet has no numbering: a refusal; or 81, with the lowest node that is used twice.
 #[derive(Clone, Copy, Debug, PartialEq, Eq)]
-pub enum Numbered {
-    Done(usize),
-    Refused(u8),
+pub enum Fault {
+    Refused(Refusal),
     Twice(usize),
 }
+
+impl From<Refusal> for Fault {
+    ghost from_gives = { λ e f. f ≡ Refused e };
+
+    fn from(refusal: Refusal) -> Fault {
+        Fault::Refused(refusal)
+    }
+}
+
+/// What numbering gives: the length of the sheet in the one numbering, which is at the front of the output; or why there is none.
+pub type Numbered = Result<usize, Fault>;
 
 // A list of nodes: `count` numbers, at the front of `nodes`. No heap in the core: so no Vec.
 #[derive(Clone, Copy, Debug, PartialEq, Eq)]
@@ -156,19 +167,16 @@ fn write(sheet: &[u8], t: Table, m: Anew, out: &mut [u8]) -> usize
 /// below it before the next, and then from each section's root in turn. Nodes never met are dropped. Refused, and nothing is written:
 /// 1 an output under 2,048 bytes; the sheet's own refusals (10 to 14); 81, `Twice`, a node is used twice as a child or a root.
 pub fn number(sheet: &[u8], out: &mut [u8]) -> Numbered
-    ensures value { result ≡ reply_of (number_answer sheet.now (length out.old)) }
+    ensures value { told result ≡ reply_of (number_answer sheet.now (length out.old)) }
     ensures out_after { out.new ≡ output_of (number_answer sheet.now (length out.old)) out.old }
 {
     if out.len() < OUTPUT {
-        return Numbered::Refused(1);
+        return Err(Fault::Refused(Refusal::OutputSmall));
     }
-    let t = sheet::read_sheet(sheet);
-    if t.refusal != 0 {
-        return Numbered::Refused(t.refusal);
-    }
+    let t = sheet::read_sheet(sheet)?;
     if let Some(n) = lowest(count_uses(sheet, t), t.nodes) {
-        return Numbered::Twice(n);
+        return Err(Fault::Twice(n));
     }
     let m = in_order(meet(sheet, t));
-    Numbered::Done(write(sheet, t, m, out))
+    Ok(write(sheet, t, m, out))
 }

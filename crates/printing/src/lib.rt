@@ -3,7 +3,7 @@
 
 ghost use Rattle.std.specs.Prelude.{◌≡◌, pred, length};
 ghost use Rattle.report.specs.Writing.{Wrote};
-ghost use Rattle.numbering.specs.Replies.{reply_of, output_of};
+ghost use Rattle.numbering.specs.Replies.{told, reply_of, output_of};
 ghost use Rattle.numbering.specs.Counting.{Fine};
 ghost use Rattle.printing.specs.Whole.{Planned, head_text, Lent, SectionsPut, Prints};
 ghost use Rattle.printing.specs.Answer.{print_answer};
@@ -11,7 +11,8 @@ ghost use Rattle.printing.specs.Answer.{print_answer};
 use crate::nodes::body;
 use crate::pieces::{First, Scope, name, part};
 use crate::plain::plain_nodes;
-use numbering::Numbered;
+use numbering::{Fault, Numbered};
+use refusal::Refusal;
 use report::{byte, bytes};
 use sheet::Table;
 
@@ -98,16 +99,14 @@ fn write(sheet: &[u8], t: Table, out: &mut [u8]) -> usize
 /// A sheet as text, at the front of the output. Refused, and nothing is written: 1 an output under 16,384 bytes; the sheet's own refusals
 /// (10 to 14); 81, `Twice`, the lowest node that is used twice as a child or a root.
 pub fn print(sheet: &[u8], out: &mut [u8]) -> Numbered
-    ensures value { result ≡ reply_of (print_answer sheet.now (length out.old)) }
+    ensures value { told result ≡ reply_of (print_answer sheet.now (length out.old)) }
     ensures out_after { out.new ≡ output_of (print_answer sheet.now (length out.old)) out.old }
 {
     if out.len() < OUTPUT {
-        return Numbered::Refused(1);
+        return Err(Fault::Refused(Refusal::OutputSmall));
     }
     let mut anew = [0u8; numbering::OUTPUT];
-    match numbering::number(sheet, &mut anew) {
-        Numbered::Refused(code) => Numbered::Refused(code),
-        Numbered::Twice(n) => Numbered::Twice(n),
-        Numbered::Done(_) => Numbered::Done(write(sheet, sheet::read_sheet(sheet), out)),
-    }
+    numbering::number(sheet, &mut anew)?;
+    let t = sheet::read_sheet(sheet)?;
+    Ok(write(sheet, t, out))
 }
