@@ -3,10 +3,13 @@
 
 ghost use Rattle.std.specs.Prelude.{◌≡◌, ◌≤◌, ◌<◌, ◌==◌, length, take};
 ghost use Rattle.std.specs.List.{position};
+ghost use Rattle.value.specs.Result.{ok};
+ghost use Rattle.sheet.specs.Sheet.{Sheet, read_sheet};
+ghost use Rattle.sheet.specs.Table.{table_of};
 ghost use Rattle.report.specs.Writing.{Wrote};
 ghost use Rattle.preorder.specs.NumberAnswer.{number_answer};
 ghost use Rattle.numbering.specs.Replies.{told, reply_of, output_of};
-ghost use Rattle.numbering.specs.Counting.{used, used_all, roots_at, Fine, Counts};
+ghost use Rattle.numbering.specs.Counting.{used, used_all, roots_at, used_twice, Fine, Counts};
 ghost use Rattle.numbering.specs.declared.Fault.TheVariants.{Refused};
 ghost use Rattle.numbering.specs.Meeting.{Single, Ordered};
 ghost use Rattle.numbering.specs.Places.{Placed, Numbers, text_anew};
@@ -44,14 +47,16 @@ struct Nodes {
 }
 
 // One use more of node n, counted up to two.
-fn count_use(uses: &mut [u8; 256], n: u8)
+fn count_use(uses: &mut [u8; 256], n: usize)
     ensures { uses.new ≡ used uses.old n }
 {
-    let k = usize::from(n);
-    if 2 <= uses[k] {
+    if 256 <= n {
         return;
     }
-    uses[k] += 1;
+    if 2 <= uses[n] {
+        return;
+    }
+    uses[n] += 1;
 }
 
 // One use more of each of these nodes.
@@ -59,7 +64,17 @@ fn count_all(uses: &mut [u8; 256], ns: &[u8])
     ensures { uses.new ≡ used_all uses.old ns.now }
 {
     for n in ns {
-        count_use(uses, *n);
+        count_use(uses, usize::from(*n));
+    }
+}
+
+// One use more of the main root and of the root of each section.
+fn count_roots(uses: &mut [u8; 256], sheet: &[u8], t: Table)
+    ensures { uses.new ≡ used_all uses.old (roots_at sheet.now t) }
+{
+    count_use(uses, t.root);
+    for i in 0..t.sections {
+        count_use(uses, sheet::section_root(sheet, i));
     }
 }
 
@@ -78,13 +93,11 @@ fn write_roots(sheet: &[u8], t: Table, list: &mut [u8], at: usize) -> usize
 
 // How often each node of a sheet is used as a child or a root, counted up to two.
 fn count_uses(sheet: &[u8], t: Table) -> [u8; 256]
-    requires { Fine sheet.now t }
-    ensures { Counts sheet.now result }
+    requires { t.nodes ≤ 200 }
+    ensures { Fine sheet.now t → Counts sheet.now result }
 {
     let mut uses = [0u8; 256];
-    let mut roots = [0u8; 9];
-    let k = write_roots(sheet, t, &mut roots, 0);
-    count_all(&mut uses, &roots[..k]);
+    count_roots(&mut uses, sheet, t);
     for start in &t.starts[..t.nodes] {
         let c = sheet::children_at(sheet, *start);
         count_all(&mut uses, &c.nodes[..c.count]);
@@ -98,6 +111,16 @@ fn lowest(uses: [u8; 256], nodes: usize) -> Option<usize>
     ensures { result ≡ position (λ x. x == 2) (take nodes uses) }
 {
     uses[..nodes].iter().position(|times| *times == 2)
+}
+
+/// The lowest node of a sheet that is used twice, as a child or a root (81): of a sheet whose table this is.
+pub fn first_used_twice(sheet: &[u8], t: Table) -> Option<usize>
+    ensures { (sh : Sheet) → read_sheet sheet.now ≡ ok sh → t ≡ table_of sh → result ≡ used_twice sh }
+{
+    if 200 < t.nodes {
+        return None;
+    }
+    lowest(count_uses(sheet, t), t.nodes)
 }
 
 // The nodes of a sheet in the order in which they are first met. Those still to be met stand at the end of `todo`, the next one first:
@@ -174,7 +197,7 @@ pub fn number(sheet: &[u8], out: &mut [u8]) -> Numbered
         return Err(Fault::Refused(Refusal::OutputSmall));
     }
     let t = sheet::read_sheet(sheet)?;
-    if let Some(n) = lowest(count_uses(sheet, t), t.nodes) {
+    if let Some(n) = first_used_twice(sheet, t) {
         return Err(Fault::Twice(n));
     }
     let m = in_order(meet(sheet, t));

@@ -10,5 +10,5 @@ loop-n-init c = refl
 
 pub loop-n-preserved : goal.loop-n-preserved
 loop-n-preserved c =
-    c.count_use.ensures ∙ ap (λ u. used u (get_or c.args.ns.now c.loop-n.n-index 0)) c.loop-n.invariant
+    rw c.from.ensures at c.count_use.ensures ∙ ap (λ u. used u (get_or c.args.ns.now c.loop-n.n-index 0)) c.loop-n.invariant
     ∙ used_next c.args.uses.now c.args.ns.now c.loop-n.n-index (omega arith)
