@@ -1,10 +1,12 @@
 -- What the tool of request 14 tells, and its counts.
-use Rattle.std.specs.Prelude.{◌≡◌, refl, Bool, true, false, ◌&&◌, List, [], ◌∷◌, ℕ, zero, suc, ◌+◌, ◌-◌, ◌≤◌, ◌<◌, min, get_or, drop, set, replicate}
+use Rattle.std.specs.Prelude.{◌≡◌, refl, Bool, true, false, ◌&&◌, List, [], ◌∷◌, ℕ, zero, suc, ◌+◌, ◌-◌, ◌≤◌, ◌<◌, cond, eqb, min, get_or, take, drop, set, replicate}
 use Rattle.std.proofs.Math.Path.{sym}
 use Rattle.std.proofs.Common.{ap, ◌∙◌, add-one, arith, drop_of_length-le, length-set, drop-cons, get_or-set_same, get_or-set_other}
 use Rattle.std.proofs.Math.Decide.{ℕ_discrete}
 use Rattle.std.proofs.Math.ListN.{length}
-use borrow.Author.Tests.{eq-eqb, ne_eqb, lt-ltb, le-ltb, lt-leb, le-leb}
+use Rattle.std.proofs.lemmas.List.{get_or-take, length-take}
+use borrow.Author.Tests.{lt-ltb, le-ltb, lt-leb, le-leb}
+use mir.Val.{bool_byte}
 use Rattle.value.specs.Result.{ok, refusal, and_then, unless}
 use Rattle.value.proofs.Laws.{and-true}
 use Rattle.node.specs.declared.Node.{Node}
@@ -29,6 +31,18 @@ plains_none s t = record { few = omega arith; rest = λ sh r. refl }
 next_plain : (ns : List Node) (i : ℕ) → i < length ns → all_plain (drop i ns) ≡ plain (get_or ns i False) && all_plain (drop (i + 1) ns)
 unfolding all_plain
 next_plain ns i h = rw (add-one, drop-cons ns i False)
+
+-- the places of the table's nodes, one by one
+module _ (t : Table) {i : ℕ} where
+  pub early : i < length (take t.nodes t.starts) → i < t.nodes
+  early h = omega (arith, length-take t.nodes t.starts)
+
+  pub node_in : (s : List ℕ) {n : Node} {a : ℕ} → i < length (take t.nodes t.starts) → n ≡ node_at s a → a ≡ get_or (take t.nodes t.starts) i 0
+      → n ≡ node_at s (get_or t.starts i 0)
+  node_in s h e f = e ∙ ap (node_at s) (f ∙ get_or-take t.nodes t.starts i 0 (early h))
+
+  pub late : length (take t.nodes t.starts) ≤ i → t.nodes ≤ length t.starts → t.nodes ≤ i
+  late h l = omega (arith, length-take t.nodes t.starts)
 
 module _ {s : List ℕ} {t : Table} (q : Readied s t) {i : ℕ} (to : Plains s t i) where
   pub plains_all : t.nodes ≤ i → AllJudged s true
@@ -55,13 +69,13 @@ module _ {s : List ℕ} {t : Table} (q : Readied s t) {i : ℕ} (to : Plains s t
 
 -- ONE NODE'S COUNT
 module _ {n : Node} (x : ℕ) (counts : List ℕ) where
-  pub var_counted : {y : ℕ} → n ≡ Var y → y ≡ x → OneCounted n x counts 1
+  pub var_counted : {y r : ℕ} → n ≡ Var y → r ≡ bool_byte (eqb y x) → OneCounted n x counts r
   unfolding own children variables
-  var_counted {y} e h p = rw (e, eq-eqb y x h)
-
-  pub other_counted : {y : ℕ} → n ≡ Var y → (y ≡ x → ⊥) → OneCounted n x counts 0
-  unfolding own children variables
-  other_counted {y} e h p = rw (e, ne_eqb y x h)
+  var_counted {y} e h p = rw (e, h) (one (eqb y x))
+    where
+      one : (b : Bool) → bool_byte b ≡ min 257 (cond b 1 0 + 0)
+      one true = refl
+      one false = refl
 
   module _ {a b ca cb r : ℕ} (first : ca ≡ get_or counts a 0) (second : cb ≡ get_or counts b 0) (sum : r ≡ min 257 (ca + cb)) where
     pub front_counted : n ≡ Front a b → OneCounted n x counts r

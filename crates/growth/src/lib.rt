@@ -24,14 +24,14 @@ const OVER: u16 = 257;
 fn is_plain(node: Node) -> bool
     ensures { result ≡ plain node }
 {
-    match node {
-        Node::ListCase { .. } => false,
-        Node::TruthCase { .. } => false,
-        Node::Split { .. } => false,
-        Node::Call { .. } => false,
-        Node::Each { .. } => false,
-        _ => true,
-    }
+    !matches!(
+        node,
+        Node::ListCase { .. }
+            | Node::TruthCase { .. }
+            | Node::Split { .. }
+            | Node::Call { .. }
+            | Node::Each { .. }
+    )
 }
 
 // Whether every node of a sheet is.
@@ -39,13 +39,10 @@ fn all_plain(sheet: &[u8], table: Table) -> bool
     requires { Readied sheet.now table }
     ensures { AllJudged sheet.now result }
 {
-    let mut i = 0;
-    while i < table.nodes {
-        let at = table.starts[i] as usize;
-        if !is_plain(node::node_at(sheet, at)) {
+    for &start in &table.starts[..table.nodes] {
+        if !is_plain(node::node_at(sheet, usize::from(start))) {
             return false;
         }
-        i += 1;
     }
     true
 }
@@ -54,23 +51,14 @@ fn all_plain(sheet: &[u8], table: Table) -> bool
 fn count_at(counts: &[u16], node: usize) -> u16
     ensures { result ≡ get_or counts.now node 0 }
 {
-    if counts.len() <= node {
-        return 0;
-    }
-    counts[node]
+    counts.get(node).copied().unwrap_or(0)
 }
 
 // The sum of two counts, capped.
 fn sum(a: u16, b: u16) -> u16
     ensures { result ≡ min 257 (a + b) }
 {
-    if OVER <= a {
-        return OVER;
-    }
-    if OVER - a <= b {
-        return OVER;
-    }
-    a + b
+    a.saturating_add(b).min(OVER)
 }
 
 // How often a walk from this node enters the variable's records, of the counts behind it.
@@ -78,7 +66,7 @@ fn count_of(node: Node, variable: usize, counts: &[u16]) -> u16
     ensures { OneCounted node variable counts.now result }
 {
     match node {
-        Node::Var(x) => { if x == variable { 1 } else { 0 } }
+        Node::Var(x) => u16::from(x == variable),
         Node::Front { first, rest } => sum(count_at(counts, first), count_at(counts, rest)),
         Node::Pair { left, right } => sum(count_at(counts, left), count_at(counts, right)),
         Node::Add { node, .. } => sum(count_at(counts, node), 0),
@@ -92,14 +80,11 @@ fn count(sheet: &[u8], table: Table, variable: usize) -> u16
     ensures { Counted sheet.now variable result }
 {
     let mut counts = [0u16; 200];
-    let mut i = table.nodes;
-    while 0 < i {
-        i -= 1;
-        let at = table.starts[i] as usize;
+    for i in (0..table.nodes).rev() {
+        let at = usize::from(table.starts[i]);
         counts[i] = count_of(node::node_at(sheet, at), variable, &counts);
     }
-    let root = table.root;
-    counts[root]
+    counts[table.root]
 }
 
 /// How often a walk from the sheet's root enters a record of the variable, every refusal left aside. Refusals: the sheet's (10 to 14), then 87 a
