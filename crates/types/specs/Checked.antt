@@ -8,7 +8,7 @@ use Rattle.std.proofs.Math.Nat.{add-zero}
 use native.Mathlib.Omega.{arith}
 use Rattle.std.proofs.Math.ListN.{length, length-take}
 use borrow.Author.Tests.{ltb-false}
-use Rattle.value.specs.Result.{ok, refusal}
+use Rattle.value.specs.Result.{ok}
 use Rattle.sheet.specs.Sheet.{Sheet, read_sheet}
 use Rattle.sheet.specs.Table.{table_of}
 use Rattle.sheet.specs.Laws.{Reads, Ranges, sheet_ranges, table_refused}
@@ -27,7 +27,7 @@ use Rattle.types.specs.Uses.{lowest_in}
 use Rattle.types.specs.Unfit.{Ready}
 use Rattle.types.specs.declared.Checked.{Checked}
 use Rattle.types.specs.declared.Checked.TheVariants as Answer
-use Rattle.types.specs.declared.Lowest.TheVariants as Found
+use Rattle.std.specs.Prelude.{None, Some}
 
 unfoldable pub checked : Verdict → Checked
 checked passes = Answer.Passes
@@ -189,11 +189,11 @@ module _ {sheet : List ℕ} {t : Table} {sh : Sheet} (r : Reads sheet t sh) wher
     unfolding check on_sheet on_types
     is_checked = rw (r.sheet, rw all_lent at z.read)
 
-    pub check_81 : {n : ℕ} → Found.At n ≡ lowest_in (lowest (twice sh) 0 (length sh.nodes)) → Answer.At 81 n ≡ checked (check sheet types)
+    pub check_81 : {n : ℕ} → Some n ≡ lowest_in (lowest (twice sh) 0 (length sh.nodes)) → Answer.At 81 n ≡ checked (check sheet types)
     unfolding checked check_sheet unless_at lowest_in
     check_81 {n} e = rw is_checked (go (lowest (twice sh) 0 (length sh.nodes)) e)
       where
-        go : (o : Option ℕ) → Found.At n ≡ lowest_in o
+        go : (o : Option ℕ) → Some n ≡ lowest_in o
             → Answer.At 81 n ≡ checked (unless_at 81 o (unless_at 82 (lowest (unfit sh (lent_of sh ts)) 0 (length sh.nodes)) passes))
         go none e = apart (cc)
         go (some m) e = let q : n ≡ m = cc in rw q
@@ -213,28 +213,28 @@ module _ {sheet : List ℕ} {t : Table} {sh : Sheet} (r : Reads sheet t sh) wher
       once = once (rw (zero-add (length sh.nodes), e) at (lowest_is (twice sh) 0 (length sh.nodes)));
     }
 
-    pub none-twice : Found.Nothing ≡ lowest_in (lowest (twice sh) 0 (length sh.nodes)) → lowest (twice sh) 0 (length sh.nodes) ≡ none
+    pub none-twice : None ≡ lowest_in (lowest (twice sh) 0 (length sh.nodes)) → lowest (twice sh) 0 (length sh.nodes) ≡ none
     unfolding lowest_in
     none-twice e = go (lowest (twice sh) 0 (length sh.nodes)) e
       where
-        go : (o : Option ℕ) → Found.Nothing ≡ lowest_in o → o ≡ none
+        go : (o : Option ℕ) → None ≡ lowest_in o → o ≡ none
         go none e = refl
         go (some m) e = apart (cc)
 
     module _ (u : lowest (twice sh) 0 (length sh.nodes) ≡ none) where
-      pub check_82 : {n : ℕ} → Found.At n ≡ lowest_in (lowest (unfit sh (lent_of sh ts)) 0 (length sh.nodes)) → Answer.At 82 n ≡ checked (check sheet types)
+      pub check_82 : {n : ℕ} → Some n ≡ lowest_in (lowest (unfit sh (lent_of sh ts)) 0 (length sh.nodes)) → Answer.At 82 n ≡ checked (check sheet types)
       unfolding checked check_sheet unless_at lowest_in
       check_82 {n} e = rw (is_checked, u) (go (lowest (unfit sh (lent_of sh ts)) 0 (length sh.nodes)) e)
         where
-          go : (o : Option ℕ) → Found.At n ≡ lowest_in o → Answer.At 82 n ≡ checked (unless_at 81 none (unless_at 82 o passes))
+          go : (o : Option ℕ) → Some n ≡ lowest_in o → Answer.At 82 n ≡ checked (unless_at 81 none (unless_at 82 o passes))
           go none e = apart (cc)
           go (some m) e = let q : n ≡ m = cc in rw q
 
-      pub check-passes : Found.Nothing ≡ lowest_in (lowest (unfit sh (lent_of sh ts)) 0 (length sh.nodes)) → Answer.Passes ≡ checked (check sheet types)
+      pub check-passes : None ≡ lowest_in (lowest (unfit sh (lent_of sh ts)) 0 (length sh.nodes)) → Answer.Passes ≡ checked (check sheet types)
       unfolding checked check_sheet unless_at lowest_in
       check-passes e = rw (is_checked, u) (go (lowest (unfit sh (lent_of sh ts)) 0 (length sh.nodes)) e)
         where
-          go : (o : Option ℕ) → Found.Nothing ≡ lowest_in o → Answer.Passes ≡ checked (unless_at 81 none (unless_at 82 o passes))
+          go : (o : Option ℕ) → None ≡ lowest_in o → Answer.Passes ≡ checked (unless_at 81 none (unless_at 82 o passes))
           go none e = refl
           go (some m) e = apart (cc)
 

@@ -24,7 +24,7 @@ use Rattle.typing.specs.Types.{Ty, truths, lists}
 use Rattle.typing.specs.Fits.{Lent, Scope, node_of, type_of, section_of, added, Fits, places, Root, section_roots, roots, Placed}
 use Rattle.typing.specs.Check.{apart, found, count, used, refuted, fits?, placed?, rightly?, right?, below, standing, misfits, unfit, lowest}
 use Rattle.typing.proofs.CheckLaws.{either, all_ranged, OnceBelow, in_count, found_in, count-append, standing-count, used_then}
-use Rattle.types.specs.declared.Lowest.TheVariants.{At, Nothing}
+use Rattle.std.specs.Prelude.{None, Some}
 use Rattle.types.specs.Slots.{Laid}
 use Rattle.types.specs.Slots as Slots
 use Rattle.types.specs.Uses.{sheet_roots, lowest_in, Lower, lower_none, lower_next, lower_found, lower_done}
@@ -293,12 +293,12 @@ module _ {sheet : List ℕ} {t : Table} {types starts : List ℕ} (g : Ready she
       told a b x y = rw k.found_is (refuted_is g.sh g.ts i k.scope _ _ ∙ rw (x, y, node_is))
 
       pub walk_unfit : {a : Bool} → a ≡ holds (fits? g.ts n (type_of g.ts i) k.scope) → a ≡ false
-          → At i ≡ lowest_in (lowest (unfit g.sh g.ts) 0 (length g.sh.nodes))
+          → Some i ≡ lowest_in (lowest (unfit g.sh g.ts) 0 (length g.sh.nodes))
       walk_unfit x z = lower_found (unfit g.sh g.ts) w.lower within (told false _ (sym z ∙ x) refl)
 
       module _ {a b : Bool} (x : a ≡ holds (fits? g.ts n (type_of g.ts i) k.scope)) (x' : a ≡ true)
           (y : b ≡ holds (placed? g.sh g.ts i)) where
-        pub walk_misplaced : b ≡ false → At i ≡ lowest_in (lowest (unfit g.sh g.ts) 0 (length g.sh.nodes))
+        pub walk_misplaced : b ≡ false → Some i ≡ lowest_in (lowest (unfit g.sh g.ts) 0 (length g.sh.nodes))
         walk_misplaced z = lower_found (unfit g.sh g.ts) w.lower within (told true false (sym x' ∙ x) (sym z ∙ y))
 
         fresh : (m : ℕ) → 1 ≤ count m (children n) → get_or stand m 0 ≡ 0
@@ -373,5 +373,5 @@ module _ {sheet : List ℕ} {t : Table} {types starts : List ℕ} (g : Ready she
   }
 
   pub walk_done : {stand : List ℕ} {i : ℕ} → Walking types starts g.sh g.ts stand i → t.nodes ≤ i
-      → Nothing ≡ lowest_in (lowest (unfit g.sh g.ts) 0 (length g.sh.nodes))
+      → None ≡ lowest_in (lowest (unfit g.sh g.ts) 0 (length g.sh.nodes))
   walk_done w h = lower_done (unfit g.sh g.ts) w.lower (omega (arith, g.reads.nodes))

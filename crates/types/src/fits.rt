@@ -13,7 +13,6 @@ ghost use Rattle.types.specs.Scopes.{Scoped};
 ghost use Rattle.types.specs.Decided.{holds, Fitted};
 ghost use Rattle.node.specs.Kinds.{row};
 
-use crate::Lowest;
 use crate::lent::{
     LISTS, NODES, NUMBERS, PAIRS, PAST, SECTIONS, TRUTHS, VIEW, is_list_of, is_pair_of, is_same,
     kind_in, type_in,
@@ -209,43 +208,37 @@ fn is_placed(
     if !is_asked(types, starts, i, VIEW, root == i) {
         return false;
     }
-    let mut c: usize = 0;
-    while c < sections {
+    for c in 0..sections {
         let here = sheet::section_root(sheet, c) == i;
         if !is_asked(types, starts, i, of_section(c, 2), here) {
             return false;
         }
-        c += 1;
     }
     true
 }
 
 // The lowest node that is reached from a root and does not have its lent type. A node stands behind those that name it, so that its scope is known
 // where it is met.
-pub fn first_unfit(sheet: &[u8], t: Table, types: &[u8], starts: &[u16; 242]) -> Lowest
+pub fn first_unfit(sheet: &[u8], t: Table, types: &[u8], starts: &[u16; 242]) -> Option<usize>
     requires { Ready sheet.now t types.now starts.now }
     ensures { (g : Ready sheet.now t types.now starts.now)
         → result ≡ lowest_in (lowest (unfit g.sh g.ts) 0 (length g.sh.nodes)) }
 {
     let mut stand = [0u32; 200];
     place_roots(&mut stand, sheet, t.k, t.root, t.sections);
-    let mut i: usize = 0;
-    while i < t.nodes {
+    for i in 0..t.nodes {
         let scope = stand[i];
         if scope == 0 {
-            i += 1;
             continue;
         }
-        let at = t.starts[i] as usize;
-        let n = node::node_at(sheet, at);
+        let n = node::node_at(sheet, usize::from(t.starts[i]));
         if !fits(types, starts, &stand, n, i) {
-            return Lowest::At(i);
+            return Some(i);
         }
         if !is_placed(sheet, t.root, t.sections, types, starts, i) {
-            return Lowest::At(i);
+            return Some(i);
         }
         place_children(&mut stand, n, i, scope);
-        i += 1;
     }
-    Lowest::Nothing
+    None
 }

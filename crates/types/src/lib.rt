@@ -22,13 +22,6 @@ pub enum Checked {
     At { refusal: u8, node: usize },
 }
 
-/// The lowest node of which something holds.
-#[derive(Clone, Copy, Debug, PartialEq, Eq)]
-pub enum Lowest {
-    At(usize),
-    Nothing,
-}
-
 /// Check a sheet against the types that are lent beside it: the sheet's own refusals; 80 where the types are malformed, too long, too few or
 /// too many; 81 with the lowest node that is used twice; 82 with the lowest node that is reached and does not have its lent type.
 pub fn check(sheet: &[u8], types: &[u8]) -> Checked
@@ -42,13 +35,12 @@ pub fn check(sheet: &[u8], types: &[u8]) -> Checked
     if !lent.fine {
         return Checked::Refused(80);
     }
-    match first_used_twice(sheet, table) {
-        Lowest::At(node) => return Checked::At { refusal: 81, node },
-        Lowest::Nothing => {}
+    if let Some(node) = first_used_twice(sheet, table) {
+        return Checked::At { refusal: 81, node };
     }
     let starts = lent.starts;
-    match first_unfit(sheet, table, types, &starts) {
-        Lowest::At(node) => Checked::At { refusal: 82, node },
-        Lowest::Nothing => Checked::Passes,
+    if let Some(node) = first_unfit(sheet, table, types, &starts) {
+        return Checked::At { refusal: 82, node };
     }
+    Checked::Passes
 }

@@ -55,14 +55,12 @@ pub fn place_roots(stand: &mut [u32; 200], sheet: &[u8], k: usize, root: usize, 
         → PutAll stand.old ((root, 512 * k) ∷ section_scopes 0 rs) stand.new }
 {
     place(stand, root, 512 * (k as u32));
-    let mut c: usize = 0;
-    while c < sections {
+    for c in 0..sections {
         place(
             stand,
             sheet::section_root(sheet, c),
             1024 + (SECTIONS + 3 * c) as u32,
         );
-        c += 1;
     }
 }
 

@@ -11,26 +11,26 @@ use Rattle.typing.specs.Check.{lowest, twice}
 use Rattle.types.specs.Slots.{lent_below, Slotted}
 use Rattle.types.specs.Checked.{check_refused, reads_few, reads_nodes, check_80, check_81, ready_of, none-twice, check_82, check-passes}
 use Rattle.types.proofs.check.Goals as goal
-use Rattle.types.proofs.check.Goals.{Else-not-lent, Else-table-ne0, In-Nothing}
+use Rattle.types.proofs.check.Goals.{Else-not-lent, Else-table-ne0, In_default}
 
 -- WHAT IS KNOWN THERE: the sheet is read; its types are; no node is used twice
 abbrev sheet_read : (c : Else-table-ne0) → (sh : Sheet) × Reads c.args.sheet.now c.read_sheet-table.result sh
 sheet_read c = table_reads _ c.read_sheet-table.ensures c.if-table-ne0.false
 
-abbrev sheet-once : (c : In-Nothing) → (sh : Sheet) × Reads c.args.sheet.now c.read_sheet-table.result sh
+abbrev sheet-once : (c : In_default) → (sh : Sheet) × Reads c.args.sheet.now c.read_sheet-table.result sh
 sheet-once c = table_reads _ c.read_sheet-table.ensures c.if-table-ne0.false
 
 types_read : (c : Else-not-lent) → let t = c.read_sheet-table.result in
     (ts : List Ty) × Slotted c.args.types.now c.read_types-lent.result.starts (lent_below t.k t.sections t.nodes) ts
 types_read c = c.read_types-lent.ensures.is_read (not-false _ c.if-not-lent.false)
 
-types-once : (c : In-Nothing) → let t = c.read_sheet-table.result in
+types-once : (c : In_default) → let t = c.read_sheet-table.result in
     (ts : List Ty) × Slotted c.args.types.now c.read_types-lent.result.starts (lent_below t.k t.sections t.nodes) ts
 types-once c = c.read_types-lent.ensures.is_read (not-false _ c.if-not-lent.false)
 
-once : (c : In-Nothing) → let sh = (sheet-once c).0 in lowest (twice sh) 0 (length sh.nodes) ≡ none
+once : (c : In_default) → let sh = (sheet-once c).0 in lowest (twice sh) 0 (length sh.nodes) ≡ none
 once c = let s = sheet-once c in
-    none-twice s.1 (types-once c).1 (sym c.in-Nothing.is ∙ c.first_used_twice.ensures s.0 s.1)
+    none-twice s.1 (types-once c).1 (sym c.in_default.is ∙ c.first_used_twice.ensures s.0 s.1)
 
 pub returns-then-table-ne0 : goal.returns-then-table-ne0
 returns-then-table-ne0 c = check_refused _ _ c.read_sheet-table.ensures c.if-table-ne0.true
@@ -45,23 +45,23 @@ returns-then-not-lent c = check_80 (sheet_read (goal.at.returns-then-not-lent c)
 pub first_used_twice-requires : goal.first_used_twice-requires
 first_used_twice-requires c = reads_nodes (sheet_read (goal.at.first_used_twice-requires c).Else-table-ne0).1
 
-pub returns-in-At : goal.returns-in-At
-returns-in-At c = let s = sheet_read (goal.at.returns-in-At c).Else-table-ne0 in
-    check_81 s.1 (types_read (goal.at.returns-in-At c).Else-not-lent).1 (sym c.in-At.is ∙ c.first_used_twice.ensures s.0 s.1)
+pub returns-in-Some : goal.returns-in-Some
+returns-in-Some c = let s = sheet_read (goal.at.returns-in-Some c).Else-table-ne0 in
+    check_81 s.1 (types_read (goal.at.returns-in-Some c).Else-not-lent).1 (sym c.in-Some.is ∙ c.first_used_twice.ensures s.0 s.1)
 
 pub first_unfit-requires : goal.first_unfit-requires
 first_unfit-requires c = ready_of (sheet_read (goal.at.first_unfit-requires c).Else-table-ne0).1 (types_read (goal.at.first_unfit-requires c).Else-not-lent).1
-    (once (goal.at.first_unfit-requires c).In-Nothing)
+    (once (goal.at.first_unfit-requires c).In_default)
 
-pub returns-in-At-first_unfit : goal.returns-in-At-first_unfit
-returns-in-At-first_unfit c =
-    let s = (sheet_read (goal.at.returns-in-At-first_unfit c).Else-table-ne0).1 in let z = (types_read (goal.at.returns-in-At-first_unfit c).Else-not-lent).1 in
-    check_82 s z (once (goal.at.returns-in-At-first_unfit c).In-Nothing) (sym c.in-At-first_unfit.is ∙
-    c.first_unfit.ensures (ready_of s z (once (goal.at.returns-in-At-first_unfit c).In-Nothing)))
+pub returns-in-Some-first_unfit : goal.returns-in-Some-first_unfit
+returns-in-Some-first_unfit c =
+    let s = (sheet_read (goal.at.returns-in-Some-first_unfit c).Else-table-ne0).1 in let z = (types_read (goal.at.returns-in-Some-first_unfit c).Else-not-lent).1 in
+    check_82 s z (once (goal.at.returns-in-Some-first_unfit c).In_default) (sym c.in-Some-first_unfit.is ∙
+    c.first_unfit.ensures (ready_of s z (once (goal.at.returns-in-Some-first_unfit c).In_default)))
 
-pub returns-in-Nothing-first_unfit : goal.returns-in-Nothing-first_unfit
-returns-in-Nothing-first_unfit c =
-    let s = (sheet_read (goal.at.returns-in-Nothing-first_unfit c).Else-table-ne0).1 in
-    let z = (types_read (goal.at.returns-in-Nothing-first_unfit c).Else-not-lent).1 in
-    check-passes s z (once (goal.at.returns-in-Nothing-first_unfit c).In-Nothing) (sym c.in-Nothing-first_unfit.is ∙
-    c.first_unfit.ensures (ready_of s z (once (goal.at.returns-in-Nothing-first_unfit c).In-Nothing)))
+pub returns : goal.returns
+returns c =
+    let s = (sheet_read (goal.at.returns c).Else-table-ne0).1 in
+    let z = (types_read (goal.at.returns c).Else-not-lent).1 in
+    check-passes s z (once (goal.at.returns c).In_default) (sym c.in_default-first_unfit.is ∙
+    c.first_unfit.ensures (ready_of s z (once (goal.at.returns c).In_default)))

@@ -1,3 +1,5 @@
+use mathlib.Core.Path.{ap, ◌∙◌}
+use Rattle.node.specs.Decoding.{node_at}
 use Prim.Native.Nat.{◌<◌}
 use Rattle.types.specs.Uses.{sheet_roots}
 use Rattle.types.specs.Unfit.{ready_nodes, ready_rooted, walk_start, walk_skip, walk_here, walk_stood, walk_unfit}
@@ -20,23 +22,23 @@ fits-requires c = let k = walk_here c.requires (c.loop-i.invariant c.requires) c
 
 pub returns-then-not-fits : goal.returns-then-not-fits
 returns-then-not-fits c g =
-    let w = c.loop-i.invariant g in let h = c.loop-i-test.true in let k = walk_here g w h c.if-scope-eq0.false in let n = c.node_at-n.ensures in
+    let w = c.loop-i.invariant g in let h = c.loop-i-test.true in let k = walk_here g w h c.if-scope-eq0.false in let n = c.node_at-n.ensures ∙ ap (node_at c.args.sheet.now) c.from.ensures in
     walk_unfit g w h k n (c.fits.ensures _ _ _ _ (walk_stood g w h k n)) (c.if-not-fits.true)
 
 pub returns-then-not-is_placed : goal.returns-then-not-is_placed
 returns-then-not-is_placed c g =
-    let w = c.loop-i.invariant g in let h = c.loop-i-test.true in let k = walk_here g w h c.if-scope-eq0.false in let n = c.node_at-n.ensures in
+    let w = c.loop-i.invariant g in let h = c.loop-i-test.true in let k = walk_here g w h c.if-scope-eq0.false in let n = c.node_at-n.ensures ∙ ap (node_at c.args.sheet.now) c.from.ensures in
     walk_misplaced g w h k n (c.fits.ensures _ _ _ _ (walk_stood g w h k n)) (c.if-not-fits.false)
     (c.is_placed.ensures _ _ (ready_rooted g h)) (c.if-not-is_placed.true)
 
 pub place_children-requires : goal.place_children-requires
 place_children-requires c =
     let w = c.loop-i.invariant c.requires in let h = c.loop-i-test.true in
-    walk_asked c.requires w h (walk_here c.requires w h c.if-scope-eq0.false) c.node_at-n.ensures
+    walk_asked c.requires w h (walk_here c.requires w h c.if-scope-eq0.false) (c.node_at-n.ensures ∙ ap (node_at c.args.sheet.now) c.from.ensures)
 
 pub loop-i-preserved : goal.loop-i-preserved
 loop-i-preserved c g =
-    let w = c.loop-i.invariant g in let h = c.loop-i-test.true in let k = walk_here g w h c.if-scope-eq0.false in let n = c.node_at-n.ensures in
+    let w = c.loop-i.invariant g in let h = c.loop-i-test.true in let k = walk_here g w h c.if-scope-eq0.false in let n = c.node_at-n.ensures ∙ ap (node_at c.args.sheet.now) c.from.ensures in
     walk_next g w h k n (c.fits.ensures _ _ _ _ (walk_stood g w h k n)) (c.if-not-fits.false)
     (c.is_placed.ensures _ _ (ready_rooted g h)) (c.if-not-is_placed.false) c.place_children.ensures
 
