@@ -1,6 +1,5 @@
 -- Scopes as the code keeps them: one number each, and an array with the number of each node's scope.
-use Rattle.std.specs.Prelude.{◌≡◌, refl, cond, List, [], ◌∷◌, ◌++◌, ℕ, zero, suc, ◌+◌, ◌*◌, ◌-◌, ◌/◌, ◌%◌, ◌≤◌, ◌<◌, eqb, ltb, get_or, set}
-use Rattle.std.proofs.Math.Path.{sym}
+use Rattle.std.specs.Prelude.{◌≡◌, refl, Bool, true, false, cond, List, [], ◌∷◌, ◌++◌, ℕ, zero, suc, ◌+◌, ◌*◌, ◌-◌, ◌/◌, ◌%◌, ◌≤◌, ◌<◌, eqb, ltb, get_or, set}
 use Rattle.std.proofs.Common.{ap, ◌∙◌, arith, length-append, lt-ltb, le-ltb}
 use Rattle.std.proofs.Math.Option.{Option, none, some}
 use Rattle.std.proofs.Math.Decide.{dec_lt}
@@ -71,9 +70,8 @@ pub data Scoped (types starts stand : List ℕ) : ℕ → Scope → Type 0 where
       → added t ≡ two a b → Scoped types starts stand (get_or stand s 0) Γ → Scoped types starts stand code (Γ ++ two a b)
 
 -- the bytes of a type that is there
-unfoldable pub bytes_or : Option Ty → List ℕ
-bytes_or none = []
-bytes_or (some t) = bytes_of t
+pub data IsType (bs : List ℕ) : Option Ty → Type 0 where
+  is_type : (t : Ty) → bs ≡ bytes_of t → IsType bs (some t)
 
 -- WHAT A NUMBER TELLS
 
@@ -163,17 +161,17 @@ module _ (Σ : Scope) (p q : Ty) {Δ : Scope} (e : Δ ≡ Σ ++ two p q) (x : �
       go (no y) n = let z : x - w ≡ 0 = omega arith in rw (z, le-ltb w x (omega arith))
 
 module _ {types starts stand : List ℕ} {x : ℕ} {Γ : Scope} where
-  pub climb_none : {code w : ℕ} → w ≡ code / 512 → w ≤ x → Scoped types starts stand code Γ → [] ≡ bytes_or (get_elem? Γ x)
-  unfolding bytes_or
-  climb_none e h r = rw (at_none Γ x (omega (arith, scope_width r)))
+  pub climb_none : {code w : ℕ} → w ≡ code / 512 → w ≤ x → Scoped types starts stand code Γ → get_elem? Γ x ≡ none
+  climb_none e h r = at_none Γ x (omega (arith, scope_width r))
 
   pub climb_start : {code w : ℕ} → w ≡ code / 512 → x < w → Scoped types starts stand code Γ → Climbed types starts stand code x Γ
   climb_start e h r = record { scope = Γ; here = r; within = omega (arith, scope_width r); same = refl }
 
   module _ {code h : ℕ} (k : Climbed types starts stand code x Γ) (q : h ≡ code % 512) where
-    pub climb_base : {b : List ℕ} → h < 256 → b ≡ part_at types starts (h + x) → b ≡ bytes_or (get_elem? Γ x)
-    unfolding bytes_or
-    climb_base f e = let a = scope_base k.here q f x k.within in e ∙ a.is ∙ sym (ap bytes_or (k.same ∙ at_some k.scope x truths k.within))
+    pub climb_base : {b : List ℕ} → h < 256 → b ≡ part_at types starts (h + x) → IsType b (get_elem? Γ x)
+    climb_base f e =
+        let a = scope_base k.here q f x k.within in
+        rw (k.same, at_some k.scope x truths k.within) (is_type (get_or k.scope x truths) (e ∙ a.is))
 
     module _ (f : 256 ≤ h) where
       pub climb_around : Around types starts stand code h k.scope
@@ -188,10 +186,18 @@ module _ {types starts stand : List ℕ} {x : ℕ} {Γ : Scope} where
           same = k.same ∙ two_up a.scope a.one a.other a.is x l;
         }
 
-        pub climb_part : w ≤ x → {b u : List ℕ} → u ≡ part_at types starts (41 + (h - 256))
-            → ((t p q : Ty) → u ≡ bytes_of t → Short t → added t ≡ two p q → b ≡ bytes_of (cond (ltb w x) q p)) → b ≡ bytes_or (get_elem? Γ x)
-        unfolding bytes_or
-        climb_part m d g =
-            let a = scope_around k.here q f in let l : w ≡ length a.scope = e ∙ scope_width a.outer in
-            g a.type a.one a.other (d ∙ a.at.is) a.at.short a.adds
-            ∙ sym (ap bytes_or (k.same ∙ two_part a.scope a.one a.other a.is x l m k.within))
+        module _ (m : w ≤ x) {u : List ℕ} (d : u ≡ part_at types starts (41 + (h - 256))) where
+          -- a type that adds no variables is no case's subject
+          pub climb_no_parts : ((t p q : Ty) → u ≡ bytes_of t → Short t → added t ≡ two p q → ⊥) → ⊥
+          climb_no_parts g = let a = scope_around k.here q f in g a.type a.one a.other (d ∙ a.at.is) a.at.short a.adds
+
+          pub climb_part : {v b : List ℕ} → ((t p q : Ty) → u ≡ bytes_of t → Short t → added t ≡ two p q → (v ≡ bytes_of p) × (b ≡ bytes_of q))
+              → IsType (cond (ltb w x) b v) (get_elem? Γ x)
+          climb_part {v} {b} g =
+              let a = scope_around k.here q f in let l : w ≡ length a.scope = e ∙ scope_width a.outer in
+              let y = g a.type a.one a.other (d ∙ a.at.is) a.at.short a.adds in
+              rw (k.same, two_part a.scope a.one a.other a.is x l m k.within) (go a.one a.other (ltb w x) y.0 y.1)
+            where
+              go : (p q : Ty) (c : Bool) → v ≡ bytes_of p → b ≡ bytes_of q → IsType (cond c b v) (some (cond c q p))
+              go p q true y z = is_type q z
+              go p q false y z = is_type p y

@@ -14,8 +14,7 @@ ghost use Rattle.types.specs.Decided.{holds, Fitted};
 ghost use Rattle.node.specs.Kinds.{row};
 
 use crate::lent::{
-    LISTS, NODES, NUMBERS, PAIRS, PAST, SECTIONS, TRUTHS, VIEW, is_list_of, is_pair_of, is_same,
-    kind_in, type_in,
+    Kind, NODES, PAST, SECTIONS, VIEW, is_list_of, is_of, is_pair_of, is_same, type_in,
 };
 use crate::scopes::{place_children, place_roots, variable};
 use node::Node;
@@ -53,10 +52,10 @@ fn is_typed(
     ensures { (Γ : Scope) (t : Ty) → Scoped types.now starts.now stand.now scope Γ
         → At types.now starts.now slot t → result ≡ holds (at? (get_elem? Γ x) t) }
 {
-    shapes::same(
-        variable(types, starts, stand, scope, x),
-        type_in(types, starts, slot),
-    )
+    match variable(types, starts, stand, scope, x) {
+        Some(t) => shapes::same(t, type_in(types, starts, slot)),
+        None => false,
+    }
 }
 
 // Whether node i, which is n, has its lent type, where it is a case on a list.
@@ -96,7 +95,7 @@ fn fits_truth_case(types: &[u8], starts: &[u16; 242], n: Node, i: usize) -> bool
         return false;
     };
     let t = of_node(i);
-    (kind_in(types, starts, of_node(subject)) == TRUTHS)
+    is_of(types, starts, of_node(subject), Kind::Truths)
         & is_same(types, starts, of_node(no), t)
         & is_same(types, starts, of_node(yes), t)
 }
@@ -157,10 +156,10 @@ fn fits(types: &[u8], starts: &[u16; 242], stand: &[u32; 200], n: Node, i: usize
     let t = of_node(i);
     match n {
         Node::Var(x) => is_typed(types, starts, stand, stand[i], x, t),
-        Node::False => kind_in(types, starts, t) == TRUTHS,
-        Node::True => kind_in(types, starts, t) == TRUTHS,
-        Node::Empty => kind_in(types, starts, t) == LISTS,
-        Node::Number(_) => kind_in(types, starts, t) == NUMBERS,
+        Node::False => is_of(types, starts, t, Kind::Truths),
+        Node::True => is_of(types, starts, t, Kind::Truths),
+        Node::Empty => is_of(types, starts, t, Kind::Lists),
+        Node::Number(_) => is_of(types, starts, t, Kind::Numbers),
         Node::Front { first, rest } => {
             is_list_of(types, starts, t, of_node(first)) & is_same(types, starts, of_node(rest), t)
         }
@@ -168,16 +167,16 @@ fn fits(types: &[u8], starts: &[u16; 242], stand: &[u32; 200], n: Node, i: usize
         Node::ListCase { .. } => fits_list_case(types, starts, n, i),
         Node::TruthCase { .. } => fits_truth_case(types, starts, n, i),
         Node::Split { subject, inner } => {
-            (kind_in(types, starts, of_node(subject)) == PAIRS)
+            is_of(types, starts, of_node(subject), Kind::Pairs)
                 & is_same(types, starts, of_node(inner), t)
         }
         Node::Call { .. } => fits_call(types, starts, stand, n, i),
         Node::Add { node, .. } => {
-            (kind_in(types, starts, t) == NUMBERS)
-                & (kind_in(types, starts, of_node(node)) == NUMBERS)
+            is_of(types, starts, t, Kind::Numbers)
+                & is_of(types, starts, of_node(node), Kind::Numbers)
         }
         Node::Each { .. } => fits_each(types, starts, stand, n, i),
-        Node::Wide(_) => kind_in(types, starts, t) == NUMBERS,
+        Node::Wide(_) => is_of(types, starts, t, Kind::Numbers),
     }
 }
 

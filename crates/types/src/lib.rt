@@ -31,14 +31,12 @@ pub fn check(sheet: &[u8], types: &[u8]) -> Checked
     if table.refusal != 0 {
         return Checked::Refused(table.refusal);
     }
-    let lent = read_types(types, table.k, table.sections, table.nodes);
-    if !lent.fine {
+    let Some(starts) = read_types(types, table.k, table.sections, table.nodes) else {
         return Checked::Refused(80);
-    }
+    };
     if let Some(node) = first_used_twice(sheet, table) {
         return Checked::At { refusal: 81, node };
     }
-    let starts = lent.starts;
     if let Some(node) = first_unfit(sheet, table, types, &starts) {
         return Checked::At { refusal: 82, node };
     }

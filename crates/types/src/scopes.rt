@@ -1,13 +1,14 @@
 //! Scopes, each as one number: 512 for each variable, and below that how they are found. From 0 to 255: their types stand in the slots from this
 //! one on. From 256 on: the scope of the node with this number less 256, and two variables more, the parts of that node's type. 0: no scope yet.
-ghost use Rattle.std.specs.Prelude.{◌≡◌, List, [], ◌∷◌, ℕ, ◌+◌, ◌*◌, ◌/◌, ◌%◌, ◌≤◌, ◌<◌};
+ghost use Rattle.std.specs.Prelude.{◌≡◌, List, [], ◌∷◌, ℕ, ◌+◌, ◌*◌, ◌/◌, ◌%◌, ◌≤◌, ◌<◌, MatchOption};
+ghost use Rattle.std.proofs.Math.Option.{none};
 ghost use Rattle.std.proofs.Math.ListN.{get_elem?};
 ghost use Rattle.node.specs.Kinds.{row};
 ghost use Rattle.typing.specs.Fits.{Scope};
-ghost use Rattle.types.specs.Scopes.{Scoped, bytes_or, widen, view_of, Put, PutAll, child_scopes, section_scopes, subject};
+ghost use Rattle.types.specs.Scopes.{Scoped, IsType, widen, view_of, Put, PutAll, child_scopes, section_scopes, subject};
 ghost use Rattle.types.specs.Uses.{Roots};
 
-use crate::lent::{NODES, SECTIONS, part_of, type_in};
+use crate::lent::{NODES, SECTIONS, parts_of, type_in};
 use node::Node;
 
 // A scope without variables, that of a default of 1C.
@@ -134,31 +135,33 @@ fn how_of(scope: u32) -> usize
     (scope % 512) as usize
 }
 
-// The type of variable x in a scope; empty where it has no such variable. It climbs from the scope of a case to the one around it.
+// The type of variable x in a scope, if it has that variable. It climbs from the scope of a case to the one around it.
 pub fn variable<'a>(
     types: &'a [u8],
     starts: &[u16; 242],
     stand: &[u32; 200],
     scope: u32,
     x: usize,
-) -> &'a [u8]
+) -> Option<&'a [u8]>
     requires { (Γ : Scope) × Scoped types.now starts.now stand.now scope Γ }
-    ensures { (Γ : Scope) → Scoped types.now starts.now stand.now scope Γ → result.now ≡ bytes_or (get_elem? Γ x) }
+    ensures { (Γ : Scope) → Scoped types.now starts.now stand.now scope Γ
+        → MatchOption result (get_elem? Γ x ≡ none) (λ t. IsType t.now (get_elem? Γ x)) }
 {
     if width_of(scope) <= x {
-        return &types[..0];
+        return None;
     }
     let mut inner = scope;
     loop {
         let how = how_of(inner);
         if how < 256 {
-            return type_in(types, starts, how + x);
+            return Some(type_in(types, starts, how + x));
         }
         let subject = how - 256;
         let outer = stand[subject];
         let width = width_of(outer);
         if width <= x {
-            return part_of(type_in(types, starts, NODES + subject), width < x);
+            let (first, second) = parts_of(type_in(types, starts, NODES + subject))?;
+            return Some(if width < x { second } else { first });
         }
         inner = outer;
     }

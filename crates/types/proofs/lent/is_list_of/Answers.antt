@@ -4,11 +4,11 @@ use native.Mathlib.Omega.{arith}
 use Rattle.types.specs.SlotsLaws.{same_none, same_other, same_front}
 use Rattle.types.proofs.lent.is_list_of.Goals as goal
 
-pub returns-then-list-eq0 : goal.returns-then-list-eq0
-returns-then-list-eq0 c = same_none c.type_in-list.ensures _ _ c.if-list-eq0.true
+pub returns-in_default : goal.returns-in_default
+returns-in_default c = same_none c.type_in.ensures _ _ (omega (arith, c.in_default.len_below))
 
-pub returns-then-list-ne-LISTS : goal.returns-then-list-ne-LISTS
-returns-then-list-ne-LISTS c = same_other c.type_in-list.ensures _ _ c.if-list-ne-LISTS.true
+pub returns-then-first-byte : goal.returns-then-first-byte
+returns-then-first-byte c = same_other c.type_in.ensures _ _ (omega (arith, c.byte.ensures, c.if-first-byte.true))
 
 pub returns : goal.returns
-returns c = c.same.ensures ∙ same_front c.type_in-list.ensures _ c.type_in.ensures (omega (arith, c.if-list-eq0.false)) c.if-list-ne-LISTS.false
+returns c = c.same.ensures ∙ same_front c.type_in.ensures _ c.type_in-2.ensures (omega (arith, c.in-len1-up.len_at_least)) (c.if-first-byte.false ∙ c.byte.ensures)
