@@ -178,7 +178,8 @@ module _ (types : List ℕ) (f : ℕ → ℕ) (up : (i j : ℕ) → i ≤ j → 
       reading_skip z e = skip h (omega (arith, rw z at e))
 
       module _ {b : Bool} (z : b ≡ true) (e : f (slot + 1) ≡ cond b 1 0 + f slot) where
-        pub reading_next : {n : ℕ} → type_len (take (length types - at) (drop at types)) ≡ Some n → Reading types f (set starts (slot + 1) (at + n)) (at + n) (slot + 1)
+        pub reading_next : {n : ℕ} → type_len (take (length types - at) (drop at types)) ≡ Some n
+            → Reading types f (set starts (slot + 1) (at + n)) (at + n) (slot + 1)
         reading_next q = let d = type_there (drop at types) (rw (take_rest types at) at q) in one d.1 h (omega (arith, rw z at e))
 
         pub reading_ends : type_len (take (length types - at) (drop at types)) ≡ None → TypesRead types f None

@@ -388,7 +388,12 @@ unfolding type_len up_to behind and_then also
 type_long t bs h =
     let q : longest_type ≡ length (bytes_of t) + (longest_type - length (bytes_of t)) = omega arith in
     let z : length (bytes_of t) + length bs - length bs ≡ length (bytes_of t) = omega arith in
-    rw (one_back t bs (longest_type - length (bytes_of t)) longest_type 0 q, none_owed bs (longest_type - length (bytes_of t)), length-append (bytes_of t) bs, z)
+    rw (
+      one_back t bs (longest_type - length (bytes_of t)) longest_type 0 q,
+      none_owed bs (longest_type - length (bytes_of t)),
+      length-append (bytes_of t) bs,
+      z,
+    )
 
 pub len_inside : (s : List ℕ) {n : ℕ} → type_len s ≡ Some n → n ≤ length s
 unfolding type_len up_to

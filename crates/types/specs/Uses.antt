@@ -2,7 +2,8 @@
 use Rattle.std.specs.Prelude.{◌≡◌, refl, Bool, true, false, List, [], ◌∷◌, ◌++◌, eqb, ltb, length, get_or, set, take, replicate, ◌==◌, position}
 use Rattle.std.specs.List.{position_or_len}
 use Rattle.std.proofs.lemmas.List.Sums.{position_or_len_is}
-use Rattle.std.proofs.Common.{sym, ap, zero-add, le-ltb, ◌∙◌, append-nil, get_or-set_same, get_or-set_other, take-suc, take_all, length-set, eq-eqb, ne_eqb, lt-ltb}
+use Rattle.std.proofs.Common.{zero-add, le-ltb}
+use Rattle.std.proofs.Common.{sym, ap, ◌∙◌, append-nil, get_or-set_same, get_or-set_other, take-suc, take_all, length-set, eq-eqb, ne_eqb, lt-ltb}
 use Rattle.std.proofs.Math.Option.{Option, none, some}
 use Prim.Native.Nat.{ℕ, zero, suc, ◌+◌, ◌-◌, ◌≤◌, ◌<◌}
 use native.Mathlib.Omega.{arith}

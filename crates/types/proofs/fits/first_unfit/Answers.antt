@@ -22,12 +22,14 @@ fits-requires c = let k = walk_here c.requires (c.loop-i.invariant c.requires) c
 
 pub returns-then-not-fits : goal.returns-then-not-fits
 returns-then-not-fits c g =
-    let w = c.loop-i.invariant g in let h = c.loop-i-test.true in let k = walk_here g w h c.if-scope-eq0.false in let n = c.node_at-n.ensures ∙ ap (node_at c.args.sheet.now) c.from.ensures in
+    let w = c.loop-i.invariant g in let h = c.loop-i-test.true in let k = walk_here g w h c.if-scope-eq0.false in
+    let n = c.node_at-n.ensures ∙ ap (node_at c.args.sheet.now) c.from.ensures in
     walk_unfit g w h k n (c.fits.ensures _ _ _ _ (walk_stood g w h k n)) (c.if-not-fits.true)
 
 pub returns-then-not-is_placed : goal.returns-then-not-is_placed
 returns-then-not-is_placed c g =
-    let w = c.loop-i.invariant g in let h = c.loop-i-test.true in let k = walk_here g w h c.if-scope-eq0.false in let n = c.node_at-n.ensures ∙ ap (node_at c.args.sheet.now) c.from.ensures in
+    let w = c.loop-i.invariant g in let h = c.loop-i-test.true in let k = walk_here g w h c.if-scope-eq0.false in
+    let n = c.node_at-n.ensures ∙ ap (node_at c.args.sheet.now) c.from.ensures in
     walk_misplaced g w h k n (c.fits.ensures _ _ _ _ (walk_stood g w h k n)) (c.if-not-fits.false)
     (c.is_placed.ensures _ _ (ready_rooted g h)) (c.if-not-is_placed.true)
 
@@ -38,7 +40,8 @@ place_children-requires c =
 
 pub loop-i-preserved : goal.loop-i-preserved
 loop-i-preserved c g =
-    let w = c.loop-i.invariant g in let h = c.loop-i-test.true in let k = walk_here g w h c.if-scope-eq0.false in let n = c.node_at-n.ensures ∙ ap (node_at c.args.sheet.now) c.from.ensures in
+    let w = c.loop-i.invariant g in let h = c.loop-i-test.true in let k = walk_here g w h c.if-scope-eq0.false in
+    let n = c.node_at-n.ensures ∙ ap (node_at c.args.sheet.now) c.from.ensures in
     walk_next g w h k n (c.fits.ensures _ _ _ _ (walk_stood g w h k n)) (c.if-not-fits.false)
     (c.is_placed.ensures _ _ (ready_rooted g h)) (c.if-not-is_placed.false) c.place_children.ensures
 

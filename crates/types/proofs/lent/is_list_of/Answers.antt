@@ -11,4 +11,6 @@ pub returns-then-first-byte : goal.returns-then-first-byte
 returns-then-first-byte c = same_other c.type_in.ensures _ _ (omega (arith, c.byte.ensures, c.if-first-byte.true))
 
 pub returns : goal.returns
-returns c = c.same.ensures ∙ same_front c.type_in.ensures _ c.type_in-2.ensures (omega (arith, c.in-len1-up.len_at_least)) (c.if-first-byte.false ∙ c.byte.ensures)
+returns c =
+    c.same.ensures ∙ same_front c.type_in.ensures _ c.type_in-2.ensures (omega (arith, c.in-len1-up.len_at_least))
+    (c.if-first-byte.false ∙ c.byte.ensures)

@@ -26,7 +26,8 @@ loop-slot-init c = reading_none _ _ (lent_up _ _ _) (lent_none c.args.k c.args.s
 pub returns-in_err-at : goal.returns-in_err-at
 returns-in_err-at c =
     rw c.from_residual.ensures
-    (reading_ends _ _ (lent_up _ _ _) c.loop-slot.invariant c.loop-slot-test.true c.if-is_lent.true c.is_lent.ensures (sym c.type_len.ensures ∙ c.in_err-at.was))
+    (reading_ends _ _ (lent_up _ _ _) c.loop-slot.invariant c.loop-slot-test.true c.if-is_lent.true c.is_lent.ensures
+    (sym c.type_len.ensures ∙ c.in_err-at.was))
 
 pub overflow_add-at : goal.overflow_add-at
 overflow_add-at c =

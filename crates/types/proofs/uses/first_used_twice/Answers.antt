@@ -14,4 +14,6 @@ loop-start-preserved c sh r =
     (c.count_children.ensures _ (c.loop-start.invariant sh r))
 
 pub returns : goal.returns
-returns c sh r = used_told r (late c.args.t c.loop-start-test.false (omega arith)) c.loop-start.auto.start-index-end (c.loop-start.invariant sh r) c.lowest_of.ensures
+returns c sh r =
+    used_told r (late c.args.t c.loop-start-test.false (omega arith)) c.loop-start.auto.start-index-end (c.loop-start.invariant sh r)
+    c.lowest_of.ensures
