@@ -1,5 +1,6 @@
 -- What the tool of request 14 tells, and its counts.
-use Rattle.std.specs.Prelude.{◌≡◌, refl, Bool, true, false, ◌&&◌, List, [], ◌∷◌, ℕ, zero, suc, ◌+◌, ◌-◌, ◌≤◌, ◌<◌, cond, eqb, min, get_or, take, drop, set, replicate}
+use Rattle.std.specs.Prelude.{◌≡◌, refl, Bool, true, false, ◌&&◌, List, [], ◌∷◌, ℕ, zero, suc, ◌+◌, ◌-◌, ◌≤◌, ◌<◌, min, get_or, take, drop, set, replicate}
+use Rattle.std.specs.Prelude.{cond, eqb}
 use Rattle.std.proofs.Math.Path.{sym}
 use Rattle.std.proofs.Common.{ap, ◌∙◌, add-one, arith, drop_of_length-le, length-set, drop-cons, get_or-set_same, get_or-set_other}
 use Rattle.std.proofs.Math.Decide.{ℕ_discrete}
@@ -7,7 +8,7 @@ use Rattle.std.proofs.Math.ListN.{length}
 use Rattle.std.proofs.lemmas.List.{get_or-take, length-take}
 use borrow.Author.Tests.{lt-ltb, le-ltb, lt-leb, le-leb}
 use mir.Val.{bool_byte}
-use Rattle.value.specs.Result.{ok, refusal, and_then, unless}
+use Rattle.value.specs.Result.{ok, refusal, and_then, map_result, unless}
 use Rattle.value.proofs.Laws.{and-true}
 use Rattle.node.specs.declared.Node.{Node}
 use Rattle.node.specs.declared.Node.TheVariants.{False, Var, Front, Pair, Add}
@@ -17,10 +18,9 @@ use Rattle.sheet.specs.Sheet.{Sheet, read_sheet}
 use Rattle.node.specs.Decoding.{node_at}
 use Rattle.sheet.specs.Table.{table_of}
 use Rattle.sheet.specs.Laws.{Reads, table_refused, table_reads}
-use Rattle.growth.specs.declared.Growing.TheVariants.{Times, Refused}
 use Rattle.growth.specs.Growth.{plain, all_plain, own, entered, capped, growth_of}
 use Rattle.growth.proofs.Counts.{none_behind, one_capped, capped_is}
-use Rattle.growth.specs.Tool.{Plains, AllJudged, Readied, OneCounted, Counts, Counted, told}
+use Rattle.growth.specs.Tool.{Plains, AllJudged, Readied, OneCounted, Counts, Counted}
 
 same_sheet : (s : List ℕ) {sh sh' : Sheet} → read_sheet s ≡ ok sh → read_sheet s ≡ ok sh' → sh ≡ sh'
 same_sheet s e f = cc
@@ -140,38 +140,35 @@ module _ {s : List ℕ} {t : Table} (q : Readied s t) {x : ℕ} {counts : List �
 -- WHOLE CALLS
 
 -- the sheet is refused
-pub no_sheet : (s : List ℕ) {t : Table} → t ≡ table_of (read_sheet s) → (t.refusal ≡ 0 → ⊥) → (x : ℕ) → Refused t.refusal ≡ told (growth_of s x)
-unfolding growth_of told and_then
-no_sheet s {t} e n x =
-    let f : t.refusal ≡ (table_of (read_sheet s)).refusal = ap (λ (u : Table). u.refusal) e in
-    let g : read_sheet s ≡ refusal t.refusal = table_refused s (λ z. n (f ∙ z)) ∙ ap refusal (sym f) in
-    sym (rw g)
+pub no_sheet : (s : List ℕ) {c : ℕ} → refusal c ≡ map_result table_of (read_sheet s) → (x : ℕ) → refusal c ≡ growth_of s x
+unfolding growth_of and_then
+no_sheet s e x = sym (rw (table_refused s e))
 
 -- it is read
-pub ready : (s : List ℕ) {t : Table} → t ≡ table_of (read_sheet s) → t.refusal ≡ 0 → Readied s t
-ready s e z = let (sh, r) = table_reads s e z in record { sh = sh; reads = r }
+pub ready : (s : List ℕ) {t : Table} → ok t ≡ map_result table_of (read_sheet s) → Readied s t
+ready s e = let (sh, r) = table_reads s e in record { sh = sh; reads = r }
 
 module _ {s : List ℕ} {t : Table} (q : Readied s t) (x : ℕ) {p : Bool} (judged : AllJudged s p) where
   all_are : all_plain q.sh.nodes ≡ p
   all_are = sym (judged q.sh q.reads.sheet)
 
-  pub tells_87 : p ≡ false → Refused 87 ≡ told (growth_of s x)
-  unfolding growth_of told and_then unless
+  pub tells_87 : p ≡ false → refusal 87 ≡ growth_of s x
+  unfolding growth_of and_then unless
   tells_87 e = sym (rw (q.reads.sheet, all_are, e))
 
   module _ (all : p ≡ true) where
-    pub tells_23 : t.k ≤ x → Refused 23 ≡ told (growth_of s x)
-    unfolding growth_of told and_then unless
+    pub tells_23 : t.k ≤ x → refusal 23 ≡ growth_of s x
+    unfolding growth_of and_then unless
     tells_23 h = sym (rw (q.reads.sheet, all_are, all, le-ltb x q.sh.k (omega (arith, q.reads.k))))
 
     module _ (h : x < t.k) {r : ℕ} (counted : Counted s x r) where
       count_is : r ≡ capped q.sh x
       count_is = counted q.sh q.reads.sheet (all_are ∙ all)
 
-      pub tells_88 : 256 < r → Refused 88 ≡ told (growth_of s x)
-      unfolding growth_of told and_then unless
+      pub tells_88 : 256 < r → refusal 88 ≡ growth_of s x
+      unfolding growth_of and_then unless
       tells_88 g = sym (rw (q.reads.sheet, all_are, all, lt-ltb x q.sh.k (omega (arith, q.reads.k)), ← count_is, lt-leb r 256 g))
 
-      pub tells_times : r ≤ 256 → Times r ≡ told (growth_of s x)
-      unfolding growth_of told and_then unless
+      pub tells_times : r ≤ 256 → ok r ≡ growth_of s x
+      unfolding growth_of and_then unless
       tells_times g = sym (rw (q.reads.sheet, all_are, all, lt-ltb x q.sh.k (omega (arith, q.reads.k)), ← count_is, le-leb r 256 g))

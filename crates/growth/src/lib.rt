@@ -2,18 +2,13 @@
 #![tactic(auto)]
 
 ghost use Rattle.std.specs.Prelude.{◌≡◌, ◌+◌, min, get_or};
+ghost use Rattle.value.specs.Numbered.{numbered};
 ghost use Rattle.growth.specs.Growth.{plain, growth_of};
-ghost use Rattle.growth.specs.Tool.{told, Readied, AllJudged, OneCounted, Counted};
+ghost use Rattle.growth.specs.Tool.{Readied, AllJudged, OneCounted, Counted};
 
 use node::Node;
+use refusal::Refusal;
 use sheet::Table;
-
-/// How often the records of a variable are entered; or a refusal's number.
-#[derive(Clone, Copy, Debug, PartialEq, Eq)]
-pub enum Growing {
-    Times(u16),
-    Refused(u8),
-}
 
 // The most times that are told, and where counts stop.
 const MOST: u16 = 256;
@@ -89,22 +84,19 @@ fn count(sheet: &[u8], table: Table, variable: usize) -> u16
 
 /// How often a walk from the sheet's root enters a record of the variable, every refusal left aside. Refusals: the sheet's (10 to 14), then 87 a
 /// node of another kind than 10 to 16, 1B and 1D, 23 no such variable, 88 more than 256 times.
-pub fn growth(sheet: &[u8], variable: usize) -> Growing
-    ensures { result ≡ told (growth_of sheet.now variable) }
+pub fn growth(sheet: &[u8], variable: usize) -> Result<u16, Refusal>
+    ensures { numbered result ≡ growth_of sheet.now variable }
 {
-    let table = sheet::read_sheet(sheet);
-    if table.refusal != 0 {
-        return Growing::Refused(table.refusal);
-    }
+    let table = sheet::read_sheet(sheet)?;
     if !all_plain(sheet, table) {
-        return Growing::Refused(87);
+        return Err(Refusal::OtherKind);
     }
     if table.k <= variable {
-        return Growing::Refused(23);
+        return Err(Refusal::Variable);
     }
     let r = count(sheet, table, variable);
     if MOST < r {
-        return Growing::Refused(88);
+        return Err(Refusal::GrowthLarge);
     }
-    Growing::Times(r)
+    Ok(r)
 }
