@@ -34,15 +34,15 @@ module _ (s t b : List ℕ) where
   pub no_room : length b < 2048 → Makes (join_answer s t (length b)) (Err OutputSmall) b b
   no_room h = makes_no OutputSmall (join_1 s t (length b) h)
 
-  module _ (room : 2048 ≤ length b) {x : Table} where
+  module _ (room : 2048 ≤ length b) where
     pub no_first : {e : Refusal} → refusal (number_of e) ≡ map_result table_of (read_sheet s) → Makes (join_answer s t (length b)) (Err e) b b
     no_first {e} f = makes_no e (join_first s t (length b) room (table_refused s f))
 
-    module _ (fine : Fine s x) {y : Table} where
+    module _ {x : Table} (fine : Fine s x) where
       pub no_second : {e : Refusal} → refusal (number_of e) ≡ map_result table_of (read_sheet t) → Makes (join_answer s t (length b)) (Err e) b b
       no_second {e} f = makes_no e (join_second s t (length b) room (fine_read fine).1.sheet (table_refused t f))
 
-      module _ (fine' : Fine t y) where
+      module _ {y : Table} (fine' : Fine t y) where
         pub no_variables : (x.k ≡ y.k → ⊥) → Makes (join_answer s t (length b)) (Err SheetsDiffer) b b
         no_variables f = makes_no SheetsDiffer (join_83 s t (length b) room (fine_read fine).1.sheet (fine_read fine').1.sheet
             (λ e. f ((fine_read fine).1.k ∙ e ∙ sym (fine_read fine').1.k)))

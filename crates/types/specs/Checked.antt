@@ -1,7 +1,7 @@
 -- The answer of the check, as the code gives it; and what is known where it is given.
 use Rattle.std.specs.Prelude.{◌≡◌, List, get_or, drop}
 use Rattle.std.proofs.Math.Path.{refl}
-use Rattle.std.proofs.Common.{sym, ap, ◌∙◌, zero-add, get_or-take, get_or-drop}
+use Rattle.std.proofs.Common.{◌∙◌, zero-add, get_or-take, get_or-drop}
 use Rattle.std.proofs.Math.Option.{Option, none, some}
 use Prim.Native.Nat.{ℕ, zero, suc, ◌+◌, ◌*◌, ◌≤◌, ◌<◌}
 use Rattle.std.proofs.Math.Nat.{add-zero}

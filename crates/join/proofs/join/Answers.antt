@@ -21,7 +21,8 @@ returns-in_err-a c = rw (passed_on c.from_residual.result c.from_residual.ensure
 
 pub returns-in_err-b : goal.returns-in_err-b
 returns-in_err-b c =
-    ?
+    rw (passed_on c.from_residual-in_err-b.result c.from_residual-in_err-b.ensures.1)
+    (no_second _ _ _ c.if-out-lt-OUTPUT.false (first (goal.at.returns-in_err-b c).In_ok-a) c.in_err-b.ensures)
 
 pub returns-then-a-b : goal.returns-then-a-b
 returns-then-a-b c =
