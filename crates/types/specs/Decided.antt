@@ -16,7 +16,7 @@ use Rattle.typing.specs.Check.{apart, and?, and3?, and4?, some?, at?, lists?, pa
 use Rattle.typing.specs.Written.{bytes_of}
 use Rattle.typing.proofs.Written.{bytes_same}
 use Rattle.types.specs.Slots.{part_at, At, Laid}
-use Rattle.types.specs.Scopes.{Scoped, IsType, is_type}
+use Rattle.types.specs.Scopes.{Entry, StandsIn, IsType, is_type}
 
 -- what a decision says
 unfoldable pub holds : {A : Type 0} → Dec A → Bool
@@ -129,18 +129,18 @@ module _ {types starts : List ℕ} where
 -- A NODE
 
 -- node i is n, and stands in the scope Γ
-pub record Stood (types starts stand : List ℕ) (sections nodes : ℕ) (ts : Lent) (i : ℕ) (n : Node) (Γ : Scope) : Type 0 where
+pub record Stood (types starts : List ℕ) (stand : List Entry) (sections nodes : ℕ) (ts : Lent) (i : ℕ) (n : Node) (Γ : Scope) : Type 0 where
   pub laid : Laid types starts sections nodes ts
   pub ranged : Ranged nodes sections i n
   pub own : i < nodes
-  pub scoped : Scoped types starts stand (get_or stand i 0) Γ
+  pub scoped : StandsIn types starts stand i Γ
 
-pub ranged_as : {types starts stand : List ℕ} {sections nodes : ℕ} {ts : Lent} {i : ℕ} {n m : Node} {Γ : Scope}
+pub ranged_as : {types starts : List ℕ} {stand : List Entry} {sections nodes : ℕ} {ts : Lent} {i : ℕ} {n m : Node} {Γ : Scope}
     → Stood types starts stand sections nodes ts i n Γ → n ≡ m → Ranged nodes sections i m
 ranged_as k e = rw e at k.ranged
 
 -- what the code is to find of it
-abbrev pub Fitted : (types starts stand : List ℕ) (i : ℕ) (n : Node) → Bool → Type 0
+abbrev pub Fitted : (types starts : List ℕ) (stand : List Entry) (i : ℕ) (n : Node) → Bool → Type 0
 Fitted types starts stand i n r =
     (sections nodes : ℕ) (ts : Lent) (Γ : Scope) → Stood types starts stand sections nodes ts i n Γ → r ≡ holds (fits? ts n (type_of ts i) Γ)
 

