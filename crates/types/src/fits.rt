@@ -1,5 +1,5 @@
 //! Nodes that do not have their lent type.
-ghost use Rattle.std.specs.Prelude.{◌≡◌, ℕ, ◌+◌, ◌*◌, ◌≤◌, ◌<◌, length, get_or, List};
+ghost use Rattle.std.specs.Prelude.{◌≡◌, ◌==◌, ℕ, ◌+◌, ◌*◌, ◌≤◌, ◌<◌, length, get_or, List};
 ghost use Rattle.std.proofs.Math.ListN.{get_elem?};
 ghost use Rattle.typing.specs.Types.{Ty};
 ghost use Rattle.typing.specs.Fits.{Lent as Types, Scope};
@@ -183,15 +183,15 @@ fn fits(types: &[u8], starts: &[u16; 242], stand: &[Option<View>; 200], n: Node,
     }
 }
 
-// Whether node i has the type in the slot, where that is asked.
-fn is_asked(types: &[u8], starts: &[u16; 242], i: usize, slot: usize, here: bool) -> bool
+// Whether node i, where it is this root, has the type in the slot.
+fn is_asked(types: &[u8], starts: &[u16; 242], i: usize, slot: usize, root: usize) -> bool
     requires { i < 200 }
-    ensures { result ≡ asked types.now starts.now i slot here }
+    ensures { result ≡ asked types.now starts.now i slot (root == i) }
 {
-    if here {
-        return is_same(types, starts, NODES + i, slot);
+    if root != i {
+        return true;
     }
-    true
+    is_same(types, starts, NODES + i, slot)
 }
 
 // Whether node i, where it is a root, has the type that is asked there.
@@ -207,12 +207,17 @@ fn is_placed(
     ensures { (sh : Sheet) (ts : Types) → Rooted sheet.now types.now starts.now root sections i sh ts
         → result ≡ holds (placed? sh ts i) }
 {
-    if !is_asked(types, starts, i, VIEW, root == i) {
+    if !is_asked(types, starts, i, VIEW, root) {
         return false;
     }
     for c in 0..sections {
-        let here = sheet::section_root(sheet, c) == i;
-        if !is_asked(types, starts, i, of_section(c, 2), here) {
+        if !is_asked(
+            types,
+            starts,
+            i,
+            of_section(c, 2),
+            sheet::section_root(sheet, c),
+        ) {
             return false;
         }
     }
