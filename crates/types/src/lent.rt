@@ -114,72 +114,81 @@ pub fn read_types(types: &[u8], k: usize, sections: usize, nodes: usize) -> Opti
     (at == types.len()).then_some(starts)
 }
 
-// The type in a slot.
-pub fn type_in<'a>(types: &'a [u8], starts: &[u16; 242], slot: usize) -> &'a [u8]
-    ensures { result.now ≡ part_at types.now starts.now slot }
-{
-    if PAST <= slot {
-        return &types[..0];
-    }
-    let start = usize::from(starts[slot]);
-    let end = usize::from(starts[slot + 1]);
-    if end < start {
-        return &types[..0];
-    }
-    if types.len() < end {
-        return &types[..0];
-    }
-    &types[start..end]
+/// Types that are lent: their bytes, and where those of each slot start.
+#[derive(Clone, Copy, Debug, PartialEq, Eq)]
+pub struct Lent<'a> {
+    pub types: &'a [u8],
+    pub starts: &'a [u16; 242],
 }
 
-// Whether the type in a slot is of the kind.
-pub fn is_of(types: &[u8], starts: &[u16; 242], slot: usize, kind: Kind) -> bool
-    ensures { result ≡ (get_or (part_at types.now starts.now slot) 0 0 == byte_of kind) }
-{
-    match type_in(types, starts, slot) {
-        [first, ..] => *first == kind.byte(),
-        [] => false,
+impl<'a> Lent<'a> {
+    // The type in a slot.
+    pub fn type_in(self, slot: usize) -> &'a [u8]
+        ensures { result.now ≡ part_at self.entry.types.now self.entry.starts.now slot }
+    {
+        if PAST <= slot {
+            return &self.types[..0];
+        }
+        let start = usize::from(self.starts[slot]);
+        let end = usize::from(self.starts[slot + 1]);
+        if end < start {
+            return &self.types[..0];
+        }
+        if self.types.len() < end {
+            return &self.types[..0];
+        }
+        &self.types[start..end]
     }
-}
 
-// Whether the types in two slots are the same.
-pub fn is_same(types: &[u8], starts: &[u16; 242], a: usize, b: usize) -> bool
-    ensures { result ≡ same_bytes (part_at types.now starts.now a) (part_at types.now starts.now b) }
-{
-    shapes::same(type_in(types, starts, a), type_in(types, starts, b))
-}
+    // Whether the type in a slot is of the kind.
+    pub fn is_of(self, slot: usize, kind: Kind) -> bool
+        ensures { result ≡ (get_or (part_at self.entry.types.now self.entry.starts.now slot) 0 0 == byte_of kind) }
+    {
+        match self.type_in(slot) {
+            [first, ..] => *first == kind.byte(),
+            [] => false,
+        }
+    }
 
-// Whether the type in slot t is that of lists of the type in slot a.
-pub fn is_list_of(types: &[u8], starts: &[u16; 242], t: usize, a: usize) -> bool
-    ensures { result ≡ same_bytes (part_at types.now starts.now t) (0x32 ∷ part_at types.now starts.now a) }
-{
-    let [first, rest @ ..] = type_in(types, starts, t) else {
-        return false;
-    };
-    if *first != Kind::Lists.byte() {
-        return false;
+    // Whether the types in two slots are the same.
+    pub fn is_same(self, a: usize, b: usize) -> bool
+        ensures { result ≡ same_bytes (part_at self.entry.types.now self.entry.starts.now a) (part_at self.entry.types.now self.entry.starts.now b) }
+    {
+        shapes::same(self.type_in(a), self.type_in(b))
     }
-    shapes::same(rest, type_in(types, starts, a))
-}
 
-// Whether the type in slot t is that of pairs of the types in slots a and b.
-pub fn is_pair_of(types: &[u8], starts: &[u16; 242], t: usize, a: usize, b: usize) -> bool
-    ensures { result ≡ same_bytes (part_at types.now starts.now t)
-        (0x33 ∷ (part_at types.now starts.now a ++ part_at types.now starts.now b)) }
-{
-    let pair = type_in(types, starts, t);
-    let first = type_in(types, starts, a);
-    if pair.len() <= first.len() {
-        return false;
+    // Whether the type in slot t is that of lists of the type in slot a.
+    pub fn is_list_of(self, t: usize, a: usize) -> bool
+        ensures { result ≡ same_bytes (part_at self.entry.types.now self.entry.starts.now t) (0x32 ∷ part_at self.entry.types.now self.entry.starts.now a) }
+    {
+        let [first, rest @ ..] = self.type_in(t) else {
+            return false;
+        };
+        if *first != Kind::Lists.byte() {
+            return false;
+        }
+        shapes::same(rest, self.type_in(a))
     }
-    if pair[0] != Kind::Pairs.byte() {
-        return false;
+
+    // Whether the type in slot t is that of pairs of the types in slots a and b.
+    pub fn is_pair_of(self, t: usize, a: usize, b: usize) -> bool
+        ensures { result ≡ same_bytes (part_at self.entry.types.now self.entry.starts.now t)
+            (0x33 ∷ (part_at self.entry.types.now self.entry.starts.now a ++ part_at self.entry.types.now self.entry.starts.now b)) }
+    {
+        let pair = self.type_in(t);
+        let first = self.type_in(a);
+        if pair.len() <= first.len() {
+            return false;
+        }
+        if pair[0] != Kind::Pairs.byte() {
+            return false;
+        }
+        let middle = 1 + first.len();
+        if !shapes::same(&pair[1..middle], first) {
+            return false;
+        }
+        shapes::same(&pair[middle..], self.type_in(b))
     }
-    let middle = 1 + first.len();
-    if !shapes::same(&pair[1..middle], first) {
-        return false;
-    }
-    shapes::same(&pair[middle..], type_in(types, starts, b))
 }
 
 // The two variables that a case on this type adds: the first member and the rest of a list, the parts of a pair.

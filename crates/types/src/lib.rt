@@ -11,7 +11,7 @@ mod scopes;
 mod uses;
 
 use crate::fits::first_unfit;
-use crate::lent::read_types;
+use crate::lent::{Lent, read_types};
 use crate::uses::first_used_twice;
 use refusal::Refusal;
 
@@ -48,7 +48,11 @@ pub fn check(sheet: &[u8], types: &[u8]) -> Result<(), Misfit>
             node: Some(node),
         });
     }
-    if let Some(node) = first_unfit(sheet, table, types, &starts) {
+    let lent = Lent {
+        types,
+        starts: &starts,
+    };
+    if let Some(node) = first_unfit(sheet, table, lent) {
         return Err(Misfit {
             refusal: Refusal::NodeType,
             node: Some(node),

@@ -7,7 +7,7 @@ ghost use Rattle.typing.specs.Fits.{Scope};
 ghost use Rattle.types.specs.Scopes.{StandsIn, IsType, slots, widen, view_of, Put, PutAll, child_scopes, section_scopes};
 ghost use Rattle.types.specs.Uses.{Roots};
 
-use crate::lent::{NODES, SECTIONS, parts_of, type_in};
+use crate::lent::{Lent, NODES, SECTIONS, parts_of};
 use node::Node;
 
 /// Where the types of a scope's variables are found.
@@ -154,14 +154,13 @@ pub fn place_children(stand: &mut [Option<View>; 200], n: Node, i: usize, view: 
 
 // The type of variable x in the scope of node n, if it has that variable. It climbs from the scope of a case to the one around it.
 pub fn variable<'a>(
-    types: &'a [u8],
-    starts: &[u16; 242],
+    lent: Lent<'a>,
     stand: &[Option<View>; 200],
     n: usize,
     x: usize,
 ) -> Option<&'a [u8]>
-    requires { (n < 200) × ((Γ : Scope) × StandsIn types.now starts.now stand.now n Γ) }
-    ensures { (Γ : Scope) → StandsIn types.now starts.now stand.now n Γ
+    requires { (n < 200) × ((Γ : Scope) × StandsIn lent.types.now lent.starts.now stand.now n Γ) }
+    ensures { (Γ : Scope) → StandsIn lent.entry.types.now lent.entry.starts.now stand.now n Γ
         → MatchOption result (get_elem? Γ x ≡ none) (λ t. IsType t.now (get_elem? Γ x)) }
 {
     let mut view = stand[n]?;
@@ -170,12 +169,12 @@ pub fn variable<'a>(
     }
     loop {
         let subject = match view.found {
-            Found::From(slot) => return Some(type_in(types, starts, slot + x)),
+            Found::From(slot) => return Some(lent.type_in(slot + x)),
             Found::Inside(subject) => subject,
         };
         let outer = stand[subject]?;
         if outer.width <= x {
-            let (first, second) = parts_of(type_in(types, starts, NODES + subject))?;
+            let (first, second) = parts_of(lent.type_in(NODES + subject))?;
             return Some(if outer.width < x { second } else { first });
         }
         view = outer;

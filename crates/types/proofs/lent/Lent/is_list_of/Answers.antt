@@ -2,7 +2,7 @@
 use mathlib.Core.Path.{◌∙◌}
 use native.Mathlib.Omega.{arith}
 use Rattle.types.specs.SlotsLaws.{same_none, same_other, same_front}
-use Rattle.types.proofs.lent.is_list_of.Goals as goal
+use Rattle.types.proofs.lent.Lent.is_list_of.Goals as goal
 
 pub returns-in_default : goal.returns-in_default
 returns-in_default c = same_none c.type_in.ensures _ _ (omega (arith, c.in_default.len_below))

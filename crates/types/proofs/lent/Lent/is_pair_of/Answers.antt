@@ -2,7 +2,7 @@
 use mathlib.Core.Path.{sym, ◌∙◌}
 use native.Mathlib.Omega.{arith}
 use Rattle.types.specs.SlotsLaws.{same_short, same_other, same_not_first, same_two}
-use Rattle.types.proofs.lent.is_pair_of.Goals as goal
+use Rattle.types.proofs.lent.Lent.is_pair_of.Goals as goal
 
 pub returns-then-pair-first : goal.returns-then-pair-first
 returns-then-pair-first c = same_short c.type_in-pair.ensures c.type_in-first.ensures _ _ c.if-pair-first.true
