@@ -13,15 +13,6 @@ ghost use Rattle.shapes.specs.Parts.{same_bytes};
 // The most bytes of one type.
 const LONGEST: usize = 256;
 
-/// The kinds of types.
-#[derive(Clone, Copy, Debug, PartialEq, Eq)]
-pub enum Kind {
-    Truths,
-    Numbers,
-    Lists,
-    Pairs,
-}
-
 // The slots: of the sections' types, the view's and the nodes', and the one behind the last.
 pub const SECTIONS: usize = 16;
 
@@ -30,6 +21,15 @@ pub const VIEW: usize = 40;
 pub const NODES: usize = 41;
 
 pub const PAST: usize = 241;
+
+/// The kinds of types.
+#[derive(Clone, Copy, Debug, PartialEq, Eq)]
+pub enum Kind {
+    Truths,
+    Numbers,
+    Lists,
+    Pairs,
+}
 
 impl Kind {
     // The byte that types of the kind begin with.

@@ -167,6 +167,7 @@ pub fn variable<'a>(
     if view.width <= x {
         return None;
     }
+    // The next scope stands where this one says, so that no iterator goes over them.
     loop {
         let subject = match view.found {
             Found::From(slot) => return Some(lent.type_in(slot + x)),
