@@ -30,17 +30,17 @@ pub enum Verdict {
 const NEW_PLAN: u8 = 85;
 
 // Marks variable x, where it is one of a plan's.
-fn mark(marks: &mut [u8; 16], x: usize)
+#[tactic(auto, using(crate::specs::Marks::one_marked, crate::specs::Marks::none_marked))]
+fn mark(marks: &mut [bool; 16], x: usize)
     ensures { marks.new ≡ marked_one marks.old x }
 {
-    if 16 <= x {
-        return;
+    if x < 16 {
+        marks[x] = true;
     }
-    marks[x] = 1;
 }
 
 // Marks the numbers that stand as variables in a node's record.
-fn mark_node(marks: &mut [u8; 16], node: Node)
+fn mark_node(marks: &mut [bool; 16], node: Node)
     ensures { marks.new ≡ marked_all marks.old (variables node) }
 {
     match node {
@@ -55,16 +55,13 @@ fn mark_node(marks: &mut [u8; 16], node: Node)
 }
 
 // A mark for each variable that a record of the sheet names: in one pass over the records.
-fn named(sheet: &[u8], table: Table) -> [u8; 16]
+fn named(sheet: &[u8], table: Table) -> [bool; 16]
     requires { Readied sheet.now table }
     ensures { Marks sheet.now result }
 {
-    let mut marks = [0u8; 16];
-    let mut i = 0;
-    while i < table.nodes {
-        let at = table.starts[i] as usize;
-        mark_node(&mut marks, node::node_at(sheet, at));
-        i += 1;
+    let mut marks = [false; 16];
+    for &at in &table.starts[..table.nodes] {
+        mark_node(&mut marks, node::node_at(sheet, usize::from(at)));
     }
     marks
 }
@@ -74,8 +71,8 @@ fn part(plan: &[u8], spans: Spans, x: usize) -> &[u8]
     requires { Within plan.now spans x }
     ensures { result.now ≡ span_of plan.now spans x }
 {
-    let start = spans.starts[x] as usize;
-    let end = start + spans.lens[x] as usize;
+    let start = usize::from(spans.starts[x]);
+    let end = start + usize::from(spans.lens[x]);
     &plan[start..end]
 }
 
@@ -93,14 +90,10 @@ fn is_kept(sheet: &[u8], table: Table, old: &[u8], before: Spans, new: &[u8], af
     ensures { KeptAs sheet.now old.now new.now result }
 {
     let marks = named(sheet, table);
-    let mut x = 0;
-    while x < table.k {
-        if !is_same(old, before, new, after, x) {
-            if marks[x] == 0 {
-                return false;
-            }
+    for x in 0..table.k {
+        if !marks[x] && !is_same(old, before, new, after, x) {
+            return false;
         }
-        x += 1;
     }
     true
 }

@@ -44,7 +44,7 @@ fn refused(refusal: u8, met: Met, scratch: &[u8]) -> Explanation
         return unmet(refusal);
     }
     let mut chain = [0u8; rules::CHAIN_MAX];
-    copy_out(scratch, rules::CHAIN, depth as usize, &mut chain, 0);
+    copy_out(scratch, rules::CHAIN, usize::from(depth), &mut chain, 0);
     let first = met.first;
     Explanation {
         refusal,

@@ -2,7 +2,7 @@
 ghost use Rattle.std.specs.Prelude.{◌≡◌};
 ghost use Rattle.together.specs.Undone.{replied};
 
-use crate::{Trip, front};
+use crate::Trip;
 use calls::Reply;
 
 /// What the last call makes of an edit that took `first` steps: kept where it gives these very bytes in as many.
@@ -15,7 +15,8 @@ pub fn returned(first: usize, reply: Reply, out: &[u8], plan: &[u8]) -> Trip
             if steps != first {
                 return Trip::Broken;
             }
-            if shapes::same(front(out, len), plan) {
+            let front = &out[..len.min(out.len())];
+            if shapes::same(front, plan) {
                 return Trip::Kept {
                     first,
                     second: steps,

@@ -1,8 +1,6 @@
 //! What calls one after the other answer together, and how the last of them is judged.
 #![tactic(auto)]
 
-ghost use Rattle.std.specs.Prelude.{◌≡◌, take};
-
 mod last;
 mod second;
 
@@ -17,14 +15,4 @@ pub enum Trip {
     Kept { first: usize, second: usize },
     Stopped(u8),
     Broken,
-}
-
-// The first n bytes, as far as there are so many.
-fn front(bytes: &[u8], n: usize) -> &[u8]
-    ensures { result.now ≡ take n bytes.now }
-{
-    if n < bytes.len() {
-        return &bytes[..n];
-    }
-    bytes
 }

@@ -2,7 +2,7 @@
 ghost use Rattle.std.specs.Prelude.{◌≡◌};
 ghost use Rattle.together.specs.RoundTrips.{verdict};
 
-use crate::{Trip, front};
+use crate::Trip;
 use calls::Reply;
 
 /// What the second call makes of a first one of `first` steps: kept where it gives these very bytes in at most `most` steps.
@@ -15,7 +15,8 @@ pub fn judged(first: usize, reply: Reply, most: usize, out: &[u8], bytes: &[u8])
             if most < steps {
                 return Trip::Broken;
             }
-            if shapes::same(front(out, len), bytes) {
+            let front = &out[..len.min(out.len())];
+            if shapes::same(front, bytes) {
                 return Trip::Kept {
                     first,
                     second: steps,

@@ -8,4 +8,4 @@ returns-then-depth-eq0 c = c.unmet.ensures ∙ met_none _ _ _ _ c.if-depth-eq0.t
 
 pub returns : goal.returns
 returns c =
-    met_some _ _ _ _ c.if-depth-eq0.false c.requires.0 c.requires.1 c.copy_out.ensures
+    met_some _ _ _ _ c.if-depth-eq0.false c.requires.0 c.requires.1 (rw c.from.ensures at c.copy_out.ensures)

@@ -1,4 +1,5 @@
 -- `returned` meets its contract: a return for each case of the last reply. Assumes nothing.
+use Rattle.std.proofs.lemmas.List.{take_min}
 use Rattle.together.specs.Undone.{replied_refused, replied_other, replied_same, replied_unlike}
 use Rattle.together.proofs.last.returned.Goals as goal
 
@@ -7,11 +8,11 @@ returns-then-steps-first c = replied_other _ _ _ _ c.in-Done.is c.if-steps-first
 
 pub returns-then-same : goal.returns-then-same
 returns-then-same c =
-    replied_same _ _ _ _ c.in-Done.is c.if-steps-first.false (rw c.front.ensures at c.same.ensures) c.if-same.true
+    replied_same _ _ _ _ c.in-Done.is c.if-steps-first.false (rw (c.min.ensures, take_min) at c.same.ensures) c.if-same.true
 
 pub returns-in-Refused : goal.returns-in-Refused
 returns-in-Refused c = replied_refused _ _ _ _ c.in-Refused.is
 
 pub returns-else-same : goal.returns-else-same
 returns-else-same c =
-    replied_unlike _ _ _ _ c.in-Done.is c.if-steps-first.false (rw c.front.ensures at c.same.ensures) c.if-same.false
+    replied_unlike _ _ _ _ c.in-Done.is c.if-steps-first.false (rw (c.min.ensures, take_min) at c.same.ensures) c.if-same.false
