@@ -30,7 +30,7 @@ pub record Within (plan : List ℕ) (sp : Spans) (x : ℕ) : Type 0 where
   pub few : x < 16
   pub inside : get_or sp.starts x 0 + get_or sp.lens x 0 ≤ length plan
 
-module _ (k : ℕ) (plan : List ℕ) {sp : Spans} {vs : List Value} (read : read_plan k plan ≡ ok vs) (is : sp ≡ spans (ok vs)) (x : ℕ) (h : x < k) where
+module _ (k : ℕ) (plan : List ℕ) {sp : Spans} {vs : List Value} (read : read_plan k plan ≡ ok vs) (is : sp ≡ spans vs) (x : ℕ) (h : x < k) where
   there : x < length vs
   there = omega (arith, (read_values_sound 20 k plan read).count)
 
@@ -51,10 +51,10 @@ pub record Plans (sheet : List ℕ) (t : Table) (old : List ℕ) (before : Spans
   pub reads : Reads sheet t sh
   pub μ : Env
   pub old_read : read_plan sh.k old ≡ ok μ
-  pub before_is : before ≡ spans (ok μ)
+  pub before_is : before ≡ spans μ
   pub ν : Env
   pub new_read : read_plan sh.k new ≡ ok ν
-  pub after_is : after ≡ spans (ok ν)
+  pub after_is : after ≡ spans ν
 
 abbrev pub KeptAs : (sheet old new : List ℕ) → Bool → Type 0
 KeptAs sheet old new r = (sh : Sheet) → read_sheet sheet ≡ ok sh → (μ ν : Env) → read_plan sh.k old ≡ ok μ → read_plan sh.k new ≡ ok ν → r ≡ kept sh μ ν

@@ -5,6 +5,7 @@ mod last;
 mod second;
 
 pub use last::returned;
+use refusal::Refusal;
 pub use second::judged;
 
 /// What calls one after the other answer: the steps of two of them, or a refusal of one. The third case is there to be ruled
@@ -13,6 +14,6 @@ pub use second::judged;
 #[derive(Clone, Copy, Debug, PartialEq, Eq)]
 pub enum Trip {
     Kept { first: usize, second: usize },
-    Stopped(u8),
+    Stopped(Refusal),
     Broken,
 }
