@@ -15,7 +15,7 @@ use Rattle.value.proofs.Laws.{read_values_sound}
 use Rattle.value.specs.Spans.{view_code}
 use Rattle.value.proofs.SpansLaws.{view_ok, view_refusal}
 use Rattle.value.proofs.Encoding.{size-encode}
-use Rattle.value.specs.Result.{Result, ok, refusal, and_then, map_result, unless}
+use Rattle.value.specs.Result.{ok, refusal, and_then, map_result, unless}
 use Rattle.report.specs.Writing.{wrote_front, front_read}
 use Rattle.notation.specs.Text.{json_of, depth, level_limit, write_json}
 use Rattle.notation.proofs.Laws.{json_short}
@@ -26,8 +26,8 @@ use Rattle.notation.proofs.ReadsLaws.{run_take}
 use Rattle.json_codec.specs.Reader.{On, Skips, Gives, g_done, g_refused, at_byte}
 use Rattle.notation.specs.Calls.{json_room, value_room, to_json, from_json}
 use Rattle.made.specs.Made.{Makes, makes_no, makes_ok}
-use Rattle.json_codec.specs.declared.Step.{Step}
-use Rattle.json_codec.specs.declared.Step.TheVariants.{Done, Refused}
+use Rattle.std.specs.Prelude.{Err}
+use Rattle.json_codec.specs.Steps.{Answer, done}
 use Rattle.made.specs.declared.Made.TheVariants.{Done as Gave, Refused as Denied}
 
 -- BYTES COPIED TO THE FRONT: so far i of them
@@ -69,36 +69,36 @@ module _ (s o : List ℕ) (h : value_room ≤ length o) where
   unfolding and_then map_result
   refused {c} e = makes_no c (as_read ∙ rw e)
 
-  pub read_refused : {b b' : List ℕ} {r : Step} {c : ℕ} → Gives (value level_limit) encode s 0 0 b b' r → r ≡ Refused c
+  pub read_refused : {b b' : List ℕ} {r : Answer} {c : ℕ} → Gives (value level_limit) encode s 0 0 b b' r → r ≡ Err c
       → Makes (from_json s (length o)) (Denied c) o o
   read_refused {b} {b'} {c = c} g e = go (rw e at g)
     where
-      go : Gives (value level_limit) encode s 0 0 b b' (Refused c) → Makes (from_json s (length o)) (Denied c) o o
+      go : Gives (value level_limit) encode s 0 0 b b' (Err c) → Makes (from_json s (length o)) (Denied c) o o
       go (g_refused l f) = refused (f finished)
 
-  pub read_more : {b b' : List ℕ} {r : Step} {at n j : ℕ} → Gives (value level_limit) encode s 0 0 b b' r → r ≡ Done at n → Skips s at j → j < length s
+  pub read_more : {b b' : List ℕ} {r : Answer} {at n j : ℕ} → Gives (value level_limit) encode s 0 0 b b' r → r ≡ done at n → Skips s at j → j < length s
       → Makes (from_json s (length o)) (Denied 70) o o
   unfolding takes
   read_more {b} {b'} {at} {n} {j} g e q l = go (rw e at g)
     where
-      go : Gives (value level_limit) encode s 0 0 b b' (Done at n) → Makes (from_json s (length o)) (Denied 70) o o
+      go : Gives (value level_limit) encode s 0 0 b b' (done at n) → Makes (from_json s (length o)) (Denied 70) o o
       go (g_done v w t) = refused (t.goes finished ∙ q.goes (finished v) s_finished ∙ ap (λ (l : List ℕ). run l (finished v)) (at_byte s j l refl)
           ∙ run_take (get_or s j 0) (drop (j + 1) s) (finished v) (q.black l))
 
-  pub read_long : {b b' : List ℕ} {r : Step} {at n j : ℕ} → Gives (value level_limit) encode s 0 0 b b' r → r ≡ Done at n → Skips s at j → length s ≤ j
+  pub read_long : {b b' : List ℕ} {r : Answer} {at n j : ℕ} → Gives (value level_limit) encode s 0 0 b b' r → r ≡ done at n → Skips s at j → length s ≤ j
       → length b ≡ 257 → 256 < n → Makes (from_json s (length o)) (Denied 72) o o
   unfolding and_then unless map_result
   read_long {b} {b'} {at} {n} g e q l m k = go (rw e at g)
     where
-      go : Gives (value level_limit) encode s 0 0 b b' (Done at n) → Makes (from_json s (length o)) (Denied 72) o o
+      go : Gives (value level_limit) encode s 0 0 b b' (done at n) → Makes (from_json s (length o)) (Denied 72) o o
       go (g_done v w t) = makes_no 72 (as_read ∙ rw (whole s v t q l, lt-leb (size v) 256 (omega (arith, w.end, size-encode v))))
 
-  pub read_done : {b b' : List ℕ} {r : Step} {at n j : ℕ} {o' : List ℕ} → Gives (value level_limit) encode s 0 0 b b' r → r ≡ Done at n → Skips s at j
+  pub read_done : {b b' : List ℕ} {r : Answer} {at n j : ℕ} {o' : List ℕ} → Gives (value level_limit) encode s 0 0 b b' r → r ≡ done at n → Skips s at j
       → length s ≤ j → length b ≡ 257 → n ≤ 256 → o' ≡ take n b' ++ drop n o → Makes (from_json s (length o)) (Gave n) o o'
   unfolding and_then unless map_result
   read_done {b} {b'} {at} {n} {o'} g e q l m k d = go (rw e at g)
     where
-      go : Gives (value level_limit) encode s 0 0 b b' (Done at n) → Makes (from_json s (length o)) (Gave n) o o'
+      go : Gives (value level_limit) encode s 0 0 b b' (done at n) → Makes (from_json s (length o)) (Gave n) o o'
       go (g_done v w t) =
           let z = size-encode v in
           let f = wrote_front w (omega (arith, w.end)) in
@@ -106,10 +106,10 @@ module _ (s o : List ℕ) (h : value_room ≤ length o) where
           (d ∙ ap (λ (l : List ℕ). l ++ drop n o) (front_read f))
 
 -- what is asked for the copy: a value that was read has as many bytes as it says
-pub read_at : {s b b' : List ℕ} {r : Step} {at n : ℕ} → Gives (value level_limit) encode s 0 0 b b' r → r ≡ Done at n → (at ≤ length s) × (n ≤ length b')
+pub read_at : {s b b' : List ℕ} {r : Answer} {at n : ℕ} → Gives (value level_limit) encode s 0 0 b b' r → r ≡ done at n → (at ≤ length s) × (n ≤ length b')
 read_at {s} {b} {b'} {at} {n} g e = go (rw e at g)
   where
-    go : Gives (value level_limit) encode s 0 0 b b' (Done at n) → (at ≤ length s) × (n ≤ length b')
+    go : Gives (value level_limit) encode s 0 0 b b' (done at n) → (at ≤ length s) × (n ≤ length b')
     go (g_done v w t) = (t.inside, w.inside)
 
 -- WRITING
@@ -147,30 +147,30 @@ is_whole v e z =
 pub whole_holds : {v : List ℕ} → Whole v → Holds v 0
 whole_holds w = record { x = w.x; more = []; held = w.held }
 
-module _ {v : List ℕ} (w : Whole v) {b b' : List ℕ} {r : Step} (p : Writes v 0 level_limit 0 b b' r) where
+module _ {v : List ℕ} (w : Whole v) {b b' : List ℕ} {r : Answer} (p : Writes v 0 level_limit 0 b b' r) where
   its_text : Puts (json_of w.x) (depth w.x) level_limit (0 + size w.x) 0 b b' r
   its_text = p.puts w.x [] w.held
 
   -- as many bytes as were written may be copied
-  pub write_asks : length b ≡ json_room → {n m : ℕ} → r ≡ Done n m → (m ≤ length b') × (m ≤ json_room)
+  pub write_asks : length b ≡ json_room → {n m : ℕ} → r ≡ done n m → (m ≤ length b') × (m ≤ json_room)
   write_asks l {n} {m} e = go (rw e at its_text)
     where
-      go : Puts (json_of w.x) (depth w.x) level_limit (0 + size w.x) 0 b b' (Done n m) → (m ≤ length b') × (m ≤ json_room)
+      go : Puts (json_of w.x) (depth w.x) level_limit (0 + size w.x) 0 b b' (done n m) → (m ≤ length b') × (m ≤ json_room)
       go (p_done f d q) = (q.inside, omega (arith, q.end))
 
   module _ (o : List ℕ) (h : json_room ≤ length o) where
-    pub write_deep : {c : ℕ} → r ≡ Refused c → Makes (to_json v (length o)) (Denied c) o o
+    pub write_deep : {c : ℕ} → r ≡ Err c → Makes (to_json v (length o)) (Denied c) o o
     unfolding and_then write_json unless
     write_deep {c} e = go (rw e at its_text)
       where
-        go : Puts (json_of w.x) (depth w.x) level_limit (0 + size w.x) 0 b b' (Refused c) → Makes (to_json v (length o)) (Denied c) o o
+        go : Puts (json_of w.x) (depth w.x) level_limit (0 + size w.x) 0 b b' (Err c) → Makes (to_json v (length o)) (Denied c) o o
         go (p_deep f d l) = makes_no c (as_written v o h ∙ rw (w.view, lt-leb (depth w.x) level_limit d, f))
 
-    pub write_done : length b ≡ json_room → {n m : ℕ} → r ≡ Done n m → {o' : List ℕ} → o' ≡ take m b' ++ drop m o → Makes (to_json v (length o)) (Gave m) o o'
+    pub write_done : length b ≡ json_room → {n m : ℕ} → r ≡ done n m → {o' : List ℕ} → o' ≡ take m b' ++ drop m o → Makes (to_json v (length o)) (Gave m) o o'
     unfolding and_then write_json unless
     write_done l {n} {m} e {o'} d = go (rw e at its_text)
       where
-        go : Puts (json_of w.x) (depth w.x) level_limit (0 + size w.x) 0 b b' (Done n m) → Makes (to_json v (length o)) (Gave m) o o'
+        go : Puts (json_of w.x) (depth w.x) level_limit (0 + size w.x) 0 b b' (done n m) → Makes (to_json v (length o)) (Gave m) o o'
         go (p_done f k q) =
             let y = wrote_front q (omega (arith, json_short w.readable)) in
             makes_ok (json_of w.x) (as_written v o h ∙ rw (w.view, le-leb (depth w.x) level_limit k)) y.long
