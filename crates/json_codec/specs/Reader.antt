@@ -23,6 +23,9 @@ use Rattle.notation.specs.Texts.{NoDigit, n_end, n_byte}
 use Rattle.std.specs.Prelude.{Ok, Err}
 use Rattle.std.specs.declared.result.Result.{Result as Outcome}
 use Rattle.json_codec.specs.declared.Step.{Step}
+use Rattle.refusal.specs.declared.Refusal.{Refusal}
+use Rattle.refusal.specs.declared.Refusal.TheVariants.{JsonMalformed}
+use Rattle.refusal.specs.Refusal.{number_of}
 use Rattle.json_codec.specs.Steps.{Answer, done}
 
 -- the byte at a place, and what stands behind it
@@ -153,29 +156,29 @@ module _ {K : Type 0} {w v : K → Awaits} {s : List ℕ} {at i c : ℕ} (o : On
       ∙ run_byte (get_or s i 0) c (drop (i + 1) s) (v k) ∙ rw (ne_eqb (get_or s i 0) c e))
 
 -- A TOKEN OR MORE was passed, and the answer is the place behind it; or it does not stand there
-pub record Passes (w : Awaits → Awaits) (s : List ℕ) (at : ℕ) (r : Outcome ℕ ℕ) : Type 0 where
-  pub none : {c : ℕ} → r ≡ Err c → Off w s at c
+pub record Passes (w : Awaits → Awaits) (s : List ℕ) (at : ℕ) (r : Outcome ℕ Refusal) : Type 0 where
+  pub none : {e : Refusal} → r ≡ Err e → Off w s at (number_of e)
   pub some : {i : ℕ} → r ≡ Ok i → On w s at i (λ k. k)
 
 pub passed : {w : Awaits → Awaits} {s : List ℕ} {at r : ℕ} → On w s at r (λ k. k) → Passes w s at (Ok r)
 passed {r} o = record { none = λ e. cc; some = λ {i} e. let z : r ≡ i = cc in rw z at o }
 
-pub refused_there : {w : Awaits → Awaits} {s : List ℕ} {at c : ℕ} → Off w s at c → Passes w s at (Err c)
-refused_there {c} f = record { none = λ {c = d} e. let z : c ≡ d = cc in rw z at f; some = λ e. cc }
+pub refused_there : {w : Awaits → Awaits} {s : List ℕ} {at : ℕ} (c : Refusal) → Off w s at (number_of c) → Passes w s at (Err c)
+refused_there c f = record { none = λ {e = d} e. let z : c ≡ d = cc in rw z at f; some = λ e. cc }
 
-pub not_passed : {w : Awaits → Awaits} {s : List ℕ} {at : ℕ} → Off w s at 70 → Passes w s at (Err 70)
-not_passed f = refused_there f
+pub not_passed : {w : Awaits → Awaits} {s : List ℕ} {at : ℕ} → Off w s at 70 → Passes w s at (Err JsonMalformed)
+not_passed f = refused_there JsonMalformed f
 
 -- one byte, with white space before it
 module _ {s : List ℕ} {at i c : ℕ} (h : at ≤ length s) (b : 0x20 < c) (p : Skips s at i) where
   before : On (token c) s at i (token c)
   before = on_skip (on_first (token c) s at h) (λ k. s_token) p
 
-  pub token_ended : length s ≤ i → Passes (token c) s at (Err 70)
+  pub token_ended : length s ≤ i → Passes (token c) s at (Err JsonMalformed)
   unfolding ends
   token_ended l = not_passed (off_end before l (λ k. refl))
 
-  pub token_other : i < length s → (get_or s i 0 ≡ c → ⊥) → Passes (token c) s at (Err 70)
+  pub token_other : i < length s → (get_or s i 0 ≡ c → ⊥) → Passes (token c) s at (Err JsonMalformed)
   unfolding take found
   token_other l e = not_passed (off_take before l (get_or s i 0) refl (p.black l) (λ k next. rw (ne_eqb (get_or s i 0) c e)))
 
@@ -184,12 +187,12 @@ module _ {s : List ℕ} {at i c : ℕ} (h : at ≤ length s) (b : 0x20 < c) (p :
   token_there l e = passed (on_take before l c e (black c b) (λ k next. rw (eq-eqb c c refl)))
 
 -- what another function passes
-module _ {K : Type 0} {w : K → Awaits} {s : List ℕ} {at i : ℕ} {r : Outcome ℕ ℕ} {x : Awaits → Awaits} (v : K → Awaits) (o : On w s at i (λ k. x (v k)))
+module _ {K : Type 0} {w : K → Awaits} {s : List ℕ} {at i : ℕ} {r : Outcome ℕ Refusal} {x : Awaits → Awaits} (v : K → Awaits) (o : On w s at i (λ k. x (v k)))
     (p : Passes x s i r) where
   pub on_passed : {j : ℕ} → r ≡ Ok j → On w s at j v
   on_passed e = let q = p.some e in on_then o q.later q.inside (λ k. q.goes (v k))
 
-  pub off_passed : {c : ℕ} → r ≡ Err c → Off w s at c
+  pub off_passed : {c : Refusal} → r ≡ Err c → Off w s at (number_of c)
   off_passed e = off_then o (λ k. p.none e (v k))
 
 -- BYTES THAT MUST STAND THERE
@@ -221,17 +224,17 @@ module _ (cs : List ℕ) {s : List ℕ} {at : ℕ} (h : at ≤ length s) {r : Bo
     goes = λ k. word_run cs (drop at s) k ∙ rw (← (rw (whole_rest s at) at e), t, drop-drop (length cs) at s);
   }
 
-  pub not_spelled : r ≡ false → Passes (word cs) s at (Err 70)
+  pub not_spelled : r ≡ false → Passes (word cs) s at (Err JsonMalformed)
   not_spelled t = not_passed (λ k. word_run cs (drop at s) k ∙ rw (← (rw (whole_rest s at) at e), t))
 
 -- A MEMBER'S NAME
-module _ (letter : ℕ) {s : List ℕ} {at : ℕ} {r : Outcome ℕ ℕ} (h : at ≤ length s) (p : Passes (token 0x22) s at r) where
+module _ (letter : ℕ) {s : List ℕ} {at : ℕ} {r : Outcome ℕ Refusal} (h : at ≤ length s) (p : Passes (token 0x22) s at r) where
   opening : On (name letter) s at at (λ k. token 0x22 (word (letter ∷ 0x22 ∷ []) (token 0x3A k)))
   unfolding name
   opening = on_first (name letter) s at h
 
-  pub name_none : {c : ℕ} → r ≡ Err c → Passes (name letter) s at (Err c)
-  name_none e = refused_there (off_passed (λ k. word (letter ∷ 0x22 ∷ []) (token 0x3A k)) opening p e)
+  pub name_none : {c : Refusal} → r ≡ Err c → Passes (name letter) s at (Err c)
+  name_none e = refused_there _ (off_passed (λ k. word (letter ∷ 0x22 ∷ []) (token 0x3A k)) opening p e)
 
   module _ {i : ℕ} (e : r ≡ Ok i) where
     opened : On (name letter) s at i (λ k. word (letter ∷ 0x22 ∷ []) (token 0x3A k))
@@ -240,9 +243,9 @@ module _ (letter : ℕ) {s : List ℕ} {at : ℕ} {r : Outcome ℕ ℕ} (h : at 
     pub name_inside : i ≤ length s
     name_inside = opened.inside
 
-    module _ {u : Outcome ℕ ℕ} (q : Passes (word (letter ∷ 0x22 ∷ [])) s i u) where
-      pub name_other : {c : ℕ} → u ≡ Err c → Passes (name letter) s at (Err c)
-      name_other f = refused_there (off_passed (λ k. token 0x3A k) opened q f)
+    module _ {u : Outcome ℕ Refusal} (q : Passes (word (letter ∷ 0x22 ∷ [])) s i u) where
+      pub name_other : {c : Refusal} → u ≡ Err c → Passes (name letter) s at (Err c)
+      name_other f = refused_there _ (off_passed (λ k. token 0x3A k) opened q f)
 
       module _ {j : ℕ} (f : u ≡ Ok j) where
         closed : On (name letter) s at j (λ k. token 0x3A k)
@@ -251,18 +254,18 @@ module _ (letter : ℕ) {s : List ℕ} {at : ℕ} {r : Outcome ℕ ℕ} (h : at 
         pub name_closed : j ≤ length s
         name_closed = closed.inside
 
-        pub name_passed : {t : Outcome ℕ ℕ} → Passes (token 0x3A) s j t → Passes (name letter) s at t
+        pub name_passed : {t : Outcome ℕ Refusal} → Passes (token 0x3A) s j t → Passes (name letter) s at t
         name_passed y = record { none = λ e. off_passed (λ k. k) closed y e; some = λ e. on_passed (λ k. k) closed y e }
 
 -- A THING WAS READ from a place on, and its bytes were written into the buffer b at place i: the answer has the places behind both; or its refusal
 pub data Gives {A : Type 0} (w : (A → Awaits) → Awaits) (bytes : A → List ℕ) (s : List ℕ) (at i : ℕ) (b b' : List ℕ) : Answer → Type 0 where
   g_done : {e : Step} (a : A) → Wrote (bytes a) i b b' e.put → On w s at e.at (λ k. k a) → Gives w bytes s at i b b' (Ok e)
-  g_refused : {c : ℕ} → length b' ≡ length b → Off w s at c → Gives w bytes s at i b b' (Err c)
+  g_refused : (c : Refusal) → length b' ≡ length b → Off w s at (number_of c) → Gives w bytes s at i b b' (Err c)
 
 pub gives_long : {A : Type 0} {w : (A → Awaits) → Awaits} {bytes : A → List ℕ} {s : List ℕ} {at i : ℕ} {b b' : List ℕ} {r : Answer}
     → Gives w bytes s at i b b' r → length b' ≡ length b
 gives_long (g_done a q o) = wrote_long q
-gives_long (g_refused l f) = l
+gives_long (g_refused c l f) = l
 
 pub gives_later : {A : Type 0} {w : (A → Awaits) → Awaits} {bytes : A → List ℕ} {s : List ℕ} {at i : ℕ} {b b' : List ℕ} {r : Answer} {n p : ℕ}
     → Gives w bytes s at i b b' r → r ≡ done n p → at ≤ n
@@ -276,7 +279,7 @@ pub handed : {A B : Type 0} {w : (A → Awaits) → Awaits} {x : (B → Awaits) 
     {b b' : List ℕ} {r : Answer} (make : B → A) → ((y : B) → parts y ≡ bytes (make y)) → On w s at i (λ k. x (λ y. k (make y)))
     → Gives x parts s i put b b' r → Gives w bytes s at put b b' r
 handed make e o (g_done a q p) = g_done (make a) (wrote_text q (e a)) (on_then o p.later p.inside (λ k. p.goes (λ y. k (make y))))
-handed make e o (g_refused l f) = g_refused l (off_then o (λ k. f (λ y. k (make y))))
+handed make e o (g_refused c l f) = g_refused c l (off_then o (λ k. f (λ y. k (make y))))
 
 -- A NUMBER'S BYTES
 pub stored_small : {n i p q : ℕ} {b b₁ b₂ : List ℕ} → n < least_wide → Wrote (4 ∷ []) i b b₁ p → {t : List ℕ} → t ≡ n / 256 % 256 ∷ n % 256 ∷ []
@@ -334,9 +337,9 @@ module _ {s : List ℕ} {at first : ℕ} {b₀ b : List ℕ} {i n : ℕ} (c : Co
         kept = c.kept;
       }
 
-      pub counted_over : (put : ℕ) → follows n (get_or s i 0) ≡ false → Gives (digits first) encode s at put b₀ b (Err 70)
+      pub counted_over : (put : ℕ) → follows n (get_or s i 0) ≡ false → Gives (digits first) encode s at put b₀ b (Err JsonMalformed)
       unfolding take or_digit found
-      counted_over put f = g_refused {c = 70} (ap length c.kept) (off_take c.on h (get_or s i 0) refl (black (get_or s i 0) (omega arith))
+      counted_over put f = g_refused JsonMalformed (ap length c.kept) (off_take c.on h (get_or s i 0) refl (black (get_or s i 0) (omega arith))
           (λ x next. rw (in_digits_lem (get_or s i 0) l m, f)))
 
 pub no_follow_zero : (n b : ℕ) → n ≡ 0 → follows n b ≡ false

@@ -16,6 +16,8 @@ use Rattle.json_codec.specs.Reader.{On, at_byte, on_first, Skips, on_skip, on_ta
 use Rattle.json_codec.specs.Reader.{off_passed, Gives, g_done, g_refused, handed, and-false}
 use Rattle.std.specs.Prelude.{Ok, Err}
 use Rattle.std.specs.declared.result.Result.{Result as Outcome}
+use Rattle.refusal.specs.declared.Refusal.{Refusal}
+use Rattle.refusal.specs.declared.Refusal.TheVariants.{JsonMalformed, JsonDepth}
 use Rattle.json_codec.specs.Steps.{Answer, done}
 
 -- A SCALAR: the byte there begins a value, and is neither `[` nor `{`
@@ -39,10 +41,10 @@ module _ {s : List ℕ} {at : ℕ} (q : Scalar s at) (l put : ℕ) where
     unfolding take begin start_of white
     at_false = on_take at_value q.there 0x66 e refl (λ k next. refl)
 
-    pub no_false : {b : List ℕ} {r : Outcome ℕ ℕ} {c : ℕ} → Passes (word alse) s (at + 1) r → r ≡ Err c → Gives (value l) encode s at put b b (Err c)
-    no_false p z = g_refused refl (off_passed (λ k. k vfalse) at_false p z)
+    pub no_false : {b : List ℕ} {r : Outcome ℕ Refusal} {c : Refusal} → Passes (word alse) s (at + 1) r → r ≡ Err c → Gives (value l) encode s at put b b (Err c)
+    no_false p z = g_refused _ refl (off_passed (λ k. k vfalse) at_false p z)
 
-    pub is_false : {b b' : List ℕ} {r : Outcome ℕ ℕ} {j n : ℕ} → Passes (word alse) s (at + 1) r → r ≡ Ok j → Wrote (0 ∷ []) put b b' n
+    pub is_false : {b b' : List ℕ} {r : Outcome ℕ Refusal} {j n : ℕ} → Passes (word alse) s (at + 1) r → r ≡ Ok j → Wrote (0 ∷ []) put b b' n
         → Gives (value l) encode s at put b b' (done j n)
     unfolding encode
     is_false p z w = g_done vfalse w (on_passed (λ k. k vfalse) at_false p z)
@@ -53,10 +55,10 @@ module _ {s : List ℕ} {at : ℕ} (q : Scalar s at) (l put : ℕ) where
     unfolding take begin start_of white
     at_true = on_take at_value q.there 0x74 e refl (λ k next. refl)
 
-    pub no_true : {b : List ℕ} {r : Outcome ℕ ℕ} {c : ℕ} → Passes (word rue) s (at + 1) r → r ≡ Err c → Gives (value l) encode s at put b b (Err c)
-    no_true p z = g_refused refl (off_passed (λ k. k vtrue) at_true p z)
+    pub no_true : {b : List ℕ} {r : Outcome ℕ Refusal} {c : Refusal} → Passes (word rue) s (at + 1) r → r ≡ Err c → Gives (value l) encode s at put b b (Err c)
+    no_true p z = g_refused _ refl (off_passed (λ k. k vtrue) at_true p z)
 
-    pub is_true : {b b' : List ℕ} {r : Outcome ℕ ℕ} {j n : ℕ} → Passes (word rue) s (at + 1) r → r ≡ Ok j → Wrote (1 ∷ []) put b b' n
+    pub is_true : {b b' : List ℕ} {r : Outcome ℕ Refusal} {j n : ℕ} → Passes (word rue) s (at + 1) r → r ≡ Ok j → Wrote (1 ∷ []) put b b' n
         → Gives (value l) encode s at put b b' (done j n)
     unfolding encode
     is_true p z w = g_done vtrue w (on_passed (λ k. k vtrue) at_true p z)
@@ -72,9 +74,9 @@ module _ {s : List ℕ} {at : ℕ} (q : Scalar s at) (l put : ℕ) where
 
   -- no value
   pub is_none : (get_or s at 0 ≡ 0x66 → ⊥) → (get_or s at 0 ≡ 0x74 → ⊥) → is_digit (get_or s at 0) ≡ false → {b b' : List ℕ} → length b' ≡ length b
-      → Gives (value l) encode s at put b b' (Err 70)
+      → Gives (value l) encode s at put b b' (Err JsonMalformed)
   unfolding take begin
-  is_none f t d y = g_refused {c = 70} y (off_take at_value q.there (get_or s at 0) refl q.black
+  is_none f t d y = g_refused JsonMalformed y (off_take at_value q.there (get_or s at 0) refl q.black
       (λ k next. rw (no_start_lem (get_or s at 0) f t q.no_array q.no_object d)))
 
 pub below_digits : (b : ℕ) → b < 48 → is_digit b ≡ false
@@ -101,18 +103,18 @@ module _ {s : List ℕ} {at i : ℕ} (levels put : ℕ) (h : at ≤ length s) (p
   at_start : On (value levels) s at i (value levels)
   at_start = on_skip (on_first (value levels) s at h) (λ k. s_value) p
 
-  pub value_ended : length s ≤ i → (b : List ℕ) → Gives (value levels) encode s at put b b (Err 70)
+  pub value_ended : length s ≤ i → (b : List ℕ) → Gives (value levels) encode s at put b b (Err JsonMalformed)
   unfolding ends
-  value_ended l b = g_refused refl (off_end at_start l (λ k. refl))
+  value_ended l b = g_refused _ refl (off_end at_start l (λ k. refl))
 
   module _ (l : i < length s) where
-    pub array_deep : get_or s i 0 ≡ 0x5B → levels ≡ 0 → (b : List ℕ) → Gives (value levels) encode s at put b b (Err 71)
+    pub array_deep : get_or s i 0 ≡ 0x5B → levels ≡ 0 → (b : List ℕ) → Gives (value levels) encode s at put b b (Err JsonDepth)
     unfolding take begin start_of white
-    array_deep e z b = g_refused {c = 71} refl (off_take at_start l 0x5B e refl (λ k next. rw z))
+    array_deep e z b = g_refused JsonDepth refl (off_take at_start l 0x5B e refl (λ k next. rw z))
 
-    pub object_deep : get_or s i 0 ≡ 0x7B → levels ≡ 0 → (b : List ℕ) → Gives (value levels) encode s at put b b (Err 71)
+    pub object_deep : get_or s i 0 ≡ 0x7B → levels ≡ 0 → (b : List ℕ) → Gives (value levels) encode s at put b b (Err JsonDepth)
     unfolding take begin start_of white
-    object_deep e z b = g_refused {c = 71} refl (off_take at_start l 0x7B e refl (λ k next. rw z))
+    object_deep e z b = g_refused JsonDepth refl (off_take at_start l 0x7B e refl (λ k next. rw z))
 
     pub value_array : get_or s i 0 ≡ 0x5B → (levels ≡ 0 → ⊥) → {b b' : List ℕ} {r : Answer} → Gives (members (levels - 1)) encodes s (i + 1) put b b' r
         → Gives (value levels) encode s at put b b' r
@@ -152,9 +154,9 @@ module _ {s : List ℕ} {at i : ℕ} (levels put : ℕ) (h : at ≤ length s) (p
   at-members : On (members levels) s at i (members levels)
   at-members = on_skip (on_first (members levels) s at h) (λ k. s_members) p
 
-  pub array_ended : length s ≤ i → (b : List ℕ) → Gives (members levels) encodes s at put b b (Err 70)
+  pub array_ended : length s ≤ i → (b : List ℕ) → Gives (members levels) encodes s at put b b (Err JsonMalformed)
   unfolding ends
-  array_ended l b = g_refused refl (off_end at-members l (λ k. refl))
+  array_ended l b = g_refused _ refl (off_end at-members l (λ k. refl))
 
   module _ (l : i < length s) where
     pub array_empty : get_or s i 0 ≡ 0x5D → {b b' : List ℕ} {n : ℕ} → Wrote (2 ∷ []) put b b' n → Gives (members levels) encodes s at put b b' (done (i + 1) n)
@@ -173,11 +175,11 @@ module _ {s : List ℕ} {at i : ℕ} (levels put : ℕ) (h : at ≤ length s) (p
     }
 
 module _ {levels : ℕ} {s : List ℕ} {at put : ℕ} {b₀ : List ℕ} {i : ℕ} {b : List ℕ} {p : ℕ} (m : Listed levels s at put b₀ i b p) where
-  member_refused' : {b' : List ℕ} {c : ℕ} → Gives (value levels) encode s i p b b' (Err c) → Gives (members levels) encodes s at put b₀ b' (Err c)
+  member_refused' : {b' : List ℕ} {c : Refusal} → Gives (value levels) encode s i p b b' (Err c) → Gives (members levels) encodes s at put b₀ b' (Err c)
   unfolding member
-  member_refused' (g_refused l f) = g_refused (l ∙ wrote_long m.wrote) (off_then m.on (λ k. f (λ v. more levels λ l. k (m.make (cons v l)))))
+  member_refused' (g_refused c l f) = g_refused _ (l ∙ wrote_long m.wrote) (off_then m.on (λ k. f (λ v. more levels λ l. k (m.make (cons v l)))))
 
-  pub member_refused : {b' : List ℕ} {r : Answer} {c : ℕ} → Gives (value levels) encode s i p b b' r → r ≡ Err c
+  pub member_refused : {b' : List ℕ} {r : Answer} {c : Refusal} → Gives (value levels) encode s i p b b' r → r ≡ Err c
       → Gives (members levels) encodes s at put b₀ b' (Err c)
   member_refused g e = member_refused' (rw e at g)
 
@@ -198,18 +200,18 @@ module _ {levels : ℕ} {s : List ℕ} {at put : ℕ} {b₀ : List ℕ} {j : ℕ
   behind : On (members levels) s at i (λ k. more levels λ l. k (m.make l))
   behind = on_skip m.on (λ k. s_more) q
 
-  pub more_ended : length s ≤ i → Gives (members levels) encodes s at put b₀ b (Err 70)
+  pub more_ended : length s ≤ i → Gives (members levels) encodes s at put b₀ b (Err JsonMalformed)
   unfolding ends
-  more_ended l = g_refused (wrote_long m.wrote) (off_end behind l (λ k. refl))
+  more_ended l = g_refused _ (wrote_long m.wrote) (off_end behind l (λ k. refl))
 
   module _ (l : i < length s) where
     pub more_close : get_or s i 0 ≡ 0x5D → {b' : List ℕ} {n : ℕ} → Wrote (2 ∷ []) p b b' n → Gives (members levels) encodes s at put b₀ b' (done (i + 1) n)
     unfolding take or_comma white encodes
     more_close e w = g_done (m.make nil) (wrote_text (wrote_then m.wrote w) (sym (m.bytes nil))) (on_take behind l 0x5D e refl (λ k next. refl))
 
-    pub more_other : (get_or s i 0 ≡ 0x5D → ⊥) → (get_or s i 0 ≡ 0x2C → ⊥) → Gives (members levels) encodes s at put b₀ b (Err 70)
+    pub more_other : (get_or s i 0 ≡ 0x5D → ⊥) → (get_or s i 0 ≡ 0x2C → ⊥) → Gives (members levels) encodes s at put b₀ b (Err JsonMalformed)
     unfolding take or_comma found
-    more_other e f = g_refused {c = 70} (wrote_long m.wrote) (off_take behind l (get_or s i 0) refl (q.black l)
+    more_other e f = g_refused JsonMalformed (wrote_long m.wrote) (off_take behind l (get_or s i 0) refl (q.black l)
         (λ k next. rw (ne_eqb (get_or s i 0) 0x5D e, ne_eqb (get_or s i 0) 0x2C f)))
 
     pub more_comma : get_or s i 0 ≡ 0x2C → {b' : List ℕ} {n : ℕ} → Wrote (3 ∷ []) p b b' n → Listed levels s at put b₀ (i + 1) b' n
@@ -242,13 +244,13 @@ pub record Second (levels : ℕ) (s : List ℕ) (at put : ℕ) (b₀ : List ℕ)
   pub on : On (object levels) s at i (λ k. second levels k a c)
   pub wrote : Wrote (5 ∷ (encode a ++ encode c)) put b₀ b p
 
-module _ {s : List ℕ} {at : ℕ} {u : Outcome ℕ ℕ} (levels put : ℕ) (h : at ≤ length s) (p : Passes (name 0x61) s at u) where
+module _ {s : List ℕ} {at : ℕ} {u : Outcome ℕ Refusal} (levels put : ℕ) (h : at ≤ length s) (p : Passes (name 0x61) s at u) where
   at-object : On (object levels) s at at (λ k. name 0x61 (value levels (first levels k)))
   unfolding object named
   at-object = on_first (object levels) s at h
 
-  pub no_first : {c : ℕ} → u ≡ Err c → (b : List ℕ) → Gives (object levels) encode s at put b b (Err c)
-  no_first z b = g_refused refl (off_passed (λ k. value levels (first levels k)) at-object p z)
+  pub no_first : {c : Refusal} → u ≡ Err c → (b : List ℕ) → Gives (object levels) encode s at put b b (Err c)
+  no_first z b = g_refused _ refl (off_passed (λ k. value levels (first levels k)) at-object p z)
 
   module _ {i : ℕ} (z : u ≡ Ok i) where
     at_first : On (object levels) s at i (λ k. value levels (first levels k))
@@ -258,10 +260,10 @@ module _ {s : List ℕ} {at : ℕ} {u : Outcome ℕ ℕ} (levels put : ℕ) (h :
     first_inside = (at_first.later, at_first.inside)
 
     module _ {b b₁ : List ℕ} {n : ℕ} (w : Wrote (5 ∷ []) put b b₁ n) where
-      first_refused' : {b₂ : List ℕ} {c : ℕ} → Gives (value levels) encode s i n b₁ b₂ (Err c) → Gives (object levels) encode s at put b b₂ (Err c)
-      first_refused' (g_refused l f) = g_refused (l ∙ wrote_long w) (off_then at_first (λ k. f (first levels k)))
+      first_refused' : {b₂ : List ℕ} {c : Refusal} → Gives (value levels) encode s i n b₁ b₂ (Err c) → Gives (object levels) encode s at put b b₂ (Err c)
+      first_refused' (g_refused c l f) = g_refused _ (l ∙ wrote_long w) (off_then at_first (λ k. f (first levels k)))
 
-      pub first_refused : {b₂ : List ℕ} {r : Answer} {c : ℕ} → Gives (value levels) encode s i n b₁ b₂ r → r ≡ Err c
+      pub first_refused : {b₂ : List ℕ} {r : Answer} {c : Refusal} → Gives (value levels) encode s i n b₁ b₂ r → r ≡ Err c
           → Gives (object levels) encode s at put b b₂ (Err c)
       first_refused g e = first_refused' (rw e at g)
 
@@ -279,9 +281,9 @@ module _ {levels : ℕ} {s : List ℕ} {at put : ℕ} {b₀ : List ℕ} {j : ℕ
   pub comma_asks : j ≤ length s
   comma_asks = f.on.inside
 
-  module _ {u : Outcome ℕ ℕ} (p : Passes (token 0x2C) s j u) where
-    pub no_comma : {c : ℕ} → u ≡ Err c → Gives (object levels) encode s at put b₀ b (Err c)
-    no_comma z = g_refused (wrote_long f.wrote) (off_passed (λ k. name 0x62 (value levels (second levels k f.a))) f.on p z)
+  module _ {u : Outcome ℕ Refusal} (p : Passes (token 0x2C) s j u) where
+    pub no_comma : {c : Refusal} → u ≡ Err c → Gives (object levels) encode s at put b₀ b (Err c)
+    no_comma z = g_refused _ (wrote_long f.wrote) (off_passed (λ k. name 0x62 (value levels (second levels k f.a))) f.on p z)
 
     module _ {c : ℕ} (z : u ≡ Ok c) where
       at_comma : On (object levels) s at c (λ k. name 0x62 (value levels (second levels k f.a)))
@@ -290,9 +292,9 @@ module _ {levels : ℕ} {s : List ℕ} {at put : ℕ} {b₀ : List ℕ} {j : ℕ
       pub label_asks : c ≤ length s
       label_asks = at_comma.inside
 
-      module _ {o : Outcome ℕ ℕ} (q : Passes (name 0x62) s c o) where
-        pub no_second : {d : ℕ} → o ≡ Err d → Gives (object levels) encode s at put b₀ b (Err d)
-        no_second y = g_refused (wrote_long f.wrote) (off_passed (λ k. value levels (second levels k f.a)) at_comma q y)
+      module _ {o : Outcome ℕ Refusal} (q : Passes (name 0x62) s c o) where
+        pub no_second : {d : Refusal} → o ≡ Err d → Gives (object levels) encode s at put b₀ b (Err d)
+        no_second y = g_refused _ (wrote_long f.wrote) (off_passed (λ k. value levels (second levels k f.a)) at_comma q y)
 
         module _ {i : ℕ} (y : o ≡ Ok i) where
           at_second : On (object levels) s at i (λ k. value levels (second levels k f.a))
@@ -301,10 +303,10 @@ module _ {levels : ℕ} {s : List ℕ} {at put : ℕ} {b₀ : List ℕ} {j : ℕ
           pub second_inside : (at ≤ i) × (i ≤ length s)
           second_inside = (at_second.later, at_second.inside)
 
-          second_refused' : {b' : List ℕ} {e : ℕ} → Gives (value levels) encode s i t b b' (Err e) → Gives (object levels) encode s at put b₀ b' (Err e)
-          second_refused' (g_refused l g) = g_refused (l ∙ wrote_long f.wrote) (off_then at_second (λ k. g (second levels k f.a)))
+          second_refused' : {b' : List ℕ} {e : Refusal} → Gives (value levels) encode s i t b b' (Err e) → Gives (object levels) encode s at put b₀ b' (Err e)
+          second_refused' (g_refused c l g) = g_refused _ (l ∙ wrote_long f.wrote) (off_then at_second (λ k. g (second levels k f.a)))
 
-          pub second_refused : {b' : List ℕ} {r : Answer} {e : ℕ} → Gives (value levels) encode s i t b b' r → r ≡ Err e
+          pub second_refused : {b' : List ℕ} {r : Answer} {e : Refusal} → Gives (value levels) encode s i t b b' r → r ≡ Err e
               → Gives (object levels) encode s at put b₀ b' (Err e)
           second_refused g e = second_refused' (rw e at g)
 
@@ -323,9 +325,9 @@ module _ {levels : ℕ} {s : List ℕ} {at put : ℕ} {b₀ : List ℕ} {j : ℕ
   pub close_asks : j ≤ length s
   close_asks = f.on.inside
 
-  module _ {u : Outcome ℕ ℕ} (p : Passes (token 0x7D) s j u) where
-    pub not_closed : {c : ℕ} → u ≡ Err c → Gives (object levels) encode s at put b₀ b (Err c)
-    not_closed z = g_refused (wrote_long f.wrote) (off_passed (λ k. k (pair f.a f.c)) f.on p z)
+  module _ {u : Outcome ℕ Refusal} (p : Passes (token 0x7D) s j u) where
+    pub not_closed : {c : Refusal} → u ≡ Err c → Gives (object levels) encode s at put b₀ b (Err c)
+    not_closed z = g_refused _ (wrote_long f.wrote) (off_passed (λ k. k (pair f.a f.c)) f.on p z)
 
     pub closed : {c : ℕ} → u ≡ Ok c → Gives (object levels) encode s at put b₀ b (done c t)
     unfolding encode

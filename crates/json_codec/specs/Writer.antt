@@ -11,12 +11,14 @@ use Rattle.report.specs.Text.{decimal_of}
 use Rattle.report.specs.Writing.{Wrote, wrote_long, wrote_text}
 use Rattle.notation.specs.Text.{json_of, depth, depths}
 use Rattle.std.specs.Prelude.{Err}
+use Rattle.refusal.specs.declared.Refusal.{Refusal}
+use Rattle.refusal.specs.declared.Refusal.TheVariants.{JsonDepth}
 use Rattle.json_codec.specs.Steps.{Answer, done}
 
 -- a text was written at place i, and `end` is the place behind the bytes that it was written from; or arrays and objects nest deeper than may be
 pub data Puts (text : List ℕ) (deep levels end i : ℕ) (b b' : List ℕ) : Answer → Type 0 where
   p_done : {n p : ℕ} → n ≡ end → deep ≤ levels → Wrote text i b b' p → Puts text deep levels end i b b' (done n p)
-  p_deep : {c : ℕ} → c ≡ 71 → levels < deep → length b' ≡ length b → Puts text deep levels end i b b' (Err c)
+  p_deep : {c : Refusal} → c ≡ JsonDepth → levels < deep → length b' ≡ length b → Puts text deep levels end i b b' (Err c)
 
 pub puts_long : {text : List ℕ} {deep levels end i : ℕ} {b b' : List ℕ} {r : Answer} → Puts text deep levels end i b b' r → length b' ≡ length b
 puts_long (p_done e h w) = wrote_long w

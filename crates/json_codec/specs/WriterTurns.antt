@@ -38,6 +38,8 @@ use Rattle.json_codec.specs.Writer.{
   behind,
 }
 use Rattle.std.specs.Prelude.{Err}
+use Rattle.refusal.specs.declared.Refusal.{Refusal}
+use Rattle.refusal.specs.declared.Refusal.TheVariants.{JsonDepth}
 use Rattle.json_codec.specs.Steps.{Answer, done}
 
 -- BEHIND THE FIRST BYTE
@@ -77,11 +79,11 @@ module _ {v : List ℕ} {at : ℕ} where
         let (l, e) = as_list q.held (kind_at q.held) refl in
         record { l = l; more = q.more; held = list_held (rw e at q.held) }
 
-    pub list_deep : (levels put : ℕ) → levels ≡ 0 → (b : List ℕ) → Writes v at levels put b b (Err 71)
+    pub list_deep : (levels put : ℕ) → levels ≡ 0 → (b : List ℕ) → Writes v at levels put b b (Err JsonDepth)
     unfolding depth
     list_deep levels put z b = record { puts = λ x more h. let (l, e) = as_list h (kind_at h) refl in go x l e }
       where
-        go : (x : Value) (l : Values) → x ≡ list l → Puts (json_of x) (depth x) levels (at + size x) put b b (Err 71)
+        go : (x : Value) (l : Values) → x ≡ list l → Puts (json_of x) (depth x) levels (at + size x) put b b (Err JsonDepth)
         go x l e = rw e (p_deep refl (omega arith) refl)
 
     pub value_list : (levels put : ℕ) → (levels ≡ 0 → ⊥) → {b b' : List ℕ} {r : Answer} → WritesList v at (levels - 1) put b b' r → Writes v at levels put b b' r
@@ -106,11 +108,11 @@ module _ {v : List ℕ} {at : ℕ} where
     pub two_there : Holds v at → HoldsTwo v (at + 1)
     two_there q = let (a, b, e) = as_pair (its_kind q.held) in record { a = a; b = b; more = q.more; held = two_held (rw e at q.held) }
 
-    pub pair_deep : (levels put : ℕ) → levels ≡ 0 → (b : List ℕ) → Writes v at levels put b b (Err 71)
+    pub pair_deep : (levels put : ℕ) → levels ≡ 0 → (b : List ℕ) → Writes v at levels put b b (Err JsonDepth)
     unfolding depth
     pair_deep levels put z b = record { puts = λ x more h. let (a, c, e) = as_pair (its_kind h) in go x a c e }
       where
-        go : (x a c : Value) → x ≡ pair a c → Puts (json_of x) (depth x) levels (at + size x) put b b (Err 71)
+        go : (x a c : Value) → x ≡ pair a c → Puts (json_of x) (depth x) levels (at + size x) put b b (Err JsonDepth)
         go x a c e = rw e (p_deep refl (omega arith) refl)
 
     pub value_pair : (levels put : ℕ) → (levels ≡ 0 → ⊥) → {b b' : List ℕ} {r : Answer} → WritesTwo v (at + 1) (levels - 1) put b b' r
@@ -227,7 +229,7 @@ module _ {v : List ℕ} {at levels put : ℕ} {b₀ : List ℕ} {l : Values} {mo
   pub member_end : {b' : List ℕ} {r : Answer} {n q : ℕ} → Writes v (i + 1) levels p b b' r → r ≡ done n q → i < n
   member_end w e = omega (arith, puts_end (w.puts t.x (encodes t.m ++ more) member_held) e)
 
-  pub member_deep : {b' : List ℕ} {r : Answer} {c : ℕ} → Writes v (i + 1) levels p b b' r → r ≡ Err c
+  pub member_deep : {b' : List ℕ} {r : Answer} {c : Refusal} → Writes v (i + 1) levels p b b' r → r ≡ Err c
       → Puts (json_of (list l)) (depths l) levels (at + sizes l) put b₀ b' (Err c)
   member_deep {b'} {r} {c} w e = go (rw e at (w.puts t.x (encodes t.m ++ more) member_held))
     where
@@ -307,7 +309,7 @@ module _ {v : List ℕ} {at : ℕ} where
   first_holds q = record { x = q.a; more = encode q.b ++ q.more; held = first_held q.held }
 
   module _ {levels put : ℕ} {b b₁ b₂ : List ℕ} {p : ℕ} {r : Answer} (w : Wrote pair_open put b b₁ p) (f : Writes v at levels p b₁ b₂ r) where
-    pub first_deep : {c : ℕ} → r ≡ Err c → WritesTwo v at levels put b b₂ (Err c)
+    pub first_deep : {c : Refusal} → r ≡ Err c → WritesTwo v at levels put b b₂ (Err c)
     first_deep {c} e = record { puts = λ a d more h. go a d (rw e at (f.puts a (encode d ++ more) (first_held h))) }
       where
         go : (a d : Value) → Puts (json_of a) (depth a) levels (at + size a) p b₁ b₂ (Err c)
@@ -325,7 +327,7 @@ module _ {v : List ℕ} {at : ℕ} where
       )
 
       module _ {b₃ b₄ : List ℕ} {t : ℕ} {u : Answer} (y : Wrote pair_between q b₂ b₃ t) (g : Writes v i levels t b₃ b₄ u) where
-        pub second_deep : {c : ℕ} → u ≡ Err c → WritesTwo v at levels put b b₄ (Err c)
+        pub second_deep : {c : Refusal} → u ≡ Err c → WritesTwo v at levels put b b₄ (Err c)
         second_deep {c} z = record {
           puts = λ a d more h. go a d (puts_long (f.puts a (encode d ++ more) (first_held h))) (rw z at (g.puts d more (second_held h (first_end h))));
         }

@@ -13,6 +13,7 @@ ghost use Rattle.notation.specs.Calls.{to_json, from_json};
 ghost use Rattle.made.specs.Made.{Makes};
 
 use made::Made;
+use refusal::Refusal;
 use report::{byte, bytes, decimal};
 use value::read_view;
 
@@ -60,33 +61,33 @@ fn skip(s: &[u8], at: usize) -> usize
 }
 
 // The place behind a byte that is no white space and may have white space before it.
-fn pass(s: &[u8], at: usize, c: u8) -> Result<usize, u8>
+fn pass(s: &[u8], at: usize, c: u8) -> Result<usize, Refusal>
     requires { (at ≤ length s.now) × (0x20 < c) }
     ensures { Passes (token c) s.now at result }
 {
     let i = skip(s, at);
     if s.len() <= i {
-        return Err(70);
+        return Err(Refusal::JsonMalformed);
     }
     if s[i] != c {
-        return Err(70);
+        return Err(Refusal::JsonMalformed);
     }
     Ok(i + 1)
 }
 
 // The place behind these bytes.
-fn spell(s: &[u8], at: usize, bytes: &[u8]) -> Result<usize, u8>
+fn spell(s: &[u8], at: usize, bytes: &[u8]) -> Result<usize, Refusal>
     requires { at ≤ length s.now }
     ensures { Passes (word bytes.now) s.now at result }
 {
     if s[at..].starts_with(bytes) {
         return Ok(at + bytes.len());
     }
-    Err(70)
+    Err(Refusal::JsonMalformed)
 }
 
 // The place behind a member's name, of one letter, and its colon.
-fn label(s: &[u8], at: usize, letter: u8) -> Result<usize, u8>
+fn label(s: &[u8], at: usize, letter: u8) -> Result<usize, Refusal>
     requires { at ≤ length s.now }
     ensures { Passes (name letter) s.now at result }
 {
@@ -109,7 +110,7 @@ fn store(n: u64, out: &mut [u8], put: usize) -> usize
 }
 
 // A number whose first digit is `first`, and whose others stand at `at`.
-fn number(s: &[u8], at: usize, first: u64, out: &mut [u8], put: usize) -> Result<Step, u8>
+fn number(s: &[u8], at: usize, first: u64, out: &mut [u8], put: usize) -> Result<Step, Refusal>
     requires { (at ≤ length s.now) × (first ≤ 9) }
     ensures { Gives (digits first) encode s.now at put out.old out.new result }
 {
@@ -123,11 +124,11 @@ fn number(s: &[u8], at: usize, first: u64, out: &mut [u8], put: usize) -> Result
             });
         }
         if n == 0 {
-            return Err(70);
+            return Err(Refusal::JsonMalformed);
         }
         n = 10 * n + u64::from(c - b'0');
         if 4294967295 < n {
-            return Err(70);
+            return Err(Refusal::JsonMalformed);
         }
     }
     Ok(Step {
@@ -137,7 +138,7 @@ fn number(s: &[u8], at: usize, first: u64, out: &mut [u8], put: usize) -> Result
 }
 
 // A value that is neither an array nor an object, whose first byte stands at `at`.
-fn scalar(s: &[u8], at: usize, out: &mut [u8], put: usize) -> Result<Step, u8>
+fn scalar(s: &[u8], at: usize, out: &mut [u8], put: usize) -> Result<Step, Refusal>
     requires { Scalar s.now at }
     ensures { (l : ℕ) → Gives (value l) encode s.now at put out.old out.new result }
 {
@@ -158,30 +159,30 @@ fn scalar(s: &[u8], at: usize, out: &mut [u8], put: usize) -> Result<Step, u8>
                 put: byte(out, put, 1),
             })
         }
-        _ => Err(70),
+        _ => Err(Refusal::JsonMalformed),
     }
 }
 
 // A value, with white space before it, in which arrays and objects nest at most `levels` deep.
 #[cycle(array_object_value)]
-fn value(s: &[u8], at: usize, levels: usize, out: &mut [u8], put: usize) -> Result<Step, u8>
+fn value(s: &[u8], at: usize, levels: usize, out: &mut [u8], put: usize) -> Result<Step, Refusal>
     requires { at ≤ length s.now }
     ensures { Gives (value levels) encode s.now at put out.old out.new result }
 {
     let i = skip(s, at);
     if s.len() <= i {
-        return Err(70);
+        return Err(Refusal::JsonMalformed);
     }
     match s[i] {
         b'[' => {
             if levels == 0 {
-                return Err(71);
+                return Err(Refusal::JsonDepth);
             }
             array(s, i + 1, levels - 1, out, put)
         }
         b'{' => {
             if levels == 0 {
-                return Err(71);
+                return Err(Refusal::JsonDepth);
             }
             object(s, i + 1, levels - 1, out, put)
         }
@@ -191,13 +192,13 @@ fn value(s: &[u8], at: usize, levels: usize, out: &mut [u8], put: usize) -> Resu
 
 // An array behind its `[`. Each member's bytes stand behind 03, and 02 stands behind the last.
 #[cycle(array_object_value)]
-fn array(s: &[u8], at: usize, levels: usize, out: &mut [u8], put: usize) -> Result<Step, u8>
+fn array(s: &[u8], at: usize, levels: usize, out: &mut [u8], put: usize) -> Result<Step, Refusal>
     requires { at ≤ length s.now }
     ensures { Gives (members levels) encodes s.now at put out.old out.new result }
 {
     let mut i = skip(s, at);
     if s.len() <= i {
-        return Err(70);
+        return Err(Refusal::JsonMalformed);
     }
     if s[i] == b']' {
         return Ok(Step {
@@ -206,11 +207,12 @@ fn array(s: &[u8], at: usize, levels: usize, out: &mut [u8], put: usize) -> Resu
         });
     }
     let mut p = byte(out, put, 3);
+    // No `for`: where the next member stands says what was read.
     loop {
         let member = value(s, i, levels, out, p)?;
         let j = skip(s, member.at);
         if s.len() <= j {
-            return Err(70);
+            return Err(Refusal::JsonMalformed);
         }
         let c = s[j];
         if c == b']' {
@@ -220,7 +222,7 @@ fn array(s: &[u8], at: usize, levels: usize, out: &mut [u8], put: usize) -> Resu
             });
         }
         if c != b',' {
-            return Err(70);
+            return Err(Refusal::JsonMalformed);
         }
         i = j + 1;
         p = byte(out, member.put, 3);
@@ -229,7 +231,7 @@ fn array(s: &[u8], at: usize, levels: usize, out: &mut [u8], put: usize) -> Resu
 
 // An object behind its `{`: the bytes of its two members stand behind 05.
 #[cycle(array_object_value)]
-fn object(s: &[u8], at: usize, levels: usize, out: &mut [u8], put: usize) -> Result<Step, u8>
+fn object(s: &[u8], at: usize, levels: usize, out: &mut [u8], put: usize) -> Result<Step, Refusal>
     requires { at ≤ length s.now }
     ensures { Gives (object levels) encode s.now at put out.old out.new result }
 {
@@ -252,22 +254,19 @@ pub fn read(text: &[u8], out: &mut [u8]) -> Made
     ensures { Makes (from_json text.now (length out.old)) result out.old out.new }
 {
     if out.len() < VALUE {
-        return Made::Refused(1);
+        return Err(Refusal::OutputSmall);
     }
     let mut bytes = [0u8; 257];
-    match value(text, 0, LEVELS, &mut bytes, 0) {
-        Err(code) => Made::Refused(code),
-        Ok(Step { at, put: n }) => {
-            if skip(text, at) < text.len() {
-                return Made::Refused(70);
-            }
-            if VALUE < n {
-                return Made::Refused(72);
-            }
-            out[..n].copy_from_slice(&bytes[..n]);
-            Made::Done(n)
-        }
+    let end = value(text, 0, LEVELS, &mut bytes, 0)?;
+    if skip(text, end.at) < text.len() {
+        return Err(Refusal::JsonMalformed);
     }
+    let n = end.put;
+    if VALUE < n {
+        return Err(Refusal::JsonLong);
+    }
+    out[..n].copy_from_slice(&bytes[..n]);
+    Ok(n)
 }
 
 // WRITING
@@ -305,20 +304,26 @@ fn write_scalar(v: &[u8], at: usize, text: &mut [u8], put: usize) -> Step
 
 // A value whose bytes stand at `at`. Arrays and objects nest at most `levels` deep.
 #[cycle(write_array_write_object_write_value)]
-fn write_value(v: &[u8], at: usize, levels: usize, text: &mut [u8], put: usize) -> Result<Step, u8>
+fn write_value(
+    v: &[u8],
+    at: usize,
+    levels: usize,
+    text: &mut [u8],
+    put: usize,
+) -> Result<Step, Refusal>
     requires { Holds v.now at }
     ensures { Writes v.now at levels put text.old text.new result }
 {
     match v[at] {
         2 | 3 => {
             if levels == 0 {
-                return Err(71);
+                return Err(Refusal::JsonDepth);
             }
             write_array(v, at, levels - 1, text, put)
         }
         5 => {
             if levels == 0 {
-                return Err(71);
+                return Err(Refusal::JsonDepth);
             }
             write_object(v, at + 1, levels - 1, text, put)
         }
@@ -328,7 +333,13 @@ fn write_value(v: &[u8], at: usize, levels: usize, text: &mut [u8], put: usize) 
 
 // A list whose bytes stand at `at`, as an array.
 #[cycle(write_array_write_object_write_value)]
-fn write_array(v: &[u8], at: usize, levels: usize, text: &mut [u8], put: usize) -> Result<Step, u8>
+fn write_array(
+    v: &[u8],
+    at: usize,
+    levels: usize,
+    text: &mut [u8],
+    put: usize,
+) -> Result<Step, Refusal>
     requires { HoldsList v.now at }
     ensures { WritesList v.now at levels put text.old text.new result }
 {
@@ -340,6 +351,7 @@ fn write_array(v: &[u8], at: usize, levels: usize, text: &mut [u8], put: usize) 
             put: byte(text, p, b']'),
         });
     }
+    // No `for`: where the next member stands says the one before it.
     loop {
         let member = write_value(v, i + 1, levels, text, p)?;
         i = member.at;
@@ -355,7 +367,13 @@ fn write_array(v: &[u8], at: usize, levels: usize, text: &mut [u8], put: usize) 
 
 // A pair whose two values stand at `at`, as an object.
 #[cycle(write_array_write_object_write_value)]
-fn write_object(v: &[u8], at: usize, levels: usize, text: &mut [u8], put: usize) -> Result<Step, u8>
+fn write_object(
+    v: &[u8],
+    at: usize,
+    levels: usize,
+    text: &mut [u8],
+    put: usize,
+) -> Result<Step, Refusal>
     requires { HoldsTwo v.now at }
     ensures { WritesTwo v.now at levels put text.old text.new result }
 {
@@ -375,18 +393,12 @@ pub fn write(v: &[u8], out: &mut [u8]) -> Made
     ensures { Makes (to_json v.now (length out.old)) result out.old out.new }
 {
     if out.len() < TEXT {
-        return Made::Refused(1);
+        return Err(Refusal::OutputSmall);
     }
-    let code = read_view(v);
-    if code != 0 {
-        return Made::Refused(code);
-    }
+    read_view(v)?;
     let mut text = [0u8; TEXT];
-    match write_value(v, 0, LEVELS, &mut text, 0) {
-        Err(code) => Made::Refused(code),
-        Ok(Step { at: _, put: n }) => {
-            out[..n].copy_from_slice(&text[..n]);
-            Made::Done(n)
-        }
-    }
+    let end = write_value(v, 0, LEVELS, &mut text, 0)?;
+    let n = end.put;
+    out[..n].copy_from_slice(&text[..n]);
+    Ok(n)
 }

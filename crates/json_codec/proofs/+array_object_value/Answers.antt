@@ -1,6 +1,6 @@
 use Prim.Native.Nat.{ℕ}
 use native.Mathlib.Omega.{arith}
-use Rattle.json_codec.specs.Steps.{handed_on}
+use Rattle.value.proofs.Numbered.{passed_on}
 use Rattle.json_codec.specs.Reader.{gives_later}
 use Rattle.json_codec.specs.Turns.{Behind, First, Listed, Second, array_deep, array_empty, array_ended, array_first, close_asks, closed, comma_asks}
 use Rattle.json_codec.specs.Turns.{first_inside, first_refused, first_read, label_asks, member_read, member_refused, more_close, more_comma}
@@ -55,7 +55,7 @@ array-value-requires t c =
 
 pub array-returns-in_err-member : goal.array-returns-in_err-member
 array-returns-in_err-member t c =
-    rw (handed_on c.from_residual.result c.from_residual.ensures.1)
+    rw (passed_on c.from_residual.result c.from_residual.ensures.1)
     (member_refused (array-listed t (goal.at.array-returns-in_err-member t c).At-loop-member) c.value.ensures c.in_err-member.was)
 
 pub array-skip-j-requires : goal.array-skip-j-requires
@@ -89,7 +89,7 @@ array-loop-member-preserved t c x w =
 
 pub object-returns-in_err-a : goal.object-returns-in_err-a
 object-returns-in_err-a t c =
-    rw (handed_on c.from_residual.result c.from_residual.ensures.1)
+    rw (passed_on c.from_residual.result c.from_residual.ensures.1)
     (no_first c.args.levels c.args.put c.requires c.label.ensures c.in_err-a.was c.args.out.now)
 
 pub object-value-requires : goal.object-value-requires
@@ -99,7 +99,7 @@ object-value-requires t c =
 
 pub object-returns-in_err-first : goal.object-returns-in_err-first
 object-returns-in_err-first t c =
-    rw (handed_on c.from_residual-in_err-first.result c.from_residual-in_err-first.ensures.1)
+    rw (passed_on c.from_residual-in_err-first.result c.from_residual-in_err-first.ensures.1)
     (first_refused c.args.levels c.args.put c.requires c.label.ensures c.in_ok-a.was c.byte-p.ensures c.value.ensures c.in_err-first.was)
 
 pub object-pass-requires : goal.object-pass-requires
@@ -107,7 +107,7 @@ object-pass-requires t c = (comma_asks (object-one t (goal.at.object-pass-requir
 
 pub object-returns-in_err-comma : goal.object-returns-in_err-comma
 object-returns-in_err-comma t c =
-    rw (handed_on c.from_residual-in_err-comma.result c.from_residual-in_err-comma.ensures.1)
+    rw (passed_on c.from_residual-in_err-comma.result c.from_residual-in_err-comma.ensures.1)
     (no_comma (object-one t (goal.at.object-returns-in_err-comma t c).In_ok-first) c.pass.ensures c.in_err-comma.was)
 
 pub object-label-requires-2 : goal.object-label-requires-2
@@ -115,7 +115,7 @@ object-label-requires-2 t c = label_asks (object-one t (goal.at.object-label-req
 
 pub object-returns-in_err-b : goal.object-returns-in_err-b
 object-returns-in_err-b t c =
-    rw (handed_on c.from_residual-in_err-b.result c.from_residual-in_err-b.ensures.1)
+    rw (passed_on c.from_residual-in_err-b.result c.from_residual-in_err-b.ensures.1)
     (no_second (object-one t (goal.at.object-returns-in_err-b t c).In_ok-first) c.pass.ensures c.in_ok-comma.was c.label-2.ensures
     c.in_err-b.was)
 
@@ -127,7 +127,7 @@ object-value-requires-2 t c =
 
 pub object-returns-in_err-second : goal.object-returns-in_err-second
 object-returns-in_err-second t c =
-    rw (handed_on c.from_residual-in_err-second.result c.from_residual-in_err-second.ensures.1)
+    rw (passed_on c.from_residual-in_err-second.result c.from_residual-in_err-second.ensures.1)
     (second_refused (object-one t (goal.at.object-returns-in_err-second t c).In_ok-first) c.pass.ensures c.in_ok-comma.was c.label-2.ensures
     c.in_ok-b.was c.value-2.ensures c.in_err-second.was)
 
@@ -136,7 +136,7 @@ object-pass-requires-2 t c = (close_asks (object-both t (goal.at.object-pass-req
 
 pub object-returns-in_err-last : goal.object-returns-in_err-last
 object-returns-in_err-last t c =
-    rw (handed_on c.from_residual-in_err-last.result c.from_residual-in_err-last.ensures.1)
+    rw (passed_on c.from_residual-in_err-last.result c.from_residual-in_err-last.ensures.1)
     (not_closed (object-both t (goal.at.object-returns-in_err-last t c).In_ok-second) c.pass-2.ensures c.in_err-last.was)
 
 pub object-returns : goal.object-returns

@@ -3,7 +3,7 @@ use native.Mathlib.Omega.{arith}
 use Rattle.json_codec.specs.WriterTurns.{Turned, Turning, array_none, array_some, first_deep, first_holds, is_scalar, list_closed, list_deep}
 use Rattle.json_codec.specs.WriterTurns.{list_goes_on, list_begins, list_there, member_deep, member_done, member_end, member_holds, member_there}
 use Rattle.json_codec.specs.WriterTurns.{pair_deep, pair_done, rest_there, second_deep, second_holds, two_there, value_list, value_pair, value_there}
-use Rattle.json_codec.specs.Steps.{handed_on}
+use Rattle.value.proofs.Numbered.{passed_on}
 use Rattle.json_codec.proofs.+write_array_write_object_write_value.Goals as goal
 use Rattle.json_codec.proofs.+write_array_write_object_write_value.Goals.{write_array-At-loop-member, write_array-In_ok-member}
 
@@ -40,7 +40,7 @@ write_array-write_value-requires t c = (
 
 pub write_array-returns-in_err-member : goal.write_array-returns-in_err-member
 write_array-returns-in_err-member t c =
-    rw (handed_on c.from_residual.result c.from_residual.ensures.1)
+    rw (passed_on c.from_residual.result c.from_residual.ensures.1)
     record { puts = λ l more q. member_deep (c.loop-member.invariant l more q _ c.byte-p.ensures) c.write_value.ensures c.in_err-member.was }
 
 pub write_array-bounds-v-i-in-loop-member : goal.write_array-bounds-v-i-in-loop-member
@@ -77,12 +77,12 @@ write_object-write_value-requires-2 t c =
 
 pub write_object-returns-in_err-first : goal.write_object-returns-in_err-first
 write_object-returns-in_err-first t c =
-    rw (handed_on c.from_residual.result c.from_residual.ensures.1)
+    rw (passed_on c.from_residual.result c.from_residual.ensures.1)
     (first_deep c.bytes-p.ensures c.write_value.ensures c.in_err-first.was)
 
 pub write_object-returns-in_err-second : goal.write_object-returns-in_err-second
 write_object-returns-in_err-second t c =
-    rw (handed_on c.from_residual-in_err-second.result c.from_residual-in_err-second.ensures.1)
+    rw (passed_on c.from_residual-in_err-second.result c.from_residual-in_err-second.ensures.1)
     (second_deep c.bytes-p.ensures c.write_value.ensures c.in_ok-first.was c.bytes-q.ensures c.write_value-2.ensures c.in_err-second.was)
 
 pub write_object-returns : goal.write_object-returns

@@ -1,18 +1,18 @@
 -- `label` meets its contract: the name is passed part by part. Assumes nothing.
-use Rattle.json_codec.specs.Steps.{handed_on}
+use Rattle.value.proofs.Numbered.{passed_on}
 use Rattle.json_codec.specs.Reader.{name_none, name_inside, name_other, name_passed}
 use Rattle.json_codec.proofs.label.Goals as goal
 
 pub returns-in_err-open : goal.returns-in_err-open
 returns-in_err-open c =
-    rw (handed_on c.from_residual.result c.from_residual.ensures.1) (name_none c.args.letter c.requires c.pass.ensures c.in_err-open.was)
+    rw (passed_on c.from_residual.result c.from_residual.ensures.1) (name_none c.args.letter c.requires c.pass.ensures c.in_err-open.was)
 
 pub spell-requires : goal.spell-requires
 spell-requires c = name_inside c.args.letter c.requires c.pass.ensures c.in_ok-open.was
 
 pub returns-in_err-close : goal.returns-in_err-close
 returns-in_err-close c =
-    rw (handed_on c.from_residual-in_err-close.result c.from_residual-in_err-close.ensures.1)
+    rw (passed_on c.from_residual-in_err-close.result c.from_residual-in_err-close.ensures.1)
     (name_other c.args.letter c.requires c.pass.ensures c.in_ok-open.was c.spell.ensures c.in_err-close.was)
 
 pub returns : goal.returns

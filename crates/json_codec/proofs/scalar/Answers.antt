@@ -2,7 +2,7 @@
 use mathlib.Core.Path.{refl}
 use native.Mathlib.Omega.{arith}
 use Rattle.notation.specs.Grammar.{alse, rue}
-use Rattle.json_codec.specs.Steps.{handed_on}
+use Rattle.value.proofs.Numbered.{passed_on}
 use Rattle.json_codec.specs.Turns.{no_false, is_false, no_true, is_true, is_number, is_none, below_digits, above_digits}
 use Rattle.json_codec.proofs.scalar.Goals as goal
 
@@ -13,7 +13,7 @@ returns-in-48-to-57 c l =
 pub returns-in_err-end-in-102 : goal.returns-in_err-end-in-102
 unfolding alse
 returns-in_err-end-in-102 c l =
-    rw (handed_on c.from_residual.result c.from_residual.ensures.1)
+    rw (passed_on c.from_residual.result c.from_residual.ensures.1)
     (no_false c.requires l c.args.put c.in-102.is c.spell.ensures c.in_err-end-in-102.was)
 
 pub returns-in_ok-end-in-102 : goal.returns-in_ok-end-in-102
@@ -24,7 +24,7 @@ returns-in_ok-end-in-102 c l =
 pub returns-in_err-end-in-116 : goal.returns-in_err-end-in-116
 unfolding rue
 returns-in_err-end-in-116 c l =
-    rw (handed_on c.from_residual-in_err-end-in-116.result c.from_residual-in_err-end-in-116.ensures.1)
+    rw (passed_on c.from_residual-in_err-end-in-116.result c.from_residual-in_err-end-in-116.ensures.1)
     (no_true c.requires l c.args.put c.in-116.is c.spell-in-116.ensures c.in_err-end-in-116.was)
 
 pub returns-in_ok-end-in-116 : goal.returns-in_ok-end-in-116
