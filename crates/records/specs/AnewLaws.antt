@@ -218,10 +218,10 @@ pub record Renumbers (sh : Sheet) (m : Anew) (f g : ℕ → ℕ) (n : ℕ) : Typ
   pub nodes : Every (λ c. new_node m c ≡ f c) (children (get_or sh.nodes n False))
   pub sections : Every (λ c. new_section m c ≡ g c) (calls (get_or sh.nodes n False))
 
-module _ (s : List ℕ) {t : Table} {sh : Sheet} (table : t ≡ table_of (read_sheet s)) (read : read_sheet s ≡ ok sh) where
+module _ (s : List ℕ) {t : Table} {sh : Sheet} (table : t ≡ table_of sh) (read : read_sheet s ≡ ok sh) where
   pub made_there : (i : ℕ) → i < length sh.nodes → Made s (get_or t.starts i 0) (get_or sh.nodes i False)
   made_there i h =
-      rw (ap (λ (x : Table). get_or x.starts i 0) (table ∙ ap table_of read) ∙ table_start sh i h) (node_made s read i h)
+      rw (ap (λ (x : Table). get_or x.starts i 0) table ∙ table_start sh i h) (node_made s read i h)
 
   module _ (small : Bytes s) (m : Anew) (f g : ℕ → ℕ) where
     record_is : (n : ℕ) → n < 200 → Renumbers sh m f g n → record_of s (within 200 t.starts n) m ≡ written (renumber f g (get_or sh.nodes n False))
