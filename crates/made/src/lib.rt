@@ -1,9 +1,7 @@
 //! What a tool answers that writes bytes at the front of an output which it is lent.
 #![tactic(auto)]
 
-/// How many bytes were written, at the front of the output; or a refusal's number, and none was.
-#[derive(Clone, Copy, Debug, PartialEq, Eq)]
-pub enum Made {
-    Done(usize),
-    Refused(u8),
-}
+use refusal::Refusal;
+
+/// How many bytes were written, at the front of the output; or a refusal, and none was.
+pub type Made = Result<usize, Refusal>;

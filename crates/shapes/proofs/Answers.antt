@@ -1,5 +1,5 @@
 -- What the code's tests say of the definitions of `Parts`: a lemma for each way to answer.
-use Rattle.std.specs.Prelude.{◌≡◌, refl, Bool, true, ◌⊎◌, List, [], ◌∷◌, ℕ, zero, suc, ◌+◌, ◌-◌, ◌*◌, ◌≤◌, ◌<◌, eqb, length, take}
+use Rattle.std.specs.Prelude.{◌≡◌, refl, Option, Some, None, Ok, Err, Bool, true, ◌⊎◌, List, [], ◌∷◌, ℕ, zero, suc, ◌+◌, ◌-◌, ◌*◌, ◌≤◌, ◌<◌, eqb, length, take}
 use Rattle.std.proofs.Math.Path.{sym, ap}
 use Rattle.std.proofs.Common.{◌∙◌, inl, inr, ⊎_elim, arith, add-one, le-leb, eq-eqb, ne_eqb}
 use Rattle.std.proofs.Math.Bool.{false}
@@ -10,7 +10,7 @@ use Rattle.value.specs.Value.{size}
 use Rattle.value.specs.Reading.{Kind, Found, whole, malformed, too_long, value, nothing, a_value, kind_of, read_value}
 use Rattle.value.specs.Laws.{Names, is0, is1, is2, is3, is4, is5, is6, is_other}
 use Rattle.value.proofs.Laws.{names, read_sound}
-use Rattle.value.specs.Reader.{outcome, from}
+use Rattle.value.specs.Reader.{Read, outcome, from}
 use Rattle.value.proofs.Reader.{from-drop}
 use Rattle.shapes.specs.Needs.{Enough}
 use Rattle.shapes.proofs.TestsLaws.{passes_enough}
@@ -30,8 +30,6 @@ use Rattle.shapes.specs.Parts.{
   both,
   same_bytes,
 }
-use Rattle.value.specs.declared.Read.{Read}
-use Rattle.value.specs.declared.Read.TheVariants.{Whole, Malformed as NotRead, TooLong}
 use Rattle.shapes.specs.declared.Shape.{Shape}
 use Rattle.shapes.specs.declared.Shape.TheVariants.{Front, Number, Pair, Malformed}
 
@@ -42,23 +40,21 @@ shape_none [] e = refl
 shape_none (b ∷ v) e = absurd (omega arith)
 
 -- of two parts, what is known by the position where the second starts
-split : (two : ℕ → Shape) → ((n : ℕ) → middle_of (two n) ≡ n) → (r : Read) {m : ℕ} → m ≡ middle_of (behind two r) → (m ≡ 0 → ⊥) → behind two r ≡ two m
-unfolding behind middle_of
-split two f (Whole n) e h = ap two (sym (e ∙ f (1 + n)))
-split two f NotRead e h = absurd (h e)
-split two f TooLong e h = absurd (h e)
+module _ (two : ℕ → Shape) (f : (n : ℕ) → middle_of (two n) ≡ Some n) where
+  split : (r : Read) {m : ℕ} → Some m ≡ middle_of (behind two r) → behind two r ≡ two m
+  unfolding behind middle_of
+  split (Ok n) {m} e = let z : m ≡ 1 + n = cc (f (1 + n)) in ap two (sym z)
+  split (Err q) {m} e = absurd (cc)
 
-unsplit : (two : ℕ → Shape) → ((n : ℕ) → middle_of (two n) ≡ n) → (r : Read) {m : ℕ} → m ≡ middle_of (behind two r) → m ≡ 0 → behind two r ≡ Malformed
-unfolding behind middle_of
-unsplit two f (Whole n) e z = absurd (omega (arith, f (1 + n)))
-unsplit two f NotRead e z = refl
-unsplit two f TooLong e z = refl
+  unsplit : (r : Read) → None ≡ middle_of (behind two r) → behind two r ≡ Malformed
+  unfolding behind middle_of
+  unsplit (Ok n) e = absurd (cc (f (1 + n)))
+  unsplit (Err q) e = refl
 
 as_front : (r : Read) → middle_of (behind Pair r) ≡ middle_of (behind Front r)
 unfolding middle_of behind
-as_front (Whole n) = refl
-as_front NotRead = refl
-as_front TooLong = refl
+as_front (Ok n) = refl
+as_front (Err e) = refl
 
 module _ (v : List ℕ) (h : length v ≡ 0 → ⊥) where
   pub shape_at : {k : ℕ} → get_or v 0 0 ≡ k → shape_of v ≡ shape_as (drop 1 v) (kind_of k)
@@ -75,38 +71,38 @@ module _ (v : List ℕ) (h : length v ≡ 0 → ⊥) where
   unfolding kind_of shape_as
   pair e = shape_at e
 
-  pub front_found : get_or v 0 0 ≡ 3 → {m : ℕ} → m ≡ middle_of (shape_of v) → (m ≡ 0 → ⊥) → Front m ≡ shape_of v
+  pub front_found : get_or v 0 0 ≡ 3 → {m : ℕ} → Some m ≡ middle_of (shape_of v) → Front m ≡ shape_of v
   unfolding middle_of
-  front_found k e n = sym (front k ∙ split Front (λ n. refl) (outcome (read_value (drop 1 v))) (e ∙ ap middle_of (front k)) n)
+  front_found k e = sym (front k ∙ split Front (λ n. refl) (outcome (read_value (drop 1 v))) (e ∙ ap middle_of (front k)))
 
-  pub front_lost : get_or v 0 0 ≡ 3 → {m : ℕ} → m ≡ middle_of (shape_of v) → m ≡ 0 → Malformed ≡ shape_of v
+  pub front_lost : get_or v 0 0 ≡ 3 → None ≡ middle_of (shape_of v) → Malformed ≡ shape_of v
   unfolding middle_of
-  front_lost k e z = sym (front k ∙ unsplit Front (λ n. refl) (outcome (read_value (drop 1 v))) (e ∙ ap middle_of (front k)) z)
+  front_lost k e = sym (front k ∙ unsplit Front (λ n. refl) (outcome (read_value (drop 1 v))) (e ∙ ap middle_of (front k)))
 
-  pub pair_found : get_or v 0 0 ≡ 5 → {m : ℕ} → m ≡ middle_of (shape_of v) → (m ≡ 0 → ⊥) → Pair m ≡ shape_of v
+  pub pair_found : get_or v 0 0 ≡ 5 → {m : ℕ} → Some m ≡ middle_of (shape_of v) → Pair m ≡ shape_of v
   unfolding middle_of
-  pair_found k e n = sym (pair k ∙ split Pair (λ n. refl) (outcome (read_value (drop 1 v))) (e ∙ ap middle_of (pair k)) n)
+  pair_found k e = sym (pair k ∙ split Pair (λ n. refl) (outcome (read_value (drop 1 v))) (e ∙ ap middle_of (pair k)))
 
-  pub pair_lost : get_or v 0 0 ≡ 5 → {m : ℕ} → m ≡ middle_of (shape_of v) → m ≡ 0 → Malformed ≡ shape_of v
+  pub pair_lost : get_or v 0 0 ≡ 5 → None ≡ middle_of (shape_of v) → Malformed ≡ shape_of v
   unfolding middle_of
-  pair_lost k e z = sym (pair k ∙ unsplit Pair (λ n. refl) (outcome (read_value (drop 1 v))) (e ∙ ap middle_of (pair k)) z)
+  pair_lost k e = sym (pair k ∙ unsplit Pair (λ n. refl) (outcome (read_value (drop 1 v))) (e ∙ ap middle_of (pair k)))
 
   -- middle
-  pub middle_behind : (get_or v 0 0 ≡ 3) ⊎ (get_or v 0 0 ≡ 5) → {r q : Read} → r ≡ outcome (read_value (from 1 v)) → r ≡ q
-      → middle_of (behind Front q) ≡ middle_of (shape_of v)
-  middle_behind k w f =
-      let e = ap (λ (r : Read). middle_of (behind Front r)) (sym (rw from-drop at w) ∙ f) in
+  pub middle_behind : (get_or v 0 0 ≡ 3) ⊎ (get_or v 0 0 ≡ 5) → {r : Read} → r ≡ outcome (read_value (from 1 v))
+      → middle_of (behind Front r) ≡ middle_of (shape_of v)
+  middle_behind k w =
+      let e = ap (λ (r : Read). middle_of (behind Front r)) (sym (rw from-drop at w)) in
       sym (⊎_elim (λ k. ap middle_of (front k) ∙ e) (λ k. ap middle_of (pair k) ∙ as_front (outcome (read_value (drop 1 v))) ∙ e) k)
 
 -- a value that was read has at most 256 bytes
-pub whole_short : (bs : List ℕ) {r : Read} {n : ℕ} → r ≡ outcome (read_value bs) → r ≡ Whole n → n ≤ 256
+pub whole_short : (bs : List ℕ) {n : ℕ} → Ok n ≡ outcome (read_value bs) → n ≤ 256
 unfolding outcome
-whole_short bs {r} {n} e f = go (read_value bs) refl (sym f ∙ e)
+whole_short bs {n} e = go (read_value bs) refl e
   where
-    go : (x : Found (value ∷ [])) → read_value bs ≡ x → Whole n ≡ outcome x → n ≤ 256
-    go (whole (a_value v nothing) more) p q = let z : n ≡ size v = cc in omega (arith, (read_sound bs p).1.fits)
-    go malformed p q = let z : ◌≡◌ {A = ℕ} 0 1 = cc in absurd (omega arith)
-    go too_long p q = let z : ◌≡◌ {A = ℕ} 0 1 = cc in absurd (omega arith)
+    go : (x : Found (value ∷ [])) → read_value bs ≡ x → Ok n ≡ outcome x → n ≤ 256
+    go (whole (a_value v nothing) p) q r = let z : n ≡ size v = cc in omega (arith, (read_sound bs q).1.fits)
+    go malformed q r = absurd (cc)
+    go too_long q r = absurd (cc)
 
 pub number_short : (v : List ℕ) → length v < 3 → number_in (drop 1 v) ≡ Malformed
 unfolding number_in
@@ -122,17 +118,17 @@ number_there (a ∷ []) h = absurd (omega arith)
 number_there (a ∷ b ∷ []) h = absurd (omega arith)
 number_there (a ∷ b ∷ c ∷ v) h = refl
 
-pub middle_none : (v : List ℕ) → ((get_or v 0 0 ≡ 3) ⊎ (get_or v 0 0 ≡ 5) → ⊥) → 0 ≡ middle_of (shape_of v)
+pub middle_none : (v : List ℕ) → ((get_or v 0 0 ≡ 3) ⊎ (get_or v 0 0 ≡ 5) → ⊥) → None ≡ middle_of (shape_of v)
 unfolding middle_of shape_of shape_as number_in
 middle_none [] h = refl
 middle_none (b ∷ bs) h = go (names b) h
   where
-    no_part : (bs : List ℕ) → 0 ≡ middle_of (number_in bs)
+    no_part : (bs : List ℕ) → None ≡ middle_of (number_in bs)
     no_part [] = refl
     no_part (x ∷ []) = refl
     no_part (x ∷ y ∷ bs) = refl
 
-    go : {b : ℕ} {k : Kind} → Names b k → ((b ≡ 3) ⊎ (b ≡ 5) → ⊥) → 0 ≡ middle_of (shape_as bs k)
+    go : {b : ℕ} {k : Kind} → Names b k → ((b ≡ 3) ⊎ (b ≡ 5) → ⊥) → None ≡ middle_of (shape_as bs k)
     go is0 h = refl
     go is1 h = refl
     go is2 h = refl
@@ -232,11 +228,11 @@ front_there : (v : List ℕ) → kind_at v 0 ≡ 3 → (length v ≡ 0 → ⊥) 
 front_there [] e = absurd (omega arith)
 front_there (b ∷ v) e = (λ z. omega arith, e)
 
-module _ (v : List ℕ) (k : kind_at v 0 ≡ 3) {m : ℕ} (e : m ≡ middle_of (shape_of v)) where
-  pub rest_lost : m ≡ 0 → 255 ≡ rest_kind v
+module _ (v : List ℕ) (k : kind_at v 0 ≡ 3) where
+  pub rest_lost : None ≡ middle_of (shape_of v) → 255 ≡ rest_kind v
   unfolding rest_kind kind_behind
-  rest_lost z = let f = front_there v k in ap (kind_behind v) (front_lost v f.0 f.1 e z)
+  rest_lost e = let f = front_there v k in ap (kind_behind v) (front_lost v f.0 f.1 e)
 
-  pub rest_found : (m ≡ 0 → ⊥) → kind_at v m ≡ rest_kind v
+  pub rest_found : {m : ℕ} → Some m ≡ middle_of (shape_of v) → kind_at v m ≡ rest_kind v
   unfolding rest_kind kind_behind
-  rest_found n = let f = front_there v k in ap (kind_behind v) (front_found v f.0 f.1 e n)
+  rest_found e = let f = front_there v k in ap (kind_behind v) (front_found v f.0 f.1 e)

@@ -1,5 +1,5 @@
 -- Laws of the tests on bytes: how far each looks (document 02, request 3), what it says to a whole value, and to a list that is cut.
-use Rattle.std.specs.Prelude.{◌≡◌, refl, Bool, true, false, List, [], ◌∷◌, ◌++◌, map, ℕ, zero, suc, ◌+◌, ◌≤◌, eqb, length, get_or, take, drop}
+use Rattle.std.specs.Prelude.{◌≡◌, refl, Ok, Err, Bool, true, false, List, [], ◌∷◌, ◌++◌, map, ℕ, zero, suc, ◌+◌, ◌≤◌, eqb, length, get_or, take, drop}
 use Rattle.std.proofs.Common.{sym, ap, ◌∙◌, append-nil, append_assoc, zero-le, arith, one-add, length-append, take-append-drop, take-take}
 use Rattle.std.proofs.Math.ListN.{get_or-map, get_or-eq_default}
 use Rattle.std.proofs.lemmas.List.{get_or_at, take-append-le}
@@ -11,11 +11,9 @@ use Rattle.shapes.specs.Needs.{past_first, need, Agrees}
 use Rattle.value.specs.Reading.{Kind, Found, whole, malformed, too_long, value, nothing, a_value, kind_of, read_value}
 use Rattle.value.specs.Laws.{Readable, Names, is0, is1, is2, is3, is4, is5, is6, is_other}
 use Rattle.value.proofs.Laws.{readable_front, read_sound, names}
-use Rattle.value.specs.Reader.{outcome}
+use Rattle.value.specs.Reader.{Read, outcome}
 use Rattle.shapes.specs.Parts.{behind, number_in, shape_as, shape_of, kind_at, kind_behind, rest_kind, by_kinds, passes_bytes}
 use Rattle.shapes.proofs.PartsLaws.{front_shape}
-use Rattle.value.specs.declared.Read.{Read}
-use Rattle.value.specs.declared.Read.TheVariants.{Whole, Malformed as NotRead, TooLong}
 use Rattle.shapes.specs.declared.Shape.TheVariants.{Front, Pair}
 
 -- a value's kind byte, and that of its rest
@@ -76,9 +74,8 @@ rest_none (b ∷ bs) h = go (names b) h
     of_number l (x ∷ y ∷ bs) = refl
 
     of_pair : (l : List ℕ) (r : Read) → 255 ≡ kind_behind l (behind Pair r)
-    of_pair l (Whole n) = refl
-    of_pair l NotRead = refl
-    of_pair l TooLong = refl
+    of_pair l (Ok n) = refl
+    of_pair l (Err e) = refl
 
     go : {b : ℕ} {k : Kind} → Names b k → (b ≡ 3 → ⊥) → 255 ≡ kind_behind (b ∷ bs) (shape_as bs k)
     go is0 h = refl

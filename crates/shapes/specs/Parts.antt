@@ -1,17 +1,14 @@
 -- A value's bytes taken apart: its shape with the position where the second part starts, the two parts, and the kind bytes that the tests look at.
-use Rattle.std.specs.Prelude.{Bool, true, false, List, [], ◌∷◌, ℕ, ◌+◌, ◌-◌, ◌*◌, leb, eqb, length, get_or, take, drop}
+use Rattle.std.specs.Prelude.{Bool, true, false, Option, Some, None, Ok, Err, List, [], ◌∷◌, ℕ, ◌+◌, ◌-◌, ◌*◌, leb, eqb, length, get_or, take, drop}
 use Rattle.value.specs.Reading.{Kind, k_false, k_true, k_empty, k_front, k_number, k_pair, k_wide, unknown, kind_of, read_value}
-use Rattle.value.specs.Reader.{outcome}
-use Rattle.value.specs.declared.Read.{Read}
-use Rattle.value.specs.declared.Read.TheVariants.{Whole, Malformed as NotRead, TooLong}
+use Rattle.value.specs.Reader.{Read, outcome}
 use Rattle.shapes.specs.declared.Shape.{Shape}
 use Rattle.shapes.specs.declared.Shape.TheVariants.{False, True, Empty, Front, Number, Pair, Wide, Malformed}
 
 -- where the second part starts, behind the kind byte and the first part
 unfoldable pub behind : (ℕ → Shape) → Read → Shape
-behind two (Whole n) = two (1 + n)
-behind two NotRead = Malformed
-behind two TooLong = Malformed
+behind two (Ok n) = two (1 + n)
+behind two (Err e) = Malformed
 
 unfoldable pub number_in : List ℕ → Shape
 number_in [] = Malformed
@@ -33,16 +30,16 @@ unfoldable pub shape_of : List ℕ → Shape
 shape_of [] = Malformed
 shape_of (b ∷ bs) = shape_as bs (kind_of b)
 
--- where the second part of a list with members or of a pair starts; 0 where a value has no two parts
-unfoldable pub middle_of : Shape → ℕ
-middle_of False = 0
-middle_of True = 0
-middle_of Empty = 0
-middle_of (Front at) = at
-middle_of (Number n) = 0
-middle_of (Pair at) = at
-middle_of Wide = 0
-middle_of Malformed = 0
+-- where the second part of a list with members or of a pair starts; nothing where a value has no two parts
+unfoldable pub middle_of : Shape → Option ℕ
+middle_of False = None
+middle_of True = None
+middle_of Empty = None
+middle_of (Front at) = Some at
+middle_of (Number n) = None
+middle_of (Pair at) = Some at
+middle_of Wide = None
+middle_of Malformed = None
 
 unfoldable pub part_where : Bool → List ℕ → List ℕ
 part_where true part = part

@@ -6,8 +6,6 @@ ghost use Rattle.std.specs.Prelude.{◌≡◌};
 ghost use Rattle.shapes.specs.Needs.{Enough};
 ghost use Rattle.shapes.specs.Parts.{shape_of, middle_of, first_part, second_part, kind_at, rest_kind, passes_bytes, same_bytes};
 
-use value::Read;
-
 // A value taken apart. A list with members and a pair hold the position where their second part starts.
 #[derive(Clone, Copy, Debug, PartialEq, Eq)]
 pub enum Shape {
@@ -28,53 +26,43 @@ pub fn shape_of(v: &[u8]) -> Shape
     if v.len() == 0 {
         return Shape::Malformed;
     }
-    let kind = v[0];
-    match kind {
+    match v[0] {
         0 => Shape::False,
         1 => Shape::True,
         2 => Shape::Empty,
-        3 => {
-            let at = middle(v);
-            if at == 0 {
-                return Shape::Malformed;
-            }
-            Shape::Front(at)
-        }
+        3 => match middle(v) {
+            Some(at) => Shape::Front(at),
+            None => Shape::Malformed,
+        },
         4 => {
             if v.len() < 3 {
                 return Shape::Malformed;
             }
             Shape::Number(value::number(v[1], v[2]))
         }
-        5 => {
-            let at = middle(v);
-            if at == 0 {
-                return Shape::Malformed;
-            }
-            Shape::Pair(at)
-        }
+        5 => match middle(v) {
+            Some(at) => Shape::Pair(at),
+            None => Shape::Malformed,
+        },
         6 => Shape::Wide,
         _ => Shape::Malformed,
     }
 }
 
-// Where the second part of a list with members or of a pair starts; 0 where the bytes begin with neither.
-pub fn middle(v: &[u8]) -> usize
+/// The byte where the second part of a list with members or of a pair starts; `None` where the bytes begin with neither, or the first part
+/// is no value.
+pub fn middle(v: &[u8]) -> Option<usize>
     ensures { result ≡ middle_of (shape_of v.now) }
 {
     if v.len() == 0 {
-        return 0;
+        return None;
     }
-    let kind = v[0];
-    match kind {
-        3 | 5 => {
-            match value::read_value(&v[1..]) {
-                Read::Whole(n) => 1 + n,
-                Read::Malformed => 0,
-                Read::TooLong => 0,
-            }
-        }
-        _ => 0,
+    match v[0] {
+        3 | 5 => match value::read_value(&v[1..]) {
+            Ok(n) => Some(1 + n),
+            Err(_) => None,
+        },
+        _ => None,
     }
 }
 
@@ -109,11 +97,10 @@ fn rest_kind(v: &[u8]) -> u8
     if kind_at(v, 0) != 3 {
         return 255;
     }
-    let rest = middle(v);
-    if rest == 0 {
-        return 255;
+    match middle(v) {
+        Some(rest) => kind_at(v, rest),
+        None => 255,
     }
-    kind_at(v, rest)
 }
 
 // Whether a test says yes to a value: 0 anything, 1 empty list, 2 list with members, 3 False, 4 True, 5 exactly one

@@ -16,7 +16,6 @@ use Rattle.node.specs.Forms.{form_told, wide_form}
 use Rattle.node.specs.Places.{rest_begins}
 use Rattle.sheet.specs.Laws.{length-offsets}
 use Rattle.node.specs.declared.Node.{Node}
-use Rattle.sheet.specs.declared.Table.{Table}
 
 -- ONE RECORD, of which `left` may come
 
@@ -190,20 +189,19 @@ module _ {s : List ℕ} {from n at : ℕ} {starts : List ℕ} (run : Run s from 
 -- THE TABLE that comes of it
 
 module _ (s : List ℕ) (k root sections : ℕ) where
-  pub refused_table : {c : ℕ} {t : Table} → t ≡ table_of (refusal c) → read_nodes 200 (drop (first_node sections) s) ≡ refusal c →
-      NodesTable s k root sections t
+  pub refused_table : {c : ℕ} → read_nodes 200 (drop (first_node sections) s) ≡ refusal c → NodesTable s k root sections (refusal c)
   unfolding and_then map_result
-  refused_table e r secs l = rw r e
+  refused_table r secs l = rw r
 
-  no_node_table : {t : Table} (ns : List Node) → t ≡ table_of (refusal 14) → length ns ≡ 0 → read_nodes 200 (drop (first_node sections) s) ≡ ok ns
-      → NodesTable s k root sections t
+  no_node_table : (ns : List Node) → length ns ≡ 0 → read_nodes 200 (drop (first_node sections) s) ≡ ok ns
+      → NodesTable s k root sections (refusal 14)
   unfolding and_then map_result with_nodes
-  no_node_table [] e z r secs l = rw r e
-  no_node_table (n ∷ ns) e z r secs l = absurd (omega arith)
+  no_node_table [] z r secs l = rw r
+  no_node_table (n ∷ ns) z r secs l = absurd (omega arith)
 
   node_table : {n : ℕ} {starts : List ℕ} (ns : List Node) → length ns ≡ n → (n ≡ 0 → ⊥) → starts ≡ offsets (first_node sections) ns ++ replicate (200 - n) 0
       → read_nodes 200 (drop (first_node sections) s) ≡ ok ns
-      → NodesTable s k root sections (record { refusal = 0; k = k; root = root; sections = sections; nodes = n; starts = starts })
+      → NodesTable s k root sections (ok (record { k = k; root = root; sections = sections; nodes = n; starts = starts }))
   unfolding and_then map_result with_nodes table_of
   node_table [] m z f r secs l = absurd (z (sym m))
   node_table {n} {starts} (d ∷ ds) m z f r secs l =
@@ -212,8 +210,8 @@ module _ (s : List ℕ) (k root sections : ℕ) where
       rw (r, q, ← m, ← l)
 
 module _ {s : List ℕ} {sections n at : ℕ} {starts : List ℕ} (k root : ℕ) (run : Run s (first_node sections) n at starts) (h : length s ≤ at) where
-  pub run_none_table : {t : Table} → t ≡ table_of (refusal 14) → n ≡ 0 → NodesTable s k root sections t
-  run_none_table e z = no_node_table s k root sections run.nodes e (run.many ∙ z) (run_end run h)
+  pub run_none_table : n ≡ 0 → NodesTable s k root sections (refusal 14)
+  run_none_table z = no_node_table s k root sections run.nodes (run.many ∙ z) (run_end run h)
 
-  pub run_table : (n ≡ 0 → ⊥) → NodesTable s k root sections (record { refusal = 0; k = k; root = root; sections = sections; nodes = n; starts = starts })
+  pub run_table : (n ≡ 0 → ⊥) → NodesTable s k root sections (ok (record { k = k; root = root; sections = sections; nodes = n; starts = starts }))
   run_table z = node_table s k root sections run.nodes run.many z run.filled (run_end run h)

@@ -9,12 +9,13 @@ use lib.Dec.{leb, ltb}
 use lib.ListN.{length, get_or, drop, drop_of_length-le}
 use lib.Seq.{drop-cons}
 use borrow.Author.Tests.{lt-ltb, le-ltb}
-use Rattle.value.specs.Result.{Result, ok, refusal, and_then, unless}
+use Rattle.value.specs.Result.{ok, refusal, and_then, map_result, unless}
+use Rattle.value.proofs.Numbered.{numbered_ok, numbered_err}
 use Rattle.node.specs.Kinds.{node_in_range}
 use Rattle.sheet.specs.Sheet.{Sheet, roots_in_range, nodes_in_range, in_range, read_header, read_sheet}
 use Rattle.node.specs.Decoding.{node_at}
 use Rattle.sheet.specs.Table.{table_of, section_at, RootsJudged, NodesJudged, SheetJudged}
-use Rattle.sheet.specs.Reading.{Fine, fine, refused, fine_ok, HeaderRead, header_fine}
+use Rattle.sheet.specs.Reading.{fine_ok, HeaderRead, header_fine}
 use Rattle.sheet.specs.Laws.{header_node, header_section, table_start}
 use Rattle.node.specs.declared.Node.{Node}
 use Rattle.node.specs.declared.Node.TheVariants.{False}
@@ -94,16 +95,12 @@ module _ {s : List ℕ} {t : Table} {i : ℕ} (to : Nodes s t i) where
 
 -- THE SHEET whose records are r
 
-few : {s : List ℕ} {r : Result Sheet} → Fine (HeaderRead s) r → (table_of r).nodes ≤ 200
+pub few_nodes : (s : List ℕ) {t : Table} → ok t ≡ map_result table_of (read_header s) → t.nodes ≤ 200
 unfolding table_of
-few (fine h) = h.few_nodes
-few (refused c) = omega arith
-
-pub few_nodes : (s : List ℕ) {t : Table} → t ≡ table_of (read_header s) → t.nodes ≤ 200
-few_nodes s e = rw e (few (header_fine s))
+few_nodes s e = let p = numbered_ok e in rw p.made (fine_ok (header_fine s) p.found).few_nodes
 
 -- k, the root, the sections' roots and the nodes, in this order
-judged_sheet : {s : List ℕ} {sh : Sheet} → HeaderRead s sh → (t : Table) → t ≡ table_of (ok sh) → {a b : Bool} → RootsJudged s t.sections t.nodes a
+judged_sheet : {s : List ℕ} {sh : Sheet} → HeaderRead s sh → (t : Table) → t ≡ table_of sh → {a b : Bool} → RootsJudged s t.sections t.nodes a
     → NodesJudged s t b
     → leb 1 t.k && leb t.k 16 && ltb t.root t.nodes && a && b ≡ in_range sh
 unfolding table_of in_range
@@ -115,43 +112,33 @@ judged_sheet {s} {sh} h t q {a} {b} =
     nb sh.nodes refl (λ i l. ap (node_at s) (table_start sh i l) ∙ header_node h i l) in
     rw (e, f))
 
-pub sheet_judged : (s : List ℕ) {t : Table} → t ≡ table_of (read_header s) → {a b : Bool} → RootsJudged s t.sections t.nodes a → NodesJudged s t b
-    → SheetJudged s (leb 1 t.k && leb t.k 16 && ltb t.root t.nodes && a && b)
-sheet_judged s {t} p ra nb sh e = judged_sheet (fine_ok (header_fine s) e) t (p ∙ ap table_of e) ra nb
+pub sheet_judged : (s : List ℕ) {t : Table} → ok t ≡ map_result table_of (read_header s) → {a b : Bool} → RootsJudged s t.sections t.nodes a
+    → NodesJudged s t b → SheetJudged s (leb 1 t.k && leb t.k 16 && ltb t.root t.nodes && a && b)
+sheet_judged s {t} p ra nb sh e =
+    let q = numbered_ok p in
+    let same : ok sh ≡ ok q.value = sym e ∙ q.found in
+    let one : sh ≡ q.value = cc in
+    judged_sheet (fine_ok (header_fine s) e) t (q.made ∙ ap table_of (sym one)) ra nb
 
-abbrev refusal_of : Table → ℕ
-refusal_of t = t.refusal
+module _ (s : List ℕ) where
+  -- the records are refused
+  pub read_refused : {c : ℕ} → refusal c ≡ map_result table_of (read_header s) → refusal c ≡ map_result table_of (read_sheet s)
+  unfolding read_sheet map_result and_then
+  read_refused e = rw (numbered_err table_of e)
 
-judge : Sheet → Result Sheet
-judge sh = unless 13 (in_range sh) (ok sh)
+  all_in : {sh : Sheet} → read_header s ≡ ok sh → in_range sh ≡ true → read_sheet s ≡ ok sh
+  unfolding read_sheet and_then unless
+  all_in e q = rw (e, q)
 
-module _ {P : Sheet → Type 0} where
-  stays_refused : {r : Result Sheet} → Fine P r → ((table_of r).refusal ≡ 0 → ⊥) → table_of r ≡ table_of (and_then r judge)
-  unfolding table_of and_then
-  stays_refused (fine p) n = absurd (n refl)
-  stays_refused (refused h) n = refl
+  one_out : {sh : Sheet} → read_header s ≡ ok sh → in_range sh ≡ false → read_sheet s ≡ refusal 13
+  unfolding read_sheet and_then unless
+  one_out e q = rw (e, q)
 
-  is_in : {r : Result Sheet} → Fine P r → (table_of r).refusal ≡ 0 → ((sh : Sheet) → r ≡ ok sh → in_range sh ≡ true) → table_of r ≡ table_of (and_then r judge)
-  unfolding table_of and_then judge unless
-  is_in (fine {a = sh} p) z j = rw (j sh refl)
-  is_in (refused h) z j = absurd (omega arith)
+  module _ {t : Table} (e : ok t ≡ map_result table_of (read_header s)) {b : Bool} (j : SheetJudged s b) where
+    pub read_in : b ≡ true → ok t ≡ map_result table_of (read_sheet s)
+    unfolding map_result
+    read_in q = let p = numbered_ok e in ap ok p.made ∙ sym (rw (all_in p.found (sym (j p.value p.found) ∙ q)))
 
-  is_out : {r : Result Sheet} → Fine P r → (table_of r).refusal ≡ 0 → ((sh : Sheet) → r ≡ ok sh → in_range sh ≡ false)
-      → table_of (refusal 13) ≡ table_of (and_then r judge)
-  unfolding table_of and_then judge unless
-  is_out (fine {a = sh} p) z j = rw (j sh refl)
-  is_out (refused h) z j = absurd (omega arith)
-
-module _ (s : List ℕ) {t : Table} (e : t ≡ table_of (read_header s)) where
-  pub read_refused : (t.refusal ≡ 0 → ⊥) → t ≡ table_of (read_sheet s)
-  unfolding read_sheet judge
-  read_refused n = e ∙ stays_refused (header_fine s) (λ z. n (ap refusal_of e ∙ z))
-
-  module _ (z : t.refusal ≡ 0) {b : Bool} (j : SheetJudged s b) where
-    pub read_in : b ≡ true → t ≡ table_of (read_sheet s)
-    unfolding read_sheet judge
-    read_in q = e ∙ is_in (header_fine s) (sym (ap refusal_of e) ∙ z) (λ sh r. sym (j sh r) ∙ q)
-
-    pub read_out : b ≡ false → {u : Table} → u ≡ table_of (refusal 13) → u ≡ table_of (read_sheet s)
-    unfolding read_sheet judge
-    read_out q f = f ∙ is_out (header_fine s) (sym (ap refusal_of e) ∙ z) (λ sh r. sym (j sh r) ∙ q)
+    pub read_out : b ≡ false → refusal 13 ≡ map_result table_of (read_sheet s)
+    unfolding map_result
+    read_out q = let p = numbered_ok e in rw (one_out p.found (sym (j p.value p.found) ∙ q))

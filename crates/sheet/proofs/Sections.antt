@@ -131,16 +131,17 @@ whole_header (b ∷ c ∷ []) h p q = absurd (omega arith)
 whole_header (b ∷ c ∷ d ∷ bs) h p q = record { body = rw (p, q) }
 
 module _ {s : List ℕ} {k root : ℕ} (h : Header s k root) where
-  pub refused_table : {c : ℕ} {t : Table} → t ≡ table_of (refusal c) → read_records 8 (drop 3 s) ≡ refusal c → t ≡ table_of (read_body (drop 1 s))
-  unfolding and_then
-  refused_table e r = rw (h.body, r) e
+  pub refused_table : {c : ℕ} → read_records 8 (drop 3 s) ≡ refusal c → refusal c ≡ map_result table_of (read_body (drop 1 s))
+  unfolding and_then map_result
+  refused_table r = rw (h.body, r)
 
-  module _ {n at : ℕ} (run : Run s n at) {t : Table} where
-    pub none_table : length s ≤ at → t ≡ table_of (refusal 14) → t ≡ table_of (read_body (drop 1 s))
-    unfolding and_then with_nodes
-    none_table l e = rw (h.body, run_end run l) e
+  module _ {n at : ℕ} (run : Run s n at) where
+    pub none_table : length s ≤ at → refusal 14 ≡ map_result table_of (read_body (drop 1 s))
+    unfolding and_then with_nodes map_result
+    none_table l = rw (h.body, run_end run l)
 
-    pub nodes_table : at < length s → (get_or s at 0 ≡ 0x20 → ⊥) → NodesTable s k root n t → t ≡ table_of (read_body (drop 1 s))
+    pub nodes_table : at < length s → (get_or s at 0 ≡ 0x20 → ⊥) → {r : Result Table} → NodesTable s k root n r
+        → r ≡ map_result table_of (read_body (drop 1 s))
     nodes_table l z e = rw (h.body, run_nodes run l z) (e run.roots run.many)
 
 -- THE HEADER

@@ -7,7 +7,8 @@ use Prim.Native.Nat.{ℕ, zero, suc, ◌+◌, ◌*◌, ◌-◌, ◌≤◌, ◌<�
 use Rattle.std.proofs.Math.Nat.{add-zero}
 use native.Mathlib.Omega.{arith}
 use Rattle.std.proofs.Math.ListN.{get_or-append}
-use Rattle.value.specs.Result.{Result, ok, refusal}
+use Rattle.value.specs.Result.{Result, ok, refusal, map_result}
+use Rattle.value.proofs.Numbered.{Answered, numbered_ok, numbered_err}
 use Rattle.value.proofs.Laws.{and-true}
 use Rattle.std.proofs.Math.Option.{none, some}
 use Rattle.std.proofs.Math.Decide.{dec_lt}
@@ -167,31 +168,20 @@ length-offsets p (n ∷ ns) = ap suc (length-offsets (p + width n) ns)
 
 -- the start of node i
 pub table_start : (sh : Sheet) (i : ℕ) → i < length sh.nodes
-    → get_or (table_of (ok sh)).starts i 0 ≡ get_or (offsets (first_node (length sh.sections)) sh.nodes) i 0
+    → get_or (table_of sh).starts i 0 ≡ get_or (offsets (first_node (length sh.sections)) sh.nodes) i 0
 unfolding table_of
 table_start sh i h =
     let o : List ℕ = offsets (first_node (length sh.sections)) sh.nodes in
     get_or-append o (replicate (200 - length o) 0) 0 i (rw length-offsets h)
 
--- a table with refusal 0 is that of a sheet, any other one is a refusal
-module _ {P : Sheet → Type 0} where
-  pub fine_table : {r : Result Sheet} → Fine P r → (table_of r).refusal ≡ 0 → (sh : Sheet) × (r ≡ ok sh)
-  unfolding table_of
-  fine_table (fine {a = sh} p) e = (sh, refl)
-  fine_table (refused h) e = absurd (omega arith)
+-- a table is that of a sheet, and a refusal is that of the reading
+pub table_ok : (s : List ℕ) {t : Table} → ok t ≡ map_result table_of (read_sheet s) → Answered table_of (read_sheet s) t
+table_ok s = numbered_ok
 
-  pub fine_refused : {r : Result Sheet} → Fine P r → ((table_of r).refusal ≡ 0 → ⊥) → r ≡ refusal (table_of r).refusal
-  unfolding table_of
-  fine_refused (fine p) n = absurd (n refl)
-  fine_refused (refused h) n = refl
+pub table_refused : (s : List ℕ) {c : ℕ} → refusal c ≡ map_result table_of (read_sheet s) → read_sheet s ≡ refusal c
+table_refused s = numbered_err table_of
 
-pub table_ok : (s : List ℕ) → (table_of (read_sheet s)).refusal ≡ 0 → (sh : Sheet) × (read_sheet s ≡ ok sh)
-table_ok s = fine_table (sheet_fine s)
-
-pub table_refused : (s : List ℕ) → ((table_of (read_sheet s)).refusal ≡ 0 → ⊥) → read_sheet s ≡ refusal (table_of (read_sheet s)).refusal
-table_refused s = fine_refused (sheet_fine s)
-
--- a table that is no refusal, and the sheet that it is of
+-- a table, and the sheet that it is of
 pub record Reads (s : List ℕ) (t : Table) (sh : Sheet) : Type 0 where
   pub sheet : read_sheet s ≡ ok sh
   pub k : t.k ≡ sh.k
@@ -202,7 +192,7 @@ pub record Reads (s : List ℕ) (t : Table) (sh : Sheet) : Type 0 where
   pub node : (i : ℕ) → i < length sh.nodes → node_at s (get_or t.starts i 0) ≡ get_or sh.nodes i False
   pub ranges : Ranges sh
 
-reads_ok : (s : List ℕ) {sh : Sheet} → read_sheet s ≡ ok sh → Reads s (table_of (ok sh)) sh
+reads_ok : (s : List ℕ) {sh : Sheet} → read_sheet s ≡ ok sh → Reads s (table_of sh) sh
 unfolding table_of
 reads_ok s {sh} e =
     record {
@@ -216,8 +206,8 @@ reads_ok s {sh} e =
       ranges = sheet_ranges s e;
     }
 
-pub table_reads : (s : List ℕ) {t : Table} → t ≡ table_of (read_sheet s) → t.refusal ≡ 0 → (sh : Sheet) × Reads s t sh
-table_reads s {t} e z =
-    let r = table_ok s (rw e at z) in
-    let q : t ≡ table_of (ok r.0) = e ∙ ap table_of r.1 in
-    (r.0, rw q (reads_ok s r.1))
+of_table : {s : List ℕ} {sh : Sheet} {t : Table} → read_sheet s ≡ ok sh → t ≡ table_of sh → Reads s t sh
+of_table {s} e q = rw q (reads_ok s e)
+
+pub table_reads : (s : List ℕ) {t : Table} → ok t ≡ map_result table_of (read_sheet s) → (sh : Sheet) × Reads s t sh
+table_reads s e = let r = table_ok s e in (r.value, of_table r.found r.made)

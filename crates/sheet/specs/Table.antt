@@ -1,6 +1,6 @@
 -- What the sheet reader answers: a table of where each node's record starts, and a section's root.
 use Rattle.std.specs.Prelude.{◌≡◌, Bool, List, [], ◌∷◌, ◌++◌, ℕ, suc, ◌+◌, ◌*◌, ◌-◌, ◌<◌, length, get_or, drop, replicate}
-use Rattle.value.specs.Result.{Result, ok, refusal, and_then, map_result}
+use Rattle.value.specs.Result.{Result, ok, and_then, map_result}
 use Rattle.sheet.specs.Sheet.{Sheet, read_nodes, with_nodes, roots_in_range, nodes_in_range, in_range, read_header}
 use Rattle.node.specs.Kinds.{width}
 use Rattle.node.specs.Decoding.{node_at}
@@ -21,12 +21,9 @@ first_node sections = 3 + 2 * sections
 abbrev pub padded : List ℕ → List ℕ
 padded l = l ++ replicate (200 - length l) 0
 
--- a refusal is its number and zeros
-unfoldable pub table_of : Result Sheet → Table
-table_of (refusal c) = record { refusal = c; k = 0; root = 0; sections = 0; nodes = 0; starts = replicate 200 0 }
-table_of (ok sh) =
+unfoldable pub table_of : Sheet → Table
+table_of sh =
     record {
-      refusal = 0;
       k = sh.k;
       root = sh.root;
       sections = length sh.sections;
@@ -39,10 +36,10 @@ unfoldable pub section_at : List ℕ → ℕ → ℕ
 section_at s i = get_or s (4 + 2 * i) 0
 
 -- the table of a sheet with so many sections, whatever their roots are, and the nodes that follow them
-abbrev pub NodesTable : List ℕ → ℕ → ℕ → ℕ → Table → Type 0
-NodesTable s k root sections t =
+abbrev pub NodesTable : List ℕ → ℕ → ℕ → ℕ → Result Table → Type 0
+NodesTable s k root sections r =
     (secs : List ℕ) → length secs ≡ sections
-    → t ≡ table_of (and_then (map_result (λ ns. (secs, ns)) (read_nodes 200 (drop (first_node sections) s))) (with_nodes k root))
+    → r ≡ map_result table_of (and_then (map_result (λ ns. (secs, ns)) (read_nodes 200 (drop (first_node sections) s))) (with_nodes k root))
 
 -- the numbers of a sheet are judged as the definition judges those of the records that stand there
 abbrev pub RootsJudged : List ℕ → ℕ → ℕ → Bool → Type 0

@@ -4,39 +4,22 @@
 ghost use Rattle.std.specs.Prelude.{◌≡◌, ◌≤◌, length, drop};
 ghost use Rattle.sheet.specs.Sheet.{read_body, read_header, read_sheet};
 ghost use Rattle.sheet.specs.Parts.{part_at, with_node, children_at};
-ghost use Rattle.value.specs.Result.{refusal};
+ghost use Rattle.value.specs.Result.{ok, map_result};
+ghost use Rattle.value.specs.Numbered.{numbered};
 ghost use Rattle.sheet.specs.Table.{section_at, table_of, NodesTable, RootsJudged, NodesJudged, SheetJudged};
 
 use node::{byte_of, record_in_range, record_width};
+use refusal::Refusal;
 
-/// What reading a sheet gives. A refusal is its number and zeros. Otherwise `refusal` is 0, and `starts` has the
-/// place of each node's record, in file order, with zeros behind.
+/// What reading a sheet gives: how many variables its plan has, its root node, how many sections and nodes it has, and the byte where each
+/// node's record starts, in file order, with zeros behind.
 #[derive(Clone, Copy, Debug, PartialEq, Eq)]
 pub struct Table {
-    pub refusal: u8,
     pub k: usize,
     pub root: usize,
     pub sections: usize,
     pub nodes: usize,
     pub starts: [u16; 200],
-}
-
-// The refusals of a sheet, by their numbers.
-const KIND: u8 = 10;
-
-const CUT: u8 = 11;
-
-const TOO_MANY: u8 = 12;
-
-const OUT_OF_RANGE: u8 = 13;
-
-const NO_NODE: u8 = 14;
-
-// A byte as a number of a node, section or variable.
-fn extend(b: u8) -> usize
-    ensures { result ≡ b }
-{
-    b as usize
 }
 
 // What each byte of a node record is: kinds 10 to 1D in order, a hexadecimal digit a byte, the kind byte's digit last.
@@ -75,7 +58,7 @@ pub fn part(kind: u8, i: u16) -> u8
     if 8 <= i {
         return 0;
     }
-    let parts = PARTS[extend(kind) - 0x10];
+    let parts = PARTS[usize::from(kind) - 0x10];
     ((parts >> (4 * (i as u32))) % 16) as u8
 }
 
@@ -134,27 +117,13 @@ pub fn section_root(s: &[u8], i: usize) -> usize
     if s.len() <= at {
         return 0;
     }
-    extend(s[at])
-}
-
-// The table of a sheet that is refused.
-fn refused(code: u8) -> Table
-    ensures { result ≡ table_of (refusal code) }
-{
-    Table {
-        refusal: code,
-        k: 0,
-        root: 0,
-        sections: 0,
-        nodes: 0,
-        starts: [0u16; 200],
-    }
+    usize::from(s[at])
 }
 
 // The table of a sheet whose header and sections are read: one pass over the node records.
-fn read_nodes(s: &[u8], k: usize, root: usize, sections: usize) -> Table
+fn read_nodes(s: &[u8], k: usize, root: usize, sections: usize) -> Result<Table, Refusal>
     requires { sections ≤ 8 }
-    ensures { NodesTable s.now k root sections result }
+    ensures { NodesTable s.now k root sections (numbered result) }
 {
     let mut starts = [0u16; 200];
     let mut n: usize = 0;
@@ -162,38 +131,37 @@ fn read_nodes(s: &[u8], k: usize, root: usize, sections: usize) -> Table
     while at < s.len() {
         let width = record_width(s[at]);
         if width == 0 {
-            return refused(KIND);
+            return Err(Refusal::SheetKind);
         }
         if n == 200 {
-            return refused(TOO_MANY);
+            return Err(Refusal::SheetFull);
         }
         if s.len() - at < width {
-            return refused(CUT);
+            return Err(Refusal::SheetCut);
         }
         starts[n] = at as u16;
         n += 1;
         at += width;
     }
     if n == 0 {
-        return refused(NO_NODE);
+        return Err(Refusal::SheetEmpty);
     }
-    Table {
-        refusal: 0,
+    Ok(Table {
         k,
         root,
         sections,
         nodes: n,
         starts,
-    }
+    })
 }
 
 // The table of a sheet whose header is whole: one pass over the section records, and then the nodes.
-fn read_sections(s: &[u8]) -> Table
+fn read_sections(s: &[u8]) -> Result<Table, Refusal>
     requires { 3 ≤ length s.now }
-    ensures { result ≡ table_of (read_body (drop 1 s.now)) }
+    ensures { numbered result ≡ map_result table_of (read_body (drop 1 s.now)) }
 {
-    let k = extend(s[1]);
-    let root = extend(s[2]);
+    let k = usize::from(s[1]);
+    let root = usize::from(s[2]);
     let mut n: usize = 0;
     let mut at: usize = 3;
     while at < s.len() {
@@ -201,29 +169,29 @@ fn read_sections(s: &[u8]) -> Table
             return read_nodes(s, k, root, n);
         }
         if n == 8 {
-            return refused(TOO_MANY);
+            return Err(Refusal::SheetFull);
         }
         if s.len() - at == 1 {
-            return refused(CUT);
+            return Err(Refusal::SheetCut);
         }
         n += 1;
         at += 2;
     }
-    refused(NO_NODE)
+    Err(Refusal::SheetEmpty)
 }
 
 // The table of a sheet's records, whose numbers are not judged yet.
-fn read_records(s: &[u8]) -> Table
-    ensures { result ≡ table_of (read_header s.now) }
+fn read_records(s: &[u8]) -> Result<Table, Refusal>
+    ensures { numbered result ≡ map_result table_of (read_header s.now) }
 {
     if s.len() == 0 {
-        return refused(NO_NODE);
+        return Err(Refusal::SheetEmpty);
     }
     if s[0] != 0x01 {
-        return refused(KIND);
+        return Err(Refusal::SheetKind);
     }
     if s.len() < 3 {
-        return refused(CUT);
+        return Err(Refusal::SheetCut);
     }
     read_sections(s)
 }
@@ -262,7 +230,7 @@ fn nodes_in_range(s: &[u8], t: Table) -> bool
 
 // Whether every number of a sheet is in its range: one pass over the records of this table.
 fn all_in_range(s: &[u8], t: Table) -> bool
-    requires { t ≡ table_of (read_header s.now) }
+    requires { ok t ≡ map_result table_of (read_header s.now) }
     ensures { SheetJudged s.now result }
 {
     (1 <= t.k)
@@ -273,15 +241,12 @@ fn all_in_range(s: &[u8], t: Table) -> bool
 }
 
 /// Read a sheet: its records, one by one, and then their numbers.
-pub fn read_sheet(s: &[u8]) -> Table
-    ensures { result ≡ table_of (read_sheet s.now) }
+pub fn read_sheet(s: &[u8]) -> Result<Table, Refusal>
+    ensures { numbered result ≡ map_result table_of (read_sheet s.now) }
 {
-    let t = read_records(s);
-    if t.refusal != 0 {
-        return t;
+    let t = read_records(s)?;
+    if !all_in_range(s, t) {
+        return Err(Refusal::SheetRange);
     }
-    if all_in_range(s, t) {
-        return t;
-    }
-    refused(OUT_OF_RANGE)
+    Ok(t)
 }

@@ -10,8 +10,8 @@ use Rattle.std.proofs.Math.ListN.{length, get_or-append}
 use Rattle.std.proofs.Math.Seq.{drop-length}
 use Rattle.std.proofs.lemmas.List.{get_or_at}
 use Rattle.starts.specs.declared.Starts.{Starts}
-use Rattle.starts.specs.declared.Found.{Found}
-use Rattle.starts.specs.declared.Found.TheVariants.{At, Refused}
+use Rattle.starts.specs.declared.Place.{Place}
+use Rattle.value.specs.Result.{Result, ok, refusal}
 use Rattle.starts.specs.Starts.{firsts, numbers, rises, proper, stands_at, find_of, part_of}
 
 -- THE NUMBERS
@@ -165,12 +165,12 @@ rising_to_end (over p q r) h = over p (omega arith) (rising_to_end r (omega arit
 -- THE RETURNS OF A LOOKUP
 
 module _ (s : Starts) (n i : ℕ) where
-  pub find_24 : proper s n ≡ false → Refused 24 ≡ find_of s n i
+  pub find_24 : proper s n ≡ false → refusal 24 ≡ find_of s n i
   unfolding find_of
   find_24 e = sym (rw e)
 
   module _ (e : proper s n ≡ true) where
-    pub find_23 : s.count ≤ i → Refused 23 ≡ find_of s n i
+    pub find_23 : s.count ≤ i → refusal 23 ≡ find_of s n i
     unfolding find_of
     find_23 h = sym (rw (e, le-ltb i s.count h))
 
@@ -178,7 +178,7 @@ module _ (s : Starts) (n i : ℕ) where
       many : length (numbers s) ≡ s.count
       many = length-firsts s.count s.at
 
-      pub find_at : {a b : ℕ} → a ≡ get_or s.at i 0 → b ≡ get_or (numbers s ++ (n ∷ [])) (i + 1) 0 → At a b ≡ find_of s n i
+      pub find_at : {a b : ℕ} → a ≡ get_or s.at i 0 → b ≡ get_or (numbers s ++ (n ∷ [])) (i + 1) 0 → ok (record { start = a; end = b }) ≡ find_of s n i
       unfolding find_of stands_at
       find_at p q = sym (rw (e, lt-ltb i s.count h, firsts_at s.count s.at i h, p, q, add-one))
 
@@ -196,33 +196,34 @@ pub record Inside (n a b : ℕ) : Type 0 where
   pub some : a < b
   pub within : b ≤ n
 
-pub found_inside : (s : Starts) (n i : ℕ) {a b : ℕ} → find_of s n i ≡ At a b → Inside n a b
+pub found_inside : (s : Starts) (n i : ℕ) {p : Place} → ok p ≡ find_of s n i → Inside n p.start p.end
 unfolding find_of stands_at
-found_inside s n i {a} {b} e = go (proper s n) (ltb i s.count) refl refl e
+found_inside s n i {p} e = go (proper s n) (ltb i s.count) refl refl e
   where
     ends : List ℕ
     ends = numbers s ++ (n ∷ [])
 
-    go : (p q : Bool) → proper s n ≡ p → ltb i s.count ≡ q → cond p (cond q (stands_at s n i) (Refused 23)) (Refused 24) ≡ At a b → Inside n a b
-    go false q p l f = let z : ◌≡◌ {A = ℕ} 0 1 = cc in absurd (omega arith)
-    go true false p l f = let z : ◌≡◌ {A = ℕ} 0 1 = cc in absurd (omega arith)
-    go true true p l f =
-        let w = proper_is s n p in
+    go : (a b : Bool) → proper s n ≡ a → ltb i s.count ≡ b → ok p ≡ cond a (cond b (ok (stands_at s n i)) (refusal 23)) (refusal 24) → Inside n p.start p.end
+    go false b w l f = absurd (cc)
+    go true false w l f = absurd (cc)
+    go true true w l f =
+        let w = proper_is s n w in
         let m : length (numbers s) ≡ s.count = length-firsts s.count s.at in
         let h : i < s.count = ltb-true i s.count l in
         let k : suc i < length ends = rw length-append (omega (arith, m)) in
         let r : Rising (suc n) 0 ends = rising_to_end w.rising (omega arith) in
         let x : get_or ends i 0 ≡ get_or (numbers s) i 0 = get_or-append (numbers s) (n ∷ []) 0 i (omega (arith, m)) in
-        let y : get_or (numbers s) i 0 ≡ a = cc in
-        let z : get_or ends (suc i) 0 ≡ b = cc in
+        let q : p ≡ stands_at s n i = cc in
+        let y : p.start ≡ get_or (numbers s) i 0 = ap (λ (p : Place). p.start) q in
+        let z : p.end ≡ get_or ends (suc i) 0 = ap (λ (p : Place). p.end) q in
         record { some = omega (arith, rising_next i r k, x, y, z); within = omega (arith, (rising_at (suc i) r k).1, z) }
 
 -- THE PART OF THE PLAN
 
-pub part_found : {f : Found} {a b : ℕ} (plan : List ℕ) → f ≡ At a b → take (b - a) (drop a plan) ≡ part_of f plan
+pub part_found : {f : Result Place} {p : Place} (plan : List ℕ) → ok p ≡ f → take (p.end - p.start) (drop p.start plan) ≡ part_of f plan
 unfolding part_of
-part_found plan e = sym (rw e)
+part_found plan e = rw (← e)
 
-pub part_refused : {f : Found} {c : ℕ} (plan : List ℕ) → f ≡ Refused c → [] ≡ part_of f plan
+pub part_refused : {f : Result Place} {c : ℕ} (plan : List ℕ) → refusal c ≡ f → [] ≡ part_of f plan
 unfolding part_of
-part_refused plan e = sym (rw e)
+part_refused plan e = rw (← e)

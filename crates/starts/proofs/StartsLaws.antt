@@ -5,7 +5,7 @@ use Rattle.std.proofs.Common.{◌∙◌, add-one, arith, length-append}
 use mathlib.Core.List.{List, [], ◌∷◌, ◌++◌}
 use Rattle.std.proofs.Math.Nat.{zero-add}
 use Rattle.std.proofs.Math.ListN.{length, get_or, take}
-use Rattle.value.specs.Result.{Result, ok, refusal, and_then}
+use Rattle.value.specs.Result.{Result, ok, refusal, and_then, map_result}
 use Rattle.value.specs.Value.{Value, vfalse, encode, size, flat}
 use Rattle.value.proofs.Encoding.{size-encode, size_pos}
 use Rattle.value.proofs.Progress.{starts-length}
@@ -16,70 +16,57 @@ use Rattle.value.proofs.SpansLaws.{plan_read, plan_refused, len_is, span_is}
 use Rattle.value.specs.declared.Spans.{Spans}
 use Rattle.sheet.specs.Sheet.{Sheet, read_sheet}
 use Rattle.sheet.specs.Table.{table_of}
-use Rattle.sheet.specs.Laws.{sheet_ranges, table_ok, table_refused}
+use Rattle.sheet.specs.Laws.{Reads, sheet_ranges, table_reads, table_refused}
 use Rattle.sheet.specs.declared.Table.{Table}
-use Rattle.starts.specs.declared.Found.TheVariants.{At, Refused}
-use Rattle.starts.specs.Starts.{no_starts, starts_of, refused_load, loaded, load_of, numbers, find_of, part_of}
+use Rattle.starts.specs.declared.Starts.{Starts}
+use Rattle.starts.specs.declared.Place.{Place}
+use Rattle.starts.specs.Starts.{no_starts, starts_of, load_of, starts_in, numbers, find_of, part_of}
 use Rattle.starts.proofs.Lookup.{firsts_at, firsts_all, Rising, end, over, Proper, proper_so, find_23, find_at, part_found}
 
 -- LOADING
 
-module _ (sheet : List ℕ) {t : Table} (is : t ≡ table_of (read_sheet sheet)) where
-  refusal_is : t.refusal ≡ (table_of (read_sheet sheet)).refusal
-  refusal_is = ap (λ (t : Table). t.refusal) is
-
+module _ (sheet : List ℕ) where
   -- the sheet is refused
-  pub load_no_sheet : (plan : List ℕ) → (t.refusal ≡ 0 → ⊥) → refused_load t.refusal ≡ load_of sheet plan
-  unfolding load_of loaded and_then
-  load_no_sheet plan n =
-      let e : read_sheet sheet ≡ refusal t.refusal = table_refused sheet (λ z. n (refusal_is ∙ z)) ∙ ap refusal (sym refusal_is) in
-      sym (rw e)
+  pub load_no_sheet : (plan : List ℕ) {c : ℕ} → refusal c ≡ map_result table_of (read_sheet sheet) → refusal c ≡ load_of sheet plan
+  unfolding load_of and_then map_result
+  load_no_sheet plan e = rw (table_refused sheet e)
 
-  module _ (fine : t.refusal ≡ 0) where
-    read : (sh : Sheet) × (read_sheet sheet ≡ ok sh)
-    read = table_ok sheet (sym refusal_is ∙ fine)
-
-    k_is : t.k ≡ read.0.k
-    unfolding table_of
-    k_is = ap (λ (t : Table). t.k) (is ∙ ap table_of read.1)
+  module _ {t : Table} (is : ok t ≡ map_result table_of (read_sheet sheet)) where
+    read : (sh : Sheet) × Reads sheet t sh
+    read = table_reads sheet is
 
     pub few : t.k ≤ 16
-    few = omega (arith, k_is, (sheet_ranges sheet read.1).few_variables)
+    few = omega (arith, read.1.k, read.1.ranges.few_variables)
 
-    module _ (plan : List ℕ) {sp : Spans} (plan-is : sp ≡ spans_of t.k plan) where
-      load_is : load_of sheet plan ≡ loaded (read_plan t.k plan)
+    module _ (plan : List ℕ) where
+      load_is : load_of sheet plan ≡ map_result starts_of (read_plan t.k plan)
       unfolding load_of and_then
-      load_is = rw read.1 (ap (λ (k : ℕ). loaded (read_plan k plan)) (sym k_is))
-
-      code_is : sp.refusal ≡ (spans_of t.k plan).refusal
-      code_is = ap (λ (s : Spans). s.refusal) plan-is
+      load_is = rw read.1.sheet (ap (λ (k : ℕ). map_result starts_of (read_plan k plan)) (sym read.1.k))
 
       -- the plan is refused
-      pub load_no_plan : (sp.refusal ≡ 0 → ⊥) → refused_load sp.refusal ≡ load_of sheet plan
-      unfolding loaded
-      load_no_plan n =
-          let e : read_plan t.k plan ≡ refusal sp.refusal = plan_refused t.k plan few (λ z. n (code_is ∙ z)) ∙ ap refusal (sym code_is) in
-          sym (load_is ∙ ap loaded e)
+      pub load_no_plan : {c : ℕ} → refusal c ≡ spans_of t.k plan → refusal c ≡ load_of sheet plan
+      unfolding map_result
+      load_no_plan e = sym (load_is ∙ rw (plan_refused t.k plan few e))
 
       -- both are read
-      pub load_read : sp.refusal ≡ 0 → record { refusal = 0; starts = record { count = t.k; at = sp.starts } } ≡ load_of sheet plan
-      unfolding loaded starts_of spans
-      load_read z =
-          let p = plan_read t.k plan (sym code_is ∙ z) in
+      pub load_read : {sp : Spans} → ok sp ≡ spans_of t.k plan → ok (record { count = t.k; at = sp.starts }) ≡ load_of sheet plan
+      unfolding map_result starts_of spans
+      load_read {sp} e =
+          let p = plan_read t.k plan e in
           let c : length p.vs ≡ t.k = (read_values_sound 20 t.k plan p.found).count in
-          let s : sp.starts ≡ places (starts 0 p.vs) = ap (λ (s : Spans). s.starts) (plan-is ∙ p.places_are) in
-          sym (load_is ∙ ap loaded p.found ∙ ap₂ (λ (k : ℕ) (l : List ℕ). record { refusal = 0; starts = record { count = k; at = l } }) c (sym s))
+          let s : sp.starts ≡ places (starts 0 p.vs) = ap (λ (s : Spans). s.starts) p.spans_are in
+          sym (load_is ∙ rw p.found (ap₂ (λ (k : ℕ) (l : List ℕ). let s : Starts = record { count = k; at = l } in ok s) c (sym s)))
 
 -- there are at most 16
-pub load_few : (sheet plan : List ℕ) → (load_of sheet plan).starts.count ≤ 16
-unfolding load_of loaded and_then starts_of refused_load no_starts
+pub load_few : (sheet plan : List ℕ) → (starts_in (load_of sheet plan)).count ≤ 16
+unfolding load_of map_result and_then starts_of starts_in no_starts
 load_few sheet plan = of_sheet (read_sheet sheet) refl
   where
-    of_plan : {sh : Sheet} → read_sheet sheet ≡ ok sh → (r : Result (List Value)) → read_plan sh.k plan ≡ r → (loaded r).starts.count ≤ 16
+    of_plan : {sh : Sheet} → read_sheet sheet ≡ ok sh → (r : Result (List Value)) → read_plan sh.k plan ≡ r → (starts_in (map_result starts_of r)).count ≤ 16
     of_plan {sh} e (ok vs) f = omega (arith, (read_values_sound 20 sh.k plan f).count, (sheet_ranges sheet e).few_variables)
     of_plan e (refusal c) f = omega arith
 
-    of_sheet : (r : Result Sheet) → read_sheet sheet ≡ r → (loaded (and_then r λ sh. read_plan sh.k plan)).starts.count ≤ 16
+    of_sheet : (r : Result Sheet) → read_sheet sheet ≡ r → (starts_in (map_result starts_of (and_then r λ sh. read_plan sh.k plan))).count ≤ 16
     of_sheet (ok sh) e = of_plan e (read_plan sh.k plan) refl
     of_sheet (refusal c) e = omega arith
 
@@ -139,21 +126,21 @@ module _ (vs : List Value) (some : 1 ≤ length vs) (few : length vs ≤ 16) whe
       let n = length (flat vs) in
       let a = get_or s.at i 0 in
       let b = get_or (numbers s ++ (n ∷ [])) (i + 1) 0 in
-      let f : At a b ≡ find_of s n i = find_at s n i (proper_so starts_proper) h refl refl in
+      let f : ok (record { start = a; end = b }) ≡ find_of s n i = find_at s n i (proper_so starts_proper) h refl refl in
       let e : b ≡ a + size (get_or vs i vfalse)
       = ap₂ (λ (l : List ℕ) (j : ℕ). get_or (l ++ (n ∷ [])) j 0) (numbers_are vs) (add-one i) ∙ rw zero-add at (value_end 0 vs i h)
       ∙ ap (λ (x : ℕ). x + size (get_or vs i vfalse)) (sym (start_is vs i h)) in
-      let d : b - a ≡ get_or (spans (ok vs)).lens i 0 = omega (arith, e, len_is vs i h) in
-      sym (part_found (flat vs) (sym f)) ∙ ap (λ (x : ℕ). take x (drop a (flat vs))) d ∙ span_is vs i h
+      let d : b - a ≡ get_or (spans vs).lens i 0 = omega (arith, e, len_is vs i h) in
+      sym (part_found (flat vs) f) ∙ ap (λ (x : ℕ). take x (drop a (flat vs))) d ∙ span_is vs i h
 
-  pub none_is : (i : ℕ) → length vs ≤ i → find_of (starts_of vs) (length (flat vs)) i ≡ Refused 23
+  pub none_is : (i : ℕ) → length vs ≤ i → find_of (starts_of vs) (length (flat vs)) i ≡ refusal 23
   unfolding starts_of
   none_is i h = sym (find_23 (starts_of vs) (length (flat vs)) i (proper_so starts_proper) h)
 
 -- whole calls: a reading from the front of the sheet and of the plan gives the values
 module _ (sheet plan : List ℕ) {sh : Sheet} {vs : List Value} (s : read_sheet sheet ≡ ok sh) (p : read_plan sh.k plan ≡ ok vs) where
-  pub load_gives : load_of sheet plan ≡ record { refusal = 0; starts = starts_of vs }
-  unfolding load_of loaded and_then
+  pub load_gives : load_of sheet plan ≡ ok (starts_of vs)
+  unfolding load_of map_result and_then
   load_gives = rw (s, p)
 
   some : 1 ≤ length vs
@@ -162,8 +149,10 @@ module _ (sheet plan : List ℕ) {sh : Sheet} {vs : List Value} (s : read_sheet 
   few_values : length vs ≤ 16
   few_values = omega (arith, (read_values_sound 20 sh.k plan p).count, (sheet_ranges sheet s).few_variables)
 
-  pub loaded_part : (i : ℕ) → i < length vs → part_of (find_of (load_of sheet plan).starts (length plan) i) plan ≡ encode (get_or vs i vfalse)
+  pub loaded_part : (i : ℕ) → i < length vs → part_of (find_of (starts_in (load_of sheet plan)) (length plan) i) plan ≡ encode (get_or vs i vfalse)
+  unfolding starts_in
   loaded_part i h = rw (load_gives, (read_values_sound 20 sh.k plan p).bytes) (part_is vs some few_values i h)
 
-  pub loaded_none : (i : ℕ) → length vs ≤ i → find_of (load_of sheet plan).starts (length plan) i ≡ Refused 23
+  pub loaded_none : (i : ℕ) → length vs ≤ i → find_of (starts_in (load_of sheet plan)) (length plan) i ≡ refusal 23
+  unfolding starts_in
   loaded_none i h = rw (load_gives, (read_values_sound 20 sh.k plan p).bytes) (none_is vs some few_values i h)

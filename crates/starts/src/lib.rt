@@ -2,8 +2,11 @@
 #![tactic(auto)]
 
 ghost use Rattle.std.specs.Prelude.{◌≡◌, length};
-ghost use Rattle.starts.specs.Starts.{no_starts, load_of, refused_load, proper, find_of, part_of};
+ghost use Rattle.value.specs.Numbered.{numbered};
+ghost use Rattle.starts.specs.Starts.{no_starts, load_of, proper, find_of, part_of};
 ghost use Rattle.starts.specs.NewPlan.{plan_of, grown_by};
+
+use refusal::Refusal;
 
 /// Where each value of a plan starts: `count` numbers, at the front of `at`. Those that this program gives have zeros behind them; those
 /// that a caller kept may be any numbers, and `find` judges them.
@@ -13,18 +16,11 @@ pub struct Starts {
     pub at: [u16; 16],
 }
 
-/// What loading gives: refusal 0 and the starts of the plan's values; or a refusal's number and no start.
+/// Where a value stands in its plan: from byte `start` on, up to the byte before `end`.
 #[derive(Clone, Copy, Debug, PartialEq, Eq)]
-pub struct Loaded {
-    pub refusal: u8,
-    pub starts: Starts,
-}
-
-/// Where a value stands in its plan: from byte `start` on, up to the byte before `end`; or a refusal's number.
-#[derive(Clone, Copy, Debug, PartialEq, Eq)]
-pub enum Found {
-    At { start: usize, end: usize },
-    Refused(u8),
+pub struct Place {
+    pub start: usize,
+    pub end: usize,
 }
 
 /// A plan that is put together value by value: how many bytes it has so far, and where its values start.
@@ -44,33 +40,15 @@ pub fn none() -> Starts
     }
 }
 
-// A refusal, with no start.
-fn refused(number: u8) -> Loaded
-    ensures { result ≡ refused_load number }
-{
-    let starts = none();
-    Loaded {
-        refusal: number,
-        starts,
-    }
-}
-
 /// The starts of a plan's values; or the sheet's refusal (10 to 14), then the plan's (20 to 22).
-pub fn load(sheet: &[u8], plan: &[u8]) -> Loaded
-    ensures { result ≡ load_of sheet.now plan.now }
+pub fn load(sheet: &[u8], plan: &[u8]) -> Result<Starts, Refusal>
+    ensures { numbered result ≡ load_of sheet.now plan.now }
 {
-    let table = sheet::read_sheet(sheet);
-    if table.refusal != 0 {
-        return refused(table.refusal);
-    }
-    let spans = value::read_plan(table.k, plan);
-    if spans.refusal != 0 {
-        return refused(spans.refusal);
-    }
+    let table = sheet::read_sheet(sheet)?;
+    let spans = value::read_plan(table.k, plan)?;
     let count = table.k as u8;
     let at = spans.starts;
-    let starts = Starts { count, at };
-    Loaded { refusal: 0, starts }
+    Ok(Starts { count, at })
 }
 
 // Whether the starts are 1 to 16 numbers that rise from 0, all below the plan's length.
@@ -104,22 +82,22 @@ fn is_proper(starts: Starts, len: usize) -> bool
 
 /// Where the value of a variable stands in a plan of `len` bytes: from its start to the next, or to the plan's end. 24: the starts are
 /// not 1 to 16 numbers that rise from 0, all below `len`; then 23: there is no such variable.
-pub fn find(starts: Starts, len: usize, variable: usize) -> Found
-    ensures { result ≡ find_of starts len variable }
+pub fn find(starts: Starts, len: usize, variable: usize) -> Result<Place, Refusal>
+    ensures { numbered result ≡ find_of starts len variable }
 {
     if !is_proper(starts, len) {
-        return Found::Refused(24);
+        return Err(Refusal::Starts);
     }
     let count = starts.count as usize;
     if count <= variable {
-        return Found::Refused(23);
+        return Err(Refusal::Variable);
     }
     let start = starts.at[variable] as usize;
     if variable + 1 == count {
-        return Found::At { start, end: len };
+        return Ok(Place { start, end: len });
     }
     let end = starts.at[variable + 1] as usize;
-    Found::At { start, end }
+    Ok(Place { start, end })
 }
 
 /// The value of a variable, as the part of the plan's own bytes; the empty part, which no value is, where `find` refuses.
@@ -127,8 +105,8 @@ pub fn part(starts: Starts, plan: &[u8], variable: usize) -> &[u8]
     ensures { result.now ≡ part_of (find_of starts (length plan.now) variable) plan.now }
 {
     match find(starts, plan.len(), variable) {
-        Found::At { start, end } => &plan[start..end],
-        Found::Refused(_) => &plan[..0],
+        Ok(place) => &plan[place.start..place.end],
+        Err(_) => &plan[..0],
     }
 }
 

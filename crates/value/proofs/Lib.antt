@@ -1,3 +1,4 @@
+pub mod Numbered
 pub mod Progress
 pub mod SpansLaws
 pub mod Turns

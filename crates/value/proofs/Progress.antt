@@ -1,5 +1,5 @@
 -- How a plan is read, value by value: what holds before each, and the ways to answer.
-use Rattle.std.specs.Prelude.{◌≡◌, refl, set, replicate}
+use Rattle.std.specs.Prelude.{◌≡◌, refl, Option, Some, None, Ok, Err, set, replicate}
 use Rattle.std.proofs.Math.Path.{sym, ap, ap₂}
 use Rattle.std.proofs.Common.{◌∙◌, add-zero, le-leb, drop-drop, drop_at}
 use mathlib.Core.List.{List, [], ◌∷◌, ◌++◌, map, append-nil}
@@ -14,30 +14,29 @@ use Rattle.value.proofs.Encoding.{size-encode, flat_append}
 use Rattle.value.specs.Reading.{Found, whole, malformed, too_long, value, nothing, a_value, read_value, on_value, read_values, read_plan}
 use Rattle.value.specs.Laws.{Readable}
 use Rattle.value.proofs.Laws.{read_sound}
-use Rattle.value.specs.Reader.{outcome, from}
+use Rattle.value.specs.Reader.{Read, outcome, from}
 use Rattle.value.proofs.Reader.{from-drop}
-use Rattle.value.specs.Spans.{next_as, next_of, places, starts, spans, within16, spans_of, code_of, view_code}
-use Rattle.value.specs.declared.Read.{Read}
-use Rattle.value.specs.declared.Next.{Next}
-use Rattle.value.specs.declared.Next.TheVariants.{Value as NextValue, Malformed, TooLong, Missing}
+use Rattle.value.specs.Spans.{next_of, places, starts, spans, within16, plan_of, spans_of, view_of}
+use Rattle.value.specs.declared.Fault.TheVariants.{Malformed, TooLong}
+use Rattle.value.specs.declared.Spans.{Spans}
 
 -- no next value, and its refusal's number in a row of three: malformed, too long, missing
-pub data Lacks : Next → ℕ → Type 0 where
-  as_malformed : Lacks Malformed 0
-  as_too_long : Lacks TooLong 1
-  as_missing : Lacks Missing 2
+pub data Lacks : Option Read → ℕ → Type 0 where
+  as_malformed : Lacks (Some (Err Malformed)) 0
+  as_too_long : Lacks (Some (Err TooLong)) 1
+  as_missing : Lacks None 2
 
 -- what the next value says of the reading of several, whose refusals start at `base`
-pub data NextIs (base : ℕ) (bs : List ℕ) : Next → Type 0 where
-  n_lacks : {r : Next} {c : ℕ} → Lacks r c → ((m : ℕ) → read_values base (suc m) bs ≡ refusal (base + c)) → NextIs base bs r
+pub data NextIs (base : ℕ) (bs : List ℕ) : Option Read → Type 0 where
+  n_lacks : {r : Option Read} {c : ℕ} → Lacks r c → ((m : ℕ) → read_values base (suc m) bs ≡ refusal (base + c)) → NextIs base bs r
   n_value : {n : ℕ} (v : Value) (more : List ℕ) → size v ≡ n → bs ≡ encode v ++ more → Readable v →
-      ((m : ℕ) → read_values base (suc m) bs ≡ map_result (λ vs. v ∷ vs) (read_values base m more)) → NextIs base bs (NextValue n)
+      ((m : ℕ) → read_values base (suc m) bs ≡ map_result (λ vs. v ∷ vs) (read_values base m more)) → NextIs base bs (Some (Ok n))
 
-pub next_is : (base : ℕ) (bs : List ℕ) {r : Next} → r ≡ next_of bs → NextIs base bs r
-unfolding next_of next_as outcome read_values on_value
+pub next_is : (base : ℕ) (bs : List ℕ) {r : Option Read} → r ≡ next_of bs → NextIs base bs r
+unfolding next_of outcome read_values on_value
 next_is base bs e = rw e (all bs)
   where
-    one : (b : ℕ) (bs : List ℕ) (x : Found (value ∷ [])) → read_value (b ∷ bs) ≡ x → NextIs base (b ∷ bs) (next_as (outcome x))
+    one : (b : ℕ) (bs : List ℕ) (x : Found (value ∷ [])) → read_value (b ∷ bs) ≡ x → NextIs base (b ∷ bs) (Some (outcome x))
     one b bs (whole (a_value v nothing) more) e = let s = read_sound (b ∷ bs) e in n_value v more refl s.0 s.1 (λ m. rw e)
     one b bs malformed e = n_lacks as_malformed (λ m. rw (e, add-zero))
     one b bs too_long e = n_lacks as_too_long (λ m. rw e)
@@ -46,37 +45,34 @@ next_is base bs e = rw e (all bs)
     all [] = n_lacks as_missing (λ m. refl)
     all (b ∷ bs) = one b bs (read_value (b ∷ bs)) refl
 
-pub next_as_lem : {base : ℕ} {s : List ℕ} {r o : Next} → NextIs base s r → r ≡ o → NextIs base s o
-next_as_lem {base} {s} w e = rw e at w
-
-lacks : {base : ℕ} {s : List ℕ} {r : Next} {c : ℕ} → Lacks r c → NextIs base s r → (m : ℕ) → read_values base (suc m) s ≡ refusal (base + c)
+lacks : {base : ℕ} {s : List ℕ} {r : Option Read} {c : ℕ} → Lacks r c → NextIs base s r → (m : ℕ) → read_values base (suc m) s ≡ refusal (base + c)
 lacks as_malformed (n_lacks as_malformed e) = e
 lacks as_too_long (n_lacks as_too_long e) = e
 lacks as_missing (n_lacks as_missing e) = e
 
 -- a view is one value
-pub view_refused : {s : List ℕ} {r : Next} {c : ℕ} → Lacks r c → NextIs 30 s r → 30 + c ≡ view_code s
-unfolding view_code code_of
+pub view_refused : {s : List ℕ} {r : Option Read} {c : ℕ} → Lacks r c → NextIs 30 s r → refusal (30 + c) ≡ view_of s
+unfolding view_of map_result
 view_refused k w = rw (lacks k w 0)
 
-pub next_short : {base : ℕ} {s : List ℕ} {n : ℕ} → NextIs base s (NextValue n) → (n ≤ length s) × (n ≤ 256)
+pub next_short : {base : ℕ} {s : List ℕ} {n : ℕ} → NextIs base s (Some (Ok n)) → (n ≤ length s) × (n ≤ 256)
 next_short (n_value v more l e h f) = (omega (arith, ap length e, length-append (encode v) more, size-encode v), omega (arith, h.fits))
 next_short {base = base} {s = s} {n = n} (n_lacks {c = c} x3 _) = elim x3 [ ]
 
-pub view_more : {s : List ℕ} {n : ℕ} → NextIs 30 s (NextValue n) → n < length s → 32 ≡ view_code s
-unfolding view_code code_of read_values map_result
+pub view_more : {s : List ℕ} {n : ℕ} → NextIs 30 s (Some (Ok n)) → n < length s → refusal 32 ≡ view_of s
+unfolding view_of read_values map_result
 view_more {s} (n_value v more l e h f) lt = rw (f 0) (go more (omega (arith, ap length e, length-append (encode v) more, size-encode v)))
   where
-    go : (more : List ℕ) → 0 < length more → 32 ≡ code_of (map_result (λ vs. v ∷ vs) (read_values 30 0 more))
+    go : (more : List ℕ) → 0 < length more → refusal 32 ≡ map_result (λ (vs : List Value). tt {0}) (map_result (λ vs. v ∷ vs) (read_values 30 0 more))
     go [] lt = absurd (omega arith)
     go (b ∷ bs) lt = refl
 view_more {s = s} {n = n} (n_lacks {c = c} x5 _) lt = elim x5 [ ]
 
-pub view_read : {s : List ℕ} {n : ℕ} → NextIs 30 s (NextValue n) → length s ≤ n → 0 ≡ view_code s
-unfolding view_code code_of read_values map_result
+pub view_read : {s : List ℕ} {n : ℕ} → NextIs 30 s (Some (Ok n)) → length s ≤ n → ok tt ≡ view_of s
+unfolding view_of read_values map_result
 view_read {s} (n_value v more l e h f) le = rw (f 0) (go more (omega (arith, ap length e, length-append (encode v) more, size-encode v)))
   where
-    go : (more : List ℕ) → length more ≡ 0 → 0 ≡ code_of (map_result (λ vs. v ∷ vs) (read_values 30 0 more))
+    go : (more : List ℕ) → length more ≡ 0 → ok tt ≡ map_result (λ (vs : List Value). tt {0}) (map_result (λ vs. v ∷ vs) (read_values 30 0 more))
     go [] z = refl
     go (b ∷ bs) z = absurd (omega arith)
 view_read {s = s} {n = n} (n_lacks {c = c} x5 _) le = elim x5 [ ]
@@ -155,22 +151,22 @@ at_start k s =
       few = omega arith;
     }
 
-pub too_many : (k : ℕ) (s : List ℕ) → 16 < k → spans (refusal 13) ≡ spans_of k s
-unfolding spans_of within16
+pub too_many : (k : ℕ) (s : List ℕ) → 16 < k → refusal 13 ≡ spans_of k s
+unfolding spans_of plan_of within16 map_result
 too_many k s h = rw (lt-leb k 16 h)
 
 module _ {k : ℕ} {s ss ls : List ℕ} {at i : ℕ} (p : Progress k s ss ls at i) (b : k ≤ 16) where
-  answer : {r : Result (List Value)} → read_plan k s ≡ r → spans r ≡ spans_of k s
-  unfolding spans_of within16
+  answer : {r : Result (List Value)} → read_plan k s ≡ r → map_result spans r ≡ spans_of k s
+  unfolding spans_of plan_of within16
   answer e = rw (le-leb k 16 b, e)
 
-  pub stops : {r : Next} {c : ℕ} → i < k → Lacks r c → NextIs 20 (from at s) r → spans (refusal (20 + c)) ≡ spans_of k s
+  pub stops : {r : Option Read} {c : ℕ} → i < k → Lacks r c → NextIs 20 (from at s) r → refusal (20 + c) ≡ spans_of k s
   unfolding map_result
   stops lt l w =
       let m : k - i ≡ suc (k - (i + 1)) = omega arith in
-      answer (p.goes ∙ rw (m, ← from-drop at s, lacks l w (k - (i + 1))))
+      answer {r = refusal _} (p.goes ∙ rw (m, ← from-drop at s, lacks l w (k - (i + 1))))
 
-  pub goes_on : {n : ℕ} → i < k → NextIs 20 (from at s) (NextValue n) → Progress k s (set ss i at) (set ls i n) (at + n) (i + 1)
+  pub goes_on : {n : ℕ} → i < k → NextIs 20 (from at s) (Some (Ok n)) → Progress k s (set ss i at) (set ls i n) (at + n) (i + 1)
   unfolding flat
   goes_on {n} lt (n_value v more l e h f) =
       let vs = p.vs in
@@ -194,27 +190,27 @@ module _ {k : ℕ} {s ss ls : List ℕ} {at i : ℕ} (p : Progress k s ss ls at 
   goes_on {n = n} lt (n_lacks {c = c} x3 _) = elim x3 [ ]
 
   -- all k values are read, and the bytes end there or do not
-  pub ends_well : i ≡ k → at ≡ length s → record { refusal = 0; starts = ss; lens = ls } ≡ spans_of k s
+  pub ends_well : i ≡ k → at ≡ length s → ok (record { starts = ss; lens = ls }) ≡ spans_of k s
   unfolding read_values map_result spans
   ends_well e f =
       let z : k - i ≡ 0 = omega arith in
       let a : drop at s ≡ [] = drop_of_length-le s {i = at} (omega arith) in
       let r : read_plan k s ≡ ok p.vs = p.goes ∙ rw (z, a) (ap ok (append-nil p.vs)) in
-      ap₂ (λ (x y : List ℕ). record { refusal = 0; starts = x; lens = y }) p.ss_are p.ls_are ∙ answer r
+      ap₂ (λ (x y : List ℕ). let s : Spans = record { starts = x; lens = y } in ok s) p.ss_are p.ls_are ∙ answer {r = ok p.vs} r
 
-  pub more_bytes : i ≡ k → at < length s → spans (refusal 22) ≡ spans_of k s
+  pub more_bytes : i ≡ k → at < length s → refusal 22 ≡ spans_of k s
   unfolding read_values map_result
   more_bytes e lt =
       let z : k - i ≡ 0 = omega arith in
-      answer (p.goes ∙ rw (z, drop-cons s at 0 lt))
+      answer {r = refusal 22} (p.goes ∙ rw (z, drop-cons s at 0 lt))
 
 -- next_value
-pub next_none : (s : List ℕ) → length s ≡ 0 → Missing ≡ next_of s
+pub next_none : (s : List ℕ) → length s ≡ 0 → None ≡ next_of s
 unfolding next_of
 next_none [] e = refl
 next_none (b ∷ bs) e = absurd (omega arith)
 
-pub next_some : (s : List ℕ) → (length s ≡ 0 → ⊥) → {r q : Read} → r ≡ outcome (read_value s) → r ≡ q → next_as q ≡ next_of s
+pub next_some : (s : List ℕ) → (length s ≡ 0 → ⊥) → {r : Read} → r ≡ outcome (read_value s) → Some r ≡ next_of s
 unfolding next_of
-next_some [] h e f = absurd (h refl)
-next_some (b ∷ bs) h e f = ap next_as (sym f ∙ e)
+next_some [] h e = absurd (h refl)
+next_some (b ∷ bs) h e = ap Some e

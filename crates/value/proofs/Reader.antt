@@ -1,15 +1,15 @@
 -- The reader's contracts: what a reading function answers, and what then holds of the bytes.
-use Rattle.std.specs.Prelude.{◌≡◌, Bool, true, false, ◌&&◌, ltb, length, take, drop}
+use Rattle.std.specs.Prelude.{◌≡◌, Ok, Err, Bool, true, false, ◌&&◌, ltb, length, take, drop}
 use Rattle.std.proofs.Math.Path.{refl, ap}
-use Rattle.std.proofs.Common.{sym, ap₂, ◌∙◌, arith, le_refl, one-add, lt-ltb, ne_eqb, le-leb, length-append, length-drop, take-append-drop, drop-cons}
+use Rattle.std.proofs.Common.{sym, ap₂, ◌∙◌, arith, le_refl, one-add, lt-ltb, le-leb, length-append, length-drop, take-append-drop, drop-cons}
 use Rattle.std.proofs.Common.{drop-drop, take_all, get_or-drop, length-take-le}
 use mathlib.Core.List.{List, [], ◌∷◌, ◌++◌}
 use Prim.Native.Nat.{ℕ, zero, suc, ◌+◌, ◌-◌, ◌*◌, ◌≤◌, ◌<◌}
 use Rattle.std.proofs.lemmas.Bool.{lt-leb}
 use Rattle.std.proofs.Math.ListN.{get_or, get_or-eq_default}
 use Rattle.value.specs.All.{All, none, each}
-use Rattle.value.specs.Value.{vfalse, vtrue, list, nil, least_wide, encode, size}
-use Rattle.value.proofs.Encoding.{size-encode}
+use Rattle.value.specs.Value.{Value, vfalse, vtrue, list, nil, least_wide, encode, size}
+use Rattle.value.proofs.Encoding.{size-encode, size_pos}
 use Rattle.value.specs.Reading.{
   Owed,
   value,
@@ -50,15 +50,10 @@ use Rattle.value.specs.Reading.{
   read,
   read_value,
 }
-use Rattle.value.specs.Laws.{Names, is0, is1, is2, is3, is4, is5, is6, is_other}
-use Rattle.value.proofs.Laws.{names, composed, body_read, nothing_owed, read_sound}
-use Rattle.value.specs.declared.Read.{Read}
-use Rattle.value.specs.declared.Read.TheVariants.{Whole, Malformed, TooLong}
-use Rattle.value.specs.Reader.{outcome, Reads, r_malformed, r_too_long, r_whole, answer, from, TwoParts, BodyBegins}
-
-pub answer_whole : (n : ℕ) → (n ≡ 0 → ⊥) → (n ≡ 257 → ⊥) → answer n ≡ Whole n
-answer_whole zero h k = absurd (h refl)
-answer_whole (suc n) h k = rw (ne_eqb n 256 (λ e. k (ap suc e)))
+use Rattle.value.specs.Laws.{bytes_of, Sound, s_whole, Names, is0, is1, is2, is3, is4, is5, is6, is_other}
+use Rattle.value.proofs.Laws.{names, sound, composed, body_read, nothing_owed, read_sound}
+use Rattle.value.specs.declared.Fault.TheVariants.{Malformed, TooLong}
+use Rattle.value.specs.Reader.{Read, outcome, Reads, r_malformed, r_too_long, r_whole, from, TwoParts, BodyBegins}
 
 pub from-drop : (a : ℕ) (s : List ℕ) → from a s ≡ drop a s
 from-drop a s = take_all (length s - a) (drop a s) (rw length-drop (le_refl (length s - a)))
@@ -75,10 +70,10 @@ full [] room os h e = absurd (h refl)
 full (b ∷ bs) zero os h e = refl
 full (b ∷ bs) (suc n) os h e = absurd (omega arith)
 
-pub reads_ended : {o : Owed} {s : List ℕ} {room : ℕ} → length s ≡ 0 → Reads o s room Malformed
+pub reads_ended : {o : Owed} {s : List ℕ} {room : ℕ} → length s ≡ 0 → Reads o s room (Err Malformed)
 reads_ended {s} {room} h = r_malformed (λ os. ended s room os h)
 
-pub reads_full : {o : Owed} {s : List ℕ} {room : ℕ} → (length s ≡ 0 → ⊥) → room ≡ 0 → Reads o s room TooLong
+pub reads_full : {o : Owed} {s : List ℕ} {room : ℕ} → (length s ≡ 0 → ⊥) → room ≡ 0 → Reads o s room (Err TooLong)
 reads_full {s} {room} h e = r_too_long (λ os. full s room os h e)
 
 -- the first byte is there and may be taken: b, the bytes behind it, and one less room
@@ -125,27 +120,27 @@ list_value is_other h k os next = refl
 
 module _ {s : List ℕ} {room : ℕ} (hs : length s ≡ 0 → ⊥) (hr : room ≡ 0 → ⊥) where
   one_byte : {o : Owed} {b : ℕ} → get_or s 0 0 ≡ b → (f : (os : List Owed) → Things os → Things (o ∷ os)) →
-      ((os : List Owed) → read (b ∷ drop 1 s) (suc (room - 1)) (o ∷ os) ≡ on_whole (f os) (read (drop 1 s) (room - 1) os)) → Reads o s room (Whole 1)
+      ((os : List Owed) → read (b ∷ drop 1 s) (suc (room - 1)) (o ∷ os) ≡ on_whole (f os) (read (drop 1 s) (room - 1) os)) → Reads o s room (Ok 1)
   one_byte {o} e f h = r_whole {n = 1} f (omega arith) (omega arith) (λ os. begins s room hs hr e (o ∷ os) ∙ h os)
 
-  pub reads_plain : get_or s 0 0 < 2 → Reads value s room (Whole 1)
+  pub reads_plain : get_or s 0 0 < 2 → Reads value s room (Ok 1)
   unfolding read begin_value kind_of
   reads_plain h = go (get_or s 0 0) refl h
     where
-      go : (b : ℕ) → get_or s 0 0 ≡ b → b < 2 → Reads value s room (Whole 1)
+      go : (b : ℕ) → get_or s 0 0 ≡ b → b < 2 → Reads value s room (Ok 1)
       go zero e h = one_byte e (λ os. a_value vfalse) (λ os. refl)
       go (suc zero) e h = one_byte e (λ os. a_value vtrue) (λ os. refl)
       go (suc (suc b)) e h = absurd (omega arith)
 
-  pub reads_empty : get_or s 0 0 ≡ 2 → Reads rest s room (Whole 1)
+  pub reads_empty : get_or s 0 0 ≡ 2 → Reads rest s room (Ok 1)
   unfolding read begin_rest kind_of
   reads_empty e = one_byte e (λ os. a_rest nil) (λ os. refl)
 
-  pub reads_no_list : (get_or s 0 0 ≡ 2 → ⊥) → (get_or s 0 0 ≡ 3 → ⊥) → Reads rest s room Malformed
+  pub reads_no_list : (get_or s 0 0 ≡ 2 → ⊥) → (get_or s 0 0 ≡ 3 → ⊥) → Reads rest s room (Err Malformed)
   unfolding read
   reads_no_list h₂ h₃ = r_malformed (λ os. begins s room hs hr refl (rest ∷ os) ∙ no_list (names (get_or s 0 0)) h₂ h₃ os _)
 
-  pub reads_unknown : 7 ≤ get_or s 0 0 → Reads value s room Malformed
+  pub reads_unknown : 7 ≤ get_or s 0 0 → Reads value s room (Err Malformed)
   unfolding read begin_value
   reads_unknown h = r_malformed (λ os. begins s room hs hr refl (value ∷ os) ∙ ap (begin_value os (read (drop 1 s) (room - 1))) (unknown_kind (get_or s 0 0) h))
 
@@ -245,23 +240,23 @@ module _ {least follow : ℕ} {s : List ℕ} {room : ℕ} (p : BodyBegins least 
   bytes_behind : (i : ℕ) → get_or (drop 1 s) i 0 < 256
   bytes_behind i = rw (get_or-drop 1 s i 0) (p.bytes (1 + i))
 
-  pub body_ended : length s ≤ suc follow → length s ≤ room → Reads value s room Malformed
+  pub body_ended : length s ≤ suc follow → length s ≤ room → Reads value s room (Err Malformed)
   unfolding on_whole
   body_ended l r = r_malformed (λ os. p.begun os
       ∙ ap (on_whole (p.make os)) (short (drop 1 s) (room - 1) least follow 0 os (omega (arith, long)) (omega (arith, long))))
 
-  pub body_full : room ≤ suc follow → room < length s → Reads value s room TooLong
+  pub body_full : room ≤ suc follow → room < length s → Reads value s room (Err TooLong)
   unfolding on_whole
   body_full l r = r_too_long (λ os. p.begun os
       ∙ ap (on_whole (p.make os)) (crowded (drop 1 s) (room - 1) least follow 0 os bytes_behind (omega (arith, p.some)) (omega (arith, long, p.some))))
 
   module _ (l : suc follow < length s) (r : suc follow < room) where
-    pub body_small : joined 0 (take (suc follow) (drop 1 s)) < least → Reads value s room Malformed
+    pub body_small : joined 0 (take (suc follow) (drop 1 s)) < least → Reads value s room (Err Malformed)
     unfolding on_whole
     body_small lt = r_malformed (λ os. p.begun os
         ∙ ap (on_whole (p.make os)) (too_small (drop 1 s) (room - 1) least follow 0 os (omega (arith, long)) (omega arith) lt))
 
-    pub body_whole : least ≤ joined 0 (take (suc follow) (drop 1 s)) → Reads value s room (Whole (suc (suc follow)))
+    pub body_whole : least ≤ joined 0 (take (suc follow) (drop 1 s)) → Reads value s room (Ok (suc (suc follow)))
     body_whole le =
         let t = take (suc follow) (drop 1 s) in
         let n : length t ≡ suc follow = length-take-le (suc follow) (drop 1 s) (omega (arith, long)) in
@@ -278,10 +273,22 @@ pub answers : {bs : List ℕ} {r : Read} → Reads value bs 256 r → r ≡ outc
 unfolding read_value outcome on_whole
 answers {bs} (r_whole {n} f l m e) = go (f [] nothing) (e [] ∙ rw nothing_owed)
   where
-    go : (t : Things (value ∷ [])) → read_value bs ≡ whole t (drop n bs) → Whole n ≡ outcome (read_value bs)
+    go : (t : Things (value ∷ [])) → read_value bs ≡ whole t (drop n bs) → Ok n ≡ outcome (read_value bs)
     go (a_value v nothing) e =
         let d : length bs ≡ size v + (length bs - n) = ap length (read_sound bs e).0 ∙ length-append (encode v) (drop n bs) ∙ rw (size-encode, length-drop) in
         let i : n ≡ size v = omega arith in
-        ap Whole i ∙ sym (ap outcome e)
+        ap Ok i ∙ sym (ap outcome e)
 answers (r_malformed e) = sym (ap outcome (e []))
 answers (r_too_long e) = sym (ap outcome (e []))
+
+-- a value takes a byte at least
+pub reads_some : {s : List ℕ} {room n : ℕ} → Reads value s room (Ok n) → 0 < n
+unfolding on_whole bytes_of
+reads_some {s} {room} (r_whole {n} f l m e) = go (f [] nothing) (e [] ∙ rw nothing_owed)
+  where
+    taken : {v : Value} → Sound s room (value ∷ []) (whole (a_value v nothing) (drop n s)) → 0 < n
+    taken {v = v} (s_whole d h p) =
+        omega (arith, ap length d, length-append (encode v ++ []) (drop n s), length-append (encode v) [], size-encode v, size_pos v, length-drop n s)
+
+    go : (t : Things (value ∷ [])) → read s room (value ∷ []) ≡ whole t (drop n s) → 0 < n
+    go (a_value v nothing) q = taken {v = v} (rw q at (sound s room (value ∷ [])))

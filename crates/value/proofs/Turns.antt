@@ -1,13 +1,13 @@
 -- The turns of the reader's two loops: what the first bytes were read for, and what is still owed behind them.
-use Rattle.std.specs.Prelude.{◌≡◌, refl, List, [], ◌∷◌, ◌++◌, ℕ, suc, ◌+◌, ◌-◌, ◌≤◌, ◌<◌, length, get_or, drop, replicate}
+use Rattle.std.specs.Prelude.{◌≡◌, refl, Result, Ok, Err, List, [], ◌∷◌, ◌++◌, ℕ, suc, ◌+◌, ◌-◌, ◌≤◌, ◌<◌, length, get_or, drop, replicate}
 use Rattle.std.proofs.Common.{sym, ◌∙◌, arith, add-zero, length-drop, drop-drop, get_or-drop}
 use Rattle.std.proofs.Math.Path.{ap}
 use Rattle.value.specs.Reading.{Owed, value, rest, Things, Found, whole, malformed, too_long, on_whole, read}
 use Rattle.value.proofs.Laws.{composed}
-use Rattle.value.specs.Reader.{Reads, r_whole, r_malformed, r_too_long, Refused, is_malformed, is_too_long, PartBegins, answer, from, TwoParts}
-use Rattle.value.proofs.Reader.{answer_whole, from-drop, reads_ended, reads_full, reads_plain, reads_empty, reads_no_list, pair_begins, front_begins}
-use Rattle.value.specs.declared.Read.{Read}
-use Rattle.value.specs.declared.Read.TheVariants.{Whole, Malformed, TooLong}
+use Rattle.value.specs.Reader.{Reads, r_whole, r_malformed, r_too_long, PartBegins, from, TwoParts}
+use Rattle.value.proofs.Reader.{from-drop, reads_some, reads_ended, reads_full, reads_plain, reads_empty, reads_no_list, pair_begins, front_begins}
+use Rattle.value.specs.declared.Fault.{Fault}
+use Rattle.value.specs.declared.Fault.TheVariants.{Malformed, TooLong}
 
 -- of one thing the first `at` bytes are read, and `owed` are still to be read from what is behind them
 pub record Begun (o : Owed) (s : List ℕ) (room at : ℕ) (owed : List Owed) : Type 0 where
@@ -28,12 +28,12 @@ at_first o s room =
     record { make = λ os t. t; goes = λ os. rw e (all_kept (read s room (o ∷ os))); inside = omega arith; fits = omega arith }
 
 -- nothing more is owed
-pub finished : {o : Owed} {s : List ℕ} {room at : ℕ} → Begun o s room at [] → Reads o s room (Whole at)
+pub finished : {o : Owed} {s : List ℕ} {room at : ℕ} → Begun o s room at [] → Reads o s room (Ok at)
 finished b = r_whole b.make b.inside b.fits b.goes
 
 module _ {o p : Owed} {s : List ℕ} {room at : ℕ} {ps : List Owed} (b : Begun o s room at (p ∷ ps)) where
   -- the next thing is read
-  pub taken : {n : ℕ} → Reads p (drop at s) (room - at) (Whole n) → Begun o s room (at + n) ps
+  pub taken : {n : ℕ} → Reads p (drop at s) (room - at) (Ok n) → Begun o s room (at + n) ps
   taken (r_whole {n} f l k e) =
       let q : room - at - n ≡ room - (at + n) = omega arith in
       record {
@@ -57,24 +57,14 @@ module _ {o p : Owed} {s : List ℕ} {room at : ℕ} {ps : List Owed} (b : Begun
       }
 
   -- it is refused, and so is all
-  pub refused : {r : Read} → Refused r → Reads p (drop at s) (room - at) r → Reads o s room r
+  pub refused : {e : Fault} → Reads p (drop at s) (room - at) (Err e) → Reads o s room (Err e)
   unfolding on_whole
-  refused is_malformed (r_malformed e) = r_malformed (λ os. b.goes os ∙ ap (on_whole (b.make os)) (e (ps ++ os)))
-  refused is_too_long (r_too_long e) = r_too_long (λ os. b.goes os ∙ ap (on_whole (b.make os)) (e (ps ++ os)))
+  refused (r_malformed e) = r_malformed (λ os. b.goes os ∙ ap (on_whole (b.make os)) (e (ps ++ os)))
+  refused (r_too_long e) = r_too_long (λ os. b.goes os ∙ ap (on_whole (b.make os)) (e (ps ++ os)))
 
--- answers as numbers
-pub answered : {o : Owed} {s : List ℕ} {room n : ℕ} → Reads o s room (Whole n) → 0 < n → n ≤ 256 → Reads o s room (answer n)
-answered {n} w h k = rw (answer_whole n (λ e. omega arith) (λ e. omega arith)) w
-
-module _ (s : List ℕ) (at : ℕ) {o : Owed} {room n : ℕ} (w : Reads o (from at s) room (answer n)) where
-  pub is_malformed_lem : n ≡ 0 → Reads o (drop at s) room Malformed
-  is_malformed_lem e = rw (from-drop, e) at w
-
-  pub is_too_long_lem : n ≡ 257 → Reads o (drop at s) room TooLong
-  is_too_long_lem e = rw (from-drop, e) at w
-
-  pub is_whole : (n ≡ 0 → ⊥) → (n ≡ 257 → ⊥) → Reads o (drop at s) room (Whole n)
-  is_whole h k = rw (from-drop, answer_whole n h k) at w
+-- an answer for the bytes from `at` on, as the code takes them
+pub behind : {o : Owed} {room : ℕ} (s : List ℕ) (at : ℕ) {r : Result ℕ Fault} → Reads o (from at s) room r → Reads o (drop at s) room r
+behind s at w = rw from-drop at w
 
 -- the byte at `at`
 there : (s : List ℕ) (at : ℕ) → at < length s → length (drop at s) ≡ 0 → ⊥
@@ -104,27 +94,27 @@ pub record Values (s : List ℕ) (room at owed : ℕ) : Type 0 where
 pub one_value : (s : List ℕ) (room : ℕ) → Values s room 0 1
 one_value s room = record { begun = at_first value s room; few = omega arith; some = omega arith }
 
-pub all_values : {s : List ℕ} {room at owed : ℕ} → Values s room at owed → owed ≡ 0 → room ≤ 256 → Reads value s room (answer at)
-all_values v e h = answered (finished (rw e at v.begun)) (omega (arith, v.some)) (omega (arith, v.begun.fits))
+pub all_values : {s : List ℕ} {room at owed : ℕ} → Values s room at owed → owed ≡ 0 → Reads value s room (Ok at)
+all_values v e = finished (rw e at v.begun)
 
 module _ {s : List ℕ} {room at owed : ℕ} (v : Values s room at owed) (h : owed ≡ 0 → ⊥) where
   next : Begun value s room at (value ∷ replicate (owed - 1) value)
   next = let e : owed ≡ suc (owed - 1) = omega arith in rw e at v.begun
 
-  pub value_ended : length s ≤ at → Reads value s room Malformed
-  value_ended e = refused next is_malformed (reads_ended (rw length-drop (omega arith)))
+  pub value_ended : length s ≤ at → Reads value s room (Err Malformed)
+  value_ended e = refused next (reads_ended (rw length-drop (omega arith)))
 
-  pub value_full : at < length s → room ≤ at → Reads value s room TooLong
-  value_full hs e = refused next is_too_long (reads_full (there s at hs) (omega arith))
+  pub value_full : at < length s → room ≤ at → Reads value s room (Err TooLong)
+  value_full hs e = refused next (reads_full (there s at hs) (omega arith))
 
-  pub value_taken : {n : ℕ} → Reads value (drop at s) (room - at) (Whole n) → 0 < n → Values s room (at + n) (owed - 1)
-  value_taken w k = record { begun = taken next w; few = omega (arith, v.few); some = omega arith }
+  pub value_taken : {n : ℕ} → Reads value (drop at s) (room - at) (Ok n) → Values s room (at + n) (owed - 1)
+  value_taken w = record { begun = taken next w; few = omega (arith, v.few, reads_some w); some = omega (arith, reads_some w) }
 
-  pub value_refused : {r : Read} → Refused r → Reads value (drop at s) (room - at) r → Reads value s room r
+  pub value_refused : {e : Fault} → Reads value (drop at s) (room - at) (Err e) → Reads value s room (Err e)
   value_refused = refused next
 
   pub value_plain : at < length s → at < room → get_or s at 0 < 2 → Values s room (at + 1) (owed - 1)
-  value_plain hs hr k = value_taken (reads_plain (there s at hs) (λ e. omega arith) (rw (kind s at) k)) (omega arith)
+  value_plain hs hr k = value_taken (reads_plain (there s at hs) (λ e. omega arith) (rw (kind s at) k))
 
   pub value_pair : at < length s → at < room → get_or s at 0 ≡ 5 → Values s room (at + 1) (owed + 1)
   value_pair hs hr k =
@@ -133,18 +123,18 @@ module _ {s : List ℕ} {room at owed : ℕ} (v : Values s room at owed) (h : ow
 
 -- a list is owed, and `at` bytes of it are read
 module _ {s : List ℕ} {room at : ℕ} (b : Begun rest s room at (rest ∷ [])) where
-  pub list_ended : length s ≤ at → Reads rest s room Malformed
-  list_ended e = refused b is_malformed (reads_ended (rw length-drop (omega arith)))
+  pub list_ended : length s ≤ at → Reads rest s room (Err Malformed)
+  list_ended e = refused b (reads_ended (rw length-drop (omega arith)))
 
-  pub list_full : at < length s → room ≤ at → Reads rest s room TooLong
-  list_full hs e = refused b is_too_long (reads_full (there s at hs) (omega arith))
+  pub list_full : at < length s → room ≤ at → Reads rest s room (Err TooLong)
+  list_full hs e = refused b (reads_full (there s at hs) (omega arith))
 
-  pub list_empty : at < length s → at < room → room ≤ 256 → get_or s at 0 ≡ 2 → Reads rest s room (answer (at + 1))
-  list_empty hs hr m k = answered (finished (taken b (reads_empty (there s at hs) (λ e. omega arith) (kind s at ∙ k)))) (omega arith) (omega arith)
+  pub list_empty : at < length s → at < room → get_or s at 0 ≡ 2 → Reads rest s room (Ok (at + 1))
+  list_empty hs hr k = finished (taken b (reads_empty (there s at hs) (λ e. omega arith) (kind s at ∙ k)))
 
-  pub no_list_there : at < length s → at < room → (get_or s at 0 ≡ 2 → ⊥) → (get_or s at 0 ≡ 3 → ⊥) → Reads rest s room Malformed
+  pub no_list_there : at < length s → at < room → (get_or s at 0 ≡ 2 → ⊥) → (get_or s at 0 ≡ 3 → ⊥) → Reads rest s room (Err Malformed)
   no_list_there hs hr k l =
-      refused b is_malformed (reads_no_list (there s at hs) (λ e. omega arith) (λ e. k (sym (kind s at) ∙ e)) (λ e. l (sym (kind s at) ∙ e)))
+      refused b (reads_no_list (there s at hs) (λ e. omega arith) (λ e. k (sym (kind s at) ∙ e)) (λ e. l (sym (kind s at) ∙ e)))
 
   pub member_owed : at < length s → at < room → get_or s at 0 ≡ 3 → Begun rest s room (at + 1) (value ∷ rest ∷ [])
   member_owed hs hr k = opened b (front_begins (there s at hs) (λ e. omega arith) (kind s at ∙ k))

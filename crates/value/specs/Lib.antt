@@ -1,4 +1,5 @@
 pub mod Result
+pub mod Numbered
 pub mod All
 pub mod Value
 pub mod Views

@@ -10,22 +10,15 @@ unfolding middle_of
 returns-then-v-eq0 c = ap middle_of (shape_none c.args.v.now c.if-v-eq0.true)
 
 pub overflow_add-result : goal.overflow_add-result
-overflow_add-result c = omega (arith, whole_short _ c.read_value.ensures c.in-Whole.is)
+overflow_add-result c = omega (arith, whole_short _ c.in-Ok.ensures)
 
-pub returns-in-Whole : goal.returns-in-Whole
+pub returns-in-Ok : goal.returns-in-Ok
 unfolding middle_of behind
-returns-in-Whole c =
-    middle_behind c.args.v.now c.if-v-eq0.false c.in-3.is c.read_value.ensures c.in-Whole.is
+returns-in-Ok c = middle_behind c.args.v.now c.if-v-eq0.false c.in-3.is c.in-Ok.ensures
 
-pub returns-in-Malformed : goal.returns-in-Malformed
+pub returns-in-Err : goal.returns-in-Err
 unfolding middle_of behind
-returns-in-Malformed c =
-    middle_behind c.args.v.now c.if-v-eq0.false c.in-3.is c.read_value.ensures c.in-Malformed.is
-
-pub returns-in-TooLong : goal.returns-in-TooLong
-unfolding middle_of behind
-returns-in-TooLong c =
-    middle_behind c.args.v.now c.if-v-eq0.false c.in-3.is c.read_value.ensures c.in-TooLong.is
+returns-in-Err c = middle_behind c.args.v.now c.if-v-eq0.false c.in-3.is c.in-Err.ensures
 
 pub returns-in_default : goal.returns-in_default
 returns-in_default c = middle_none c.args.v.now c.in_default.in_default-own.rest.1

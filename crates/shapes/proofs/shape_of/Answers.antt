@@ -13,18 +13,10 @@ use Rattle.shapes.proofs.shape_of.Goals as goal
 pub returns-then-v-eq0 : goal.returns-then-v-eq0
 returns-then-v-eq0 c = shape_none c.args.v.now c.if-v-eq0.true
 
-pub returns-then-at-eq0 : goal.returns-then-at-eq0
-returns-then-at-eq0 c = front_lost c.args.v.now c.if-v-eq0.false
-    c.in-3.is c.middle-at.ensures c.if-at-eq0.true
-
 pub returns-then-v-lt3 : goal.returns-then-v-lt3
 unfolding kind_of shape_as
 returns-then-v-lt3 c = sym (shape_at c.args.v.now c.if-v-eq0.false c.in-4.is
     ∙ number_short c.args.v.now c.if-v-lt3.true)
-
-pub returns-then-at-eq0-2 : goal.returns-then-at-eq0-2
-returns-then-at-eq0-2 c = pair_lost c.args.v.now c.if-v-eq0.false
-    c.in-5.is c.middle-at-in-5.ensures c.if-at-eq0-2.true
 
 pub returns-in-0 : goal.returns-in-0
 unfolding kind_of shape_as
@@ -38,10 +30,6 @@ pub returns-in-2 : goal.returns-in-2
 unfolding kind_of shape_as
 returns-in-2 c = sym (shape_at c.args.v.now c.if-v-eq0.false c.in-2.is)
 
-pub returns-else-at-eq0 : goal.returns-else-at-eq0
-returns-else-at-eq0 c = front_found c.args.v.now c.if-v-eq0.false
-    c.in-3.is c.middle-at.ensures c.if-at-eq0.false
-
 pub returns-else-v-lt3 : goal.returns-else-v-lt3
 unfolding kind_of shape_as
 returns-else-v-lt3 c = ap Number c.number.ensures
@@ -49,13 +37,21 @@ returns-else-v-lt3 c = ap Number c.number.ensures
     c.if-v-eq0.false c.in-4.is
     ∙ number_there c.args.v.now (omega arith))
 
-pub returns-else-at-eq0-2 : goal.returns-else-at-eq0-2
-returns-else-at-eq0-2 c = pair_found c.args.v.now c.if-v-eq0.false
-    c.in-5.is c.middle-at-in-5.ensures c.if-at-eq0-2.false
-
 pub returns-in-6 : goal.returns-in-6
 unfolding kind_of shape_as
 returns-in-6 c = sym (shape_at c.args.v.now c.if-v-eq0.false c.in-6.is)
+
+pub returns-in-Some : goal.returns-in-Some
+returns-in-Some c = front_found c.args.v.now c.if-v-eq0.false c.in-3.is c.in-Some.ensures
+
+pub returns-in-None : goal.returns-in-None
+returns-in-None c = front_lost c.args.v.now c.if-v-eq0.false c.in-3.is c.in-None.ensures
+
+pub returns-in-Some-middle : goal.returns-in-Some-middle
+returns-in-Some-middle c = pair_found c.args.v.now c.if-v-eq0.false c.in-5.is c.in-Some-middle.ensures
+
+pub returns-in-None-middle : goal.returns-in-None-middle
+returns-in-None-middle c = pair_lost c.args.v.now c.if-v-eq0.false c.in-5.is c.in-None-middle.ensures
 
 pub returns-in_default : goal.returns-in_default
 unfolding kind_of shape_as

@@ -19,6 +19,6 @@ returns-then-i-ge8 c = sym (part_past _ _ c.if-i-ge8.true)
 
 pub returns : goal.returns
 returns c =
-    let w = c.extend.result in
-    let e : 16 + (w - 16) ≡ c.args.kind = omega (arith, c.extend.ensures) in
-    sym (part_at_lem (w - 16) c.args.i (omega (arith, c.extend.ensures)) (omega arith)) ∙ ap (λ (k : ℕ). part_at k c.args.i) e
+    let w = c.from.result in
+    let e : 16 + (w - 16) ≡ c.args.kind = omega (arith, c.from.ensures) in
+    sym (part_at_lem (w - 16) c.args.i (omega (arith, c.from.ensures)) (omega arith)) ∙ ap (λ (k : ℕ). part_at k c.args.i) e

@@ -7,19 +7,19 @@ loop-at-init c = run_none c.args.s.now (first_node c.args.sections)
 
 pub returns-then-width-eq0 : goal.returns-then-width-eq0
 returns-then-width-eq0 c =
-    refused_table c.args.s.now c.args.k c.args.root c.args.sections c.refused.ensures
+    refused_table c.args.s.now c.args.k c.args.root c.args.sections
     (run_unknown c.loop-at.invariant c.record_width-width.ensures
     c.loop-at-test.true c.if-width-eq0.true)
 
 pub returns-then-n-eq200 : goal.returns-then-n-eq200
 returns-then-n-eq200 c =
-    refused_table c.args.s.now c.args.k c.args.root c.args.sections c.refused-then-n-eq200.ensures
+    refused_table c.args.s.now c.args.k c.args.root c.args.sections
     (run_full c.loop-at.invariant c.record_width-width.ensures
     c.loop-at-test.true c.if-width-eq0.false c.if-n-eq200.true)
 
 pub returns-then-s-at : goal.returns-then-s-at
 returns-then-s-at c =
-    refused_table c.args.s.now c.args.k c.args.root c.args.sections c.refused-then-s-at.ensures
+    refused_table c.args.s.now c.args.k c.args.root c.args.sections
     (run_cut c.loop-at.invariant c.record_width-width.ensures
     c.loop-at-test.true c.if-width-eq0.false c.if-n-eq200.false
     c.if-s-at.true)
@@ -30,7 +30,7 @@ loop-at-preserved c = run_more c.loop-at.invariant c.record_width-width.ensures
 
 pub returns-then-n-eq0 : goal.returns-then-n-eq0
 returns-then-n-eq0 c = run_none_table c.args.k c.args.root
-    c.loop-at.invariant c.loop-at-test.false c.refused-then-n-eq0.ensures c.if-n-eq0.true
+    c.loop-at.invariant c.loop-at-test.false c.if-n-eq0.true
 
 pub returns : goal.returns
 returns c = run_table c.args.k c.args.root c.loop-at.invariant

@@ -15,4 +15,4 @@ returns-then-s-at c = sym (get_or-eq_default c.args.s.now 0 (omega arith))
 
 pub returns : goal.returns
 unfolding section_at
-returns c = c.extend.ensures
+returns c = c.from.ensures

@@ -1,27 +1,25 @@
 -- `part` meets its contract: what is found lies within the plan. Assumes nothing.
 use native.Mathlib.Omega.{arith}
-use mathlib.Core.Path.{sym, ◌∙◌}
 use lib.ListN.{length}
 use Rattle.starts.proofs.Lookup.{Inside, found_inside, part_found, part_refused}
 use Rattle.starts.proofs.part.Goals as goal
-use Rattle.starts.proofs.part.Goals.{In-At}
+use Rattle.starts.proofs.part.Goals.{In-Ok}
 
 -- WHAT IS KNOWN THERE
-inside : (c : In-At)
-    → Inside (length c.args.plan.now) c.in-At.start c.in-At.end
-inside c = found_inside _ _ _ (sym c.find.ensures ∙ c.in-At.is)
+inside : (c : In-Ok) → Inside (length c.args.plan.now) c.in-Ok.place.start c.in-Ok.place.end
+inside c = found_inside _ _ _ c.in-Ok.ensures
 
 pub slice_bounds-result-count : goal.slice_bounds-result-count
-slice_bounds-result-count c = omega (arith, (inside c).some)
+slice_bounds-result-count c = omega (arith, (inside (goal.at.slice_bounds-result-count c).In-Ok).some)
 
 pub slice_bounds-result-start : goal.slice_bounds-result-start
-slice_bounds-result-start c = omega (arith, (inside c).some)
+slice_bounds-result-start c = omega (arith, (inside (goal.at.slice_bounds-result-start c).In-Ok).some)
 
 pub slice_bounds-result-end : goal.slice_bounds-result-end
-slice_bounds-result-end c = (inside c).within
+slice_bounds-result-end c = (inside (goal.at.slice_bounds-result-end c).In-Ok).within
 
-pub returns-in-At : goal.returns-in-At
-returns-in-At c = part_found _ (sym c.find.ensures ∙ c.in-At.is)
+pub returns-in-Ok : goal.returns-in-Ok
+returns-in-Ok c = part_found _ c.in-Ok.ensures
 
-pub returns-in-Refused : goal.returns-in-Refused
-returns-in-Refused c = part_refused _ (sym c.find.ensures ∙ c.in-Refused.is)
+pub returns-in-Err : goal.returns-in-Err
+returns-in-Err c = part_refused _ c.in-Err.ensures

@@ -1,9 +1,9 @@
 use Prim.Native.Nat.{◌+◌}
 use native.Mathlib.Omega.{arith}
 use Rattle.value.specs.Reading.{rest}
-use Rattle.value.specs.Reader.{is_malformed, is_too_long}
-use Rattle.value.proofs.Reader.{reads_list}
-use Rattle.value.proofs.Turns.{at_first, taken, refused, is_malformed_lem, is_too_long_lem, is_whole, one_value, all_values, value_ended, value_full}
+use Rattle.value.proofs.Numbered.{passed_on}
+use Rattle.value.proofs.Reader.{reads_list, reads_some}
+use Rattle.value.proofs.Turns.{at_first, taken, refused, behind, one_value, all_values, value_ended, value_full}
 use Rattle.value.proofs.Turns.{value_taken, value_refused, value_plain, value_pair, list_ended, list_full, list_empty, no_list_there, member_owed}
 use Rattle.value.proofs.+list_part_value.Goals as goal
 
@@ -15,33 +15,17 @@ list-returns-then-room-at t c = list_full c.loop-at.invariant c.loop-at-test.tru
 
 pub list-returns-then-kind-eq2 : goal.list-returns-then-kind-eq2
 list-returns-then-kind-eq2 t c = list_empty c.loop-at.invariant c.loop-at-test.true (omega arith)
-    c.requires c.if-kind-eq2.true
+    c.if-kind-eq2.true
 
 pub list-returns-then-kind-ne3 : goal.list-returns-then-kind-ne3
 list-returns-then-kind-ne3 t c = no_list_there c.loop-at.invariant c.loop-at-test.true (omega arith)
     c.if-kind-eq2.false c.if-kind-ne3.true
 
-pub list-returns-then-n-eq-MALFORMED : goal.list-returns-then-n-eq-MALFORMED
-list-returns-then-n-eq-MALFORMED t c = refused
-    (member_owed c.loop-at.invariant
-    c.loop-at-test.true (omega arith) c.if-kind-ne3.false) is_malformed
-    (is_malformed_lem c.args.s.now
-    (c.loop-at.at + 1) c.value-n.ensures c.if-n-eq-MALFORMED.true)
-
-pub list-returns-then-n-eq-TOO_LONG : goal.list-returns-then-n-eq-TOO_LONG
-list-returns-then-n-eq-TOO_LONG t c = refused
-    (member_owed c.loop-at.invariant
-    c.loop-at-test.true (omega arith) c.if-kind-ne3.false)
-    is_too_long (is_too_long_lem c.args.s.now
-    (c.loop-at.at + 1) c.value-n.ensures c.if-n-eq-TOO_LONG.true)
-
 pub list-loop-at-preserved : goal.list-loop-at-preserved
 list-loop-at-preserved t c = taken
     (member_owed c.loop-at.invariant
     c.loop-at-test.true (omega arith) c.if-kind-ne3.false)
-    (is_whole c.args.s.now
-    (c.loop-at.at + 1) c.value-n.ensures c.if-n-eq-MALFORMED.false
-    c.if-n-eq-TOO_LONG.false)
+    (behind c.args.s.now (c.loop-at.at + 1) c.in_ok-at.ensures)
 
 pub list-returns : goal.list-returns
 list-returns t c = list_ended c.loop-at.invariant (omega arith)
@@ -68,24 +52,23 @@ pub value-loop-owed-preserved-then-kind-eq5 : goal.value-loop-owed-preserved-the
 value-loop-owed-preserved-then-kind-eq5 t c = value_pair c.loop-owed.invariant
     c.loop-owed-test.true (omega arith) (omega arith) c.if-kind-eq5.true
 
-pub value-returns-then-n-eq-MALFORMED : goal.value-returns-then-n-eq-MALFORMED
-value-returns-then-n-eq-MALFORMED t c = value_refused c.loop-owed.invariant
-    c.loop-owed-test.true is_malformed
-    (is_malformed_lem c.args.s.now
-    c.loop-owed.at c.part-n.ensures c.if-n-eq-MALFORMED.true)
-
-pub value-returns-then-n-eq-TOO_LONG : goal.value-returns-then-n-eq-TOO_LONG
-value-returns-then-n-eq-TOO_LONG t c = value_refused c.loop-owed.invariant
-    c.loop-owed-test.true is_too_long
-    (is_too_long_lem c.args.s.now
-    c.loop-owed.at c.part-n.ensures c.if-n-eq-TOO_LONG.true)
-
 pub value-loop-owed-preserved : goal.value-loop-owed-preserved
-value-loop-owed-preserved t c = value_taken c.loop-owed.invariant
-    c.loop-owed-test.true
-    (is_whole c.args.s.now
-    c.loop-owed.at c.part-n.ensures c.if-n-eq-MALFORMED.false
-    c.if-n-eq-TOO_LONG.false) (omega arith)
+value-loop-owed-preserved t c = value_taken c.loop-owed.invariant c.loop-owed-test.true
+    (behind c.args.s.now c.loop-owed.at c.in_ok-at.ensures)
+
+pub value-loop-owed-smaller : goal.value-loop-owed-smaller
+value-loop-owed-smaller t c = omega (arith, reads_some c.in_ok-at.ensures)
+
+pub list-returns-in_err-at : goal.list-returns-in_err-at
+list-returns-in_err-at t c =
+    rw (passed_on c.from_residual.result c.from_residual.ensures.1) (refused
+    (member_owed c.loop-at.invariant c.loop-at-test.true (omega arith) c.if-kind-ne3.false)
+    (behind c.args.s.now (c.loop-at.at + 1) c.in_err-at.ensures))
+
+pub value-returns-in_err-at : goal.value-returns-in_err-at
+value-returns-in_err-at t c =
+    rw (passed_on c.from_residual.result c.from_residual.ensures.1) (value_refused c.loop-owed.invariant c.loop-owed-test.true
+    (behind c.args.s.now c.loop-owed.at c.in_err-at.ensures))
 
 pub value-returns : goal.value-returns
-value-returns t c = all_values c.loop-owed.invariant c.loop-owed-test.false c.requires
+value-returns t c = all_values c.loop-owed.invariant c.loop-owed-test.false
