@@ -1,15 +1,18 @@
 -- The uses of a sheet's nodes, counted in an array up to two.
-use Rattle.std.specs.Prelude.{◌≡◌, refl, Bool, true, false, cond, List, [], ◌∷◌, ◌++◌, ℕ, zero, suc, ◌+◌, ◌*◌, ◌-◌, ◌≤◌, ◌<◌, min, leb, eqb, length}
-use Rattle.std.specs.Prelude.{get_or, set, take, replicate}
+use Rattle.std.specs.Prelude.{◌≡◌, refl, Bool, true, false, cond, List, [], ◌∷◌, ◌++◌, ℕ, zero, suc, ◌+◌, ◌*◌, ◌-◌, ◌≤◌, ◌<◌, min, leb, eqb, length, ◌==◌, Some, None}
+use Rattle.std.specs.Prelude.{get_or, set, take, drop, replicate}
+use Rattle.std.specs.List.{position, position_or_len}
+use Rattle.std.proofs.lemmas.Grind.{common_steps}
+use Rattle.std.proofs.lemmas.List.Quantifiers.{position-Some}
 use Rattle.std.proofs.Math.Path.{ap, sym}
-use Rattle.std.proofs.Common.{◌∙◌, append_assoc, append-nil, zero-add, add-one, arith, length-set, length-append, take-suc, take_all, get_or-set_same}
+use Rattle.std.proofs.Common.{◌∙◌, append_assoc, append-nil, zero-add, add-one, arith, length-set, length-append, length-take-le, drop-cons, take-suc, take_all, get_or-set_same}
 use Rattle.std.proofs.Common.{get_or-set_other, eq-eqb, ne_eqb, le-leb, Fits}
 use Rattle.std.proofs.Math.Decide.{ℕ_discrete, dec_le}
 use Rattle.std.proofs.lemmas.List.{length-replicate, get_or-replicate}
 use Rattle.std.proofs.Math.Seq.{take-append_seam}
 use Rattle.std.proofs.lemmas.Bool.{lt-leb}
 use Rattle.std.specs.Int.{w8}
-use Rattle.value.specs.Result.{ok}
+use Rattle.value.specs.Result.{ok, map_result}
 use Rattle.node.specs.declared.Node.{Node}
 use Rattle.node.specs.declared.Node.TheVariants.{False}
 use Rattle.sheet.specs.declared.Table.{Table}
@@ -129,6 +132,35 @@ lowest_from_lem l n (suc left) h = go (dec_le 2 (times n l)) (lowest_from_lem l 
 pub lowest_is : (l : List ℕ) (n : ℕ) → n ≤ 256 → first_two 0 n (used_all zeros l) ≡ lowest_from 0 n l
 lowest_is l n h = lowest_from_lem l 0 n (omega arith)
 
+-- the same as a search of the library tells it
+first_from : (u : List ℕ) (n left : ℕ) → n + left ≤ length u → first_two n left u ≡ n + position_or_len (λ x. x == 2) (take left (drop n u))
+unfolding first_two
+first_from u n zero h = omega arith
+first_from u n (suc left) h = go (ℕ_discrete (get_or u n 0) 2) (first_from u (suc n) left (omega arith))
+  where
+    go : Dec (get_or u n 0 ≡ 2) → first_two (suc n) left u ≡ suc n + position_or_len (λ x. x == 2) (take left (drop (suc n) u))
+        → first_two n (suc left) u ≡ n + position_or_len (λ x. x == 2) (take (suc left) (drop n u))
+    go (yes e) f = rw (drop-cons u n 0 (omega arith), two_here n left u e, eq-eqb (get_or u n 0) 2 e) (omega arith)
+    go (no e) f = rw (drop-cons u n 0 (omega arith), two_later n left u e, ne_eqb (get_or u n 0) 2 e, f) (omega arith)
+
+module _ (u : List ℕ) (nodes : ℕ) (h : nodes ≤ length u) where
+  first_is : position_or_len (λ x. x == 2) (take nodes u) ≡ first_two 0 nodes u
+  first_is = let f = first_from u 0 nodes (omega arith) in omega (arith, f)
+
+  -- the first of them that is 2, where there is one
+  pub first_some : {n : ℕ} → position (λ x. x == 2) (take nodes u) ≡ Some n → (n ≡ first_two 0 nodes u) × (n < nodes)
+  first_some {n} e =
+      let l : length (take nodes u) ≡ nodes = length-take-le nodes u h in
+      let i = position-Some (λ x. x == 2) (take nodes u) n 0 e in
+      let f = first_is in
+      (grind (arith, common_steps), omega (arith, i.0, l))
+
+  pub first_none : position (λ x. x == 2) (take nodes u) ≡ None → nodes ≤ first_two 0 nodes u
+  first_none e =
+      let l : length (take nodes u) ≡ nodes = length-take-le nodes u h in
+      let f = first_is in
+      grind (arith, common_steps)
+
 -- n numbers are looked at
 pub record Searched (u : List ℕ) (nodes n : ℕ) : Type 0 where
   pub left : ℕ
@@ -164,11 +196,17 @@ module _ {u : List ℕ} {nodes : ℕ} where
 -- A SHEET THAT WAS READ
 
 pub record Fine (s : List ℕ) (t : Table) : Type 0 where
-  pub table : t ≡ table_of (read_sheet s)
-  pub zero : t.refusal ≡ 0
+  pub table : ok t ≡ map_result table_of (read_sheet s)
 
 pub fine_read : {s : List ℕ} {t : Table} → Fine s t → (sh : Sheet) × Reads s t sh
-fine_read {s} f = table_reads s f.table f.zero
+fine_read {s} f = table_reads s f.table
+
+-- the table is that of the sheet
+pub fine_table : {s : List ℕ} {t : Table} (f : Fine s t) → t ≡ table_of (fine_read f).0
+unfolding map_result
+fine_table {t = t} f =
+    let e : ok t ≡ map_result table_of (ok (fine_read f).0) = f.table ∙ ap (map_result table_of) (fine_read f).1.sheet in
+    cc
 
 pub record Sizes (t : Table) : Type 0 where
   pub k : t.k ≤ 16
@@ -270,7 +308,7 @@ named_there {s} {t} f {n} {p} {c} h e q =
     let z = children_few (node_of sh n) in
     let y = named_of (children (node_of sh n)) z in
     let w : c ≡ children_of (children (node_of sh n))
-    = q ∙ ap (children_at s) e ∙ children_told (made_there s f.table r.sheet n (omega (arith, r.nodes))) in
+    = q ∙ ap (children_at s) e ∙ children_told (made_there s (fine_table f) r.sheet n (omega (arith, r.nodes))) in
     rw w (record { few = omega (arith, y.0); many = y.0; are = y.1; long = y.2 })
 
 -- THE COUNT, as far as node n

@@ -1,7 +1,7 @@
 -- What `number` has found out, stage by stage, and what it then answers.
 use Rattle.std.specs.Prelude.{◌≡◌, List, ℕ, ◌≤◌, ◌<◌, length}
 use Rattle.std.proofs.Common.{sym, ap, ◌∙◌, arith}
-use Rattle.value.specs.Result.{refusal}
+use Rattle.value.specs.Result.{refusal, map_result}
 use Rattle.report.specs.Writing.{Wrote, wrote_text}
 use Rattle.sheet.specs.declared.Table.{Table}
 use Rattle.sheet.specs.Sheet.{read_sheet}
@@ -11,13 +11,12 @@ use Rattle.sheet.proofs.Written.{Bytes}
 use Rattle.sheet.proofs.Ranging.{written_short}
 use Rattle.records.specs.declared.Anew.{Anew}
 use Rattle.numbering.specs.declared.Nodes.{Nodes}
-use Rattle.numbering.specs.declared.Numbered.TheVariants.{Done, Refused, Twice}
 use Rattle.preorder.specs.NumberingLaws.{uses}
 use Rattle.preorder.proofs.NumberingLaws.{uses_in, numbered_ranges}
 use Rattle.preorder.specs.Uses.{lowest_twice}
 use Rattle.preorder.proofs.Uses.{all_once}
 use Rattle.preorder.specs.NumberAnswer.{twice, number_answer, number_1, number_refused, number_twice, number_done}
-use Rattle.numbering.specs.Replies.{Answers, answers_no, answers_twice, answers_done}
+use Rattle.numbering.specs.Replies.{Done, Refused, Twice, Answers, answers_no, answers_twice, answers_done}
 use Rattle.numbering.specs.Counting.{first_two, lowest_is, Fine, fine_read, Counts}
 use Rattle.numbering.specs.Meeting.{Single, Ordered}
 use Rattle.numbering.specs.Places.{Numbers, text_anew, anew_text}
@@ -26,11 +25,9 @@ module _ (s b : List ℕ) where
   pub no_room : length b < 2048 → Answers (number_answer s (length b)) (Refused 1) b b
   no_room h = answers_no (number_answer s (length b)) b (number_1 s (length b) h)
 
-  module _ (room : 2048 ≤ length b) {t : Table} where
-    pub no_sheet : t ≡ table_of (read_sheet s) → (t.refusal ≡ 0 → ⊥) → Answers (number_answer s (length b)) (Refused t.refusal) b b
-    no_sheet e f =
-        let q : t.refusal ≡ (table_of (read_sheet s)).refusal = ap (λ (x : Table). x.refusal) e in
-        answers_no (number_answer s (length b)) b (number_refused s (length b) room (table_refused s (λ z. f (q ∙ z)) ∙ ap refusal (sym q)))
+  module _ (room : 2048 ≤ length b) {c : ℕ} where
+    pub no_sheet : refusal c ≡ map_result table_of (read_sheet s) → Answers (number_answer s (length b)) (Refused c) b b
+    no_sheet e = answers_no (number_answer s (length b)) b (number_refused s (length b) room (table_refused s e))
 
 -- the lowest node that is used twice, as the table of uses tells it
 lowest_told : {s : List ℕ} {t : Table} (f : Fine s t) {u : List ℕ} {n : ℕ} → Counts s u → n ≡ first_two 0 t.nodes u → n ≡ lowest_twice (fine_read f).0
