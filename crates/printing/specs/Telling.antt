@@ -22,7 +22,8 @@ use Rattle.syntax.specs.Printer.{alone, spoken, tailed, TailOf, another, tail_of
 use Rattle.syntax.specs.Setting.{text_in}
 use Rattle.printing.specs.declared.pieces.First.TheVariants.{A, Sent}
 use Rattle.printing.specs.declared.pieces.Scope.{Scope}
-use Rattle.printing.specs.Pieces.{is_sent, reach_of, test_text, call_text, binders_text, empty_text, front_text, first_text, rest_text, each_text, with_text, decimal_is}
+use Rattle.printing.specs.Pieces.{is_sent, reach_of, test_text, call_text, binders_text, empty_text, front_text, first_text, rest_text}
+use Rattle.printing.specs.Pieces.{each_text, with_text, decimal_is}
 use Rattle.printing.specs.Saying.{Says, says_then, Known, Ready, Standing, Trailing, Alone, Rest, Body, Branch, Defaults, defaults_said, meant, Tells}
 
 -- a text that was written, as what is said

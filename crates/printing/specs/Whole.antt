@@ -69,7 +69,8 @@ root_ready {sh = sh} r f e d = record {
   shallow = omega arith;
 }
 
-pub section_ready : {s starts : List ℕ} {plain : List Bool} {count i n : ℕ} {w : Scope} → (q : Lent s starts plain count) → i < count → n ≡ section_at s i → w.count ≡ 2
+pub section_ready : {s starts : List ℕ} {plain : List Bool} {count i n : ℕ} {w : Scope}
+    → (q : Lent s starts plain count) → i < count → n ≡ section_at s i → w.count ≡ 2
     → w.indent ≡ 2 → Ready s starts plain n w
 section_ready {s} {i = i} {n} q h e f d =
     let l : i < length q.sheet.sections = omega (arith, q.roots.many) in
@@ -127,7 +128,8 @@ drop_next [] i h = absurd (omega arith)
 drop_next (x ∷ l) zero h = refl
 drop_next (x ∷ l) (suc i) h = drop_next l i (omega arith)
 
-pub sections_more : {s starts : List ℕ} {plain : List Bool} {count i n at m₁ m₂ r : ℕ} {b b₁ b₂ b₃ : List ℕ} → SectionsPut s starts plain count i at b b₁ m₁ → i < count
+pub sections_more : {s starts : List ℕ} {plain : List Bool} {count i n at m₁ m₂ r : ℕ} {b b₁ b₂ b₃ : List ℕ}
+    → SectionsPut s starts plain count i at b b₁ m₁ → i < count
     → Wrote (head_text i) m₁ b₁ b₂ m₂ → n ≡ section_at s i → Tells s starts plain n (Body (record { count = 2; first = A; indent = 2 })) m₂ b₂ b₃ r
     → SectionsPut s starts plain count (i + 1) at b b₃ r
 unfolding text_in spelled sections_said head_text called name_of suffix
@@ -153,12 +155,13 @@ sections_more {s} {i = i} {n} u h w e t = record {
     four : (a c d f k : List ℕ) → a ++ (c ++ (d ++ (f ++ k))) ≡ ((a ++ (c ++ d)) ++ f) ++ k
     four a c d f k = simp append_assoc
 
-pub sections_all : {s starts : List ℕ} {plain : List Bool} {count i at r : ℕ} {b b' : List ℕ} → SectionsPut s starts plain count i at b b' r → i ≤ count → count ≤ i
-    → SectionsPut s starts plain count count at b b' r
+pub sections_all : {s starts : List ℕ} {plain : List Bool} {count i at r : ℕ} {b b' : List ℕ} → SectionsPut s starts plain count i at b b' r
+    → i ≤ count → count ≤ i → SectionsPut s starts plain count count at b b' r
 sections_all {s} {starts} {plain} {count} {i} {at} {r} {b} {b'} u h l =
     let z : i ≡ count = omega arith in subst (λ (n : ℕ). SectionsPut s starts plain count n at b b' r) z u
 
-pub sections_long : {s starts : List ℕ} {plain : List Bool} {count i at r : ℕ} {b b' : List ℕ} → Lent s starts plain count → SectionsPut s starts plain count i at b b' r
+pub sections_long : {s starts : List ℕ} {plain : List Bool} {count i at r : ℕ} {b b' : List ℕ} → Lent s starts plain count
+    → SectionsPut s starts plain count i at b b' r
     → length b' ≡ length b
 sections_long q u = wrote_long (u.told q.sheet q.known q.roots).put
 

@@ -142,7 +142,8 @@ list_case-returns t c =
 
 -- LIST_REST
 -- WHAT IS KNOWN THERE: the node of the record, where it is a front
-list_rest-is_front : (t : ℕ) (c : list_rest-In-Front t) → node_at c.args.self.now.sheet.now (get_or c.args.self.now.table c.args.n 0) ≡ Front c.in-Front.first c.in-Front.rest
+list_rest-is_front : (t : ℕ) (c : list_rest-In-Front t) →
+    node_at c.args.self.now.sheet.now (get_or c.args.self.now.table c.args.n 0) ≡ Front c.in-Front.first c.in-Front.rest
 list_rest-is_front t c = sym c.record_at-node.ensures ∙ c.in-Front.is
 
 pub list_rest-say-end-requires : goal.list_rest-say-end-requires
