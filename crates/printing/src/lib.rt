@@ -46,8 +46,8 @@ fn head(i: usize, out: &mut [u8], at: usize) -> usize
 
 // The sections, of which there are so many.
 fn sections(source: &Source, count: usize, out: &mut [u8], at: usize) -> usize
-    requires { Lent source.now.sheet.now source.now.table source.now.plain count }
-    ensures { SectionsPut source.now.sheet.now source.now.table source.now.plain count count at out.old out.new result }
+    requires { Lent source.now count }
+    ensures { SectionsPut source.now count count at out.old out.new result }
 {
     let scope = Scope {
         count: 2,

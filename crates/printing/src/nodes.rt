@@ -30,8 +30,8 @@ impl Source<'_> {
     // The node n.
     #[cycle(say)]
     fn say(&self, n: usize, scope: Scope, out: &mut [u8], at: usize) -> usize
-        requires { Ready self.now.sheet.now self.now.table self.now.plain n scope }
-        ensures { Tells self.now.sheet.now self.now.table self.now.plain n (Alone scope) at out.old out.new result }
+        requires { Ready self.now n scope }
+        ensures { Tells self.now n (Alone scope) at out.old out.new result }
     {
         let node = record_at(self.sheet, self.table[n]);
         match node {
@@ -59,8 +59,8 @@ impl Source<'_> {
     // A list whose first member is known.
     #[cycle(say)]
     fn front(&self, n: usize, node: Node, scope: Scope, out: &mut [u8], at: usize) -> usize
-        requires { Standing self.now.sheet.now self.now.table self.now.plain n scope node 0x15 }
-        ensures { Tells self.now.sheet.now self.now.table self.now.plain n (Alone scope) at out.old out.new result }
+        requires { Standing self.now n scope node 0x15 }
+        ensures { Tells self.now n (Alone scope) at out.old out.new result }
     {
         let Node::Front { first, rest } = node else {
             return at;
@@ -76,8 +76,8 @@ impl Source<'_> {
     // The node n as the rest of a list, behind a member; `flat` where the list has no case in it.
     #[cycle(say)]
     fn list_rest(&self, n: usize, flat: bool, scope: Scope, out: &mut [u8], at: usize) -> usize
-        requires { Trailing self.now.sheet.now self.now.table self.now.plain n scope }
-        ensures { Tells self.now.sheet.now self.now.table self.now.plain n (Rest flat scope) at out.old out.new result }
+        requires { Trailing self.now n scope }
+        ensures { Tells self.now n (Rest flat scope) at out.old out.new result }
     {
         let node = record_at(self.sheet, self.table[n]);
         let mut inner = scope;
@@ -101,8 +101,8 @@ impl Source<'_> {
     // A pair.
     #[cycle(say)]
     fn pair(&self, n: usize, node: Node, scope: Scope, out: &mut [u8], at: usize) -> usize
-        requires { Standing self.now.sheet.now self.now.table self.now.plain n scope node 0x16 }
-        ensures { Tells self.now.sheet.now self.now.table self.now.plain n (Alone scope) at out.old out.new result }
+        requires { Standing self.now n scope node 0x16 }
+        ensures { Tells self.now n (Alone scope) at out.old out.new result }
     {
         let Node::Pair { left, right } = node else {
             return at;
@@ -120,8 +120,8 @@ impl Source<'_> {
     // The node n behind an arrow or an `=`: on the same line, or on lines of its own.
     #[cycle(say)]
     pub fn body(&self, n: usize, scope: Scope, out: &mut [u8], at: usize) -> usize
-        requires { Ready self.now.sheet.now self.now.table self.now.plain n scope }
-        ensures { Tells self.now.sheet.now self.now.table self.now.plain n (Body scope) at out.old out.new result }
+        requires { Ready self.now n scope }
+        ensures { Tells self.now n (Body scope) at out.old out.new result }
     {
         let end = or_line(self.plain[n], b" ", scope.indent, out, at);
         self.say(n, scope, out, end)
@@ -130,8 +130,8 @@ impl Source<'_> {
     // The same, with a test behind it.
     #[cycle(say)]
     fn branch(&self, n: usize, t: u8, scope: Scope, out: &mut [u8], at: usize) -> usize
-        requires { Ready self.now.sheet.now self.now.table self.now.plain n scope }
-        ensures { Tells self.now.sheet.now self.now.table self.now.plain n (Branch scope t) at out.old out.new result }
+        requires { Ready self.now n scope }
+        ensures { Tells self.now n (Branch scope t) at out.old out.new result }
     {
         let end = self.body(n, scope, out, at);
         test(t, out, end)
@@ -140,8 +140,8 @@ impl Source<'_> {
     // A case on a list.
     #[cycle(say)]
     fn list_case(&self, n: usize, node: Node, scope: Scope, out: &mut [u8], at: usize) -> usize
-        requires { Standing self.now.sheet.now self.now.table self.now.plain n scope node 0x17 }
-        ensures { Tells self.now.sheet.now self.now.table self.now.plain n (Alone scope) at out.old out.new result }
+        requires { Standing self.now n scope node 0x17 }
+        ensures { Tells self.now n (Alone scope) at out.old out.new result }
     {
         let Node::ListCase {
             subject,
@@ -172,8 +172,8 @@ impl Source<'_> {
     // The two defaults of a case on a list, and its end.
     #[cycle(say)]
     fn defaults(&self, n: usize, node: Node, scope: Scope, out: &mut [u8], at: usize) -> usize
-        requires { Standing self.now.sheet.now self.now.table self.now.plain n scope node 0x17 }
-        ensures { Tells self.now.sheet.now self.now.table self.now.plain n (Defaults scope node) at out.old out.new result }
+        requires { Standing self.now n scope node 0x17 }
+        ensures { Tells self.now n (Defaults scope node) at out.old out.new result }
     {
         let Node::ListCase { first, rest, .. } = node else {
             return at;
@@ -193,8 +193,8 @@ impl Source<'_> {
     // A case on a truth.
     #[cycle(say)]
     fn truth_case(&self, n: usize, node: Node, scope: Scope, out: &mut [u8], at: usize) -> usize
-        requires { Standing self.now.sheet.now self.now.table self.now.plain n scope node 0x18 }
-        ensures { Tells self.now.sheet.now self.now.table self.now.plain n (Alone scope) at out.old out.new result }
+        requires { Standing self.now n scope node 0x18 }
+        ensures { Tells self.now n (Alone scope) at out.old out.new result }
     {
         let Node::TruthCase {
             subject,
@@ -223,8 +223,8 @@ impl Source<'_> {
     // A `let`.
     #[cycle(say)]
     fn split(&self, n: usize, node: Node, scope: Scope, out: &mut [u8], at: usize) -> usize
-        requires { Standing self.now.sheet.now self.now.table self.now.plain n scope node 0x19 }
-        ensures { Tells self.now.sheet.now self.now.table self.now.plain n (Alone scope) at out.old out.new result }
+        requires { Standing self.now n scope node 0x19 }
+        ensures { Tells self.now n (Alone scope) at out.old out.new result }
     {
         let Node::Split { subject, inner } = node else {
             return at;
@@ -244,8 +244,8 @@ impl Source<'_> {
     // A sum.
     #[cycle(say)]
     fn add(&self, n: usize, node: Node, scope: Scope, out: &mut [u8], at: usize) -> usize
-        requires { Standing self.now.sheet.now self.now.table self.now.plain n scope node 0x1B }
-        ensures { Tells self.now.sheet.now self.now.table self.now.plain n (Alone scope) at out.old out.new result }
+        requires { Standing self.now n scope node 0x1B }
+        ensures { Tells self.now n (Alone scope) at out.old out.new result }
     {
         let Node::Add { node: of, amount } = node else {
             return at;
@@ -258,8 +258,8 @@ impl Source<'_> {
     // A call for each member of a list.
     #[cycle(say)]
     fn each(&self, n: usize, node: Node, scope: Scope, out: &mut [u8], at: usize) -> usize
-        requires { Standing self.now.sheet.now self.now.table self.now.plain n scope node 0x1C }
-        ensures { Tells self.now.sheet.now self.now.table self.now.plain n (Alone scope) at out.old out.new result }
+        requires { Standing self.now n scope node 0x1C }
+        ensures { Tells self.now n (Alone scope) at out.old out.new result }
     {
         let Node::Each {
             subject,

@@ -199,7 +199,7 @@ pair-returns t c =
 -- SAY
 -- WHAT IS KNOWN THERE: the node is one of its kind
 say-standing : (t : ℕ) (c : say-After-record_at-node t) {kind : ℕ} → (row c.record_at-node.result).kind ≡ kind →
-    Standing c.args.self.now.sheet.now c.args.self.now.table c.args.self.now.plain c.args.n c.args.scope c.record_at-node.result kind
+    Standing c.args.self.now c.args.n c.args.scope c.record_at-node.result kind
 say-standing t c e = record { ready = c.requires; is = sym c.record_at-node.ensures; of_kind = e }
 
 pub say-front-requires : goal.say-front-requires
