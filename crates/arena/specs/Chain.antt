@@ -1,6 +1,6 @@
 -- The chain of a refusal in the arena, and the answer of a node that is left.
-use Rattle.std.specs.Prelude.{◌≡◌, refl, Bool, true, false, cond, List, ℕ, ◌+◌, ◌-◌, ◌%◌, ◌≤◌, ◌<◌, leb, length, set}
-use Rattle.std.proofs.Common.{sym, ap, ◌∙◌, arith, le-leb}
+use Rattle.std.specs.Prelude.{◌≡◌, true, false, cond, List, ℕ, ◌+◌, ◌-◌, ◌%◌, ◌≤◌, ◌<◌, leb, length, set}
+use Rattle.std.proofs.Common.{sym, ◌∙◌, le-leb}
 use Rattle.std.proofs.lemmas.Bool.{lt-leb}
 use Rattle.std.proofs.Math.Seq.{set_out}
 use Rattle.outcome.specs.Outcome.{is_refusal, deeper_as, later_as}
@@ -53,3 +53,6 @@ left_refused g e = rw e
 pub left_done : (g : ℕ) → is_refusal g ≡ false → left_as g ≡ later_as g 1
 unfolding left_as
 left_done g e = rw e
+
+-- what `leave` answers
+pub ruleset leaving = (chained_refused, chained_done, left_refused, left_done)

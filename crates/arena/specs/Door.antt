@@ -1,9 +1,12 @@
 -- The door of a walk and of a call: what it refuses before anything is read. A walk asks for no output.
-use Rattle.std.specs.Prelude.{◌≡◌, refl, true, ℕ, ◌≤◌, leb}
+use Rattle.std.specs.Prelude.{◌≡◌, refl, true, ℕ, ◌≤◌, leb, ⊤, Result, MatchResult}
 use Rattle.std.proofs.Math.Path.{sym}
 use Rattle.std.proofs.Common.{ap, ◌∙◌, arith}
 use mathlib.Core.List.{List, []}
 use Rattle.std.proofs.Math.Decide.{dec_le}
+use Rattle.refusal.specs.declared.Refusal.{Refusal}
+use Rattle.refusal.specs.Refusal.{number_of}
+use Rattle.outcome.proofs.Numbers.{number_fits}
 use Rattle.rules.specs.Numbers.{allowance_limit, scratch_size}
 use Rattle.rules.specs.Outcome.{Out, done, refused}
 use Rattle.rules.proofs.Laws.Outcomes.{given_yes}
@@ -19,6 +22,11 @@ number (refused c n) = c
 -- the refusal of the door for these sizes and this allowance, 0 where it opens
 unfoldable pub shut : (need output scratch allowance : ℕ) → ℕ
 shut need output scratch allowance = number (door need output scratch allowance (done [] 0))
+
+-- r is that refusal, or that there is none
+abbrev pub Judges : (need output scratch allowance : ℕ) → Result ⊤ Refusal → Type 0
+Judges need output scratch allowance r =
+    MatchResult r (λ _. shut need output scratch allowance ≡ 0) (λ e. number_of e ≡ shut need output scratch allowance)
 
 -- what shut says: all is lent that is needed, or a refusal 1 to 3, whatever stands behind the door
 pub data Door (need output scratch allowance : ℕ) : ℕ → Type 0 where
@@ -70,3 +78,10 @@ module _ {need output scratch allowance : ℕ} where
   -- it stays shut, so that not all is lent
   pub door_shut : {c : ℕ} → c ≡ shut need output scratch allowance → (c ≡ 0 → ⊥) → DoorOpens need output scratch allowance → ⊥
   door_shut e n l = n (e ∙ sym (shut_open l))
+
+  -- as a judge says it
+  pub door_opens : shut need output scratch allowance ≡ 0 → DoorOpens need output scratch allowance
+  door_opens e = door_lent (sym e) refl
+
+  pub door_stays : (x : Refusal) → number_of x ≡ shut need output scratch allowance → DoorOpens need output scratch allowance → ⊥
+  door_stays x e = door_shut e (λ z. omega (arith, (number_fits x).0, z))

@@ -3,30 +3,31 @@
 //! its byte at the arena's end, written on the way out of it. And the door, which judges whether an arena and an allowance will do for a walk.
 #![tactic(auto)]
 
-ghost use Rattle.std.specs.Prelude.{cond, ◌≡◌, min};
+ghost use Rattle.std.specs.Prelude.{◌≡◌, min};
 ghost use Rattle.rules.specs.Bits.{bits_of};
 ghost use Rattle.scopes.specs.Scopes.{When};
 ghost use Rattle.arena.specs.Writing.{Takes, write_answer, written_bytes, written_notes};
 ghost use Rattle.arena.specs.Chain.{in_chain, chained, left_as};
-ghost use Rattle.arena.specs.Bits.{filled, filled_from};
-ghost use Rattle.arena.specs.Door.{shut};
+ghost use Rattle.arena.specs.Bits.{filled_from};
+ghost use Rattle.arena.specs.Door.{Judges};
 
-use outcome::{deeper, done, is_refused, later, refused};
+use outcome::Answer;
+use refusal::Refusal;
 
-/// What a walk refuses before it reads anything, 0 for nothing: 2 too little scratch, 3 an allowance of 0 or one that is too large.
-pub fn door(scratch: usize, allowance: usize) -> u8
-    ensures { result ≡ shut 0 0 scratch allowance }
+/// What a walk refuses before it reads anything: too little scratch, then an allowance of 0 or one that is too large.
+pub fn door(scratch: usize, allowance: usize) -> Result<(), Refusal>
+    ensures { Judges 0 0 scratch allowance result }
 {
     if scratch < rules::SCRATCH {
-        return 2;
+        return Err(Refusal::ScratchSmall);
     }
     if allowance == 0 {
-        return 3;
+        return Err(Refusal::AllowanceRange);
     }
     if rules::ALLOWANCE < allowance {
-        return 3;
+        return Err(Refusal::AllowanceRange);
     }
-    0
+    Ok(())
 }
 
 /// A view for the cell c: the node writes it where nothing was written, and it is noted; or else it must equal what was. Nothing changes, and
@@ -37,7 +38,7 @@ pub fn write(
     c: usize,
     node: usize,
     view: &[u8],
-) -> usize
+) -> Answer
     ensures when { When (Takes arena.old c node view.now) result
         (write_answer arena.old slots.old c view.now) 42 }
     ensures when_2 { When (Takes arena.old c node view.now) arena.new
@@ -46,33 +47,34 @@ pub fn write(
         (written_notes slots.old c node view.now) slots.old }
 {
     if rules::VARIABLES <= c {
-        return refused(42);
+        return Answer::refused(Refusal::Scope);
     }
     let slot = scopes::slot_of(c);
     if arena.len() < slot + rules::SLOT {
-        return refused(42);
+        return Answer::refused(Refusal::Scope);
     }
     if 254 < node {
-        return refused(42);
+        return Answer::refused(Refusal::Scope);
     }
     let len = view.len();
     if len == 0 {
-        return refused(42);
+        return Answer::refused(Refusal::Scope);
     }
     if rules::SLOT < len {
-        return refused(42);
+        return Answer::refused(Refusal::Scope);
     }
     let note = slots[c];
     if note == 0 {
         scopes::store(arena, slot, view);
         slots[c] = scopes::note_of(node as u8, len);
-        return done(0, 0, 0);
+        return Answer::done(0, 0, 0);
     }
     let end = slot + scopes::noted_len(note);
     decisions::put_again(note, &arena[slot..end], view)
 }
 
 // A node's byte in the chain, where it was entered with so many levels left; nothing changes where there is no such place.
+#[tactic(auto, using(crate::specs::Chain::in_place, crate::specs::Chain::no_place, crate::specs::Chain::place_out))]
 fn name(arena: &mut [u8], node: usize, levels: usize)
     ensures { arena.new ≡ in_chain arena.old node levels }
 {
@@ -87,32 +89,16 @@ fn name(arena: &mut [u8], node: usize, levels: usize)
 }
 
 /// The answer of a node that was entered with so many levels left, or was refused entry: a step more; or, of a refusal, one node more.
-pub fn leave(arena: &mut [u8], answer: usize, node: usize, levels: usize) -> usize
+#[tactic(auto, using(crate::specs::Chain::leaving))]
+pub fn leave(arena: &mut [u8], answer: Answer, node: usize, levels: usize) -> Answer
     ensures value { result ≡ left_as answer }
     ensures arena_after { arena.new ≡ chained arena.old answer node levels }
 {
-    if is_refused(answer) {
+    if answer.is_refused() {
         name(arena, node, levels);
-        return deeper(answer);
+        return answer.deeper();
     }
-    later(answer, 1)
-}
-
-// The bit of a cell with this note: a note of 0 is that of a slot to which nothing was written.
-fn bit_of(note: u16) -> u16
-    ensures { result ≡ cond (filled note) 1 0 }
-{
-    if note == 0 {
-        return 0;
-    }
-    1
-}
-
-// As many of k cells as have a bit.
-fn counted(k: usize) -> usize
-    ensures { result ≡ min k 16 }
-{
-    if k < 16 { k } else { 16 }
+    answer.later(1)
 }
 
 /// Which of the first k cells took a view: bit i for cell i. A plan has at most 16 variables, and no cell behind them has a bit.
@@ -120,10 +106,9 @@ pub fn bits_of(slots: &[u16; rules::VARIABLES], k: usize) -> u16
     ensures { result ≡ bits_of (filled_from slots.now 0 (min k 16)) }
 {
     let mut bits = 0;
-    let mut i = counted(k);
-    while 0 < i {
-        i -= 1;
-        bits = bit_of(slots[i]) + 2 * bits;
+    for i in (0..k.min(16)).rev() {
+        // a note of 0 is that of a slot to which nothing was written
+        bits = u16::from(slots[i] != 0) + 2 * bits;
     }
     bits
 }

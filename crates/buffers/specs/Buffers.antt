@@ -1,9 +1,11 @@
 -- What a call does to its caller's buffers.
-use Rattle.std.specs.Prelude.{◌≡◌, refl, true, false, cond, List, ◌++◌, ℕ, ◌+◌, ◌≤◌, ◌<◌, min, leb, length, drop, set, get_or, replicate}
-use Rattle.std.proofs.Common.{ap, ◌∙◌, add-one, arith, length-drop, length-set, get_or-drop}
-use Rattle.std.proofs.Math.Seq.{paste, paste-zero, paste-suc}
-use Rattle.std.proofs.lemmas.List.Edits.{fill_none, fill_more}
+use Rattle.std.specs.Prelude.{◌≡◌, true, false, cond, List, ◌++◌, ℕ, ◌+◌, ◌≤◌, min, leb, length, take, drop, replicate}
+use Rattle.std.proofs.Common.{ap, ◌∙◌, arith}
+use Rattle.std.proofs.Math.Seq.{paste}
 use borrow.Author.Tests.{le-leb}
+use Rattle.std.proofs.Common.{rules}
+use Rattle.std.proofs.lemmas.Slice.{overwrites}
+use borrow.Rule.Slice.PartMut.{put_mid}
 use Rattle.rules.specs.Numbers.{scratch_size}
 
 -- the first n bytes zero, and the others as they were
@@ -17,22 +19,6 @@ zeroed s = zeros scratch_size s
 -- a scratch that is long enough is cleared so
 pub cleared_whole : (s : List ℕ) {a : List ℕ} → a ≡ zeros (min scratch_size (length s)) s → scratch_size ≤ length s → a ≡ zeroed s
 cleared_whole s e h = let m : min scratch_size (length s) ≡ scratch_size = omega arith in e ∙ ap (λ (n : ℕ). zeros n s) m
-
--- i bytes are cleared
-pub record Clearing (i : ℕ) (b a : List ℕ) : Type 0 where
-  pub made : a ≡ zeros i b
-  pub long : length a ≡ length b
-
-pub clearing_none : (b : List ℕ) → Clearing 0 b b
-unfolding zeros
-clearing_none b = record { made = fill_none b 0; long = refl }
-
-pub clearing_more : {i : ℕ} {b a : List ℕ} → Clearing i b a → i < length b → Clearing (i + 1) b (set a i 0)
-unfolding zeros
-clearing_more {i} {b} {a} c h = record { made = rw c.made (fill_more i 0 b h); long = length-set a i 0 ∙ c.long }
-
-pub clearing_all : {i n : ℕ} {b a : List ℕ} → Clearing i b a → i ≡ n → a ≡ zeros n b
-clearing_all {b = b} c e = c.made ∙ ap (λ (k : ℕ). zeros k b) e
 
 -- n bytes of s from place `from` on, at place `to` of b; b as it was where either is too short for them
 unfoldable pub copied : (from to n : ℕ) (s b : List ℕ) → List ℕ
@@ -51,20 +37,6 @@ module _ (from to n : ℕ) (s b : List ℕ) where
   unfolding copied
   copied_full e f = rw (e, f)
 
--- i bytes are copied out
-pub record Copying (from to i : ℕ) (s b a : List ℕ) : Type 0 where
-  pub made : a ≡ paste b to (drop from s) i
-  pub long : length a ≡ length b
-
-pub copying_none : (from to : ℕ) (s b : List ℕ) → Copying from to 0 s b b
-copying_none from to s b = record { made = paste-zero b to (drop from s); long = refl }
-
-pub copying_more : {from to i : ℕ} {s b a : List ℕ} → Copying from to i s b a → from + i < length s → to + i < length b
-    → Copying from to (i + 1) s b (set a (to + i) (get_or s (from + i) 0))
-copying_more {from} {to} {i} {s} {b} {a} c hs hb = record {
-  made = rw (← get_or-drop from s i 0, c.made, add-one) (paste-suc b to (drop from s) i 0 hb (rw length-drop (omega arith)));
-  long = length-set a (to + i) (get_or s (from + i) 0) ∙ c.long;
-}
-
-pub copying_all : {from to i n : ℕ} {s b a : List ℕ} → Copying from to i s b a → i ≡ n → a ≡ paste b to (drop from s) n
-copying_all {from} {to} {s = s} {b = b} c e = c.made ∙ ap (paste b to (drop from s)) e
+  -- what a copy of them leaves
+  pub copied_part : {k : ℕ} {p : List ℕ} → from + n ≤ length s → to + n ≤ length b → k ≡ n → p ≡ take k (drop from s) → put_mid to k b p ≡ copied from to n s b
+  copied_part {k} {p} h j e d = rw (copied_room h j, d) (search (rules, overwrites))

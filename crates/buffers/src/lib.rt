@@ -6,25 +6,12 @@ ghost use Rattle.rules.specs.Numbers.{scratch_size};
 ghost use Rattle.buffers.specs.Buffers.{zeros, copied};
 
 /// The bytes of scratch that a call takes are zero; of a shorter one all.
+#[tactic(auto, unfolding(crate::specs::Buffers::zeros))]
 pub fn clear(scratch: &mut [u8])
     ensures { scratch.new ≡ zeros (min scratch_size (length scratch.old)) scratch.old }
 {
-    let n = taken(scratch.len());
-    let mut i = 0;
-    while i < n {
-        scratch[i] = 0;
-        i += 1;
-    }
-}
-
-// How many bytes a call takes of a scratch of so many.
-fn taken(length: usize) -> usize
-    ensures { result ≡ min scratch_size length }
-{
-    if length < rules::SCRATCH {
-        return length;
-    }
-    rules::SCRATCH
+    let n = scratch.len().min(rules::SCRATCH);
+    scratch[..n].fill(0);
 }
 
 // Whether so many bytes have n from a place on.
@@ -41,6 +28,7 @@ fn has(length: usize, at: usize, n: usize) -> bool
 }
 
 /// The bytes of scratch from `from` on, n of them, at place `to` of the output; none where either buffer is too short for them.
+#[tactic(auto, using(crate::specs::Buffers::copied_short, crate::specs::Buffers::copied_full, crate::specs::Buffers::copied_part))]
 pub fn copy_out(scratch: &[u8], from: usize, n: usize, out: &mut [u8], to: usize)
     ensures { out.new ≡ copied from to n scratch.now out.old }
 {
@@ -50,9 +38,5 @@ pub fn copy_out(scratch: &[u8], from: usize, n: usize, out: &mut [u8], to: usize
     if !has(out.len(), to, n) {
         return;
     }
-    let mut i = 0;
-    while i < n {
-        out[to + i] = scratch[from + i];
-        i += 1;
-    }
+    out[to..to + n].copy_from_slice(&scratch[from..from + n]);
 }

@@ -6,7 +6,22 @@ use Rattle.shapes.specs.declared.Shape.{Shape}
 use Rattle.shapes.specs.declared.Shape.TheVariants.{False, True, Empty, Front, Number, Pair, Wide, Malformed}
 use Rattle.decisions.specs.declared.Branch.{Branch}
 use Rattle.decisions.specs.declared.Branch.TheVariants.{Plain, Parts, Switch, Refused}
-use Rattle.decisions.specs.DecisionLaws.{neither, whole, unfitting}
+use Rattle.decisions.specs.DecisionLaws.{
+  neither,
+  whole,
+  unfitting,
+  fits_empty,
+  fits_front,
+  fits_false,
+  fits_true,
+  fits_pair,
+  fits_none,
+  apart_front,
+  front_other,
+  pair_other,
+  apart_pair,
+  no_apart,
+}
 
 pub fits_neither :
     (q : Shape) → (q ≡ False → ⊥) → (q ≡ True → ⊥) → (q ≡ Empty → ⊥) → ((m : ℕ) → q ≡ Front m → ⊥) → ((m : ℕ) → q ≡ Pair m → ⊥) → neither q ≡ true
@@ -37,3 +52,8 @@ is_unfitting (Plain i x) plain parts = absurd (plain i x refl)
 is_unfitting (Parts i m) plain parts = absurd (parts i m refl)
 is_unfitting Switch plain parts = refl
 is_unfitting (Refused c) plain parts = refl
+
+-- what `fits` and `take_apart` answer
+pub ruleset fittings = (fits_empty, fits_front, fits_false, fits_true, fits_pair, fits_none, fits_neither)
+
+pub ruleset apart = (apart_front, front_other, pair_other, apart_pair, no_apart, is_whole)

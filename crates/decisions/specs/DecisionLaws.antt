@@ -1,19 +1,22 @@
 -- Laws of those definitions, for the code here and for callers.
-use Rattle.std.specs.Prelude.{◌≡◌, refl, List, Bool, true, false, ℕ, zero, suc, ◌+◌, ◌≤◌, ◌<◌, eqb, ltb}
-use Rattle.std.proofs.Common.{sym, ap₂, ◌∙◌, arith, eqb-true, ne_eqb, eq-eqb, lt-ltb, le-ltb}
+use Rattle.std.specs.Prelude.{◌≡◌, refl, List, Bool, true, false, ℕ, zero, suc, ◌+◌, ◌≤◌, eqb, ltb, ⊤, Result, Ok, Err}
+use Rattle.std.proofs.Common.{sym, ap₂, ◌∙◌, arith, eqb-true, ne_eqb, eq-eqb}
 use Rattle.std.proofs.Math.Path.{ap}
 use Rattle.std.proofs.lemmas.Bool.{false≢true}
 use Rattle.shapes.specs.Parts.{passes_bytes}
 use Rattle.shapes.proofs.TestsLaws.{passes_enough}
 use Rattle.shapes.specs.declared.Shape.{Shape}
 use Rattle.shapes.specs.declared.Shape.TheVariants.{False, True, Empty, Front, Number, Pair, Wide, Malformed}
+use Rattle.refusal.specs.declared.Refusal.{Refusal}
+use Rattle.refusal.specs.declared.Refusal.TheVariants.{ValueKind, NoBranch}
 use Rattle.decisions.specs.declared.Branch.{Branch}
 use Rattle.decisions.specs.declared.Branch.TheVariants.{Plain, Parts, Switch, Refused}
 use Rattle.decisions.specs.declared.Apart.TheVariants.{At, Other}
-use Rattle.outcome.specs.Outcome.{done_as, is_refusal, len_of, steps_of}
+use Rattle.outcome.specs.Outcome.{done_as, is_refusal, len_of, steps_of, len_small}
 use Rattle.decisions.specs.Decisions.{
   where_so,
   entry_refusal,
+  Enters,
   fits_kind,
   fit_of,
   other_of,
@@ -44,11 +47,15 @@ both_left (suc l) zero n m = absurd (m refl)
 both_left (suc l) (suc k) n m = refl
 
 -- where a node may be entered, a level and a step are left
-pub entered : {r : ℕ} (levels left : ℕ) → r ≡ entry_refusal levels left → r ≡ 0 → (levels ≡ 0 → ⊥) × (left ≡ 0 → ⊥)
+may_enter : (levels left : ℕ) → entry_refusal levels left ≡ 0 → (levels ≡ 0 → ⊥) × (left ≡ 0 → ⊥)
 unfolding entry_refusal
-entered zero left e z = absurd (omega (arith, e, z))
-entered (suc l) zero e z = absurd (omega (arith, e, z))
-entered (suc l) (suc k) e z = (λ q. omega (arith, q), λ q. omega (arith, q))
+may_enter zero left z = absurd (omega (arith, z))
+may_enter (suc l) zero z = absurd (omega (arith, z))
+may_enter (suc l) (suc k) z = (λ q. omega (arith, q), λ q. omega (arith, q))
+
+pub entered : (levels left : ℕ) (r : Result ⊤ Refusal) → Enters levels left r → ((e : Refusal) → r ≡ Err e → ⊥) → (levels ≡ 0 → ⊥) × (left ≡ 0 → ⊥)
+entered levels left (Ok x) z n = may_enter levels left z
+entered levels left (Err e) z n = absurd (n e refl)
 
 pub judged_yes : (c : ℕ) {p q : Bool} → p ≡ q → p ≡ true → done_as 0 0 0 ≡ judged c q
 unfolding judged
@@ -61,14 +68,6 @@ judged_no c e t = rw (← e, t)
 pub other_kind : (kind rest : ℕ) → (kind ≡ 3 → ⊥) → false ≡ unfit_rest kind rest
 unfolding unfit_rest
 other_kind kind rest n = rw (ne_eqb kind 3 n)
-
-pub too_low : (kind rest : ℕ) → kind ≡ 3 → rest < 2 → true ≡ unfit_rest kind rest
-unfolding unfit_rest
-too_low kind rest e h = rw (eq-eqb kind 3 e, lt-ltb rest 2 h)
-
-pub by_height : (kind rest : ℕ) → kind ≡ 3 → 2 ≤ rest → ltb 3 rest ≡ unfit_rest kind rest
-unfolding unfit_rest
-by_height kind rest e h = rw (eq-eqb kind 3 e, le-ltb rest 2 h)
 
 -- where a number is that one, and where it is not
 module _ {A : Type 0} {n m : ℕ} (x y : A) where
@@ -86,7 +85,7 @@ pub on_kind : {kind is : ℕ} (b : Branch) → kind ≡ is → b ≡ fits_kind k
 unfolding fits_kind
 on_kind b e = sym (where_is _ _ e)
 
-pub on_other : {kind is : ℕ} (b : Branch) → (kind ≡ is → ⊥) → Refused 43 ≡ fits_kind kind is b
+pub on_other : {kind is : ℕ} (b : Branch) → (kind ≡ is → ⊥) → Refused ValueKind ≡ fits_kind kind is b
 unfolding fits_kind
 on_other b n = sym (where_not _ _ n)
 
@@ -127,15 +126,15 @@ pub data FitsBranch (k : ℕ) : Shape → Branch → Type 0 where
   untrue : k ≡ 0x18 → FitsBranch k False (Plain 2 0)
   so : k ≡ 0x18 → FitsBranch k True (Plain 4 1)
   pair : {mid : ℕ} → k ≡ 0x19 → FitsBranch k (Pair mid) (Parts 2 mid)
-  misfit : {q : Shape} → fit_of k q ≡ Refused 43 → FitsBranch k q (Refused 43)
+  misfit : {q : Shape} → fit_of k q ≡ Refused ValueKind → FitsBranch k q (Refused ValueKind)
 
 by_kind : (k x : ℕ) (q : Shape) (b : Branch) → fit_of k q ≡ fits_kind k x b → (k ≡ x → FitsBranch k q b) → FitsBranch k q (fit_of k q)
 unfolding fits_kind where_so
 by_kind k x q b e f = go (eqb k x) refl
   where
     go : (p : Bool) → eqb k x ≡ p → FitsBranch k q (fit_of k q)
-    go true h = let z : fit_of k q ≡ b = e ∙ ap (λ (p : Bool). where_so p b (Refused 43)) h in rw z (f (eqb-true k x h))
-    go false h = let z : fit_of k q ≡ Refused 43 = e ∙ ap (λ (p : Bool). where_so p b (Refused 43)) h in rw z (misfit z)
+    go true h = let z : fit_of k q ≡ b = e ∙ ap (λ (p : Bool). where_so p b (Refused ValueKind)) h in rw z (f (eqb-true k x h))
+    go false h = let z : fit_of k q ≡ Refused ValueKind = e ∙ ap (λ (p : Bool). where_so p b (Refused ValueKind)) h in rw z (misfit z)
 
 pub fits_told : (k : ℕ) (q : Shape) → FitsBranch k q (fit_of k q)
 unfolding fit_of
@@ -163,7 +162,7 @@ neither (Number i) = true
 neither Wide = true
 neither Malformed = true
 
-pub fits_none : (kind : ℕ) (q : Shape) → neither q ≡ true → Refused 43 ≡ fit_of kind q
+pub fits_none : (kind : ℕ) (q : Shape) → neither q ≡ true → Refused ValueKind ≡ fit_of kind q
 unfolding fit_of neither
 fits_none kind Empty e = absurd (false≢true e)
 fits_none kind (Front m) e = absurd (false≢true e)
@@ -182,7 +181,7 @@ pub other_yes : (p q : Bool) (b c : Branch) → p ≡ false → q ≡ true → c
 unfolding choice
 other_yes p q b c e f = rw (e, f)
 
-pub neither_says : (p q : Bool) (b c : Branch) → p ≡ false → q ≡ false → Refused 53 ≡ choice p q b c
+pub neither_says : (p q : Bool) (b c : Branch) → p ≡ false → q ≡ false → Refused NoBranch ≡ choice p q b c
 unfolding choice
 neither_says p q b c e f = rw (e, f)
 
@@ -224,7 +223,7 @@ unfitting (Parts i m) = false
 unfitting Switch = true
 unfitting (Refused c) = true
 
-none_fits : {k : ℕ} {q : Shape} {b : Branch} → FitsBranch k q b → unfitting b ≡ true → Refused 43 ≡ b
+none_fits : {k : ℕ} {q : Shape} {b : Branch} → FitsBranch k q b → unfitting b ≡ true → Refused ValueKind ≡ b
 unfolding unfitting
 none_fits (empty e) n = absurd (false≢true n)
 none_fits (front e) n = absurd (false≢true n)
@@ -233,17 +232,17 @@ none_fits (so e) n = absurd (false≢true n)
 none_fits (pair e) n = absurd (false≢true n)
 none_fits (misfit e) n = refl
 
-pub fits_refused : (k : ℕ) (q : Shape) {d : Branch} → d ≡ fit_of k q → unfitting d ≡ true → Refused 43 ≡ fit_of k q
+pub fits_refused : (k : ℕ) (q : Shape) {d : Branch} → d ≡ fit_of k q → unfitting d ≡ true → Refused ValueKind ≡ fit_of k q
 fits_refused k q e h = none_fits (fits_told k q) (ap unfitting (sym e) ∙ h)
 
-none_from : (kind : ℕ) (b : Branch) (p q : Bool) → unfitting b ≡ true → Refused 43 ≡ taken_from kind b p q
+none_from : (kind : ℕ) (b : Branch) (p q : Bool) → unfitting b ≡ true → Refused ValueKind ≡ taken_from kind b p q
 unfolding taken_from unfitting
 none_from kind (Plain i b) p q e = absurd (false≢true e)
 none_from kind (Parts i k) p q e = absurd (false≢true e)
 none_from kind Switch p q e = refl
 none_from kind (Refused c) p q e = refl
 
-pub takes_none : (kind : ℕ) (s : Shape) (p q : Bool) {d : Branch} → d ≡ fit_of kind s → unfitting d ≡ true → Refused 43 ≡ take_of kind s p q
+pub takes_none : (kind : ℕ) (s : Shape) (p q : Bool) {d : Branch} → d ≡ fit_of kind s → unfitting d ≡ true → Refused ValueKind ≡ take_of kind s p q
 unfolding take_of
 takes_none kind s p q {d} x h = rw (← x) (none_from kind d p q h)
 
@@ -259,8 +258,8 @@ pub data Took (k : ℕ) (q : Shape) : Branch → Type 0 where
   affirmed : k ≡ 0x18 → Took k q (Plain 4 1)
   parted : {i mid : ℕ} → FitsBranch k q (Parts i mid) → Took k q (Parts i mid)
   switched : k ≡ 0x17 → q ≡ Empty → Took k q Switch
-  unfitted : Took k q (Refused 43)
-  unsaid : Took k q (Refused 53)
+  unfitted : Took k q (Refused ValueKind)
+  unsaid : Took k q (Refused NoBranch)
 
 chosen : {k : ℕ} {s : Shape} (p q : Bool) (b c : Branch) → Took k s b → Took k s c → Took k s (choice p q b c)
 unfolding choice
@@ -352,3 +351,6 @@ module _ (got built top : ℕ) where
     pub front_done : {n : ℕ} → ltb 256 (built + (1 + l) + 1) ≡ false → n ≡ steps_of got → done_as top (1 + l) n ≡ fronted_as got built top
     unfolding fronted_as where_so
     front_done e steps = rw (there, ← len, e, steps)
+
+-- what `fronted` answers
+pub ruleset fronts = (front_refused, front_long, front_done, len_small)

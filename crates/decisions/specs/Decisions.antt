@@ -1,5 +1,8 @@
 -- What the functions of this crate give, for every input.
-use Rattle.std.specs.Prelude.{◌≡◌, Bool, true, false, ◌&&◌, ◌||◌, List, ℕ, zero, suc, ◌+◌, eqb, ltb}
+use Rattle.std.specs.Prelude.{◌≡◌, Bool, true, false, ◌&&◌, ◌||◌, List, ℕ, zero, suc, ◌+◌, eqb, ltb, ⊤, Result, MatchResult}
+use Rattle.refusal.specs.declared.Refusal.{Refusal}
+use Rattle.refusal.specs.Refusal.{number_of}
+use Rattle.refusal.specs.declared.Refusal.TheVariants.{ValueKind, NoBranch}
 use Rattle.decisions.specs.declared.Branch.{Branch}
 use Rattle.decisions.specs.declared.Branch.TheVariants.{Plain, Parts, Switch, Refused}
 use Rattle.decisions.specs.declared.Apart.{Apart}
@@ -18,6 +21,10 @@ entry_refusal zero left = 40
 entry_refusal (suc l) zero = 41
 entry_refusal (suc l) (suc n) = 0
 
+-- r is that refusal, or that neither is met
+abbrev pub Enters : (levels left : ℕ) → Result ⊤ Refusal → Type 0
+Enters levels left r = MatchResult r (λ _. entry_refusal levels left ≡ 0) (λ e. number_of e ≡ entry_refusal levels left)
+
 -- one thing where a test says yes, another where it says no
 unfoldable pub where_so : {A : Type 0} → Bool → A → A → A
 where_so true a b = a
@@ -27,7 +34,7 @@ where_so false a b = b
 
 -- a branch, where the case is of the kind that has it
 unfoldable pub fits_kind : (kind is : ℕ) → Branch → Branch
-fits_kind kind is b = where_so (eqb kind is) (b) (Refused 43)
+fits_kind kind is b = where_so (eqb kind is) (b) (Refused ValueKind)
 
 -- the branch that a subject fits, by its shape
 unfoldable pub fit_of : ℕ → Shape → Branch
@@ -36,9 +43,9 @@ fit_of kind (Front mid) = fits_kind kind 0x17 (Parts 4 mid)
 fit_of kind False = fits_kind kind 0x18 (Plain 2 0)
 fit_of kind True = fits_kind kind 0x18 (Plain 4 1)
 fit_of kind (Pair mid) = fits_kind kind 0x19 (Parts 2 mid)
-fit_of kind (Number n) = Refused 43
-fit_of kind Wide = Refused 43
-fit_of kind Malformed = Refused 43
+fit_of kind (Number n) = Refused ValueKind
+fit_of kind Wide = Refused ValueKind
+fit_of kind Malformed = Refused ValueKind
 
 -- the second branch, where the subject fits the first: of a list case it is switched to, of a truth case it is True's
 unfoldable pub other_of : ℕ → Branch
@@ -48,14 +55,14 @@ other_of kind = where_so (eqb kind 0x17) (Switch) (Plain 4 1)
 unfoldable pub choice : (kept_says other-says : Bool) → Branch → Branch → Branch
 choice true q kept other = kept
 choice false true kept other = other
-choice false false kept other = Refused 53
+choice false false kept other = Refused NoBranch
 
 -- from the branch that the old subject fits
 unfoldable pub taken_from : (kind : ℕ) (fit : Branch) (first_says second-says : Bool) → Branch
 taken_from kind (Plain i byte) p q = where_so (eqb i 2) (choice p q (Plain i byte) (other_of kind)) (choice q p (Plain i byte) (Plain 2 0))
 taken_from kind (Parts i mid) p q = where_so (eqb i 2) (Parts i mid) (choice q p (Parts i mid) (Plain 2 2))
-taken_from kind Switch p q = Refused 43
-taken_from kind (Refused c) p q = Refused 43
+taken_from kind Switch p q = Refused ValueKind
+taken_from kind (Refused c) p q = Refused ValueKind
 
 -- the branch that a view takes, by the shape of the old subject and what the two tests say to the view
 unfoldable pub take_of : (kind : ℕ) (subject : Shape) (first_says second-says : Bool) → Branch

@@ -2,12 +2,12 @@
 //! made of two values, and whether a constant or a written value takes a view.
 #![tactic(auto)]
 
-ghost use Rattle.std.specs.Prelude.{◌≡◌, [], ◌∷◌, ◌+◌, ◌/◌, ◌%◌, ltb};
+ghost use Rattle.std.specs.Prelude.{◌≡◌, ◌+◌, ltb};
 ghost use Rattle.shapes.specs.Parts.{passes_bytes, same_bytes};
 ghost use Rattle.outcome.specs.Outcome.{refused_by};
 ghost use Rattle.scopes.specs.Scopes.{noted_by};
 ghost use Rattle.decisions.specs.Decisions.{
-  entry_refusal,
+  Enters,
   fits_kind,
   fit_of,
   other_of,
@@ -21,8 +21,11 @@ ghost use Rattle.decisions.specs.Decisions.{
   fronted_as,
 };
 
-use outcome::{done, is_refused, len_of, refused, refused_by, steps_of};
+use outcome::Answer;
+use refusal::Refusal;
 use shapes::Shape;
+
+// Kinds of nodes and tests are told by their bytes: document 01, "What form each place needs".
 
 /// A branch of a case: one without variables, by the byte of the case's record that has its node, and the one byte of the subject that it
 /// stands for; one with two variables, by that byte, and where the subject's second part starts; the one with variables, after a switch to it;
@@ -32,7 +35,7 @@ pub enum Branch {
     Plain(u16, u8),
     Parts(u16, usize),
     Switch,
-    Refused(u8),
+    Refused(Refusal),
 }
 
 /// A view of two parts: where the second starts; or another view.
@@ -42,30 +45,33 @@ pub enum Apart {
     Other,
 }
 
-/// What entering a node is refused with: 40 where no level is left, then 41 where no step is; 0 where it may be entered.
-pub fn entry(levels: usize, left: usize) -> u8
-    ensures { result ≡ entry_refusal levels left }
+/// Whether a node may be entered: refused as too deep where no level is left, then as spent where no step is.
+#[tactic(auto, using(crate::specs::DecisionLaws::no_level, crate::specs::DecisionLaws::no_step, crate::specs::DecisionLaws::both_left))]
+pub fn entry(levels: usize, left: usize) -> Result<(), Refusal>
+    ensures { Enters levels left result }
 {
     if levels == 0 {
-        return 40;
+        return Err(Refusal::Depth);
     }
     if left == 0 {
-        return 41;
+        return Err(Refusal::Spent);
     }
-    0
+    Ok(())
 }
 
 // The branch, where the case is of that kind.
+#[tactic(auto, using(crate::specs::DecisionLaws::on_kind, crate::specs::DecisionLaws::on_other))]
 fn on(kind: u8, is: u8, branch: Branch) -> Branch
     ensures { result ≡ fits_kind kind is branch }
 {
     if kind == is {
         return branch;
     }
-    Branch::Refused(43)
+    Branch::Refused(Refusal::ValueKind)
 }
 
 /// The branch of a case (17, 18 or 19) that its subject fits; 43 where it fits none.
+#[tactic(auto, using(crate::proofs::Tags::fittings))]
 pub fn fits(kind: u8, subject: Shape) -> Branch
     ensures { result ≡ fit_of kind subject }
 {
@@ -75,11 +81,12 @@ pub fn fits(kind: u8, subject: Shape) -> Branch
         Shape::False => on(kind, 0x18, Branch::Plain(2, 0)),
         Shape::True => on(kind, 0x18, Branch::Plain(4, 1)),
         Shape::Pair(mid) => on(kind, 0x19, Branch::Parts(2, mid)),
-        _ => Branch::Refused(43),
+        _ => Branch::Refused(Refusal::ValueKind),
     }
 }
 
 // The second branch of a case whose subject fits the first.
+#[tactic(auto, using(crate::specs::DecisionLaws::second_list, crate::specs::DecisionLaws::second_truth))]
 fn second(kind: u8) -> Branch
     ensures { result ≡ other_of kind }
 {
@@ -90,6 +97,7 @@ fn second(kind: u8) -> Branch
 }
 
 // The branch that is kept where its test says yes to the view, or else the other where that one's does; 53 where neither says yes.
+#[tactic(auto, using(crate::specs::DecisionLaws::kept_yes, crate::specs::DecisionLaws::other_yes, crate::specs::DecisionLaws::neither_says))]
 fn choose(kept: Branch, other: Branch, kept_test: u8, other_test: u8, view: &[u8]) -> Branch
     ensures { result ≡ choice (passes_bytes kept_test view.now) (passes_bytes other_test view.now) kept other }
 {
@@ -99,7 +107,7 @@ fn choose(kept: Branch, other: Branch, kept_test: u8, other_test: u8, view: &[u8
     if shapes::passes(other_test, view) {
         return other;
     }
-    Branch::Refused(53)
+    Branch::Refused(Refusal::NoBranch)
 }
 
 /// The branch of a case that a view takes, where its old subject has that shape: the one that the subject fits where its test says yes, or else
@@ -139,11 +147,12 @@ pub fn takes(kind: u8, subject: Shape, first_test: u8, second_test: u8, view: &[
                 view,
             )
         }
-        _ => Branch::Refused(43),
+        _ => Branch::Refused(Refusal::ValueKind),
     }
 }
 
 /// A view taken apart for a front (15) or a pair (16).
+#[tactic(auto, using(crate::proofs::Tags::apart))]
 pub fn take_apart(kind: u8, view: Shape) -> Apart
     ensures { result ≡ apart_of kind view }
 {
@@ -165,72 +174,44 @@ pub fn take_apart(kind: u8, view: Shape) -> Apart
 }
 
 /// The kind of the value that a node makes of two: 3, a list, for a front (15) and a list case (17); 5, a pair, for others.
+#[tactic(auto, using(crate::specs::DecisionLaws::made_front, crate::specs::DecisionLaws::made_list, crate::specs::DecisionLaws::made_pair))]
 pub fn made(kind: u8) -> u8
     ensures { result ≡ made_of kind }
 {
-    if kind == 0x15 {
-        return 3;
-    }
-    if kind == 0x17 {
+    if matches!(kind, 0x15 | 0x17) {
         return 3;
     }
     5
 }
 
-// No step of its own, where two values are the same; or else a refusal.
-fn judge(code: u8, a: &[u8], b: &[u8]) -> usize
-    ensures { result ≡ judged code (same_bytes a.now b.now) }
-{
-    if shapes::same(a, b) {
-        return done(0, 0, 0);
-    }
-    refused(code)
-}
-
 /// A second view for a written variable must equal the first, which its slot's note has the writer of.
-pub fn put_again(note: u16, written: &[u8], view: &[u8]) -> usize
+#[tactic(auto, using(crate::specs::DecisionLaws::judged_yes, crate::specs::DecisionLaws::judged_no))]
+pub fn put_again(note: u16, written: &[u8], view: &[u8]) -> Answer
     ensures { result ≡ judged (refused_by 54 (noted_by note)) (same_bytes written.now view.now) }
 {
     if shapes::same(written, view) {
-        return done(0, 0, 0);
+        return Answer::done(0, 0, 0);
     }
-    refused_by(54, scopes::noted_by(note))
-}
-
-/// A view for a constant of one byte, its kind, must equal it.
-pub fn put_constant(kind: u8, view: &[u8]) -> usize
-    ensures { result ≡ judged 50 (same_bytes view.now (kind ∷ [])) }
-{
-    let constant = [kind];
-    judge(50, view, &constant)
-}
-
-/// A view for a constant number must equal it.
-pub fn put_number(n: u16, view: &[u8]) -> usize
-    ensures { result ≡ judged 50 (same_bytes view.now (4 ∷ n / 256 ∷ n % 256 ∷ [])) }
-{
-    let constant = [4, value::high(n), value::low(n)];
-    judge(50, view, &constant)
+    Answer::refused_by(Refusal::Clash, scopes::noted_by(note))
 }
 
 /// A view for a constant of these bytes must equal it.
-pub fn put_bytes(constant: &[u8], view: &[u8]) -> usize
+#[tactic(auto, using(crate::specs::DecisionLaws::judged_yes, crate::specs::DecisionLaws::judged_no))]
+pub fn put_bytes(constant: &[u8], view: &[u8]) -> Answer
     ensures { result ≡ judged 50 (same_bytes view.now constant.now) }
 {
-    judge(50, view, constant)
+    if shapes::same(view, constant) {
+        return Answer::done(0, 0, 0);
+    }
+    Answer::refused(Refusal::Constant)
 }
 
 /// Whether the rest of a rebuilt list (kind 3) is no list, by the kind bytes of both.
+#[tactic(auto, using(crate::specs::DecisionLaws::other_kind), unfolding(crate::specs::Decisions::unfit_rest))]
 pub fn unfit(kind: u8, rest: u8) -> bool
     ensures { result ≡ unfit_rest kind rest }
 {
-    if kind != 3 {
-        return false;
-    }
-    if rest < 2 {
-        return true;
-    }
-    3 < rest
+    kind == 3 && !matches!(rest, 2 | 3)
 }
 
 /// Whether a list of `built` bytes so far is too long with `size` bytes more and the 02 that would end it.
@@ -247,15 +228,16 @@ pub fn overlong(built: usize, size: usize) -> bool
 }
 
 /// A member that was got, behind its 03 at `top`, in a list of `built` bytes so far; 44 where the list is then too long.
-pub fn fronted(got: usize, built: usize, top: usize) -> usize
+#[tactic(auto, using(crate::specs::DecisionLaws::fronts))]
+pub fn fronted(got: Answer, built: usize, top: usize) -> Answer
     ensures { result ≡ fronted_as got built top }
 {
-    if is_refused(got) {
+    if got.is_refused() {
         return got;
     }
-    let size = 1 + len_of(got);
+    let size = 1 + got.len();
     if overlong(built, size) {
-        return refused(44);
+        return Answer::refused(Refusal::ValueLong);
     }
-    done(top, size, steps_of(got))
+    Answer::done(top, size, got.steps())
 }

@@ -1,9 +1,11 @@
 -- The answer of a get or a put as one number.
-use Rattle.std.specs.Prelude.{◌≡◌, Bool, true, false, ℕ, suc, ◌+◌, ◌*◌, ◌/◌, ◌%◌, ◌≤◌, ◌<◌, ltb}
+use Rattle.std.specs.Prelude.{◌≡◌, Bool, true, false, ℕ, suc, ◌+◌, ◌*◌, ◌/◌, ◌%◌, ◌≤◌, ◌<◌, ltb, Option, MatchOption}
 use Rattle.std.proofs.Math.Path.{ap}
 use Rattle.std.proofs.Common.{◌∙◌}
 use native.Mathlib.Omega.{arith}
 use borrow.Author.Tests.{lt-ltb, le-ltb}
+use Rattle.refusal.specs.declared.Refusal.{Refusal}
+use Rattle.refusal.specs.Refusal.{number_of}
 
 unfoldable pub done_as : (start len steps : ℕ) → ℕ
 done_as start len steps = 256 * (len % 65536) + 16777216 * (start % 65536) + 1099511627776 * (steps % 16777216)
@@ -17,6 +19,14 @@ code_of a = a % 256
 
 unfoldable pub is_refusal : ℕ → Bool
 is_refusal a = ltb 0 (a % 256)
+
+-- the low byte is 0 or the number of a refusal
+abbrev pub Numbered : ℕ → Type 0
+Numbered a = is_refusal a ≡ true → (r : Refusal) × (number_of r ≡ code_of a)
+
+-- the refusal that an answer is; none for a success
+abbrev pub Refuses : ℕ → Option Refusal → Type 0
+Refuses a r = MatchOption r (is_refusal a ≡ false) (λ x. (is_refusal a ≡ true) × (number_of x ≡ code_of a))
 
 unfoldable pub len_of : ℕ → ℕ
 len_of a = (a / 256) % 65536

@@ -23,19 +23,12 @@ pub fn word(text: &[u8], t: Lexeme) -> &[u8]
 }
 
 /// Whether a token is this word.
+#[tactic(auto, using(crate::specs::Names::same_bytes))]
 pub fn is_word(text: &[u8], t: Lexeme, w: &[u8]) -> bool
     requires { Shape text.now t }
     ensures { result ≡ same (word_of (token_at text.now t)) w.now }
 {
-    is(word(text, t), w)
-}
-
-// Whether two words are the same.
-#[tactic(auto, using(crate::specs::Names::same_bytes))]
-fn is(word: &[u8], w: &[u8]) -> bool
-    ensures { result ≡ same word.now w.now }
-{
-    word == w
+    word(text, t) == w
 }
 
 /// Whether a word is a name: any but `_` and the words of the language.

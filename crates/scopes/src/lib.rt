@@ -7,7 +7,8 @@ ghost use Rattle.outcome.specs.Outcome.{done_as};
 ghost use Rattle.rules.specs.Numbers.{variable_limit};
 ghost use Rattle.scopes.specs.Scopes.{When, front_two, picked_two, added_two, picked, in_room, nowhere, note_of, noted_len, noted_by, slot_of, place_of};
 
-use outcome::{done, refused};
+use outcome::Answer;
+use refusal::Refusal;
 
 /// The variables in scope, at most rules::VARIABLES: where each one's bytes start, and how many they are less one.
 #[derive(Clone, Copy, Debug, PartialEq, Eq)]
@@ -28,23 +29,24 @@ pub struct Span {
 pub fn length_of(stored: u8) -> usize
     ensures { result ≡ stored + 1 }
 {
-    stored as usize + 1
+    usize::from(stored) + 1
 }
 
 /// The value of variable x, which costs no step of its own; refusal 42 where it is not in scope.
-pub fn variable(scope: Scope, x: usize) -> usize
+pub fn variable(scope: Scope, x: usize) -> Answer
     ensures { When ((x < scope.count) × (x < variable_limit)) result (done_as (get_or scope.starts x 0) (get_or scope.lens x 0 + 1) 0) 42 }
 {
-    if scope.count as usize <= x {
-        return refused(42);
+    if usize::from(scope.count) <= x {
+        return Answer::refused(Refusal::Scope);
     }
     if rules::VARIABLES <= x {
-        return refused(42);
+        return Answer::refused(Refusal::Scope);
     }
-    done(scope.starts[x] as usize, length_of(scope.lens[x]), 0)
+    Answer::done(usize::from(scope.starts[x]), length_of(scope.lens[x]), 0)
 }
 
 // A variable's number, or 0 where no scope has room for it.
+#[tactic(auto, unfolding(crate::specs::Scopes::in_room))]
 fn in_room(x: usize) -> usize
     ensures { (result ≡ in_room x) × (result < variable_limit) }
 {
@@ -117,6 +119,8 @@ pub fn add_cells(cells: &mut [u8; rules::VARIABLES], n: usize, c: usize)
 
 /// What is noted of a slot that node `by` writes `len` bytes to: one more than the node, and one less than the length. It is not 0, which is
 /// noted of a slot that nothing was written to.
+// A number and no `Option`: docs/DECISIONS.md names it, and `arena::write` promises what becomes of it.
+#[tactic(auto, unfolding(crate::specs::Scopes::note_of))]
 pub fn note_of(by: u8, len: usize) -> u16
     ensures { When ((by < 255) × (1 ≤ len) × (len ≤ 256)) result (note_of by len) 0 }
 {
@@ -129,17 +133,19 @@ pub fn note_of(by: u8, len: usize) -> u16
     if 256 < len {
         return 0;
     }
-    256 * (by as u16 + 1) + (len - 1) as u16
+    256 * (u16::from(by) + 1) + (len - 1) as u16
 }
 
 /// The length that a note has.
+#[tactic(auto, unfolding(crate::specs::Scopes::noted_len))]
 pub fn noted_len(note: u16) -> usize
     ensures { result ≡ noted_len note }
 {
-    (note % 256) as usize + 1
+    usize::from(note % 256) + 1
 }
 
 /// The node that a note has.
+#[tactic(auto, unfolding(crate::specs::Scopes::noted_by))]
 pub fn noted_by(note: u16) -> u8
     ensures { result ≡ noted_by note }
 {
@@ -151,6 +157,7 @@ pub fn noted_by(note: u16) -> u8
 
 /// Where a variable's value stands: in the slot of its cell where it was written, by what is noted of it, or else where it stood; nowhere
 /// where there is no such cell.
+#[tactic(auto, using(crate::specs::ScopesLaws::when_in, crate::specs::ScopesLaws::not_written, crate::specs::ScopesLaws::was_written))]
 pub fn place_of(note: u16, cell: usize, start: usize, len: usize) -> Span
     ensures { When (cell < variable_limit) result (place_of note cell start len) nowhere }
 {
@@ -187,9 +194,5 @@ pub fn store(arena: &mut [u8], at: usize, from: &[u8])
     if arena.len() - at < from.len() {
         return;
     }
-    let mut i = 0;
-    while i < from.len() {
-        arena[at + i] = from[i];
-        i += 1;
-    }
+    arena[at..at + from.len()].copy_from_slice(from);
 }

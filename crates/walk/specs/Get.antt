@@ -50,7 +50,7 @@ run l sh (members x root ms) μ = get_from (get l sh) root (get_or μ x vfalse) 
 pub record Tabled (s table : List ℕ) : Type 0 where
   pub sh : Sheet
   pub read : read_sheet s ≡ ok sh
-  pub places : table ≡ (table_of (ok sh)).starts
+  pub places : table ≡ (table_of sh).starts
 
 -- the node numbers of a task are in range
 abbrev pub Known : Sheet → Task → Type 0

@@ -1,3 +1,4 @@
+pub mod Reply
 pub mod Arena
 pub mod Moves
 pub mod Scope

@@ -1,5 +1,6 @@
 -- Members of a list, one after another: the bytes of a list that is being built, and what is left of get and put of each (1C) behind some members.
 use Rattle.std.specs.Prelude.{◌≡◌, List, [], ◌∷◌, ◌++◌, length, get_or}
+use Rattle.std.specs.Option.{unwrap_or}
 use Rattle.std.proofs.Math.Path.{refl, sym, ap, ◌∙◌, fun_ext}
 use Rattle.std.proofs.Math.Option.{Option, none, some}
 use Rattle.std.proofs.Common.{append_assoc, append-nil}
@@ -8,6 +9,7 @@ use Rattle.std.proofs.Math.Decide.{dec_le}
 use native.Mathlib.Omega.{arith}
 use Rattle.std.proofs.Math.ListN.{take, get_elem?}
 use Rattle.value.specs.Value.{Value, Values, list, nil, cons, encode, encodes, size, sizes}
+use Rattle.shapes.specs.declared.Shape.{Shape}
 use Rattle.shapes.specs.Parts.{middle_of}
 use Rattle.shapes.proofs.PartsLaws.{shape}
 use Rattle.rules.specs.Outcome.{when}
@@ -148,7 +150,11 @@ unfolding encode encodes
 end_rest nil n = refl
 end_rest (cons m r) n = absurd (n refl)
 
-pub front_middle : (m : Value) (r : Values) → middle_of (shape (list (cons m r))) ≡ 1 + size m
+-- how many bytes the first member of a list takes, with the 03 before it; 0 of an empty list
+abbrev pub first_bytes_of : Shape → ℕ
+first_bytes_of s = unwrap_or (middle_of s) 0
+
+pub front_middle : (m : Value) (r : Values) → first_bytes_of (shape (list (cons m r))) ≡ 1 + size m
 unfolding middle_of shape
 front_middle m r = refl
 

@@ -22,11 +22,15 @@ top_after top start len = where_so (ltb (start + len) top) top (start + len)
 abbrev pub behind_of : At → ℕ → At
 behind_of at g = record { levels = at.levels; left = at.left - steps_of g; top = top_after at.top (start_of g) (len_of g); cells = at.cells }
 
+-- n cells more: one, and two
+abbrev pub with_cells_of : At → ℕ → At
+with_cells_of at n = record { levels = at.levels; left = at.left; top = at.top; cells = at.cells + n }
+
 abbrev pub with_cell_of : At → At
-with_cell_of at = record { levels = at.levels; left = at.left; top = at.top; cells = at.cells + 1 }
+with_cell_of at = with_cells_of at 1
 
 abbrev pub with_two_cells_of : At → At
-with_two_cells_of at = record { levels = at.levels; left = at.left; top = at.top; cells = at.cells + 2 }
+with_two_cells_of at = with_cells_of at 2
 
 -- a value that starts no higher than `top` ends by top', which is no further up than its length
 pub record Above (top start len top' : ℕ) : Type 0 where

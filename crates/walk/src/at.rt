@@ -2,9 +2,9 @@
 ghost use Rattle.std.specs.Prelude.{◌≡◌, ◌+◌, ◌≤◌};
 ghost use Rattle.outcome.specs.Outcome.{len_of, start_of, steps_of};
 ghost use Rattle.rules.specs.Numbers.{scratch_size, variable_limit};
-ghost use Rattle.walk.specs.Moves.{below_of, raised_of, after_of, behind_of, with_cell_of, with_two_cells_of};
+ghost use Rattle.walk.specs.Moves.{below_of, raised_of, after_of, behind_of, with_cells_of};
 
-use outcome::{len_of, start_of, steps_of};
+use outcome::Answer;
 
 /// Where the record of each node starts in the sheet.
 pub type Table = [u16; 200];
@@ -35,8 +35,7 @@ impl At {
         At {
             levels: self.levels - 1,
             left: self.left - 1,
-            top: self.top,
-            cells: self.cells,
+            ..self
         }
     }
 
@@ -46,66 +45,46 @@ impl At {
         ensures { result ≡ raised_of self n }
     {
         At {
-            levels: self.levels,
-            left: self.left,
             top: self.top + n,
-            cells: self.cells,
+            ..self
         }
     }
 
     /// After the steps of an answer.
-    pub fn after(self, answer: usize) -> At
+    pub fn after(self, answer: Answer) -> At
         requires { steps_of answer ≤ self.left }
         ensures { result ≡ after_of self answer }
     {
         At {
-            levels: self.levels,
-            left: self.left - steps_of(answer),
-            top: self.top,
-            cells: self.cells,
+            left: self.left - answer.steps(),
+            ..self
         }
     }
 
     /// After the steps of a get, with the top behind its value.
-    pub fn behind(self, got: usize) -> At
+    pub fn behind(self, got: Answer) -> At
         requires { steps_of got ≤ self.left }
         ensures { result ≡ behind_of self got }
     {
-        let end = start_of(got) + len_of(got);
+        let end = got.start() + got.len();
         if end < self.top {
             return self.after(got);
         }
         At {
-            levels: self.levels,
-            left: self.left - steps_of(got),
+            left: self.left - got.steps(),
             top: end,
-            cells: self.cells,
+            ..self
         }
     }
 
-    /// With one cell more.
-    pub fn with_cell(self) -> At
-        requires { self.cells + 1 ≤ variable_limit }
-        ensures { result ≡ with_cell_of self }
+    /// With n cells more.
+    pub fn with_cells(self, n: usize) -> At
+        requires { self.cells + n ≤ variable_limit }
+        ensures { result ≡ with_cells_of self n }
     {
         At {
-            levels: self.levels,
-            left: self.left,
-            top: self.top,
-            cells: self.cells + 1,
-        }
-    }
-
-    /// With two cells more.
-    pub fn with_two_cells(self) -> At
-        requires { self.cells + 2 ≤ variable_limit }
-        ensures { result ≡ with_two_cells_of self }
-    {
-        At {
-            levels: self.levels,
-            left: self.left,
-            top: self.top,
-            cells: self.cells + 2,
+            cells: self.cells + n,
+            ..self
         }
     }
 }

@@ -1,33 +1,15 @@
 //! Bytes moved within the arena.
-ghost use Rattle.std.specs.Prelude.{◌+◌, ◌≤◌, ◌<◌, ◌≡◌, length, drop};
+ghost use Rattle.std.specs.Prelude.{◌+◌, ◌/◌, ◌%◌, ◌≤◌, ◌<◌, ◌≡◌, [], ◌∷◌, length, drop};
 ghost use Rattle.std.proofs.Math.Seq.{paste};
 ghost use Rattle.walk.specs.Arena.Parts.{Copied, CopiedIn};
 ghost use Rattle.walk.specs.Arena.Cells.{rebuilt_in};
 
-// Copies n bytes of the arena down: from the first on.
-fn copy_down(arena: &mut [u8], from: usize, to: usize, n: usize)
-    requires n_in_bounds { (from + n ≤ length arena.old) × (to + n ≤ length arena.old) }
-    requires to_le_from { to ≤ from }
-    ensures { Copied from to n arena.old arena.new }
+/// A number as a value: its kind and its two bytes.
+pub fn number(n: u16) -> [u8; 3]
+    ensures { result ≡ 4 ∷ n / 256 ∷ n % 256 ∷ [] }
 {
-    let mut i = 0;
-    while i < n {
-        arena[to + i] = arena[from + i];
-        i += 1;
-    }
-}
-
-// Copies n bytes of the arena up: from the last on.
-fn copy_up(arena: &mut [u8], from: usize, to: usize, n: usize)
-    requires n_in_bounds { (from + n ≤ length arena.old) × (to + n ≤ length arena.old) }
-    requires from_le_to { from ≤ to }
-    ensures { Copied from to n arena.old arena.new }
-{
-    let mut i = n;
-    while 0 < i {
-        i -= 1;
-        arena[to + i] = arena[from + i];
-    }
+    let [high, low] = n.to_be_bytes();
+    [4, high, low]
 }
 
 /// Copies n bytes of the arena from one place to another; the two may overlap.
@@ -35,13 +17,10 @@ pub fn copy(arena: &mut [u8], from: usize, to: usize, n: usize)
     requires { (from + n ≤ length arena.old) × (to + n ≤ length arena.old) }
     ensures { Copied from to n arena.old arena.new }
 {
-    if from < to {
-        copy_up(arena, from, to, n);
+    if from == to {
         return;
     }
-    if to < from {
-        copy_down(arena, from, to, n);
-    }
+    arena.copy_within(from..from + n, to);
 }
 
 /// Copies bytes to the front of the arena.
@@ -49,11 +28,7 @@ pub fn copy_in(from: &[u8], arena: &mut [u8])
     requires { length from.now ≤ length arena.old }
     ensures { CopiedIn from.now arena.old arena.new }
 {
-    let mut i = 0;
-    while i < from.len() {
-        arena[i] = from[i];
-        i += 1;
-    }
+    arena[..from.len()].copy_from_slice(from);
 }
 
 /// A part of the arena is copied into `whole`.
@@ -62,11 +37,7 @@ pub fn fill(whole: &mut [u8; 256], at: usize, arena: &[u8], start: usize, len: u
     ensures { (whole.new ≡ paste whole.old at (drop start arena.now) len) ×
         (length whole.new ≡ length whole.old) }
 {
-    let mut i = 0;
-    while i < len {
-        whole[at + i] = arena[start + i];
-        i += 1;
-    }
+    whole[at..at + len].copy_from_slice(&arena[start..start + len]);
 }
 
 /// A kind byte and two values of the arena behind it, at the front of `whole`.

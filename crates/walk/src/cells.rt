@@ -8,10 +8,8 @@ pub fn first_cells(k: usize) -> [u8; rules::VARIABLES]
     ensures { Counted k result }
 {
     let mut of = [0u8; rules::VARIABLES];
-    let mut i = 0;
-    while i < k {
+    for i in 0..k {
         of[i] = i as u8;
-        i += 1;
     }
     of
 }

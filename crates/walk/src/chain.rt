@@ -4,7 +4,7 @@ ghost use Rattle.outcome.specs.Outcome.{len_of, start_of};
 ghost use Rattle.rules.specs.Numbers.{chain_limit};
 ghost use Rattle.walk.specs.Call.Explained.{nowhere};
 
-use outcome::{len_of, start_of};
+use outcome::Answer;
 
 /// Where a refusal was met: how many nodes its chain has, which then stand from byte 65,487 of the arena on, the root first, none of a refusal
 /// from before the walk; and one more than the number of the node that wrote first, or 0.
@@ -22,12 +22,12 @@ pub fn nowhere() -> Met
 }
 
 /// Where the refusal that an answer is was met.
-pub fn met_at(answer: usize) -> Met
+pub fn met_at(answer: Answer) -> Met
     requires { len_of answer ≤ chain_limit }
     ensures { result ≡ record { depth = len_of answer; first = start_of answer } }
 {
     Met {
-        depth: len_of(answer) as u8,
-        first: start_of(answer) as u16,
+        depth: answer.len() as u8,
+        first: answer.start() as u16,
     }
 }

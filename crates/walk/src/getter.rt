@@ -13,41 +13,38 @@ ghost use Rattle.walk.specs.Get.Leaf.{Childless, numbered};
 ghost use Rattle.walk.specs.Get.Members.{MembersAsked, MembersTold};
 
 use crate::at::{At, Pos, Table};
-use crate::got::{added, bring, joined, judge, middle_at, shape_at};
+use crate::got::{added, bring, first_bytes, joined, judge, shape_at};
 use crate::scope::with_two;
 use arena::leave;
 use decisions::Branch;
-use outcome::{done, is_refused, later, len_of, refused, start_of, steps_of};
+use outcome::Answer;
+use refusal::Refusal;
 use scopes::Scope;
 
-// The number of a constant (14).
-fn get_number(sheet: &[u8], arena: &mut [u8], place: u16, top: usize) -> usize
+// The number of a constant (14). Beside `get_wide`: the bytes go straight into the arena, where one function of both would copy them twice.
+fn get_number(sheet: &[u8], arena: &mut [u8], place: u16, top: usize) -> Answer
     requires { (top + 3 ≤ length arena.old) × (top < scratch_size) }
     ensures { (arena.new ≡ numbered arena.old top
         (256 * get_or sheet.now (place + 1) 0 + get_or sheet.now (place + 2) 0)) × (result ≡ done_as top 3 0) }
 {
-    let number = value::number(
-        node::byte_of(sheet, place, 1),
-        node::byte_of(sheet, place, 2),
-    );
     arena[top] = 4;
-    arena[top + 1] = value::high(number);
-    arena[top + 2] = value::low(number);
-    done(top, 3, 0)
+    arena[top + 1] = node::byte_of(sheet, place, 1);
+    arena[top + 2] = node::byte_of(sheet, place, 2);
+    Answer::done(top, 3, 0)
 }
 
 // The number of a constant of four bytes (1D).
-fn get_wide(sheet: &[u8], arena: &mut [u8], place: u16, top: usize) -> usize
+fn get_wide(sheet: &[u8], arena: &mut [u8], place: u16, top: usize) -> Answer
     requires { (top + 5 ≤ length arena.old) × (top < scratch_size) }
     ensures { (arena.new ≡ paste arena.old top (wide_bytes sheet.now place) 5) × (result ≡ done_as top 5 0) }
 {
     let number = node::wide_bytes(sheet, place);
     scopes::store(arena, top, &number);
-    done(top, 5, 0)
+    Answer::done(top, 5, 0)
 }
 
 // A variable (10), False, True or the empty list (11 to 13), which are one byte each, or a number (14).
-fn get_leaf(sheet: &[u8], table: &Table, arena: &mut [u8], scope: Scope, own: Pos, at: At) -> usize
+fn get_leaf(sheet: &[u8], table: &Table, arena: &mut [u8], scope: Scope, own: Pos, at: At) -> Answer
     requires kind_asked { KindAsked sheet.now table.now arena.old scope own at }
     requires childless { Childless own.kind }
     ensures { KindTells sheet.now arena.old arena.new scope own at result }
@@ -61,10 +58,11 @@ fn get_leaf(sheet: &[u8], table: &Table, arena: &mut [u8], scope: Scope, own: Po
         return get_number(sheet, arena, own.from, top);
     }
     arena[top] = kind - 0x11;
-    done(top, 1, 0)
+    Answer::done(top, 1, 0)
 }
 
 /// The value of a node: its depth is judged, then the allowance. The sheet's reader lets no kind over 1D through.
+// The kind is told by its byte (document 01, "What form each place needs"), by `if`s: one `match` with ranges was tried and took longer.
 #[cycle(get)]
 pub fn get_node(
     sheet: &[u8],
@@ -73,14 +71,13 @@ pub fn get_node(
     scope: Scope,
     node: usize,
     at: At,
-) -> usize
+) -> Answer
     requires { Ready sheet.now table.now arena.old scope at.top at.levels at.left (enter node) }
     ensures get_shows { GetShows arena.old arena.new sheet.now scope at.top at.top at.left result at.levels (enter node) }
     ensures sized { Sized at.top at.left at.levels result }
 {
-    let code = decisions::entry(at.levels, at.left);
-    if code != 0 {
-        return leave(arena, refused(code), node, at.levels);
+    if let Err(refusal) = decisions::entry(at.levels, at.left) {
+        return leave(arena, Answer::refused(refusal), node, at.levels);
     }
     let from = table[node];
     let below = at.below();
@@ -118,7 +115,7 @@ pub fn get_node(
 
 // A front (15) or a pair (16).
 #[cycle(get)]
-fn get_two(sheet: &[u8], table: &Table, arena: &mut [u8], scope: Scope, own: Pos, at: At) -> usize
+fn get_two(sheet: &[u8], table: &Table, arena: &mut [u8], scope: Scope, own: Pos, at: At) -> Answer
     requires kind_asked { KindAsked sheet.now table.now arena.old scope own at }
     requires two { Two own.kind }
     ensures { KindTells sheet.now arena.old arena.new scope own at result }
@@ -130,7 +127,7 @@ fn get_two(sheet: &[u8], table: &Table, arena: &mut [u8], scope: Scope, own: Pos
     let first = node::number_of(sheet, own.from, 1);
     let got = get_node(sheet, table, arena, scope, first, one);
     let a = bring(arena, got, one.top);
-    if is_refused(a) {
+    if a.is_refused() {
         return a;
     }
     let two = one.behind(a);
@@ -153,14 +150,14 @@ fn test_of(sheet: &[u8], place: u16, kind: u8, i: u16) -> u8
 
 // A list case (17), a truth case (18) or a split (19): the subject, and then the branch that it fits.
 #[cycle(get)]
-fn get_case(sheet: &[u8], table: &Table, arena: &mut [u8], scope: Scope, own: Pos, at: At) -> usize
+fn get_case(sheet: &[u8], table: &Table, arena: &mut [u8], scope: Scope, own: Pos, at: At) -> Answer
     requires kind_asked { KindAsked sheet.now table.now arena.old scope own at }
     requires case { Case own.kind }
     ensures { KindTells sheet.now arena.old arena.new scope own at result }
 {
     let subject = node::number_of(sheet, own.from, 1);
     let got = get_node(sheet, table, arena, scope, subject, at);
-    if is_refused(got) {
+    if got.is_refused() {
         return got;
     }
     let to = at.behind(got);
@@ -170,34 +167,34 @@ fn get_case(sheet: &[u8], table: &Table, arena: &mut [u8], scope: Scope, own: Po
             let node = node::number_of(sheet, own.from, i);
             let test = test_of(sheet, own.from, own.kind, i);
             let branch = get_node(sheet, table, arena, scope, node, to);
-            later(judge(arena, branch, test, top), steps_of(got))
+            judge(arena, branch, test, top).later(got.steps())
         }
         Branch::Parts(i, mid) => {
             let node = node::number_of(sheet, own.from, i);
             let test = test_of(sheet, own.from, own.kind, i);
-            let inner = with_two(scope, start_of(got) + 1, mid - 1, len_of(got) - mid);
+            let inner = with_two(scope, got.start() + 1, mid - 1, got.len() - mid);
             let branch = get_node(sheet, table, arena, inner, node, to);
-            later(judge(arena, branch, test, top), steps_of(got))
+            judge(arena, branch, test, top).later(got.steps())
         }
-        _ => refused(43),
+        _ => Answer::refused(Refusal::ValueKind),
     }
 }
 
 // A call (1A): the section's root, with the caller's two variables alone.
 #[cycle(get)]
-fn get_call(sheet: &[u8], table: &Table, arena: &mut [u8], scope: Scope, own: Pos, at: At) -> usize
+fn get_call(sheet: &[u8], table: &Table, arena: &mut [u8], scope: Scope, own: Pos, at: At) -> Answer
     requires kind_asked { KindAsked sheet.now table.now arena.old scope own at }
     requires kind_value { own.kind ≡ 0x1A }
     ensures { KindTells sheet.now arena.old arena.new scope own at result }
 {
     let x = node::number_of(sheet, own.from, 2);
     let y = node::number_of(sheet, own.from, 3);
-    let count = scope.count as usize;
+    let count = usize::from(scope.count);
     if count <= x {
-        return refused(42);
+        return Answer::refused(Refusal::Scope);
     }
     if count <= y {
-        return refused(42);
+        return Answer::refused(Refusal::Scope);
     }
     let root = sheet::section_root(sheet, node::number_of(sheet, own.from, 1));
     let inner = scopes::section(scope, x, y);
@@ -206,7 +203,7 @@ fn get_call(sheet: &[u8], table: &Table, arena: &mut [u8], scope: Scope, own: Po
 
 // An amount added (1B).
 #[cycle(get)]
-fn get_add(sheet: &[u8], table: &Table, arena: &mut [u8], scope: Scope, own: Pos, at: At) -> usize
+fn get_add(sheet: &[u8], table: &Table, arena: &mut [u8], scope: Scope, own: Pos, at: At) -> Answer
     requires kind_asked { KindAsked sheet.now table.now arena.old scope own at }
     requires kind_value { own.kind ≡ 0x1B }
     ensures { KindTells sheet.now arena.old arena.new scope own at result }
@@ -215,10 +212,10 @@ fn get_add(sheet: &[u8], table: &Table, arena: &mut [u8], scope: Scope, own: Pos
     let node = node::number_of(sheet, own.from, 1);
     let got = get_node(sheet, table, arena, scope, node, at);
     let a = bring(arena, got, top);
-    let amount = value::number(
+    let amount = u16::from_be_bytes([
         node::byte_of(sheet, own.from, 2),
         node::byte_of(sheet, own.from, 3),
-    );
+    ]);
     added(arena, a, amount, top)
 }
 
@@ -235,7 +232,7 @@ fn get_members(
     start: usize,
     end: usize,
     at: At,
-) -> usize
+) -> Answer
     requires { MembersAsked sheet.now table.now arena.old scope at.top at.levels at.left x root start end }
     ensures { MembersTold arena.old arena.new sheet.now scope at.top at.left result at.levels x root start end }
 {
@@ -244,8 +241,9 @@ fn get_members(
     let mut next = start;
     let mut inner = scope;
     inner.count = 2;
+    // `while`: where the next member starts is read from this one, and an iterator would read it the same way
     while arena[next] == 3 {
-        let mid = middle_at(arena, next, end);
+        let mid = first_bytes(arena, next, end);
         inner.starts[0] = (next + 1) as u16;
         inner.starts[1] = scope.starts[x];
         inner.lens[0] = (mid - 2) as u8;
@@ -256,7 +254,7 @@ fn get_members(
         let got = get_node(sheet, table, arena, inner, root, one);
         let a = bring(arena, got, one.top);
         let front = decisions::fronted(a, top - base, top);
-        if is_refused(front) {
+        if front.is_refused() {
             return front;
         }
         to = to.behind(front);
@@ -264,33 +262,34 @@ fn get_members(
     }
     let top = to.top;
     arena[top] = 2;
-    done(base, top + 1 - base, at.left - to.left)
+    Answer::done(base, top + 1 - base, at.left - to.left)
 }
 
 // Each (1C): the subject, a list, and then the list of what the section gives for its members.
 #[cycle(get)]
-fn get_each(sheet: &[u8], table: &Table, arena: &mut [u8], scope: Scope, own: Pos, at: At) -> usize
+fn get_each(sheet: &[u8], table: &Table, arena: &mut [u8], scope: Scope, own: Pos, at: At) -> Answer
     requires kind_asked { KindAsked sheet.now table.now arena.old scope own at }
     requires kind_value { own.kind ≡ 0x1C }
     ensures { KindTells sheet.now arena.old arena.new scope own at result }
 {
     let subject = node::number_of(sheet, own.from, 1);
     let got = get_node(sheet, table, arena, scope, subject, at);
-    if is_refused(got) {
+    if got.is_refused() {
         return got;
     }
-    let start = start_of(got);
+    let start = got.start();
     if decisions::unfit(3, arena[start]) {
-        return refused(43);
+        return Answer::refused(Refusal::ValueKind);
     }
     let x = node::number_of(sheet, own.from, 3);
-    if scope.count as usize <= x {
-        return refused(42);
+    let count = usize::from(scope.count);
+    if count <= x {
+        return Answer::refused(Refusal::Scope);
     }
     let root = sheet::section_root(sheet, node::number_of(sheet, own.from, 2));
-    let end = start + len_of(got);
+    let end = start + got.len();
     let to = at.behind(got);
     let list = get_members(sheet, table, arena, scope, x, root, start, end, to);
     let list = bring(arena, list, at.top);
-    later(list, steps_of(got))
+    list.later(got.steps())
 }

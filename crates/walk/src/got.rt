@@ -1,46 +1,48 @@
 //! What is done behind a call of get, with its answer: the value's shape, its move to the top, and what a node's own rule makes of it.
 ghost use Rattle.std.specs.Prelude.{◌≡◌, false, ◌+◌, ◌-◌, ◌≤◌, ◌<◌, length};
 ghost use Rattle.outcome.specs.Outcome.{is_refusal, len_of, start_of};
-ghost use Rattle.shapes.specs.Parts.{shape_of, middle_of, passes_bytes};
+ghost use Rattle.shapes.specs.Parts.{shape_of, passes_bytes};
 ghost use Rattle.walk.specs.Arena.Parts.{part};
+ghost use Rattle.walk.specs.Members.{first_bytes_of};
 ghost use Rattle.walk.specs.Get.Top.{Movable, Brought};
 ghost use Rattle.walk.specs.Get.Branch.{Judgeable, Judged};
 ghost use Rattle.walk.specs.Get.Two.{Joinable, Joined};
 ghost use Rattle.walk.specs.Get.Add.{Addable, Added};
 
 use crate::bytes::copy;
-use outcome::{done, is_refused, len_of, refused, start_of, steps_of};
+use outcome::Answer;
+use refusal::Refusal;
 use shapes::Shape;
 
 /// The shape of a value that was got.
-pub fn shape_at(arena: &[u8], got: usize) -> Shape
+pub fn shape_at(arena: &[u8], got: Answer) -> Shape
     requires { start_of got + len_of got ≤ length arena.now }
     ensures { result ≡ shape_of (part arena.now (start_of got) (len_of got)) }
 {
-    let start = start_of(got);
-    let end = start + len_of(got);
+    let start = got.start();
+    let end = start + got.len();
     shapes::shape_of(&arena[start..end])
 }
 
-/// Where the second part of the value that stands from `start` to `end` starts in it.
-pub fn middle_at(arena: &[u8], start: usize, end: usize) -> usize
+/// How many bytes the first member of the list that stands from `start` to `end` takes, with the 03 before it; 0 of an empty list.
+pub fn first_bytes(arena: &[u8], start: usize, end: usize) -> usize
     requires { (start ≤ end) × (end ≤ length arena.now) }
-    ensures { result ≡ middle_of (shape_of (part arena.now start (end - start))) }
+    ensures { result ≡ first_bytes_of (shape_of (part arena.now start (end - start))) }
 {
-    shapes::middle(&arena[start..end])
+    shapes::middle(&arena[start..end]).unwrap_or(0)
 }
 
 /// A value that was got, brought to the top of the stack.
-pub fn bring(arena: &mut [u8], got: usize, top: usize) -> usize
+pub fn bring(arena: &mut [u8], got: Answer, top: usize) -> Answer
     requires { is_refusal got ≡ false → Movable arena.old top got }
     ensures { Brought top got arena.old arena.new result }
 {
-    if is_refused(got) {
+    if got.is_refused() {
         return got;
     }
-    let len = len_of(got);
-    copy(arena, start_of(got), top, len);
-    done(top, len, steps_of(got))
+    let len = got.len();
+    copy(arena, got.start(), top, len);
+    Answer::done(top, len, got.steps())
 }
 
 // Whether a test says yes to the value that stands from `start` to `end`. The test 0 asks nothing, and no value is looked at for it.
@@ -55,62 +57,62 @@ fn says(arena: &[u8], test: u8, start: usize, end: usize) -> bool
 }
 
 /// A branch that was got, judged by its test; it stands no higher than `top` then.
-pub fn judge(arena: &mut [u8], got: usize, test: u8, top: usize) -> usize
+pub fn judge(arena: &mut [u8], got: Answer, test: u8, top: usize) -> Answer
     requires { is_refusal got ≡ false → Judgeable arena.old got }
     ensures { Judged «test» top got arena.old arena.new result }
 {
-    if is_refused(got) {
+    if got.is_refused() {
         return got;
     }
-    let start = start_of(got);
-    let len = len_of(got);
+    let start = got.start();
+    let len = got.len();
     let end = start + len;
     if !says(arena, test, start, end) {
-        return refused(46);
+        return Answer::refused(Refusal::Test);
     }
     if start <= top {
         return got;
     }
     copy(arena, start, top, len);
-    done(top, len, steps_of(got))
+    Answer::done(top, len, got.steps())
 }
 
 /// Two values that were got one after the other behind a byte of their kind at `top`: the list or the pair that they make.
-pub fn joined(arena: &[u8], kind: u8, top: usize, first: usize, second: usize) -> usize
+pub fn joined(arena: &[u8], kind: u8, top: usize, first: Answer, second: Answer) -> Answer
     requires { is_refusal second ≡ false → Joinable arena.now top first }
     ensures { Joined arena.now kind top first second result }
 {
-    if is_refused(second) {
+    if second.is_refused() {
         return second;
     }
-    let f = len_of(first);
+    let f = first.len();
     let mid = top + 1 + f;
     if decisions::unfit(kind, arena[mid]) {
-        return refused(43);
+        return Answer::refused(Refusal::ValueKind);
     }
-    let len = 1 + f + len_of(second);
+    let len = 1 + f + second.len();
     if 256 < len {
-        return refused(44);
+        return Answer::refused(Refusal::ValueLong);
     }
-    done(top, len, steps_of(first) + steps_of(second))
+    Answer::done(top, len, first.steps() + second.steps())
 }
 
 /// An amount added to a number that was got and stands at `top`.
-pub fn added(arena: &mut [u8], got: usize, amount: u16, top: usize) -> usize
+pub fn added(arena: &mut [u8], got: Answer, amount: u16, top: usize) -> Answer
     requires { is_refusal got ≡ false → Addable arena.old got top }
     ensures { Added amount got top arena.old arena.new result }
 {
-    if is_refused(got) {
+    if got.is_refused() {
         return got;
     }
     let Shape::Number(n) = shape_at(arena, got) else {
-        return refused(43);
+        return Answer::refused(Refusal::ValueKind);
     };
     if 65535 - n < amount {
-        return refused(45);
+        return Answer::refused(Refusal::Sum);
     }
-    let sum = n + amount;
-    arena[top + 1] = value::high(sum);
-    arena[top + 2] = value::low(sum);
+    let [high, low] = (n + amount).to_be_bytes();
+    arena[top + 1] = high;
+    arena[top + 2] = low;
     got
 }

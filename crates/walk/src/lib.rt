@@ -4,16 +4,17 @@
 //! that are being built; the last 49 bytes are for the chain of a refusal. A walk at `top` leaves the stack below `top` and the plan alone.
 #![tactic(auto)]
 
-ghost use Rattle.std.specs.Prelude.{◌≡◌};
+ghost use Rattle.std.specs.Prelude.{◌≡◌, MatchResult};
+ghost use Rattle.refusal.specs.Refusal.{number_of};
 ghost use Rattle.rules.specs.Answer.{get_bytes, put_bytes};
 ghost use Rattle.rules.specs.Numbers.{get_output, put_output};
 ghost use Rattle.rules.specs.Explain.Calls.{explain_get, explain_put};
 ghost use Rattle.walk.specs.Call.Bits.{new_written};
-ghost use Rattle.walk.specs.Call.{Planned, PlanWalked, Unread, WalkCall};
+ghost use Rattle.walk.specs.Call.{Opens, Bars, Planned, PlanWalked, Unread, WalkCall};
 ghost use Rattle.walk.specs.Call.Gather.{SomePlaced, AllGathered};
 ghost use Rattle.walk.specs.Call.NewStarts.{new_starts, refused_put};
 ghost use Rattle.walk.specs.Call.Explained.{Explains, refused_get};
-ghost use Rattle.walk.specs.Call.Put.{PutUnread, Viewed};
+ghost use Rattle.walk.specs.Call.Put.{PutBars, PutUnread, Viewed};
 
 mod at;
 mod bytes;
@@ -34,23 +35,23 @@ use crate::putter::put_node;
 use crate::scope::of_spans;
 use arena::{bits_of, door};
 pub use chain::Met;
-use outcome::{code_of, is_refused, len_of, steps_of};
+use refusal::Refusal;
 use scopes::Scope;
 use sheet::Table;
 use starts::{NewPlan, Starts};
 
-/// What a walk gives, and what a call answers: the length of the output and the steps taken, or a refusal's number in document 01's table. A
-/// walk leaves the output at the top of its stack, and a call moves it to its caller's buffer.
+/// What a walk gives, and what a call answers, that is not refused: the length of the output and the steps taken. A walk leaves the output at the
+/// top of its stack, and a call moves it to its caller's buffer.
 #[derive(Clone, Copy, Debug, PartialEq, Eq)]
-pub enum Reply {
-    Done { len: usize, steps: usize },
-    Refused(u8),
+pub struct Done {
+    pub len: usize,
+    pub steps: usize,
 }
 
 /// What a get gives: the walk's answer, and where a refusal was met.
 #[derive(Clone, Copy, Debug, PartialEq, Eq)]
 pub struct GetWalked {
-    pub walked: Reply,
+    pub walked: Result<Done, Refusal>,
     pub met: Met,
 }
 
@@ -58,17 +59,52 @@ pub struct GetWalked {
 /// variable i, and where a refusal was met. With a refusal there is no start, and no bit is set.
 #[derive(Clone, Copy, Debug, PartialEq, Eq)]
 pub struct PutWalked {
-    pub walked: Reply,
+    pub walked: Result<Done, Refusal>,
     pub starts: Starts,
     pub written: u16,
     pub met: Met,
 }
 
-// A refusal of a get from before the walk.
-fn unread(number: u8) -> GetWalked
-    ensures { result ≡ refused_get number }
+// What a walk begins with: the table of the sheet, and a scope of the plan's variables.
+#[derive(Clone, Copy, Debug, PartialEq, Eq)]
+struct Opened {
+    table: Table,
+    scope: Scope,
+}
+
+// What is done before a walk: the door's judgement, then the sheet is read, then the plan.
+fn open(sheet: &[u8], plan: &[u8], scratch: usize, allowance: usize) -> Result<Opened, Refusal>
+    ensures { MatchResult result (λ o. Opens sheet.now plan.now scratch allowance o.table o.scope) (λ e. Bars sheet.now plan.now scratch allowance
+        (number_of e)) }
 {
-    let walked = Reply::Refused(number);
+    door(scratch, allowance)?;
+    let table = sheet::read_sheet(sheet)?;
+    let spans = value::read_plan(table.k, plan)?;
+    let scope = of_spans(table.k, spans);
+    Ok(Opened { table, scope })
+}
+
+// What is done before the walk of a put: the view is read too.
+fn open_put(
+    sheet: &[u8],
+    plan: &[u8],
+    view: &[u8],
+    scratch: usize,
+    allowance: usize,
+) -> Result<Opened, Refusal>
+    ensures { MatchResult result (λ o. Opens sheet.now plan.now scratch allowance o.table o.scope × Viewed view.now) (λ e. PutBars sheet.now plan.now
+        view.now scratch allowance (number_of e)) }
+{
+    let opened = open(sheet, plan, scratch, allowance)?;
+    value::read_view(view)?;
+    Ok(opened)
+}
+
+// A refusal of a get from before the walk.
+fn unread(refusal: Refusal) -> GetWalked
+    ensures { result ≡ refused_get refusal }
+{
+    let walked = Err(refusal);
     let met = nowhere();
     GetWalked { walked, met }
 }
@@ -97,15 +133,15 @@ fn get_plan(
     };
     let got = get_node(sheet, &table.starts, arena, scope, table.root, at);
     let got = bring(arena, got, rules::STACK);
-    if is_refused(got) {
-        let walked = Reply::Refused(code_of(got));
+    if let Some(refusal) = got.refusal() {
+        let walked = Err(refusal);
         let met = met_at(got);
         return GetWalked { walked, met };
     }
-    let walked = Reply::Done {
-        len: len_of(got),
-        steps: steps_of(got),
-    };
+    let walked = Ok(Done {
+        len: got.len(),
+        steps: got.steps(),
+    });
     let met = nowhere();
     GetWalked { walked, met }
 }
@@ -119,27 +155,17 @@ pub fn get(sheet: &[u8], plan: &[u8], allowance: usize, arena: &mut [u8]) -> Get
     ensures explains { Explains (explain_get sheet.now plan.now allowance) allowance arena.old arena.new result.walked
         result.met }
 {
-    let shut = door(arena.len(), allowance);
-    if shut != 0 {
-        return unread(shut);
+    match open(sheet, plan, arena.len(), allowance) {
+        Ok(opened) => get_plan(
+            sheet,
+            plan,
+            opened.table,
+            opened.scope,
+            allowance,
+            &mut arena[..rules::SCRATCH],
+        ),
+        Err(refusal) => unread(refusal),
     }
-    let table = sheet::read_sheet(sheet);
-    if table.refusal != 0 {
-        return unread(table.refusal);
-    }
-    let spans = value::read_plan(table.k, plan);
-    if spans.refusal != 0 {
-        return unread(spans.refusal);
-    }
-    let scope = of_spans(table.k, spans);
-    get_plan(
-        sheet,
-        plan,
-        table,
-        scope,
-        allowance,
-        &mut arena[..rules::SCRATCH],
-    )
 }
 
 // The new plan, from byte 32,256 on: each variable's value, from where it now stands.
@@ -149,14 +175,12 @@ fn gather(arena: &mut [u8], slots: &[u16; rules::VARIABLES], scope: Scope) -> Ne
 {
     let mut at = [0u16; 16];
     let mut len = 0;
-    let mut i = 0;
-    while i < scope.count as usize {
+    for i in 0..usize::from(scope.count) {
         let stood = scopes::length_of(scope.lens[i]);
-        let start = scope.starts[i] as usize;
+        let start = usize::from(scope.starts[i]);
         let from = scopes::place_of(slots[i], i, start, stood);
         copy(arena, from.start, rules::STACK + len, from.len);
         len = starts::grow(&mut at, i, len, from.len);
-        i += 1;
     }
     let count = scope.count as u8;
     let starts = Starts { count, at };
@@ -164,10 +188,10 @@ fn gather(arena: &mut [u8], slots: &[u16; rules::VARIABLES], scope: Scope) -> Ne
 }
 
 // A refusal of a put that was met there, with no start and no bit.
-fn refused(number: u8, met: Met) -> PutWalked
-    ensures { result ≡ refused_put number met }
+fn refused(refusal: Refusal, met: Met) -> PutWalked
+    ensures { result ≡ refused_put refusal met }
 {
-    let walked = Reply::Refused(number);
+    let walked = Err(refusal);
     let starts = starts::none();
     let written = 0;
     PutWalked {
@@ -199,7 +223,7 @@ fn put_plan(
 {
     copy_in(plan, arena);
     let mut slots = [0u16; rules::VARIABLES];
-    let k = scope.count as usize;
+    let k = usize::from(scope.count);
     let cells = first_cells(k);
     let at = At {
         levels: rules::LEVELS,
@@ -218,13 +242,13 @@ fn put_plan(
         view,
         at,
     );
-    if is_refused(put) {
-        return refused(code_of(put), met_at(put));
+    if let Some(refusal) = put.refusal() {
+        return refused(refusal, met_at(put));
     }
     let new = gather(arena, &slots, scope);
     let len = new.len;
-    let steps = steps_of(put);
-    let walked = Reply::Done { len, steps };
+    let steps = put.steps();
+    let walked = Ok(Done { len, steps });
     let starts = new.starts;
     let written = bits_of(&slots, k);
     let met = nowhere();
@@ -247,30 +271,16 @@ pub fn put(sheet: &[u8], plan: &[u8], view: &[u8], allowance: usize, arena: &mut
     ensures explains { Explains (explain_put sheet.now plan.now view.now allowance) allowance arena.old
         arena.new result.walked result.met }
 {
-    let shut = door(arena.len(), allowance);
-    if shut != 0 {
-        return refused(shut, nowhere());
+    match open_put(sheet, plan, view, arena.len(), allowance) {
+        Ok(opened) => put_plan(
+            sheet,
+            plan,
+            view,
+            opened.table,
+            opened.scope,
+            allowance,
+            &mut arena[..rules::SCRATCH],
+        ),
+        Err(refusal) => refused(refusal, nowhere()),
     }
-    let table = sheet::read_sheet(sheet);
-    if table.refusal != 0 {
-        return refused(table.refusal, nowhere());
-    }
-    let spans = value::read_plan(table.k, plan);
-    if spans.refusal != 0 {
-        return refused(spans.refusal, nowhere());
-    }
-    let code = value::read_view(view);
-    if code != 0 {
-        return refused(code, nowhere());
-    }
-    let scope = of_spans(table.k, spans);
-    put_plan(
-        sheet,
-        plan,
-        view,
-        table,
-        scope,
-        allowance,
-        &mut arena[..rules::SCRATCH],
-    )
 }

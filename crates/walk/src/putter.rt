@@ -2,11 +2,9 @@
 //! beside what a get is lent, the `slots` and the `cells`.
 ghost use Rattle.std.specs.Prelude.{◌≡◌, [], ◌∷◌, ◌+◌, ◌*◌, ◌≤◌, length};
 ghost use Rattle.value.specs.Value.{Value, vfalse};
-ghost use Rattle.shapes.specs.Parts.{same_bytes};
-ghost use Rattle.node.specs.Wide.{wide_bytes};
 ghost use Rattle.rules.specs.Numbers.{chain_start};
 ghost use Rattle.outcome.specs.Outcome.{len_of};
-ghost use Rattle.decisions.specs.Decisions.{judged, made_of};
+ghost use Rattle.decisions.specs.Decisions.{made_of};
 ghost use Rattle.walk.specs.Arena.Cells.{Shown};
 ghost use Rattle.walk.specs.Get.Two.{Two};
 ghost use Rattle.walk.specs.Get.Case.{Case};
@@ -30,20 +28,20 @@ ghost use Rattle.walk.specs.Put.{
   rebuilt_of,
   switch_at,
 };
-ghost use Rattle.walk.specs.Put.Leaf.{number_bytes};
 ghost use Rattle.walk.specs.Put.Under.{got_parts};
 ghost use Rattle.walk.specs.Put.Switch.{BothAsked, Sees, DefaultsAsked, Defaults};
 ghost use Rattle.walk.specs.Put.Member.{StoodAsked, Stood, MembersAsked, MemberTold};
 ghost use Rattle.walk.specs.Put.Members.{SomeList, MembersTold};
 
 use crate::at::{At, Pos, Table};
-use crate::bytes::{copy, fill, rebuild};
+use crate::bytes::{copy, fill, number, rebuild};
 use crate::getter::get_node;
 use crate::got::{bring, shape_at};
 use crate::scope::{member, none, single, with_two};
 use arena::{leave, write};
 use decisions::{Apart, Branch};
-use outcome::{done, is_refused, later, len_of, refused, start_of, steps_of};
+use outcome::Answer;
+use refusal::Refusal;
 use scopes::Scope;
 use shapes::Shape;
 
@@ -93,7 +91,7 @@ pub struct Turn {
 }
 
 // The parts of a subject that was got, the second `mid` bytes behind its start, for a branch of a node of that kind.
-fn parts_of(kind: u8, branch: usize, subject: usize, got: usize, mid: usize) -> Parts
+fn parts_of(kind: u8, branch: usize, subject: usize, got: Answer, mid: usize) -> Parts
     requires { (1 ≤ mid) × (mid ≤ len_of got) }
     ensures { result ≡ got_parts (made_of kind) branch subject got mid }
 {
@@ -101,29 +99,10 @@ fn parts_of(kind: u8, branch: usize, subject: usize, got: usize, mid: usize) -> 
         kind: decisions::made(kind),
         branch,
         subject,
-        start: start_of(got) + 1,
+        start: got.start() + 1,
         first: mid - 1,
-        second: len_of(got) - mid,
+        second: got.len() - mid,
     }
-}
-
-// A constant number (14) must equal the view.
-fn put_number(sheet: &[u8], place: u16, view: &[u8]) -> usize
-    ensures { result ≡ judged 50 (same_bytes view.now (number_bytes sheet.now place)) }
-{
-    let number = value::number(
-        node::byte_of(sheet, place, 1),
-        node::byte_of(sheet, place, 2),
-    );
-    decisions::put_number(number, view)
-}
-
-// A constant number of four bytes (1D) must equal the view.
-fn put_wide(sheet: &[u8], place: u16, view: &[u8]) -> usize
-    ensures { result ≡ judged 50 (same_bytes view.now (wide_bytes sheet.now place)) }
-{
-    let number = node::wide_bytes(sheet, place);
-    decisions::put_bytes(&number, view)
 }
 
 // A constant (11 to 14) must equal the view; a variable (10) takes it.
@@ -137,7 +116,7 @@ fn put_leaf(
     own: Pos,
     view: &[u8],
     at: At,
-) -> usize
+) -> Answer
     requires kind_asked { KindAsked sheet.now table.now arena.old slots.old scope cells.now own view.now at }
     requires childless { Childless own.kind }
     ensures { KindTells sheet.now arena.old arena.new slots.old slots.new scope cells.now
@@ -145,21 +124,27 @@ fn put_leaf(
 {
     let kind = own.kind;
     if kind == 0x14 {
-        return put_number(sheet, own.from, view);
+        let constant = [
+            4,
+            node::byte_of(sheet, own.from, 1),
+            node::byte_of(sheet, own.from, 2),
+        ];
+        return decisions::put_bytes(&constant, view);
     }
     if kind != 0x10 {
-        return decisions::put_constant(kind - 0x11, view);
+        return decisions::put_bytes(&[kind - 0x11], view);
     }
     let x = node::number_of(sheet, own.from, 1);
-    let count = scope.count as usize;
+    let count = usize::from(scope.count);
     if count <= x {
-        return refused(42);
+        return Answer::refused(Refusal::Scope);
     }
-    let c = cells[x] as usize;
+    let c = usize::from(cells[x]);
     write(arena, slots, c, own.node, view)
 }
 
 /// A view put back into a node: its depth is judged, then the allowance. The sheet's reader lets no kind over 1D through.
+// The kind is told by its byte, by `if`s, as in `get_node`.
 #[cycle(put)]
 pub fn put_node(
     sheet: &[u8],
@@ -171,15 +156,14 @@ pub fn put_node(
     node: usize,
     view: &[u8],
     at: At,
-) -> usize
+) -> Answer
     requires { TaskAsked sheet.now table.now arena.old slots.old scope cells.now view.now at (enter node) }
     ensures task_tells { TaskTells sheet.now arena.old arena.new slots.old slots.new scope cells.now
         view.now at result (enter node) }
     ensures few { Few at.left result }
 {
-    let code = decisions::entry(at.levels, at.left);
-    if code != 0 {
-        return leave(arena, refused(code), node, at.levels);
+    if let Err(refusal) = decisions::entry(at.levels, at.left) {
+        return leave(arena, Answer::refused(refusal), node, at.levels);
     }
     let from = table[node];
     let to = at.below();
@@ -210,7 +194,8 @@ pub fn put_node(
         return leave(arena, put, node, at.levels);
     }
     // 1D: no other kind is left
-    let put = put_wide(sheet, from, view);
+    let constant = node::wide_bytes(sheet, from);
+    let put = decisions::put_bytes(&constant, view);
     leave(arena, put, node, at.levels)
 }
 
@@ -226,7 +211,7 @@ fn put_both(
     by: Plain,
     view: &[u8],
     at: At,
-) -> usize
+) -> Answer
     requires task_asked { TaskAsked sheet.now table.now arena.old slots.old scope cells.now view.now at (pair by.branch by.subject vfalse) }
     requires some_view { SomeView (by.byte ∷ []) }
     ensures { (u : Value) → Shown (by.byte ∷ []) u → TaskTells sheet.now arena.old arena.new slots.old
@@ -234,14 +219,14 @@ fn put_both(
 {
     let a = by.branch;
     let one = put_node(sheet, table, arena, slots, scope, cells, a, view, at);
-    if is_refused(one) {
+    if one.is_refused() {
         return one;
     }
     let then = at.after(one);
     let whole = [by.byte];
     let b = by.subject;
     let two = put_node(sheet, table, arena, slots, scope, cells, b, &whole, then);
-    later(two, steps_of(one))
+    two.later(one.steps())
 }
 
 // A front (15) or a pair (16): the view is taken apart, left first.
@@ -256,26 +241,26 @@ fn put_two(
     own: Pos,
     view: &[u8],
     at: At,
-) -> usize
+) -> Answer
     requires kind_asked { KindAsked sheet.now table.now arena.old slots.old scope cells.now own view.now at }
     requires two { Two own.kind }
     ensures { KindTells sheet.now arena.old arena.new slots.old slots.new scope cells.now
         own view.now at result }
 {
     let Apart::At(mid) = decisions::take_apart(own.kind, shapes::shape_of(view)) else {
-        return refused(51);
+        return Answer::refused(Refusal::ViewKind);
     };
     let left = shapes::first_part(view, mid);
     let right = shapes::second_part(view, mid);
     let a = node::number_of(sheet, own.from, 1);
     let one = put_node(sheet, table, arena, slots, scope, cells, a, left, at);
-    if is_refused(one) {
+    if one.is_refused() {
         return one;
     }
     let then = at.after(one);
     let b = node::number_of(sheet, own.from, 2);
     let two = put_node(sheet, table, arena, slots, scope, cells, b, right, then);
-    later(two, steps_of(one))
+    two.later(one.steps())
 }
 
 // The view into a branch with two variables more, each in a new cell; then the subject, rebuilt of what they now stand for, into its node.
@@ -290,7 +275,7 @@ fn put_under(
     parts: Parts,
     view: &[u8],
     at: At,
-) -> usize
+) -> Answer
     requires task_asked { TaskAsked sheet.now table.now arena.old slots.old scope cells.now view.now at (inside_of parts vfalse vfalse) }
     requires inner { Inner scope at.cells at.levels }
     requires some_parts { SomeParts arena.old at.top parts.start parts.first parts.second }
@@ -303,16 +288,16 @@ fn put_under(
     slots[c + 1] = 0;
     let inner = with_two(scope, parts.start, parts.first, parts.second);
     let mut more = *cells;
-    scopes::add_cells(&mut more, scope.count as usize, c);
-    let to = at.with_two_cells();
+    scopes::add_cells(&mut more, usize::from(scope.count), c);
+    let to = at.with_cells(2);
     let branch = parts.branch;
     let one = put_node(sheet, table, arena, slots, inner, &more, branch, view, to);
-    if is_refused(one) {
+    if one.is_refused() {
         return one;
     }
     let then = at.after(one);
     let two = put_rebuilt(sheet, table, arena, slots, scope, cells, parts, then);
-    later(two, steps_of(one))
+    two.later(one.steps())
 }
 
 // The subject, rebuilt of what the two variables of its branch stand for, into its node. Their cells are the next two.
@@ -326,7 +311,7 @@ fn put_rebuilt(
     cells: &Cells,
     parts: Parts,
     at: At,
-) -> usize
+) -> Answer
     requires ready { Ready sheet.now table.now arena.old slots.old Any scope cells.now at.cells (at.cells + 2) at.top at.levels at.left
         (rebuilt_of parts vfalse vfalse) }
     requires some_parts { SomeParts arena.old at.top parts.start parts.first parts.second }
@@ -342,11 +327,11 @@ fn put_rebuilt(
     let r = scopes::place_of(slots[c + 1], c + 1, start + first, parts.second);
     let rest = r.start;
     if decisions::unfit(parts.kind, arena[rest]) {
-        return refused(43);
+        return Answer::refused(Refusal::ValueKind);
     }
     let size = 1 + f.len + r.len;
     if 256 < size {
-        return refused(44);
+        return Answer::refused(Refusal::ValueLong);
     }
     let mut whole = [0u8; 256];
     rebuild(
@@ -369,7 +354,7 @@ fn put_case(
     own: Pos,
     view: &[u8],
     at: At,
-) -> usize
+) -> Answer
     requires kind_asked { KindAsked sheet.now table.now arena.old slots.old scope cells.now own view.now at }
     requires case { Case own.kind }
     ensures { KindTells sheet.now arena.old arena.new slots.old slots.new scope cells.now
@@ -377,7 +362,7 @@ fn put_case(
 {
     let subject = node::number_of(sheet, own.from, 1);
     let got = get_node(sheet, table, arena, scope, subject, at);
-    if is_refused(got) {
+    if got.is_refused() {
         return got;
     }
     let to = at.behind(got);
@@ -392,19 +377,19 @@ fn put_case(
                 byte,
             };
             let put = put_both(sheet, table, arena, slots, scope, cells, by, view, to);
-            later(put, steps_of(got))
+            put.later(got.steps())
         }
         Branch::Parts(i, mid) => {
             let branch = node::number_of(sheet, own.from, i);
             let parts = parts_of(own.kind, branch, subject, got, mid);
             let put = put_under(sheet, table, arena, slots, scope, cells, parts, view, to);
-            later(put, steps_of(got))
+            put.later(got.steps())
         }
         Branch::Switch => {
             let put = put_switch(sheet, table, arena, slots, scope, cells, own.from, view, to);
-            later(put, steps_of(got))
+            put.later(got.steps())
         }
-        Branch::Refused(code) => refused(code),
+        Branch::Refused(refusal) => Answer::refused(refusal),
     }
 }
 
@@ -417,7 +402,7 @@ fn two_defaults(
     seen: Scope,
     place: u16,
     at: At,
-) -> usize
+) -> Answer
     requires { BothAsked sheet.now table.now arena.old seen place at.top at.levels at.left }
     ensures { Defaults sheet.now place (Sees arena.old seen at.top) arena.old arena.new at.top
         at.levels at.left result }
@@ -425,26 +410,33 @@ fn two_defaults(
     let first = node::number_of(sheet, place, 6);
     let got = get_node(sheet, table, arena, seen, first, at);
     let a = bring(arena, got, at.top);
-    if is_refused(a) {
+    if a.is_refused() {
         return a;
     }
     let two = at.behind(a);
     let rest = node::number_of(sheet, place, 7);
     let got = get_node(sheet, table, arena, seen, rest, two);
     let b = bring(arena, got, two.top);
-    if is_refused(b) {
+    if b.is_refused() {
         return b;
     }
     let mid = two.top;
     if decisions::unfit(3, arena[mid]) {
-        return refused(43);
+        return Answer::refused(Refusal::ValueKind);
     }
-    done(len_of(a), len_of(b), steps_of(a) + steps_of(b))
+    Answer::done(a.len(), b.len(), a.steps() + b.steps())
 }
 
 // The defaults of a list case, got in a scope of one variable, the view: it stands at the top while they are got behind it, and then they are
 // brought down to where it stood.
-fn defaults(sheet: &[u8], table: &Table, arena: &mut [u8], place: u16, view: &[u8], at: At) -> usize
+fn defaults(
+    sheet: &[u8],
+    table: &Table,
+    arena: &mut [u8],
+    place: u16,
+    view: &[u8],
+    at: At,
+) -> Answer
     requires { DefaultsAsked sheet.now table.now arena.old view.now place at.top at.levels at.left }
     ensures { Defaults sheet.now place (Shown view.now) arena.old arena.new at.top at.levels at.left
         result }
@@ -455,10 +447,10 @@ fn defaults(sheet: &[u8], table: &Table, arena: &mut [u8], place: u16, view: &[u
     let seen = single(top, len);
     let to = at.raised(len);
     let got = two_defaults(sheet, table, arena, seen, place, to);
-    if is_refused(got) {
+    if got.is_refused() {
         return got;
     }
-    let both = start_of(got) + len_of(got);
+    let both = got.start() + got.len();
     copy(arena, to.top, top, both);
     got
 }
@@ -475,7 +467,7 @@ fn put_switch(
     place: u16,
     view: &[u8],
     at: At,
-) -> usize
+) -> Answer
     requires task_asked { TaskAsked sheet.now table.now arena.old slots.old scope cells.now view.now at (switch_at sheet.now place) }
     requires inner { Inner scope at.cells at.levels }
     requires levels_bound { at.top + 512 + 513 * at.levels ≤ chain_start }
@@ -483,11 +475,11 @@ fn put_switch(
         view.now at result (switch_at sheet.now place) }
 {
     let got = defaults(sheet, table, arena, place, view, at);
-    if is_refused(got) {
+    if got.is_refused() {
         return got;
     }
-    let first = start_of(got);
-    let second = len_of(got);
+    let first = got.start();
+    let second = got.len();
     let branch = node::number_of(sheet, place, 4);
     let subject = node::number_of(sheet, place, 1);
     let parts = Parts {
@@ -501,7 +493,7 @@ fn put_switch(
     let then = at.after(got);
     let to = then.raised(first + second);
     let put = put_under(sheet, table, arena, slots, scope, cells, parts, view, to);
-    later(put, steps_of(got))
+    put.later(got.steps())
 }
 
 // A call (1A): the section's root, whose two variables are the caller's under other names.
@@ -516,7 +508,7 @@ fn put_call(
     own: Pos,
     view: &[u8],
     at: At,
-) -> usize
+) -> Answer
     requires kind_asked { KindAsked sheet.now table.now arena.old slots.old scope cells.now own view.now at }
     requires kind_value { own.kind ≡ 0x1A }
     ensures { KindTells sheet.now arena.old arena.new slots.old slots.new scope cells.now
@@ -524,12 +516,12 @@ fn put_call(
 {
     let x = node::number_of(sheet, own.from, 2);
     let y = node::number_of(sheet, own.from, 3);
-    let count = scope.count as usize;
+    let count = usize::from(scope.count);
     if count <= x {
-        return refused(42);
+        return Answer::refused(Refusal::Scope);
     }
     if count <= y {
-        return refused(42);
+        return Answer::refused(Refusal::Scope);
     }
     let root = sheet::section_root(sheet, node::number_of(sheet, own.from, 1));
     let inner = scopes::section(scope, x, y);
@@ -549,45 +541,44 @@ fn put_add(
     own: Pos,
     view: &[u8],
     at: At,
-) -> usize
+) -> Answer
     requires kind_asked { KindAsked sheet.now table.now arena.old slots.old scope cells.now own view.now at }
     requires kind_value { own.kind ≡ 0x1B }
     ensures { KindTells sheet.now arena.old arena.new slots.old slots.new scope cells.now
         own view.now at result }
 {
     let Shape::Number(m) = shapes::shape_of(view) else {
-        return refused(51);
+        return Answer::refused(Refusal::ViewKind);
     };
-    let amount = value::number(
+    let amount = u16::from_be_bytes([
         node::byte_of(sheet, own.from, 2),
         node::byte_of(sheet, own.from, 3),
-    );
+    ]);
     if m < amount {
-        return refused(52);
+        return Answer::refused(Refusal::ViewBelow);
     }
-    let rest = m - amount;
-    let less = [4, value::high(rest), value::low(rest)];
+    let less = number(m - amount);
     let node = node::number_of(sheet, own.from, 1);
     put_node(sheet, table, arena, slots, scope, cells, node, &less, at)
 }
 
-// What the next member stands for: the first of the old ones that are left, whose rest is `mid` bytes further, or past their end (`mid` is 0)
-// the default, got anew in an empty scope.
+// What the next member stands for: the first of the old ones that are left, whose rest is `mid` bytes further, or past their end the default,
+// got anew in an empty scope.
 fn stood_for(
     sheet: &[u8],
     table: &Table,
     arena: &mut [u8],
     by: Members,
-    mid: usize,
+    mid: Option<usize>,
     at: At,
-) -> usize
+) -> Answer
     requires { StoodAsked sheet.now table.now arena.old by.default by.old mid at.top at.levels at.left }
     ensures { Stood sheet.now arena.old arena.new by.default by.old at.top at.levels at.left result }
 {
-    if mid != 0 {
-        return done(by.old + 1, mid - 1, 0);
+    match mid {
+        Some(mid) => Answer::done(by.old + 1, mid - 1, 0),
+        None => get_node(sheet, table, arena, none(), by.default, at),
     }
-    get_node(sheet, table, arena, none(), by.default, at)
 }
 
 // A member of the view into the section's root, whose variable 0 is the member's, in a new cell, and whose variable 1 is the caller's own. What
@@ -604,7 +595,7 @@ fn put_one(
     turn: Turn,
     view: &[u8],
     whole: &mut [u8; 256],
-) -> usize
+) -> Answer
     requires members_asked { MembersAsked sheet.now table.now arena.old slots.old scope cells.now turn.by turn.at.cells turn.at.top
         turn.at.levels turn.at.left }
     requires some_view { SomeView view.now }
@@ -619,28 +610,28 @@ fn put_one(
     let old = by.old;
     let mid = shapes::middle(&arena[old..]);
     let stood = stood_for(sheet, table, arena, by, mid, at);
-    if is_refused(stood) {
+    if stood.is_refused() {
         return stood;
     }
-    let start = start_of(stood);
-    let len = len_of(stood);
+    let start = stood.start();
+    let len = stood.len();
     let cell = at.cells;
     slots[cell] = 0;
     let inner = member(scope, by.x, start, len);
     let two = scopes::member_cells(cells, cell, by.x);
-    let to = at.behind(stood).with_cell();
+    let to = at.behind(stood).with_cells(1);
     let put = put_node(sheet, table, arena, slots, inner, &two, by.root, view, to);
-    if is_refused(put) {
+    if put.is_refused() {
         return put;
     }
     let now = scopes::place_of(slots[cell], cell, start, len);
     let size = 1 + now.len;
     if decisions::overlong(built, size) {
-        return refused(44);
+        return Answer::refused(Refusal::ValueLong);
     }
     whole[built] = 3;
     fill(whole, built + 1, arena, now.start, now.len);
-    done(mid, size, steps_of(stood) + steps_of(put))
+    Answer::done(mid.unwrap_or(0), size, stood.steps() + put.steps())
 }
 
 // The members of the view, from the left, and then the list of what they are into the subject.
@@ -655,7 +646,7 @@ fn put_all(
     by: Members,
     view: &[u8],
     at: At,
-) -> usize
+) -> Answer
     requires members_asked { MembersAsked sheet.now table.now arena.old slots.old scope cells.now by at.cells at.top at.levels at.left }
     requires some_list { SomeList view.now }
     ensures { MembersTold sheet.now arena.old arena.new slots.old slots.new scope
@@ -666,9 +657,10 @@ fn put_all(
     let mut next = by;
     let mut from = 0;
     let mut built = 0;
+    // `while`: where the next member starts is read from this one, and an iterator would read it the same way
     while view[from] == 3 {
         let rest = &view[from..];
-        let mid = shapes::middle(rest);
+        let mid = shapes::middle(rest).unwrap_or(0);
         let first = shapes::first_part(rest, mid);
         let turn = Turn {
             by: next,
@@ -678,19 +670,19 @@ fn put_all(
         let put = put_one(
             sheet, table, arena, slots, scope, cells, turn, first, &mut whole,
         );
-        if is_refused(put) {
+        if put.is_refused() {
             return put;
         }
         to = to.after(put);
-        next.old += start_of(put);
+        next.old += put.start();
         from += mid;
-        built += len_of(put);
+        built += put.len();
     }
     whole[built] = 2;
     let size = built + 1;
     let v = &whole[..size];
     let put = put_node(sheet, table, arena, slots, scope, cells, by.subject, v, to);
-    later(put, at.left - to.left)
+    put.later(at.left - to.left)
 }
 
 // Each (1C): the members of the view, each into the section's root, and then the list of what they are into the subject.
@@ -705,28 +697,28 @@ fn put_each(
     own: Pos,
     view: &[u8],
     at: At,
-) -> usize
+) -> Answer
     requires kind_asked { KindAsked sheet.now table.now arena.old slots.old scope cells.now own view.now at }
     requires kind_value { own.kind ≡ 0x1C }
     ensures { KindTells sheet.now arena.old arena.new slots.old slots.new scope cells.now
         own view.now at result }
 {
     if decisions::unfit(3, view[0]) {
-        return refused(51);
+        return Answer::refused(Refusal::ViewKind);
     }
     let subject = node::number_of(sheet, own.from, 1);
     let got = get_node(sheet, table, arena, scope, subject, at);
-    if is_refused(got) {
+    if got.is_refused() {
         return got;
     }
-    let old = start_of(got);
+    let old = got.start();
     if decisions::unfit(3, arena[old]) {
-        return refused(43);
+        return Answer::refused(Refusal::ValueKind);
     }
     let x = node::number_of(sheet, own.from, 3);
-    let count = scope.count as usize;
+    let count = usize::from(scope.count);
     if count <= x {
-        return refused(42);
+        return Answer::refused(Refusal::Scope);
     }
     let root = sheet::section_root(sheet, node::number_of(sheet, own.from, 2));
     let default = node::number_of(sheet, own.from, 4);
@@ -739,5 +731,5 @@ fn put_each(
     };
     let to = at.behind(got);
     let put = put_all(sheet, table, arena, slots, scope, cells, by, view, to);
-    later(put, steps_of(got))
+    put.later(got.steps())
 }

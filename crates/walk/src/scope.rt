@@ -52,7 +52,7 @@ pub fn with_two(scope: Scope, start: usize, first: usize, second: usize) -> Scop
     requires { (scope.count + 2 ≤ variable_limit) × Stored start first second }
     ensures { result ≡ with_two scope start first second }
 {
-    let n = scope.count as usize;
+    let n = usize::from(scope.count);
     let mut more = scope;
     more.count = scope.count + 2;
     more.starts[n] = start as u16;
@@ -69,11 +69,9 @@ pub fn of_spans(k: usize, spans: Spans) -> Scope
 {
     let mut starts = [0u16; rules::VARIABLES];
     let mut lens = [0u8; rules::VARIABLES];
-    let mut i = 0;
-    while i < k {
+    for i in 0..k {
         starts[i] = spans.starts[i];
         lens[i] = stored(spans.lens[i]);
-        i += 1;
     }
     Scope {
         count: k as u16,

@@ -1,18 +1,18 @@
 use Prim.Native.Nat.{◌<◌, ◌+◌, ◌*◌, ◌-◌, min}
 use native.Mathlib.Omega.{arith}
-use Rattle.arena.specs.Bits.{BitsFrom, bits_none, bits_more, bits_fit}
+use Rattle.arena.specs.Bits.{BitsFrom, filled_byte, bits_none, bits_more, bits_fit}
 use Rattle.arena.proofs.bits_of.Goals as goal
-use Rattle.arena.proofs.bits_of.Goals.{After-bit_of}
+use Rattle.arena.proofs.bits_of.Goals.{After-from}
 
 -- the bits with one cell more, and that they fit
-more : (c : After-bit_of) → BitsFrom c.args.slots.now (min c.args.k 16) (c.loop-i.i - 1) (c.bit_of.result + 2 * c.loop-i.bits)
-more c = bits_more c.loop-i.invariant c.loop-i-test.true c.bit_of.ensures
+more : (c : After-from) → BitsFrom c.args.slots.now (min c.args.k 16) (c.loop-i.i - 1) (c.from.result + 2 * c.loop-i.bits)
+more c = bits_more c.loop-i.invariant c.loop-i-test.true (filled_byte _ c.from.ensures)
 
-fits : (c : After-bit_of) → c.bit_of.result + 2 * c.loop-i.bits < 65536
+fits : (c : After-from) → c.from.result + 2 * c.loop-i.bits < 65536
 fits c = bits_fit (omega arith) (more c)
 
 pub loop-i-init : goal.loop-i-init
-loop-i-init c = rw c.counted-i.ensures (bits_none _ _)
+loop-i-init c = rw c.min-i.ensures (bits_none _ _)
 
 pub overflow_mul-bits : goal.overflow_mul-bits
 overflow_mul-bits c = omega (arith, fits c)

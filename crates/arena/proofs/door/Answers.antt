@@ -1,4 +1,5 @@
 -- `door` meets its contract: a return for each refusal, and one where it opens. Assumes nothing.
+use mathlib.Core.Path.{sym}
 use native.Mathlib.Omega.{arith}
 use Rattle.rules.proofs.Laws.Answers.{door-scratch, door_none, door_over}
 use Rattle.arena.specs.Door.{shut_is, shut_open}
@@ -14,4 +15,4 @@ pub returns-then-allowance-gt-ALLOWANCE : goal.returns-then-allowance-gt-ALLOWAN
 returns-then-allowance-gt-ALLOWANCE c = shut_is _ _ _ _ (door_over _ _ _ _ _ (omega arith) (omega arith) (omega arith))
 
 pub returns : goal.returns
-returns c = shut_open (record { output_long = omega arith; scratch_long = omega arith; some_steps = omega arith; few_steps = omega arith })
+returns c = sym (shut_open (record { output_long = omega arith; scratch_long = omega arith; some_steps = omega arith; few_steps = omega arith }))

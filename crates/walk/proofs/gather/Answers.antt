@@ -7,7 +7,7 @@ use Rattle.walk.proofs.gather.Goals.{In-loop-i}
 
 -- there are no more than 16 variables
 few : (c : In-loop-i) → c.loop-i.i < 16
-few c = let p = c.requires.placed in omega (arith, p.few, p.count, c.loop-i-test.true)
+few c = let p = c.requires.placed in omega (arith, p.few, p.count, c.loop-i-test.true, c.from-i-end.ensures)
 
 pub loop-i-init : goal.loop-i-init
 loop-i-init c = (omega arith, gathered_none _)
@@ -32,18 +32,14 @@ overflow_add-len c = omega (arith, few (goal.at.overflow_add-len c).In-loop-i, c
 
 pub copy-requires : goal.copy-requires
 copy-requires c =
-    gather_fits c.loop-i.invariant.1 c.requires c.loop-i-test.true c.length_of-stood.ensures c.place_of-from.ensures
-
-pub overflow_add-i : goal.overflow_add-i
-overflow_add-i c = omega (arith, few (goal.at.overflow_add-i c).In-loop-i)
-
-pub loop-i-smaller : goal.loop-i-smaller
-loop-i-smaller c = omega (arith, c.loop-i-test.true)
+    gather_fits c.loop-i.invariant.1 c.requires (rw c.from-i-end.ensures at c.loop-i-test.true) c.length_of-stood.ensures
+    (rw c.from-start.ensures at c.place_of-from.ensures)
 
 pub loop-i-preserved : goal.loop-i-preserved
 loop-i-preserved c = (
-  omega (arith, c.loop-i-test.true),
-  grown_more c.loop-i.invariant.1 c.requires c.loop-i-test.true c.length_of-stood.ensures c.place_of-from.ensures
+  omega (arith, c.loop-i-test.true, c.from-i-end.ensures),
+  grown_more c.loop-i.invariant.1 c.requires (rw c.from-i-end.ensures at c.loop-i-test.true) c.length_of-stood.ensures
+      (rw c.from-start.ensures at c.place_of-from.ensures)
       c.copy.ensures c.grow-len.ensures.value c.grow-len.ensures.at_after,
 )
 
@@ -51,7 +47,7 @@ pub overflow_cast-count : goal.overflow_cast-count
 overflow_cast-count c = let p = c.requires.placed in omega (arith, p.few, p.count)
 
 pub returns : goal.returns
-returns c = let v = c.loop-i.invariant in record { count = refl; all = gathered_all v.1 (omega (arith, v.0, c.loop-i-test.false)) }
+returns c = let v = c.loop-i.invariant in record { count = refl; all = gathered_all v.1 (omega (arith, v.0, c.loop-i-test.false, c.from-i-end.ensures)) }
 
 pub shape_of-arena : goal.shape_of-arena
 shape_of-arena c = (returns c).all.kept.long

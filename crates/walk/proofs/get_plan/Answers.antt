@@ -1,6 +1,6 @@
 -- `get_plan` meets its contract.
 -- Assumes nothing.
-use mathlib.Core.Path.{sym, ◌∙◌}
+use Rattle.outcome.proofs.Numbers.{no_refusal}
 use Rattle.walk.specs.Get.Top.{movable}
 use Rattle.walk.specs.Call.{plan_fits, plan_ready, few_met, get_met, get_unmet, get_refused, get_done}
 use Rattle.walk.proofs.get_plan.Goals as goal
@@ -18,26 +18,26 @@ bring-got-requires c =
 pub met_at-met-requires : goal.met_at-met-requires
 met_at-met-requires c =
     few_met c.requires c.copy_in.ensures c.get_node-got.ensures.get_shows c.get_node-got.ensures.sized c.bring-got.ensures
-    (sym c.is_refused.ensures ∙ c.if-is_refused.true)
+    c.in-Some.ensures.0
 
-pub returns-then-is_refused : goal.returns-then-is_refused
-returns-then-is_refused c =
-    let e = sym c.is_refused.ensures ∙ c.if-is_refused.true in record {
+pub returns-in-Some : goal.returns-in-Some
+returns-in-Some c =
+    let e = c.in-Some.ensures.0 in record {
       plan_walked = get_refused c.requires c.copy_in.ensures c.get_node-got.ensures.get_shows c.get_node-got.ensures.sized c.bring-got.ensures e
-          c.code_of.ensures;
-      explains = get_met c.requires c.copy_in.ensures c.get_node-got.ensures.get_shows c.get_node-got.ensures.sized c.bring-got.ensures e c.code_of.ensures
+          c.in-Some.ensures.1;
+      explains = get_met c.requires c.copy_in.ensures c.get_node-got.ensures.get_shows c.get_node-got.ensures.sized c.bring-got.ensures e c.in-Some.ensures.1
           c.met_at-met.ensures;
     }
 
-pub shape_of-arena-then-is_refused : goal.shape_of-arena-then-is_refused
-shape_of-arena-then-is_refused c = (returns-then-is_refused c).plan_walked.long
+pub shape_of-arena-in-Some : goal.shape_of-arena-in-Some
+shape_of-arena-in-Some c = (returns-in-Some c).plan_walked.long
 
 pub returns : goal.returns
 returns c =
-    let e = sym c.is_refused.ensures ∙ c.if-is_refused.false in record {
+    let e = no_refusal _ _ c.refusal.ensures c.in_default.not-Some in record {
       plan_walked = get_done c.requires c.copy_in.ensures c.get_node-got.ensures.get_shows c.get_node-got.ensures.sized c.bring-got.ensures e
-          c.len_of.ensures
-          c.steps_of.ensures;
+          c.len.ensures
+          c.steps.ensures;
       explains = get_unmet c.requires c.copy_in.ensures c.get_node-got.ensures.get_shows c.get_node-got.ensures.sized c.bring-got.ensures e
           c.nowhere-met.ensures;
     }

@@ -1,24 +1,24 @@
 -- Which variables a put wrote, as the slots of their cells have it, and as a put gives it beside the walk's answer.
-use Rattle.std.specs.Prelude.{◌≡◌, refl, Bool, List, [], ◌∷◌, map, ℕ, suc, ◌+◌, ◌<◌, length, get_or}
+use Rattle.std.specs.Prelude.{◌≡◌, refl, Bool, List, [], ◌∷◌, map, ℕ, suc, ◌+◌, ◌<◌, length, get_or, Ok, Err}
 use Rattle.std.proofs.Common.{sym, ap, ap₂, ◌∙◌, arith, eq-eqb, ne_eqb}
 use Rattle.std.proofs.Math.Option.{Option, none}
 use Rattle.rules.specs.Explain.{Cell, Cells}
 use Rattle.rules.specs.Explain.Erasure.{value_of, strip}
 use Rattle.rules.specs.Bits.{took, put_written}
 use Rattle.arena.specs.Bits.{filled, filled_from}
+use Rattle.refusal.specs.declared.Refusal.{Refusal}
 use Rattle.walk.specs.declared.PutWalked.{PutWalked}
 use Rattle.walk.specs.declared.chain.Met.{Met}
-use Rattle.walk.specs.declared.Reply.{Reply}
-use Rattle.walk.specs.declared.Reply.TheVariants.{Done, Refused}
+use Rattle.walk.specs.Reply.{Reply}
 use Rattle.walk.specs.Arena.Cells.{Slot, blank, full, CellsHold}
 use Rattle.walk.specs.Call.NewStarts.{refused_put}
 
 -- the bits of a walk that is done; none with a refusal
 unfoldable pub new_written : (sheet plan view : List ℕ) (allowance : ℕ) → Reply → ℕ
-new_written sheet plan view allowance (Done len n) = put_written sheet plan view allowance
-new_written sheet plan view allowance (Refused c) = 0
+new_written sheet plan view allowance (Ok d) = put_written sheet plan view allowance
+new_written sheet plan view allowance (Err c) = 0
 
-pub none_set : {r : PutWalked} (c : ℕ) (m : Met) → r ≡ refused_put c m → (sheet plan view : List ℕ) (allowance : ℕ)
+pub none_set : {r : PutWalked} (c : Refusal) (m : Met) → r ≡ refused_put c m → (sheet plan view : List ℕ) (allowance : ℕ)
     → r.written ≡ new_written sheet plan view allowance r.walked
 unfolding refused_put new_written
 none_set c m e sheet plan view allowance = rw e

@@ -1,5 +1,5 @@
 -- Cause a walk was refused: what an entry shows of where it was met.
-use Rattle.std.specs.Prelude.{◌≡◌, take, drop}
+use Rattle.std.specs.Prelude.{◌≡◌, take, drop, Ok, Err}
 use Rattle.std.proofs.Math.Path.{refl, sym, ap, ap₂}
 use Rattle.std.proofs.Common.{subst, ◌∙◌, arith, length-take-le}
 use Rattle.std.proofs.Math.Option.{Option, none, some}
@@ -13,8 +13,10 @@ use Rattle.rules.specs.Explain.{Cause, Exit, got, met}
 use Rattle.rules.specs.Explain.Chain.{Chain, Meets, stop}
 use Rattle.rules.specs.Explain.Calls.{Explanation, success, before, walked, explained}
 use Rattle.sheet.specs.Sheet.{Sheet}
-use Rattle.walk.specs.declared.Reply.{Reply}
-use Rattle.walk.specs.declared.Reply.TheVariants.{Done, Refused}
+use Rattle.refusal.specs.declared.Refusal.{Refusal}
+use Rattle.refusal.specs.Refusal.{number_of}
+use Rattle.walk.specs.Reply.{Reply}
+use Rattle.walk.specs.declared.Done.{Done}
 use Rattle.walk.specs.declared.GetWalked.{GetWalked}
 use Rattle.walk.specs.declared.chain.Met.{Met}
 use Rattle.walk.specs.Decoded.{bytes_at, writer, why_in, length_bytes}
@@ -24,11 +26,11 @@ unfoldable pub nowhere : Met
 nowhere = record { depth = 0; first = 0 }
 
 -- a get that is refused before the walk
-unfoldable pub refused_get : ℕ → GetWalked
-refused_get c = record { walked = Refused c; met = nowhere }
+unfoldable pub refused_get : Refusal → GetWalked
+refused_get c = record { walked = Err c; met = nowhere }
 
-module _ {r : GetWalked} (c : ℕ) (e : r ≡ refused_get c) where
-  pub unread_walked : r.walked ≡ Refused c
+module _ {r : GetWalked} (c : Refusal) (e : r ≡ refused_get c) where
+  pub unread_walked : r.walked ≡ Err c
   unfolding refused_get
   unread_walked = ap (λ (g : GetWalked). g.walked) e
 
@@ -43,8 +45,8 @@ met_at a c (suc d) first = walked (record { code = c; chain = bytes_at a chain_s
 
 -- what an entry's answer and the arena explain
 unfoldable pub why_of : (a : List ℕ) → Reply → Met → Explanation
-why_of a (Done len n) m = success
-why_of a (Refused c) m = met_at a c m.depth m.first
+why_of a (Ok d) m = success
+why_of a (Err c) m = met_at a (number_of c) m.depth m.first
 
 -- one more than a node, or 0 where there is none
 unfoldable pub numbered : Option ℕ → ℕ
@@ -66,12 +68,12 @@ pub record Explains (e : Explanation) (allowance : ℕ) (b a : List ℕ) (w : Re
 
 -- A REFUSAL FROM BEFORE THE WALK
 
-module _ {e : Explanation} {allowance : ℕ} {b : List ℕ} {c : ℕ} where
-  pub unmet_shut : (DoorOpens 0 0 (length b) allowance → ⊥) → Explains e allowance b b (Refused c) nowhere
+module _ {e : Explanation} {allowance : ℕ} {b : List ℕ} {c : Refusal} where
+  pub unmet_shut : (DoorOpens 0 0 (length b) allowance → ⊥) → Explains e allowance b b (Err c) nowhere
   unfolding nowhere
   unmet_shut n = record { few = omega arith; why = λ l. absurd (n l); place = λ l. absurd (n l); idle = λ _. refl }
 
-  pub unmet : e ≡ before c → Explains e allowance b b (Refused c) nowhere
+  pub unmet : e ≡ before (number_of c) → Explains e allowance b b (Err c) nowhere
   unfolding nowhere why_of met_at met_by
   unmet f = record { few = omega arith; why = λ _. sym f; place = λ _. sym (ap met_by f); idle = λ _. refl }
 
@@ -96,9 +98,9 @@ module _ {A : Type 0} (a : List ℕ) (r : ℕ) (sh : Sheet) (n : ℕ) {t : Exit 
   pub few_nodes : len_of r ≤ chain_limit
   few_nodes = omega (arith, nodes, chain.short)
 
-  met_why : why_of a (Refused (code_of r)) (record { depth = len_of r; first = start_of r }) ≡ explained t
+  met_why : (x : Refusal) → number_of x ≡ code_of r → why_of a (Err x) (record { depth = len_of r; first = start_of r }) ≡ explained t
   unfolding why_of met_at explained why_in
-  met_why = go (len_of r) refl ∙ sym (ap explained d)
+  met_why x c = ap (λ (n : ℕ). met_at a n (len_of r) (start_of r)) c ∙ go (len_of r) refl ∙ sym (ap explained d)
     where
       go : (k : ℕ) → len_of r ≡ k → met_at a (code_of r) (len_of r) (start_of r) ≡ walked (why_in a level_limit r)
       go zero e = absurd (omega (arith, nodes, e))
@@ -115,23 +117,23 @@ module _ {A : Type 0} (a : List ℕ) (r : ℕ) (sh : Sheet) (n : ℕ) {t : Exit 
       first zero = refl
       first (suc n) = refl
 
-  pub met_explains : {e : Explanation} {allowance : ℕ} {b : List ℕ} → DoorOpens 0 0 (length b) allowance → e ≡ explained t
-      → Explains e allowance b a (Refused (code_of r)) (record { depth = len_of r; first = start_of r })
-  met_explains l f = record { few = few_nodes; why = λ _. met_why ∙ sym f; place = λ _. met_place ∙ sym (ap met_by f); idle = λ n. absurd (n l) }
+  pub met_explains : {e : Explanation} {allowance : ℕ} {b : List ℕ} (x : Refusal) → number_of x ≡ code_of r → DoorOpens 0 0 (length b) allowance
+      → e ≡ explained t → Explains e allowance b a (Err x) (record { depth = len_of r; first = start_of r })
+  met_explains x c l f = record { few = few_nodes; why = λ _. met_why x c ∙ sym f; place = λ _. met_place ∙ sym (ap met_by f); idle = λ n. absurd (n l) }
 
-done_why : {A : Type 0} (a : List ℕ) (len n : ℕ) (m : Met) {s : ℕ} {t : Exit A} {v : A} → t ≡ got v s → why_of a (Done len n) m ≡ explained t
+done_why : {A : Type 0} (a : List ℕ) (w : Done) (m : Met) {s : ℕ} {t : Exit A} {v : A} → t ≡ got v s → why_of a (Ok w) m ≡ explained t
 unfolding why_of explained
-done_why a len n m d = sym (ap explained d)
+done_why a w m d = sym (ap explained d)
 
 done_place : {A : Type 0} {s : ℕ} {t : Exit A} {v : A} → t ≡ got v s → nowhere ≡ met_by (explained t)
 unfolding met_by explained
 done_place d = sym (ap (λ (u : Exit _). met_by (explained u)) d)
 
-pub done_explains : {A : Type 0} {a b : List ℕ} {len n s allowance : ℕ} {t : Exit A} {v : A} {e : Explanation} → t ≡ got v s → e ≡ explained t
-    → Explains e allowance b a (Done len n) nowhere
+pub done_explains : {A : Type 0} {a b : List ℕ} {w : Done} {s allowance : ℕ} {t : Exit A} {v : A} {e : Explanation} → t ≡ got v s → e ≡ explained t
+    → Explains e allowance b a (Ok w) nowhere
 unfolding nowhere
 done_explains d f =
-    record { few = omega arith; why = λ _. done_why _ _ _ _ d ∙ sym f; place = λ _. done_place d ∙ sym (ap met_by f); idle = λ _. refl }
+    record { few = omega arith; why = λ _. done_why _ _ _ d ∙ sym f; place = λ _. done_place d ∙ sym (ap met_by f); idle = λ _. refl }
 
 -- THE WHOLE ARENA, of which the walk has the front
 
@@ -165,5 +167,5 @@ explains_whole {e} {allowance} {b} {a} {w} {m} lent l x = record {
 }
   where
     go : (w : Reply) → why_of a w m ≡ e → why_of (a ++ drop scratch_size b) w m ≡ e
-    go (Done len n) h = h
-    go (Refused c) h = met_front a (drop scratch_size b) c m.depth m.first x.few l ∙ h
+    go (Ok d) h = h
+    go (Err c) h = met_front a (drop scratch_size b) (number_of c) m.depth m.first x.few l ∙ h

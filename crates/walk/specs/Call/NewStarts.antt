@@ -1,30 +1,30 @@
 -- What a put gives beside the walk's answer: where the values of its new plan start.
-use Rattle.std.specs.Prelude.{◌≡◌, List, ◌++◌, ℕ, ◌≤◌, length}
+use Rattle.std.specs.Prelude.{◌≡◌, List, ◌++◌, ℕ, ◌≤◌, length, Ok, Err}
 use Rattle.std.proofs.Common.{sym, arith}
 use Rattle.std.proofs.Math.Path.{ap}
 use Rattle.starts.specs.declared.Starts.{Starts}
-use Rattle.starts.specs.Starts.{no_starts, load_of}
+use Rattle.starts.specs.Starts.{no_starts, load_of, starts_in}
 use Rattle.rules.specs.Numbers.{scratch_size, stack_start, put_output}
 use Rattle.rules.specs.Outcome.{Out}
+use Rattle.refusal.specs.declared.Refusal.{Refusal}
 use Rattle.walk.specs.declared.PutWalked.{PutWalked}
 use Rattle.walk.specs.declared.chain.Met.{Met}
-use Rattle.walk.specs.declared.Reply.{Reply}
-use Rattle.walk.specs.declared.Reply.TheVariants.{Done, Refused}
+use Rattle.walk.specs.Reply.{Reply}
 use Rattle.walk.specs.Arena.Parts.{part}
 use Rattle.walk.specs.Call.{Says, says_done, says_refused, front_part}
 
 -- the starts that loading the new plan gives, which stands in the arena a at 32,256; no start with a refusal
 unfoldable pub new_starts : (sheet a : List ℕ) → Reply → Starts
-new_starts sheet a (Done len n) = (load_of sheet (part a stack_start len)).starts
-new_starts sheet a (Refused c) = no_starts
+new_starts sheet a (Ok d) = starts_in (load_of sheet (part a stack_start d.len))
+new_starts sheet a (Err c) = no_starts
 
 -- a put that is refused gives no start and no bit
-unfoldable pub refused_put : ℕ → Met → PutWalked
-refused_put c m = record { walked = Refused c; starts = no_starts; written = 0; met = m }
+unfoldable pub refused_put : Refusal → Met → PutWalked
+refused_put c m = record { walked = Err c; starts = no_starts; written = 0; met = m }
 
 -- a refusal
-module _ {r : PutWalked} (c : ℕ) (m : Met) (e : r ≡ refused_put c m) where
-  pub walked_is : r.walked ≡ Refused c
+module _ {r : PutWalked} (c : Refusal) (m : Met) (e : r ≡ refused_put c m) where
+  pub walked_is : r.walked ≡ Err c
   unfolding refused_put
   walked_is = ap (λ (p : PutWalked). p.walked) e
 
@@ -41,5 +41,5 @@ pub starts_whole : (sheet x : List ℕ) {most : ℕ} {a : List ℕ} {r : Reply} 
     → new_starts sheet a r ≡ new_starts sheet (a ++ x) r
 unfolding new_starts
 starts_whole sheet x {a = a} t l (says_done len e q h p) =
-    rw e (ap (λ (b : List ℕ). (load_of sheet b).starts) (sym (front_part a x len l (omega arith))))
-starts_whole sheet x t l (says_refused e) = rw e
+    rw e (ap (λ (b : List ℕ). starts_in (load_of sheet b)) (sym (front_part a x len l (omega arith))))
+starts_whole sheet x t l (says_refused e c) = rw e

@@ -1,15 +1,12 @@
 -- A plan's bytes at the front of the arena: where its values stand, and what its spans tell.
 use Rattle.std.specs.Prelude.{◌≡◌, refl, List, [], ◌∷◌, ◌++◌, map, ℕ, zero, suc, ◌+◌, ◌-◌, ◌*◌, ◌≤◌, ◌<◌, length, get_or, replicate}
-use Rattle.std.proofs.Common.{sym, ap, ◌∙◌, arith, le-leb, length-append}
+use Rattle.std.proofs.Common.{ap, ◌∙◌, arith, length-append}
 use Rattle.std.proofs.Math.ListN.{get_or-append}
-use Rattle.value.specs.Result.{Result, ok, refusal, map_result}
 use Rattle.value.specs.All.{All, none, each}
 use Rattle.value.specs.Value.{Value, vfalse, encode, size, flat}
 use Rattle.value.proofs.Encoding.{size-encode}
 use Rattle.value.specs.Laws.{Readable}
-use Rattle.value.specs.Reading.{Found, whole, malformed, too_long, value, nothing, a_value, read_value, on_value, read_values, read_plan}
-use Rattle.value.specs.Spans.{places, starts, spans, within16, spans_of}
-use Rattle.value.specs.declared.Spans.{Spans}
+use Rattle.value.specs.Spans.{places, starts}
 use Rattle.walk.specs.Arena.Parts.{part, part_split}
 
 -- the value v stands in the arena, and ends at `most`
@@ -54,54 +51,3 @@ sizes_length (v ∷ μ) = ap suc (sizes_length μ)
 pub placed : (l : List ℕ) (i : ℕ) → i < length l → get_or (places l) i 0 ≡ get_or l i 0
 unfolding places
 placed l i h = get_or-append l (replicate (16 - length l) 0) 0 i h
-
--- WHAT THE SPANS TELL
-
--- a refusal of a plan is no 0
-data Coded : Result (List Value) → Type 0 where
-  read : {μ : List Value} → Coded (ok μ)
-  code : {c : ℕ} → 20 ≤ c → Coded (refusal c)
-
-coded_more : (v : Value) {r : Result (List Value)} → Coded r → Coded (map_result (λ vs. v ∷ vs) r)
-unfolding map_result
-coded_more v read = read
-coded_more v (code h) = code h
-
-coded : (k : ℕ) (bs : List ℕ) → Coded (read_plan k bs)
-unfolding read_values on_value
-coded zero [] = read
-coded zero (b ∷ bs) = code {c = 22} (omega arith)
-coded (suc k) [] = code {c = 22} (omega arith)
-coded (suc k) (b ∷ bs) = go (λ more. coded k more) (read_value (b ∷ bs))
-  where
-    go : ((more : List ℕ) → Coded (read_plan k more)) → (found : Found (value ∷ []))
-        → Coded (on_value 20 found λ v more. map_result (λ vs. v ∷ vs) (read_values 20 k more))
-    go next (whole (a_value v nothing) more) = coded_more v (next more)
-    go next malformed = code {c = 20} (omega arith)
-    go next too_long = code {c = 21} (omega arith)
-
-spans_are : (k : ℕ) (bs : List ℕ) {sp : Spans} → k ≤ 16 → sp ≡ spans_of k bs → sp ≡ spans (read_plan k bs)
-unfolding spans_of within16
-spans_are k bs h e = e ∙ ap (λ t. spans (within16 t (read_plan k bs))) (le-leb k 16 h)
-
-pub spans_refused : (k : ℕ) (bs : List ℕ) {sp : Spans} → k ≤ 16 → sp ≡ spans_of k bs → (sp.refusal ≡ 0 → ⊥) → read_plan k bs ≡ refusal sp.refusal
-unfolding spans
-spans_refused k bs {sp} h e n = go (read_plan k bs) (ap (λ (s : Spans). s.refusal) (spans_are k bs h e))
-  where
-    go : (r : Result (List Value)) → sp.refusal ≡ (spans r).refusal → r ≡ refusal sp.refusal
-    go (ok μ) q = absurd (n q)
-    go (refusal c) q = ap refusal (sym q)
-
-pub record Spread (k : ℕ) (bs : List ℕ) (sp : Spans) : Type 0 where
-  pub μ : List Value
-  pub values : read_plan k bs ≡ ok μ
-  pub starts_are : sp.starts ≡ places (starts 0 μ)
-  pub lens_are : sp.lens ≡ places (map size μ)
-
-pub spread : (k : ℕ) (bs : List ℕ) {sp : Spans} → k ≤ 16 → sp ≡ spans_of k bs → sp.refusal ≡ 0 → Spread k bs sp
-unfolding spans
-spread k bs {sp} h e z = go (read_plan k bs) refl (coded k bs) (spans_are k bs h e)
-  where
-    go : (r : Result (List Value)) → read_plan k bs ≡ r → Coded r → sp ≡ spans r → Spread k bs sp
-    go (ok μ) q c s = record { μ = μ; values = q; starts_are = ap (λ (s : Spans). s.starts) s; lens_are = ap (λ (s : Spans). s.lens) s }
-    go (refusal c) q (code l) s = absurd (let y : sp.refusal ≡ c = ap (λ (s : Spans). s.refusal) s in omega arith)

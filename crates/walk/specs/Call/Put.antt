@@ -1,5 +1,5 @@
 -- Put on bytes: what the walk from the root asks, and that the plan gathered behind it is the rules' answer.
-use Rattle.std.specs.Prelude.{◌≡◌, true, false, get_or}
+use Rattle.std.specs.Prelude.{◌≡◌, true, false, get_or, Err}
 use Rattle.std.proofs.Math.Path.{refl, sym, ap, ap₂}
 use Rattle.std.proofs.Common.{◌∙◌, le_refl, arith}
 use Rattle.std.proofs.Math.Option.{Option, none}
@@ -15,14 +15,13 @@ use Rattle.value.specs.Value.{Value, vfalse, encode, flat}
 use Rattle.value.specs.Laws.{Readable}
 use Rattle.value.proofs.Laws.{read_values_sound, read_values_back}
 use Rattle.value.specs.Reading.{read_plan, read_view}
-use Rattle.value.specs.Spans.{places, starts, view_code}
-use Rattle.value.proofs.SpansLaws.{view_ok, view_refusal}
+use Rattle.value.specs.Spans.{places, starts, view_of}
+use Rattle.value.proofs.SpansLaws.{view_ok}
 use Rattle.sheet.specs.Sheet.{Sheet, read_sheet}
 use Rattle.sheet.specs.Table.{table_of}
 use Rattle.sheet.specs.declared.Table.{Table}
 use Rattle.sheet.specs.Laws.{sheet_ranges}
-use Rattle.starts.specs.declared.Loaded.{Loaded}
-use Rattle.starts.specs.Starts.{starts_of, load_of}
+use Rattle.starts.specs.Starts.{starts_of, load_of, starts_in}
 use Rattle.starts.proofs.StartsLaws.{load_gives}
 use Rattle.rules.specs.Outcome.{done, refused, map_out, reading}
 use Rattle.rules.specs.Allowance.{within}
@@ -34,11 +33,12 @@ use Rattle.rules.proofs.Explain.Chain.{put_chain}
 use Rattle.rules.specs.Explain.Calls.{before as unmet_by, afterwards, explained, explain_put}
 use Rattle.rules.proofs.Explain.Calls.{strip_blank}
 use Rattle.walk.specs.declared.chain.Met.{Met}
-use Rattle.walk.specs.Call.Explained.{Explains, nowhere, few_nodes, met_explains, done_explains}
+use Rattle.walk.specs.Call.Explained.{Explains, nowhere, unmet_shut, unmet, few_nodes, met_explains, done_explains}
 use Rattle.rules.specs.Semantics
 use Rattle.rules.specs.Semantics.{Env}
 use Rattle.rules.specs.Explain.{Cell, Cells, Exit, or_old, put}
 use Rattle.rules.specs.Answer.{count, new_plan, put_walk, put_bytes}
+use Rattle.rules.specs.Laws.Answers.{DoorOpens}
 use Rattle.rules.specs.Numbers.{level_limit, scratch_size, stack_start, variable_limit, chain_limit, put_output}
 use Rattle.rules.specs.Bits.{bits_of, took_in, put_written}
 use Rattle.scopes.specs.declared.Scope.{Scope}
@@ -46,7 +46,9 @@ use Rattle.scopes.specs.Scopes.{place_of, slot_of}
 use Rattle.scopes.specs.ScopesLaws.{was_written}
 use Rattle.walk.specs.Decoded.{why_in, decoded_done, decoded_refused}
 use Rattle.starts.specs.declared.NewPlan.{NewPlan}
-use Rattle.walk.specs.declared.Reply.TheVariants.{Done, Refused}
+use Rattle.refusal.specs.declared.Refusal.{Refusal}
+use Rattle.refusal.specs.Refusal.{number_of}
+use Rattle.walk.specs.Reply.{finished}
 use Rattle.walk.specs.Arena.Parts.{part, part_length, CopiedIn}
 use Rattle.walk.specs.Arena.{Held, Scoped, below_ends}
 use Rattle.walk.specs.Arena.Bytes.{held_short}
@@ -58,7 +60,8 @@ use Rattle.walk.specs.Call.NewStarts.{new_starts}
 use Rattle.walk.specs.Call.Bits.{new_written, slots_took}
 use Rattle.arena.specs.Bits.{filled_from}
 use Rattle.walk.specs.Call.Gather.{Rests, Placed, SomePlaced, AllGathered, Counted}
-use Rattle.walk.specs.Call.{Unread, says_done, says_refused, Planned, PlanWalked, plan_small, plan_env, root_is}
+use Rattle.walk.specs.Call.{Unread, Bars, at_door, at_sheet, at_plan, says_done, says_refused}
+use Rattle.walk.specs.Call.{WalkCall, Planned, PlanWalked, plan_small, plan_env, root_is, call_shut, call_refused}
 
 -- the view is read
 pub record Viewed (view : List ℕ) : Type 0 where
@@ -74,11 +77,14 @@ pub put_all_read : {sheet plan view : List ℕ} → (Unread sheet plan → ⊥) 
 put_all_read n v (before u) = n u
 put_all_read n v (no_view e) = let z = v.read in let y : ◌≡◌ {A = ℕ} 0 1 = cc in omega arith
 
-pub viewed : (view : List ℕ) {c : ℕ} → c ≡ view_code view → c ≡ 0 → Viewed view
-viewed view e z = let p = view_ok view (sym e ∙ z) in record { value = p.0; read = p.1 }
+pub viewed : (view : List ℕ) → ok tt ≡ view_of view → Viewed view
+viewed view e = let p = view_ok view e in record { value = p.0; read = p.1 }
 
-pub view_refused : (view : List ℕ) {c : ℕ} → c ≡ view_code view → (c ≡ 0 → ⊥) → read_view view ≡ refusal c
-view_refused view e n = view_refusal view (λ z. n (e ∙ z)) ∙ ap refusal (sym e)
+-- the door stays shut, or a reader refuses, with that number
+pub data PutBars (sheet plan view : List ℕ) (scratch allowance c : ℕ) : Type 0 where
+  barred : Bars sheet plan scratch allowance c → PutBars sheet plan view scratch allowance c
+  at_view : {sh : Sheet} {μ : List Value} → DoorOpens 0 0 scratch allowance → read_sheet sheet ≡ ok sh → read_plan sh.k plan ≡ ok μ
+      → read_view view ≡ refusal c → PutBars sheet plan view scratch allowance c
 
 view_shown : {view : List ℕ} (s : Viewed view) → Shown view s.value
 unfolding flat
@@ -241,20 +247,20 @@ module _ {sheet plan view : List ℕ} {table : Table} {sc : Scope} {allowance : 
     }
 
     module _ {a slots : List ℕ} {r : ℕ} (g : PutTold put_root (Shown view) a slots r (enter table.root)) where
-      pub put_refused : {x : ℕ} → is_refusal r ≡ true → x ≡ code_of r → PlanWalked put_output (put_bytes sheet plan view allowance) b a (Refused x)
+      pub put_refused : {x : Refusal} → is_refusal r ≡ true → number_of x ≡ code_of r → PlanWalked put_output (put_bytes sheet plan view allowance) b a (Err x)
       unfolding run map_out forget why_in
       put_refused {x} e f =
           let d = not_had (g.told put_given) (decoded_refused a level_limit r e) in
           let z : put_bytes sheet plan view allowance ≡ refused (code_of r) d.0 = put_is ∙ ap
           (λ (t : Exit Cells). map_out (λ X. flat (new_plan X w.μ)) (forget strip t)) d.1 in
-          record { long = g.frame.long ∙ c.long; says = rw z (says_refused (ap Refused f)) }
+          record { long = g.frame.long ∙ c.long; says = rw z (says_refused refl f) }
 
-      pub put_met : {x : ℕ} {m' : Met} → is_refusal r ≡ true → x ≡ code_of r → m' ≡ record { depth = len_of r; first = start_of r }
-          → Explains (explain_put sheet plan view allowance) allowance b a (Refused x) m'
+      pub put_met : {x : Refusal} {m' : Met} → is_refusal r ≡ true → number_of x ≡ code_of r → m' ≡ record { depth = len_of r; first = start_of r }
+          → Explains (explain_put sheet plan view allowance) allowance b a (Err x) m'
       unfolding run
       put_met e f h =
           let d = not_had (g.told put_given) (decoded_refused a level_limit r e) in
-          rw (f, h) (met_explains a r w.sh table.root walk_chain d.1 w.lent explain_put_lem)
+          rw h (met_explains a r w.sh table.root walk_chain d.1 _ f w.lent explain_put_lem)
 
       pub few_met : is_refusal r ≡ true → len_of r ≤ chain_limit
       unfolding run
@@ -265,12 +271,13 @@ module _ {sheet plan view : List ℕ} {table : Table} {sc : Scope} {allowance : 
         unfolding run
         wrote = had (g.told put_given) (decoded_done a level_limit r e)
 
-        pub put_unmet : {a' : List ℕ} {len n : ℕ} {m' : Met} → m' ≡ nowhere → Explains (explain_put sheet plan view allowance) allowance b a' (Done len n) m'
+        pub put_unmet : {a' : List ℕ} {len n : ℕ} {m' : Met} → m' ≡ nowhere → Explains (explain_put sheet plan view allowance) allowance b a'
+            (finished len n) m'
         put_unmet f = rw f (done_explains wrote.is explain_put_lem)
 
         -- the bits of the slots are those of the cells
         pub put_written_lem : {bits k : ℕ} → bits ≡ bits_of (filled_from slots 0 (min k 16)) → k ≡ sc.count → (len n : ℕ)
-            → bits ≡ new_written sheet plan view allowance (Done len n)
+            → bits ≡ new_written sheet plan view allowance (finished len n)
         unfolding new_written took_in forget
         put_written_lem {k = k} q e len n =
             let z : min k 16 ≡ sc.count = omega (arith, e, few_variables) in
@@ -292,7 +299,7 @@ module _ {sheet plan view : List ℕ} {table : Table} {sc : Scope} {allowance : 
           new_bytes : part a' stack_start new.len ≡ flat ws
           new_bytes = let p = placed_new in all.all.told p ∙ ap flat (ap (λ (i : ℕ). take i ws) p.count ∙ take-length ws)
 
-          pub put_done : {n : ℕ} → n ≡ steps_of r → PlanWalked put_output (put_bytes sheet plan view allowance) b a' (Done new.len n)
+          pub put_done : {n : ℕ} → n ≡ steps_of r → PlanWalked put_output (put_bytes sheet plan view allowance) b a' (finished new.len n)
           unfolding map_out forget
           put_done {n} q =
               let h = all.all in
@@ -303,8 +310,8 @@ module _ {sheet plan view : List ℕ} {table : Table} {sc : Scope} {allowance : 
               record { long = h.kept.long ∙ g.frame.long ∙ c.long; says = rw z (says_done new.len refl (sym l ∙ ap length new_bytes) few new_bytes) }
 
           -- the starts are those that loading the new plan gives
-          pub put_starts : (n : ℕ) → new.starts ≡ new_starts sheet a' (Done new.len n)
-          unfolding new_starts starts_of
+          pub put_starts : (n : ℕ) → new.starts ≡ new_starts sheet a' (finished new.len n)
+          unfolding new_starts starts_of starts_in
           put_starts n =
               let p = placed_new in
               let k : length ws ≡ w.sh.k = sym p.count ∙ w.spanned.count in
@@ -313,7 +320,7 @@ module _ {sheet plan view : List ℕ} {table : Table} {sc : Scope} {allowance : 
               let at : new.starts.at ≡ places (starts 0 ws)
               = all.all.starting p ∙ ap (λ (l : List Value). places (starts 0 l)) (ap (λ (i : ℕ). take i ws) p.count ∙ take-length ws) in
               ap₂ (λ (x : ℕ) (l : List ℕ). record { count = x; at = l }) (all.count ∙ p.count) at
-              ∙ sym (ap (λ (l : Loaded). l.starts) (ap (load_of sheet) new_bytes ∙ load_gives sheet (flat ws) w.read read))
+              ∙ sym (ap starts_in (ap (load_of sheet) new_bytes ∙ load_gives sheet (flat ws) w.read read))
 
 -- THE REFUSALS
 
@@ -344,3 +351,12 @@ module _ (sheet plan view : List ℕ) (allowance : ℕ) where
       → put_bytes sheet plan view allowance ≡ refused c 0
   unfolding put_bytes reading
   put_view-refused e f g = rw (e, f, g)
+
+-- a put that does not begin
+pub put_barred : {sheet plan view : List ℕ} {allowance : ℕ} {b : List ℕ} {c : Refusal} → PutBars sheet plan view (length b) allowance (number_of c)
+    → WalkCall (PutUnread sheet plan view) put_output (put_bytes sheet plan view allowance) allowance b b (Err c)
+    × Explains (explain_put sheet plan view allowance) allowance b b (Err c) nowhere
+put_barred (barred (at_door e n)) = (call_shut e n, unmet_shut n)
+put_barred (barred (at_sheet l e)) = (call_refused l (put_sheet-refused _ _ _ _ e), unmet (explain_sheet_refused _ _ _ _ e))
+put_barred (barred (at_plan l e f)) = (call_refused l (put_plan-refused _ _ _ _ e f), unmet (explain_plan_refused _ _ _ _ e f))
+put_barred (at_view l e f g) = (call_refused l (put_view-refused _ _ _ _ e f g), unmet (explain_view_refused _ _ _ _ e f g))

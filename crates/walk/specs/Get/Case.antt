@@ -18,6 +18,8 @@ use Rattle.rules.specs.Semantics.{Env, on_list, two}
 use Rattle.rules.specs.Explain.{Explained, Getter, Exit, Cause, follow, get, give, given, got, met, more, next, own as own_rule, tested, wanted, within}
 use Rattle.rules.specs.Numbers.{chain_start, variable_limit}
 use Rattle.scopes.specs.declared.Scope.{Scope}
+use Rattle.refusal.specs.declared.Refusal.TheVariants.{ValueKind}
+use Rattle.refusal.specs.Refusal.{number_of}
 use Rattle.decisions.specs.declared.Branch.{Branch}
 use Rattle.decisions.specs.declared.Branch.TheVariants.{Plain, Parts, Switch, Refused}
 use Rattle.decisions.specs.Decisions.{where_so, fits_kind, fit_of}
@@ -75,7 +77,7 @@ unfoldable pub get_branch : Getter → List ℕ → (n kind : ℕ) → Env → V
 get_branch g s n k μ o (Plain i byte) = tested (test_of k s n i) (g (get_or s (n + i) 0) μ)
 get_branch g s n k μ o (Parts i mid) = tested (test_of k s n i) (g (get_or s (n + i) 0) (μ ++ parts_of o))
 get_branch g s n k μ o Switch = λ _. met (own_rule 43 none) 0
-get_branch g s n k μ o (Refused c) = λ _. met (own_rule c none) 0
+get_branch g s n k μ o (Refused c) = λ _. met (own_rule (number_of c) none) 0
 
 -- a test that says yes to anything changes nothing
 any_holds : (v : Value) → holds 0 v ≡ true
@@ -322,7 +324,7 @@ module _ {h : Here} {k n g : ℕ} {a : List ℕ} {q : Shape} (w : Subject h k n 
         }
 
   -- NO BRANCH
-  pub none_told : {r : ℕ} → FitsBranch k q (Refused 43) → Refused 43 ≡ fit_of k q → r ≡ 43 → Tells h a r k n
+  pub none_told : {r : ℕ} → FitsBranch k q (Refused ValueKind) → Refused ValueKind ≡ fit_of k q → r ≡ 43 → Tells h a r k n
   unfolding run get_branch after
   none_told {r} f e d = record {
     kept = w.gives.kept;

@@ -22,6 +22,9 @@ use Rattle.rules.specs.Explain.{Cause, Exit, met, below, entered, within, get, g
 use Rattle.rules.specs.Explain.Chain.{Chain, Meets, stop}
 use Rattle.rules.proofs.Explain.Chain.{get_chain}
 use Rattle.scopes.specs.declared.Scope.{Scope}
+use Rattle.refusal.specs.declared.Refusal.{Refusal}
+use Rattle.refusal.specs.Refusal.{number_of}
+use Rattle.outcome.proofs.Numbers.{number_fits}
 use Rattle.decisions.specs.Decisions.{entry_refusal}
 use Rattle.decisions.specs.DecisionLaws.{no_level, no_step as out_of_steps, both_left}
 use Rattle.arena.specs.Chain.{chain_at}
@@ -48,8 +51,8 @@ nodes_below l sh x μ left {nd} {y} {n} e d =
     go : Meets {A = Value} (Chain sh x (suc l)) (below x (met y n)) → length y.chain ≤ suc l
     go (stop c) = let z = ap (λ (k : List ℕ). length k) c.begins in omega (arith, c.short)
 
-pub entry_code : {r : ℕ} (levels left : ℕ) → r ≡ entry_refusal levels left → (r ≡ 0 → ⊥) → EntryCode levels left r
-entry_code {r} levels left e n = go levels left refl refl
+code_told : {r : ℕ} (levels left : ℕ) → r ≡ entry_refusal levels left → (r ≡ 0 → ⊥) → EntryCode levels left r
+code_told {r} levels left e n = go levels left refl refl
   where
     go : (l k : ℕ) → levels ≡ l → left ≡ k → EntryCode levels left r
     go zero k p q = let z : r ≡ 40 = e ∙ sym (no_level levels left p) in rw z (no_level_left p)
@@ -58,6 +61,9 @@ entry_code {r} levels left e n = go levels left refl refl
         let z : r ≡ 41 = e ∙ sym (out_of_steps levels left h q) in
         rw z (no_step_left h q)
     go (suc l) (suc k) p q = absurd (n (e ∙ sym (both_left levels left (λ y. omega (arith, p, y)) (λ y. omega (arith, q, y)))))
+
+pub entry_code : (levels left : ℕ) (x : Refusal) → number_of x ≡ entry_refusal levels left → EntryCode levels left (number_of x)
+entry_code levels left x e = code_told levels left e (λ z. omega (arith, (number_fits x).0, z))
 
 -- the arena as a refusal's way out leaves it
 pub left_kept : {x levels g r top : ℕ} {b a : List ℕ} → top ≤ chain_at levels → Left x levels g b a r → SameBelow top b a

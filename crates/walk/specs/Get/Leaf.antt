@@ -1,6 +1,7 @@
 -- Variables, constants and numbers: what get shows of them.
 use Rattle.std.specs.Prelude.{◌≡◌, refl, true, false, List, [], ◌∷◌, ℕ, zero, suc, ◌+◌, ◌-◌, ◌*◌, ◌/◌, ◌%◌, ◌≤◌, ◌<◌, length, get_or, set}
-use Rattle.std.proofs.Common.{ap, ◌∙◌, le_refl, arith, length-set, get_or-set_same, get_or-set_other}
+use Rattle.std.specs.Int.{from_be_bytes}
+use Rattle.std.proofs.Common.{ap, ◌∙◌, le_refl, arith, w16, length-set, get_or-set_same, get_or-set_other}
 use Rattle.std.proofs.Math.Decide.{dec_lt}
 use Rattle.std.proofs.Math.Seq.{paste}
 use Rattle.outcome.specs.Outcome.{done_as}
@@ -115,8 +116,8 @@ constant_told {h} {n} {kind = kind} c v m w e f =
 -- NUMBERS
 
 -- a number by its two bytes
-pub sum_as : {n a b x y : ℕ} → n ≡ 256 * a + b → a ≡ x → b ≡ y → n ≡ 256 * x + y
-sum_as e f g = rw (← f, ← g) e
+pub sum_as : {n : ℕ} (a b : ℕ) {x y : ℕ} → n ≡ from_be_bytes w16 (a ∷ b ∷ []) → a ≡ x → b ≡ y → n ≡ 256 * x + y
+sum_as a b e f g = omega (arith, e, f, g)
 
 -- a number's three bytes are written
 abbrev pub numbered : List ℕ → ℕ → ℕ → List ℕ

@@ -6,7 +6,7 @@ use Rattle.std.proofs.Math.Decide.{dec_le}
 use Rattle.outcome.specs.Outcome.{is_refusal, done_as, len_of, start_of, steps_of, steps_small}
 use Rattle.value.specs.Result.{ok}
 use Rattle.value.specs.Value.{Value, Values, vfalse, list, cons, encode, size, e_cons}
-use Rattle.shapes.specs.Parts.{shape_of, middle_of}
+use Rattle.shapes.specs.Parts.{shape_of}
 use Rattle.sheet.specs.Sheet.{Sheet, read_sheet}
 use Rattle.rules.specs.Outcome.{when}
 use Rattle.rules.specs.Semantics.{Env, two}
@@ -22,7 +22,7 @@ use Rattle.walk.specs.Moves.{top_above, behind_of}
 use Rattle.walk.specs.Scope.{with_member}
 use Rattle.walk.specs.Arena.{Held, Scoped, env_later, env_member}
 use Rattle.walk.specs.Arena.Bytes.{held_some, held_short, held_head, held_shape, TwoHeld, held_front}
-use Rattle.walk.specs.Members.{fronts, front_sizes, onto_one, fronts_one, sizes_one, get_member, front_rest, front_middle}
+use Rattle.walk.specs.Members.{fronts, front_sizes, onto_one, fronts_one, sizes_one, get_member, front_rest, first_bytes_of, front_middle}
 use Rattle.walk.specs.Represents.{given_so, Represents, answer_by, steps_to, then_done, then_refused, give_no, had, not_had, then_steps_to}
 use Rattle.walk.specs.Get.{run, GotAt, Here, Asks}
 use Rattle.walk.specs.Get.Requires.{ready_in}
@@ -69,7 +69,7 @@ pub record Turning (h : Here) (x root start end : ℕ) (a : List ℕ) (to : At) 
   pub asked : AsksMembers h x root start end
   pub built : Building h x root start end a to next
   pub front : get_or a next 0 ≡ 3
-  pub middle : mid ≡ middle_of (shape_of (part a next (end - next)))
+  pub middle : mid ≡ first_bytes_of (shape_of (part a next (end - next)))
 
 module _ {h : Here} {x root start end : ℕ} {a : List ℕ} {to : At} {next mid : ℕ} (k : Turning h x root start end a to next mid) where
   abbrev w : AsksMembers h x root start end
@@ -90,7 +90,7 @@ module _ {h : Here} {x root start end : ℕ} {a : List ℕ} {to : At} {next mid 
       let f = front_rest q.rest (sym (held_head (held_now w b q.held)) ∙ k.front) in
       let e = f.2 in
       let v : Held h.arena h.top next (end - next) (list (cons f.0 f.1)) = rw e at q.held in
-      let z : mid ≡ 1 + size f.0 = k.middle ∙ ap middle_of (held_shape (held_now w b v) refl) ∙ front_middle f.0 f.1 in
+      let z : mid ≡ 1 + size f.0 = k.middle ∙ ap first_bytes_of (held_shape (held_now w b v) refl) ∙ front_middle f.0 f.1 in
       record { so_far = q; first = f.0; others = f.1; are = e; parts = held_front z v }
 
   -- what `member` asks, and that the list goes on behind it

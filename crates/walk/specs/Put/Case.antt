@@ -19,6 +19,9 @@ use Rattle.rules.specs.Semantics
 use Rattle.rules.specs.Semantics.{Env, mk_list, mk_pair, on_list, two}
 use Rattle.rules.specs.Explain.{Cells, Explained, Cause, both, choice as choosing, choose, get, given, got, met, own as own_rule, put, under, wanted, within}
 use Rattle.rules.specs.Numbers.{chain_start}
+use Rattle.refusal.specs.declared.Refusal.{Refusal}
+use Rattle.refusal.specs.declared.Refusal.TheVariants.{NoBranch}
+use Rattle.refusal.specs.Refusal.{number_of}
 use Rattle.decisions.specs.declared.Branch.{Branch}
 use Rattle.decisions.specs.declared.Branch.TheVariants.{Plain, Parts, Switch, Refused}
 use Rattle.decisions.specs.Decisions.{where_so, fits_kind, fit_of, other_of, choice, taken_from, take_of, made_of}
@@ -76,7 +79,7 @@ put_branch l sh s n k μ σ v W o (Parts i mid) = on_two (parts_of o) λ f r. un
     (maker (made_of k)) f r
 put_branch l sh s n k μ σ v W o Switch =
     with_defaults l sh (get_or s (n + 6) 0) (get_or s (n + 7) 0) v λ f r. under (put l sh) μ σ W (get_or s (n + 4) 0) v (get_or s (n + 1) 0) mk_list f r
-put_branch l sh s n k μ σ v W o (Refused c) = λ _. met (own_rule c none) 0
+put_branch l sh s n k μ σ v W o (Refused c) = λ _. met (own_rule (number_of c) none) 0
 
 -- a choice by what the two tests say
 unfoldable either : {A : Type 0} → Bool → Bool → Explained A → Explained A → Explained A
@@ -94,12 +97,13 @@ choose_by {p = false} {q = true} (no d) (no e) x y = absurd (e refl)
 choose_by {p = false} {q = false} (no d) (yes e) x y = absurd (let z : ◌≡◌ {A = ℕ} 0 1 = cc in omega arith)
 choose_by {p = false} {q = false} (no d) (no e) x y = refl
 
-by_choice : (f : Branch → Explained Cells) → ((c : ℕ) → f (Refused c) ≡ (λ _. met (own_rule c none) 0)) → (p q : Bool) (b c : Branch) → either p q (f b)
+by_choice : (f : Branch → Explained Cells) → ((c : Refusal) → f (Refused c) ≡ (λ _. met (own_rule (number_of c) none) 0)) → (p q : Bool) (b c : Branch)
+    → either p q (f b)
     (f c) ≡ f (choice p q b c)
 unfolding either choice
 by_choice f h true q b c = refl
 by_choice f h false true b c = refl
-by_choice f h false false b c = sym (h 53)
+by_choice f h false false b c = sym (h NoBranch)
 
 module _ (l : ℕ) (sh : Sheet) (s : List ℕ) (n : ℕ) (μ : Env) (σ : List ℕ) (v : Value) (W : Cells) where
   chosen : (k : ℕ) (o : Value) (t u : ℕ) (b c : Branch) → choose (passes t v) (passes u v) (put_branch l sh s n k μ σ v W o b)
@@ -196,7 +200,7 @@ made_of_lem (a_pair e) = a_pair_made (sym (made_pair (λ y. omega (arith, e, y))
 was_empty : {k : ℕ} {q : Shape} → Took k q Switch → q ≡ shapes.Empty
 was_empty (switched e f) = f
 
-code_said : (a : List ℕ) (l : ℕ) {k c : ℕ} {q : Shape} → Took k q (Refused c) → decoded a l c ≡ Own c
+code_said : (a : List ℕ) (l : ℕ) {k : ℕ} {q : Shape} {c : Refusal} → Took k q (Refused c) → decoded a l (number_of c) ≡ Own (number_of c)
 code_said a l unfitted = refused_decoded a l (omega arith) (omega arith)
 code_said a l unsaid = refused_decoded a l (omega arith) (omega arith)
 
@@ -383,16 +387,16 @@ module _ {h : PutHere} {view : List ℕ} {x k n g : ℕ} {a : List ℕ} {q : Sha
   switch_told t is = told_by w switch_asks.asked t is (λ sh μ σ v W o _ m. t.told m)
 
 -- NO BRANCH
-module _ {h : PutHere} {view : List ℕ} {x k n g c : ℕ} {a : List ℕ} {q : Shape} (w : PutSubject h view x k n g a q (Refused c)) where
-  pub none_told : {r : ℕ} → r ≡ c → PutTells h (Shown view) a h.slots r x k n
+module _ {h : PutHere} {view : List ℕ} {x k n g : ℕ} {a : List ℕ} {q : Shape} {c : Refusal} (w : PutSubject h view x k n g a q (Refused c)) where
+  pub none_told : {r : ℕ} → r ≡ number_of c → PutTells h (Shown view) a h.slots r x k n
   unfolding gets.run put_branch after
   none_told {r} is =
-      let y : decoded a h.levels r ≡ Own c = ap (decoded _ _) is ∙ code_said a h.levels w.took in
+      let y : decoded a h.levels r ≡ Own (number_of c) = ap (decoded _ _) is ∙ code_said a h.levels w.took in
       record {
         frame = kept_frame w.gives.kept w.asked.base;
         long = refl;
         told = λ {sh} {μ} {σ} {v} {W} m.
             let o = had (w.gives.told sh m.read μ m.scoped) (decoded_done _ _ g w.done) in
-            case_done h.levels sh h.sheet n μ σ v W w.case x h.count {q = Own c} o.is
+            case_done h.levels sh h.sheet n μ σ v W w.case x h.count {q = Own (number_of c)} o.is
             (rw (← takes_of w o.that.held m.shown) (refuse refl)) y;
       }

@@ -87,6 +87,13 @@ module _ {h : PutHere} {view : List ℕ} {x kind n r : ℕ} (w : PutAsked h (Sho
   unfolding run Semantics.put_node
   wide_told e is = constant_gives w (rw e (record { value = wide _; are = refl; rule = λ _ _ _ _ _ _ _. refl })) is
 
+-- a constant's bytes as they are in its record
+pub number_as : (s : List ℕ) (n : ℕ) {a b : ℕ} → a ≡ get_or s (n + 1) 0 → b ≡ get_or s (n + 2) 0 → b < 256 → 4 ∷ a ∷ b ∷ [] ≡ number_bytes s n
+number_as s n {a} {b} e f h =
+    let y : (256 * a + b) / 256 ≡ a = omega arith in
+    let z : (256 * a + b) % 256 ≡ b = omega arith in
+    rw (← e, ← f, y, z)
+
 -- VARIABLES
 
 -- what `write` asks and gives

@@ -1,5 +1,6 @@
 -- One member of a put of each (1C): what it held_at for, its put into the section's root, and what it is then.
-use Rattle.std.specs.Prelude.{◌≡◌, true, false, ℕ, suc, ◌+◌, ◌-◌, ◌*◌, ◌≤◌, ◌<◌, length, take, drop, get_or, set}
+use Rattle.std.specs.Option.{unwrap_or}
+use Rattle.std.specs.Prelude.{◌≡◌, Option, Some, None, true, false, ℕ, suc, ◌+◌, ◌-◌, ◌*◌, ◌≤◌, ◌<◌, length, take, drop, get_or, set}
 use Rattle.std.proofs.Math.Path.{refl, ap}
 use Rattle.std.proofs.Common.{sym, ap₂, ◌∙◌, le_refl, length-drop, take-append-drop, take-suc-set}
 use Rattle.std.proofs.Math.Option.{none, some}
@@ -58,15 +59,24 @@ first_byte_count nil = 0
 first_byte_count (cons m r) = 1 + size m
 
 -- where its rest starts, as the code finds it
-pub first_bytes : {a : List ℕ} {top old len mid : ℕ} {l : Values} → Held a top old len (list l) → mid ≡ middle_of (shape_of (drop old a)) →
-    mid ≡ first_byte_count l
-unfolding shape middle_of first_byte_count
-first_bytes {a} {old = old} {len = len} {l = l} h e =
+pub first_middle : {a : List ℕ} {top old len : ℕ} {mid : Option ℕ} {l : Values} → Held a top old len (list l) → mid ≡ middle_of (shape_of (drop old a))
+    → mid ≡ middle_of (shape (list l))
+first_middle {a} {old = old} {len = len} {l = l} h e =
     let s : drop old a ≡ encode (list l) ++ drop len (drop old a)
     = sym (take-append-drop len (drop old a)) ∙ ap (λ (x : List ℕ). x ++ drop len (drop old a)) h.bytes in
-    e ∙ ap (λ (x : List ℕ). middle_of (shape_of x)) s ∙ ap middle_of (shape-encode h.readable _) ∙ go l
+    e ∙ ap (λ (x : List ℕ). middle_of (shape_of x)) s ∙ ap middle_of (shape-encode h.readable _)
+
+pub first_some : (l : Values) {m : ℕ} → Some m ≡ middle_of (shape (list l)) → 1 ≤ m
+unfolding shape middle_of
+first_some nil e = absurd (cc)
+first_some (cons v r) {m} e = let z : m ≡ 1 + size v = cc in omega arith
+
+pub first_bytes : {a : List ℕ} {top old len : ℕ} {mid : Option ℕ} {l : Values} → Held a top old len (list l) → mid ≡ middle_of (shape_of (drop old a))
+    → unwrap_or mid 0 ≡ first_byte_count l
+unfolding shape middle_of first_byte_count
+first_bytes {mid = mid} {l = l} h e = ap (λ (o : Option ℕ). unwrap_or o 0) (first_middle h e) ∙ go l
   where
-    go : (l : Values) → middle_of (shape (list l)) ≡ first_byte_count l
+    go : (l : Values) → unwrap_or (middle_of (shape (list l))) 0 ≡ first_byte_count l
     go nil = refl
     go (cons m r) = refl
 
@@ -77,7 +87,7 @@ first_short {l = cons m r} h e = omega (arith, h.readable.fits)
 
 -- WHAT `stood_for` ASKS AND GIVES
 
-pub record StoodAsked (s table a : List ℕ) (d old mid top levels left : ℕ) : Type 0 where
+pub record StoodAsked (s table a : List ℕ) (d old : ℕ) (mid : Option ℕ) (top levels left : ℕ) : Type 0 where
   pub long : length a ≡ scratch_size
   pub few : left ≤ allowance_limit
   pub base : stack_start ≤ top
@@ -93,24 +103,25 @@ pub record Stood (s b a : List ℕ) (d old top levels left r : ℕ) : Type 0 whe
   pub told : {sh : Sheet} → read_sheet s ≡ ok sh → {l : Values} {len : ℕ} → Held b top old len (list l)
       → Represents (GotAt a top) (decoded a levels r) left (stood_for (get levels sh) d l)
 
-module _ {s table b : List ℕ} {d old mid top levels left : ℕ} (w : StoodAsked s table b d old mid top levels left) where
+module _ {s table b : List ℕ} {d old : ℕ} {mid : Option ℕ} {top levels left : ℕ} (w : StoodAsked s table b d old mid top levels left) where
   -- an old member
-  pub old_stood : {r : ℕ} → (mid ≡ 0 → ⊥) → r ≡ done_as (old + 1) (mid - 1) 0 → Stood s b b d old top levels left r
-  unfolding Semantics.stood_for on_list first_byte_count
-  old_stood {r} n e = record { kept = kept_refl top b; told = λ {sh} es {l} h. go sh l (first_bytes h w.middle) h }
+  pub old_stood : {m r : ℕ} → mid ≡ Some m → r ≡ done_as (old + 1) (m - 1) 0 → Stood s b b d old top levels left r
+  unfolding Semantics.stood_for on_list shape middle_of
+  old_stood {m} {r} n e = record { kept = kept_refl top b; told = λ {sh} es {l} h. go sh l (sym n ∙ first_middle h w.middle) h }
     where
-      go : (sh : Sheet) (l : Values) {len : ℕ} → mid ≡ first_byte_count l → Held b top old len (list l)
+      go : (sh : Sheet) (l : Values) {len : ℕ} → Some m ≡ middle_of (shape (list l)) → Held b top old len (list l)
           → Represents (GotAt b top) (decoded b levels r) left (stood_for (get levels sh) d l)
-      go sh nil f h = absurd (n f)
-      go sh (cons m rest) f h =
-          let t = held_front f h in
+      go sh nil f h = absurd (cc)
+      go sh (cons v rest) f h =
+          let z : m ≡ 1 + size v = cc in
+          let t = held_front z h in
           let z = below_ends t.first.place w.base in
           let y = held_short t.first in
           let x = held_some t.first in
           finish (ap (decoded _ _) e ∙ done_said _ _ _ _ _ (omega (arith, w.room, x)) (omega arith) (omega arith)) (record {
             low = omega (arith, x);
             held = record {
-              place = below_later (top + (mid - 1)) (omega arith) t.first.place;
+              place = below_later (top + (m - 1)) (omega arith) t.first.place;
               long = t.first.long;
               bytes = t.first.bytes;
               readable = t.first.readable;
@@ -131,15 +142,15 @@ module _ {s table b : List ℕ} {d old mid top levels left : ℕ} (w : StoodAske
     scoped = env_none b top;
   }
 
-  pub default_stood : {a : List ℕ} {r : ℕ} → mid ≡ 0 → gets.GetShows b a s no_variable top top left r levels (gets.enter d) →
+  pub default_stood : {a : List ℕ} {r : ℕ} → mid ≡ None → gets.GetShows b a s no_variable top top left r levels (gets.enter d) →
       Stood s b a d old top levels left r
-  unfolding Semantics.stood_for on_list first_byte_count gets.run
-  default_stood {a} {r} n g = record { kept = g.kept; told = λ {sh} es {l} h. go sh es l (first_bytes h w.middle) }
+  unfolding Semantics.stood_for on_list shape middle_of gets.run
+  default_stood {a} {r} n g = record { kept = g.kept; told = λ {sh} es {l} h. go sh es l (sym n ∙ first_middle h w.middle) }
     where
-      go : (sh : Sheet) → read_sheet s ≡ ok sh → (l : Values) → mid ≡ first_byte_count l
+      go : (sh : Sheet) → read_sheet s ≡ ok sh → (l : Values) → None ≡ middle_of (shape (list l))
           → Represents (GotAt a top) (decoded a levels r) left (stood_for (get levels sh) d l)
       go sh es nil f = g.told sh es [] (env_none b top)
-      go sh es (cons m rest) f = absurd (omega arith)
+      go sh es (cons m rest) f = absurd (cc)
 
 -- WHAT `put_one` ASKS AND GIVES
 
@@ -207,7 +218,7 @@ unfolding put_member
 member_run g p root d c a k old v W n e = rw e
 
 -- what `stood_for` is asked then
-pub stood_asked : {s table a slots cells : List ℕ} {sc : Scope} {by : Members} {count top levels left mid : ℕ}
+pub stood_asked : {s table a slots cells : List ℕ} {sc : Scope} {by : Members} {count top levels left : ℕ} {mid : Option ℕ}
     → MembersAsked s table a slots sc cells by count top levels left → mid ≡ middle_of (shape_of (drop by.old a))
     → StoodAsked s table a by.default by.old mid top levels left
 stood_asked w e =
@@ -398,20 +409,20 @@ module _ {h : PutHere} {by : Members} {a₁ : List ℕ} {g : ℕ} (w : MemberSto
         }
 
         -- it is there
-        pub member_done : {before whole : List ℕ} {built mid r : ℕ} → built + (1 + now.len) + 1 ≤ 256 → length before ≡ 256
+        pub member_done : {before whole : List ℕ} {o : Option ℕ} {built mid r : ℕ} → built + (1 + now.len) + 1 ≤ 256 → length before ≡ 256
             → whole ≡ paste (set before built 3) (built + 1) (drop now.start a₂) now.len → length whole ≡ length (set before built 3)
-            → mid ≡ middle_of (shape_of (drop by.old h.arena))
+            → o ≡ middle_of (shape_of (drop by.old h.arena)) → mid ≡ unwrap_or o 0
             → r ≡ done_as mid (1 + now.len) (steps_of g + steps_of r₂) → MemberTells h by view built before a₂ slots₂ whole r
         unfolding after
-        member_done {before} {whole} {built} {mid} {r} short l is' same mi f = record {
+        member_done {before} {whole} {o} {built} {mid} {r} short l is' same mi un f = record {
           frame = frame₂;
           long = long₂;
           whole_long = same ∙ length-set before built 3;
-          told = λ {W = W} c s o.
-              let d = the_value c.read o in
+          told = λ {W = W} c s ol.
+              let d = the_value c.read ol in
               let n = after_put c s d.that in
               let y : steps_of g + steps_of r₂ ≡ steps_of g + (steps_of r₂ + 0) = omega arith in
-              let z = first_short o (first_bytes o mi) in
+              let z = first_short ol (un ∙ first_bytes ol mi) in
               let k = stood_sizes in
               let x : decoded a₂ h.levels r ≡ Done mid (1 + now.len) (steps_of g + (steps_of r₂ + 0)) = ap (decoded _ _) f
               ∙ done_said _ _ mid (1 + now.len) _ (omega arith) (omega arith) (omega (arith, w.asked.ready.few, few.at e₂)) ∙ ap
@@ -419,7 +430,7 @@ module _ {h : PutHere} {by : Members} {a₁ : List ℕ} {g : ℕ} (w : MemberSto
               answer_by (then_done _ _ {q = Done mid (1 + now.len) (steps_of r₂ + 0)} d.is (then_done _ _ {q = Done mid (1 + now.len) 0} n.put_is
               (give_some 42 _ n.there (give_yes 44 _ _ (omega (arith, n.stands_now.long)) (λ _. finish refl (record {
                 written = n.written;
-                took = first_bytes o mi;
+                took = un ∙ first_bytes ol mi;
                 long = omega (arith, n.stands_now.long);
                 bytes = ap (take (built + (1 + now.len))) is'
                     ∙ whole_bytes before a₂ built now n.stands_now (omega arith) (frame₂.long ∙ w.asked.ready.long);

@@ -11,7 +11,7 @@ use Rattle.outcome.specs.Outcome.{is_refusal, later_as, len_of, start_of, steps_
 use Rattle.value.specs.Value.{Value, Values, vfalse, list, nil, cons, encode, encodes, size, sizes, Encodables, e_nil, e_cons, e_list}
 use Rattle.value.proofs.Encoding.{size-encode, size_pos}
 use Rattle.value.proofs.Laws.{readable_front}
-use Rattle.shapes.specs.Parts.{shape_of, middle_of, first_part}
+use Rattle.shapes.specs.Parts.{shape_of, first_part}
 use Rattle.shapes.proofs.PartsLaws.{shape_whole, first_of_list, rest_of_list}
 use Rattle.sheet.specs.Sheet.{Sheet}
 use Rattle.rules.specs.Semantics.{Env, rest_of}
@@ -37,6 +37,7 @@ use Rattle.walk.specs.Members.{
   more_none,
   front_rest,
   end_rest,
+  first_bytes_of,
   front_middle,
   put_from,
   put_end,
@@ -178,9 +179,9 @@ record Fronted (view : List ℕ) (mid : ℕ) (u : Value) (r : Values) : Type 0 w
   first : Shown (first_part view mid) u
   rest : Shown (drop mid view) (list r)
 
-fronted : {view : List ℕ} {mid : ℕ} {u : Value} {r : Values} → Shown view (list (cons u r)) → mid ≡ middle_of (shape_of view) → Fronted view mid u r
+fronted : {view : List ℕ} {mid : ℕ} {u : Value} {r : Values} → Shown view (list (cons u r)) → mid ≡ first_bytes_of (shape_of view) → Fronted view mid u r
 fronted {view} {mid} {u} {r} s e =
-    let z : mid ≡ 1 + size u = e ∙ ap (λ (x : List ℕ). middle_of (shape_of x)) s.bytes ∙ ap middle_of (shape_whole s.readable) ∙ front_middle u r in
+    let z : mid ≡ 1 + size u = e ∙ ap (λ (x : List ℕ). first_bytes_of (shape_of x)) s.bytes ∙ ap first_bytes_of (shape_whole s.readable) ∙ front_middle u r in
     let f = readable_front s.readable in
     record {
       at = z;
@@ -231,7 +232,7 @@ module _ {s table b slots₀ cells view a slots whole : List ℕ} {sc : Scope} {
       ap (λ (i : ℕ). get_or view i 0) (sym y) ∙ sym (get_or-drop from view 0 0) ∙ ap (λ (x : List ℕ). get_or x 0 0) z.shown.bytes
 
   -- ANOTHER MEMBER
-  module _ (three : get_or view from 0 ≡ 3) {mid : ℕ} (middle : mid ≡ middle_of (shape_of (drop from view))) where
+  module _ (three : get_or view from 0 ≡ 3) {mid : ℕ} (middle : mid ≡ first_bytes_of (shape_of (drop from view))) where
     -- it is there, and what is left begins with it
     record More (sh : Sheet) (μ : Env) (σ : List ℕ) (old us : Values) (W : Cells) (z : ReachedOf sh μ σ old us W) : Type 0 where
       u : Value

@@ -10,7 +10,8 @@ pub returns-then-is_word : goal.returns-then-is_word
 returns-then-is_word c =
     let w = sym c.is_word.ensures ∙ c.if-is_word.true in
     rw c.read.ensures
-    (bind_wild c.args.sc.base c.args.sc.many c.next-t.ensures c.if-c-ne0.false c.requires (word_kind c.args.text.now c.next-t.result (some_same _ _ (omega arith) w)) w)
+    (bind_wild c.args.sc.base c.args.sc.many c.next-t.ensures c.if-c-ne0.false c.requires
+    (word_kind c.args.text.now c.next-t.result (some_same _ _ (omega arith) w)) w)
 
 pub returns-then-not-is_name : goal.returns-then-not-is_name
 returns-then-not-is_name c =

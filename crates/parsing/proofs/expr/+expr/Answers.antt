@@ -137,7 +137,8 @@ back-returns-then-is-2 t c =
 pub back-returns-then-not-is : goal.back-returns-then-not-is
 back-returns-then-not-is t c =
     rw c.fault-then-not-is.ensures
-    (back_none c.next-t.ensures c.if-c-ne0.false c.requires.few (fails c.is.ensures c.if-is.false) (fails c.is-2.ensures c.if-is-2.false) (fails c.is-3.ensures c.if-not-is.true))
+    (back_none c.next-t.ensures c.if-c-ne0.false c.requires.few (fails c.is.ensures c.if-is.false) (fails c.is-2.ensures c.if-is-2.false)
+    (fails c.is-3.ensures c.if-not-is.true))
 
 pub back-returns-then-c-eq200-2 : goal.back-returns-then-c-eq200-2
 back-returns-then-c-eq200-2 t c =

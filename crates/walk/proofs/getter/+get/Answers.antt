@@ -49,7 +49,8 @@ get_add-returns t c =
     let v : AtTop (here c.requires.kind_asked) c.bring-a.new.arena c.bring-a.result (get_or c.args.sheet.now (c.args.own.from + 1) 0) =
     at_top (add_asks c.requires.kind_asked c.requires.kind_value) (as_node c.number_of-node.ensures c.get_node-got.ensures.get_shows)
     c.get_node-got.ensures.sized c.bring-a.ensures in
-    add_told c.requires.kind_asked c.requires.kind_value v (rw (sum_as c.number-amount.ensures c.byte_of.ensures c.byte_of-2.ensures) at c.added.ensures)
+    add_told c.requires.kind_asked c.requires.kind_value v (rw
+    (sum_as _ _ c.from_be_bytes-amount.ensures c.byte_of.ensures c.byte_of-2.ensures) at c.added.ensures)
 
 pub get_call-returns-then-count-x : goal.get_call-returns-then-count-x
 get_call-returns-then-count-x t c =
@@ -92,9 +93,9 @@ get_call-returns t c =
     c.section-inner.ensures ∙ ap₂ (picked c.args.scope) (in_room_lem x ∙ c.number_of-x.ensures) (in_room_lem y ∙ c.number_of-y.ensures) in
     call_told l (as_scope s c.get_node.ensures.get_shows)
 
-pub get_node-returns-then-code-ne0 : goal.get_node-returns-then-code-ne0
-get_node-returns-then-code-ne0 t c =
-    let g = enter_refused c.requires (entry_code _ _ c.entry-code.ensures c.if-code-ne0.true)
+pub get_node-returns-in-Err : goal.get_node-returns-in-Err
+get_node-returns-in-Err t c =
+    let g = enter_refused c.requires (entry_code _ _ _ c.in-Err.ensures)
     (left_as_lem c.refused.ensures (left_by (node_few c.requires.sheet c.requires.known) (omega (arith, c.requires.room))
     (c.leave.ensures.value, c.leave.ensures.arena_after))) in
     record { get_shows = g; sized = sized c.requires g }
@@ -110,19 +111,19 @@ get_node-bounds-table-node t c =
 
 pub get_node-below-below-requires : goal.get_node-below-below-requires
 get_node-below-below-requires t c =
-    let d : (c.args.at.levels ≡ 0 → ⊥) × (c.args.at.left ≡ 0 → ⊥) = both_left _ _ c.entry-code.ensures c.if-code-ne0.false in
+    let d : (c.args.at.levels ≡ 0 → ⊥) × (c.args.at.left ≡ 0 → ⊥) = both_left _ _ _ c.entry.ensures c.in_default.not-Err in
     (omega (arith, d.0), omega (arith, d.1))
 
 pub get_node-get_leaf-got-requires : goal.get_node-get_leaf-got-requires
 get_node-get_leaf-got-requires t c =
-    let d : (c.args.at.levels ≡ 0 → ⊥) × (c.args.at.left ≡ 0 → ⊥) = both_left _ _ c.entry-code.ensures c.if-code-ne0.false in
+    let d : (c.args.at.levels ≡ 0 → ⊥) × (c.args.at.left ≡ 0 → ⊥) = both_left _ _ _ c.entry.ensures c.in_default.not-Err in
     let b : Entered c.args.sheet.now c.args.table.now c.args.arena.now c.args.scope c.args.at.top c.args.at.levels c.args.at.left c.args.node
     c.byte_of-kind.result = record { asked = c.requires; deep = d.0; paid = d.1; kind = c.byte_of-kind.ensures } in
     record { kind_asked = own_as c.below-below.ensures (body_ready b); childless = record { low = (its_kind b).0; high = omega (arith, c.if-kind-lt21.true) } }
 
 pub get_node-returns-then-kind-lt21 : goal.get_node-returns-then-kind-lt21
 get_node-returns-then-kind-lt21 t c =
-    let d : (c.args.at.levels ≡ 0 → ⊥) × (c.args.at.left ≡ 0 → ⊥) = both_left _ _ c.entry-code.ensures c.if-code-ne0.false in
+    let d : (c.args.at.levels ≡ 0 → ⊥) × (c.args.at.left ≡ 0 → ⊥) = both_left _ _ _ c.entry.ensures c.in_default.not-Err in
     let b : Entered c.args.sheet.now c.args.table.now c.args.arena.now c.args.scope c.args.at.top c.args.at.levels c.args.at.left c.args.node
     c.byte_of-kind.result = record { asked = c.requires; deep = d.0; paid = d.1; kind = c.byte_of-kind.ensures } in
     let p : GetShows c.args.arena.now c.leave-then-kind-lt21.new.arena c.args.sheet.now c.args.scope c.args.at.top c.args.at.top c.args.at.left
@@ -134,7 +135,7 @@ get_node-returns-then-kind-lt21 t c =
 
 pub get_node-get_two-got-requires : goal.get_node-get_two-got-requires
 get_node-get_two-got-requires t c =
-    let d : (c.args.at.levels ≡ 0 → ⊥) × (c.args.at.left ≡ 0 → ⊥) = both_left _ _ c.entry-code.ensures c.if-code-ne0.false in
+    let d : (c.args.at.levels ≡ 0 → ⊥) × (c.args.at.left ≡ 0 → ⊥) = both_left _ _ _ c.entry.ensures c.in_default.not-Err in
     let b : Entered c.args.sheet.now c.args.table.now c.args.arena.now c.args.scope c.args.at.top c.args.at.levels c.args.at.left c.args.node
     c.byte_of-kind.result = record { asked = c.requires; deep = d.0; paid = d.1; kind = c.byte_of-kind.ensures } in
     let l = levels_as c.below-below.ensures in (
@@ -150,7 +151,7 @@ get_node-get_two-got-requires t c =
 
 pub get_node-returns-then-kind-lt23 : goal.get_node-returns-then-kind-lt23
 get_node-returns-then-kind-lt23 t c =
-    let d : (c.args.at.levels ≡ 0 → ⊥) × (c.args.at.left ≡ 0 → ⊥) = both_left _ _ c.entry-code.ensures c.if-code-ne0.false in
+    let d : (c.args.at.levels ≡ 0 → ⊥) × (c.args.at.left ≡ 0 → ⊥) = both_left _ _ _ c.entry.ensures c.in_default.not-Err in
     let b : Entered c.args.sheet.now c.args.table.now c.args.arena.now c.args.scope c.args.at.top c.args.at.levels c.args.at.left c.args.node
     c.byte_of-kind.result = record { asked = c.requires; deep = d.0; paid = d.1; kind = c.byte_of-kind.ensures } in
     let p : GetShows c.args.arena.now c.leave-then-kind-lt23.new.arena c.args.sheet.now c.args.scope c.args.at.top c.args.at.top c.args.at.left
@@ -162,7 +163,7 @@ get_node-returns-then-kind-lt23 t c =
 
 pub get_node-get_case-got-requires : goal.get_node-get_case-got-requires
 get_node-get_case-got-requires t c =
-    let d : (c.args.at.levels ≡ 0 → ⊥) × (c.args.at.left ≡ 0 → ⊥) = both_left _ _ c.entry-code.ensures c.if-code-ne0.false in
+    let d : (c.args.at.levels ≡ 0 → ⊥) × (c.args.at.left ≡ 0 → ⊥) = both_left _ _ _ c.entry.ensures c.in_default.not-Err in
     let b : Entered c.args.sheet.now c.args.table.now c.args.arena.now c.args.scope c.args.at.top c.args.at.levels c.args.at.left c.args.node
     c.byte_of-kind.result = record { asked = c.requires; deep = d.0; paid = d.1; kind = c.byte_of-kind.ensures } in
     let l = levels_as c.below-below.ensures in (
@@ -178,7 +179,7 @@ get_node-get_case-got-requires t c =
 
 pub get_node-returns-then-kind-lt26 : goal.get_node-returns-then-kind-lt26
 get_node-returns-then-kind-lt26 t c =
-    let d : (c.args.at.levels ≡ 0 → ⊥) × (c.args.at.left ≡ 0 → ⊥) = both_left _ _ c.entry-code.ensures c.if-code-ne0.false in
+    let d : (c.args.at.levels ≡ 0 → ⊥) × (c.args.at.left ≡ 0 → ⊥) = both_left _ _ _ c.entry.ensures c.in_default.not-Err in
     let b : Entered c.args.sheet.now c.args.table.now c.args.arena.now c.args.scope c.args.at.top c.args.at.levels c.args.at.left c.args.node
     c.byte_of-kind.result = record { asked = c.requires; deep = d.0; paid = d.1; kind = c.byte_of-kind.ensures } in
     let p : GetShows c.args.arena.now c.leave-then-kind-lt26.new.arena c.args.sheet.now c.args.scope c.args.at.top c.args.at.top c.args.at.left
@@ -190,7 +191,7 @@ get_node-returns-then-kind-lt26 t c =
 
 pub get_node-get_call-got-requires : goal.get_node-get_call-got-requires
 get_node-get_call-got-requires t c =
-    let d : (c.args.at.levels ≡ 0 → ⊥) × (c.args.at.left ≡ 0 → ⊥) = both_left _ _ c.entry-code.ensures c.if-code-ne0.false in
+    let d : (c.args.at.levels ≡ 0 → ⊥) × (c.args.at.left ≡ 0 → ⊥) = both_left _ _ _ c.entry.ensures c.in_default.not-Err in
     let b : Entered c.args.sheet.now c.args.table.now c.args.arena.now c.args.scope c.args.at.top c.args.at.levels c.args.at.left c.args.node
     c.byte_of-kind.result = record { asked = c.requires; deep = d.0; paid = d.1; kind = c.byte_of-kind.ensures } in
     let l = levels_as c.below-below.ensures in
@@ -198,7 +199,7 @@ get_node-get_call-got-requires t c =
 
 pub get_node-returns-then-kind-eq26 : goal.get_node-returns-then-kind-eq26
 get_node-returns-then-kind-eq26 t c =
-    let d : (c.args.at.levels ≡ 0 → ⊥) × (c.args.at.left ≡ 0 → ⊥) = both_left _ _ c.entry-code.ensures c.if-code-ne0.false in
+    let d : (c.args.at.levels ≡ 0 → ⊥) × (c.args.at.left ≡ 0 → ⊥) = both_left _ _ _ c.entry.ensures c.in_default.not-Err in
     let b : Entered c.args.sheet.now c.args.table.now c.args.arena.now c.args.scope c.args.at.top c.args.at.levels c.args.at.left c.args.node
     c.byte_of-kind.result = record { asked = c.requires; deep = d.0; paid = d.1; kind = c.byte_of-kind.ensures } in
     let p : GetShows c.args.arena.now c.leave-then-kind-eq26.new.arena c.args.sheet.now c.args.scope c.args.at.top c.args.at.top c.args.at.left
@@ -210,7 +211,7 @@ get_node-returns-then-kind-eq26 t c =
 
 pub get_node-get_add-got-requires : goal.get_node-get_add-got-requires
 get_node-get_add-got-requires t c =
-    let d : (c.args.at.levels ≡ 0 → ⊥) × (c.args.at.left ≡ 0 → ⊥) = both_left _ _ c.entry-code.ensures c.if-code-ne0.false in
+    let d : (c.args.at.levels ≡ 0 → ⊥) × (c.args.at.left ≡ 0 → ⊥) = both_left _ _ _ c.entry.ensures c.in_default.not-Err in
     let b : Entered c.args.sheet.now c.args.table.now c.args.arena.now c.args.scope c.args.at.top c.args.at.levels c.args.at.left c.args.node
     c.byte_of-kind.result = record { asked = c.requires; deep = d.0; paid = d.1; kind = c.byte_of-kind.ensures } in
     let l = levels_as c.below-below.ensures in (
@@ -228,7 +229,7 @@ get_node-get_add-got-requires t c =
 
 pub get_node-returns-then-kind-lt28 : goal.get_node-returns-then-kind-lt28
 get_node-returns-then-kind-lt28 t c =
-    let d : (c.args.at.levels ≡ 0 → ⊥) × (c.args.at.left ≡ 0 → ⊥) = both_left _ _ c.entry-code.ensures c.if-code-ne0.false in
+    let d : (c.args.at.levels ≡ 0 → ⊥) × (c.args.at.left ≡ 0 → ⊥) = both_left _ _ _ c.entry.ensures c.in_default.not-Err in
     let b : Entered c.args.sheet.now c.args.table.now c.args.arena.now c.args.scope c.args.at.top c.args.at.levels c.args.at.left c.args.node
     c.byte_of-kind.result = record { asked = c.requires; deep = d.0; paid = d.1; kind = c.byte_of-kind.ensures } in
     let p : GetShows c.args.arena.now c.leave-then-kind-lt28.new.arena c.args.sheet.now c.args.scope c.args.at.top c.args.at.top c.args.at.left
@@ -240,7 +241,7 @@ get_node-returns-then-kind-lt28 t c =
 
 pub get_node-get_each-got-requires : goal.get_node-get_each-got-requires
 get_node-get_each-got-requires t c =
-    let d : (c.args.at.levels ≡ 0 → ⊥) × (c.args.at.left ≡ 0 → ⊥) = both_left _ _ c.entry-code.ensures c.if-code-ne0.false in
+    let d : (c.args.at.levels ≡ 0 → ⊥) × (c.args.at.left ≡ 0 → ⊥) = both_left _ _ _ c.entry.ensures c.in_default.not-Err in
     let b : Entered c.args.sheet.now c.args.table.now c.args.arena.now c.args.scope c.args.at.top c.args.at.levels c.args.at.left c.args.node
     c.byte_of-kind.result = record { asked = c.requires; deep = d.0; paid = d.1; kind = c.byte_of-kind.ensures } in
     let l = levels_as c.below-below.ensures in
@@ -248,7 +249,7 @@ get_node-get_each-got-requires t c =
 
 pub get_node-returns-then-kind-eq28 : goal.get_node-returns-then-kind-eq28
 get_node-returns-then-kind-eq28 t c =
-    let d : (c.args.at.levels ≡ 0 → ⊥) × (c.args.at.left ≡ 0 → ⊥) = both_left _ _ c.entry-code.ensures c.if-code-ne0.false in
+    let d : (c.args.at.levels ≡ 0 → ⊥) × (c.args.at.left ≡ 0 → ⊥) = both_left _ _ _ c.entry.ensures c.in_default.not-Err in
     let b : Entered c.args.sheet.now c.args.table.now c.args.arena.now c.args.scope c.args.at.top c.args.at.levels c.args.at.left c.args.node
     c.byte_of-kind.result = record { asked = c.requires; deep = d.0; paid = d.1; kind = c.byte_of-kind.ensures } in
     let p : GetShows c.args.arena.now c.leave-then-kind-eq28.new.arena c.args.sheet.now c.args.scope c.args.at.top c.args.at.top c.args.at.left
@@ -260,7 +261,7 @@ get_node-returns-then-kind-eq28 t c =
 
 pub get_node-returns : goal.get_node-returns
 get_node-returns t c =
-    let d : (c.args.at.levels ≡ 0 → ⊥) × (c.args.at.left ≡ 0 → ⊥) = both_left _ _ c.entry-code.ensures c.if-code-ne0.false in
+    let d : (c.args.at.levels ≡ 0 → ⊥) × (c.args.at.left ≡ 0 → ⊥) = both_left _ _ _ c.entry.ensures c.in_default.not-Err in
     let b : Entered c.args.sheet.now c.args.table.now c.args.arena.now c.args.scope c.args.at.top c.args.at.levels c.args.at.left c.args.node
     c.byte_of-kind.result = record { asked = c.requires; deep = d.0; paid = d.1; kind = c.byte_of-kind.ensures } in
     let k : c.byte_of-kind.result ≡ 0x1D = omega (arith, (its_kind b).1, c.if-kind-lt28.false, c.if-kind-eq28.false) in
@@ -515,7 +516,7 @@ get_case-returns-in-Plain t c =
     let o : c.fits.result ≡ fit_of c.args.own.kind c.shape_at.result = c.fits.ensures in
     plain_told s (fits_as o c.in-Plain.is) (sym c.in-Plain.is ∙ o)
     (shows_as c.behind-to.ensures refl c.number_of-node.ensures c.get_node-branch.ensures.get_shows)
-    (judged_as c.test_of-test.ensures c.judge.ensures) (later_as_lem _ c.steps_of.ensures c.later.ensures)
+    (judged_as c.test_of-test.ensures c.judge.ensures) (later_as_lem _ c.steps.ensures c.later.ensures)
 
 pub get_case-test_of-test-requires-in-Parts : goal.get_case-test_of-test-requires-in-Parts
 get_case-test_of-test-requires-in-Parts t c =
@@ -540,8 +541,8 @@ get_case-overflow_sub-mid t c =
     × (1 ≤ c.in-Parts.mid) × (c.in-Parts.mid ≤ len_of c.get_node-got.result) = parts_stored s (fits_as o c.in-Parts.is) in
     r.2
 
-pub get_case-overflow_sub-len_of : goal.get_case-overflow_sub-len_of
-get_case-overflow_sub-len_of t c =
+pub get_case-overflow_sub-len : goal.get_case-overflow_sub-len
+get_case-overflow_sub-len t c =
     let d : is_refusal c.get_node-got.result ≡ false = sym c.is_refused.ensures ∙ c.if-is_refused.false in
     let s : Subject (here c.requires.kind_asked) c.args.own.kind c.args.own.from c.get_node-got.result c.get_node-got.new.arena c.shape_at.result =
     record {
@@ -556,7 +557,7 @@ get_case-overflow_sub-len_of t c =
     let r : (c.args.scope.count + 2 ≤ variable_limit)
     × Stored (start_of c.get_node-got.result + 1) (c.in-Parts.mid - 1) (len_of c.get_node-got.result - c.in-Parts.mid)
     × (1 ≤ c.in-Parts.mid) × (c.in-Parts.mid ≤ len_of c.get_node-got.result) = parts_stored s (fits_as o c.in-Parts.is) in
-    omega (arith, c.len_of.ensures, r.3)
+    omega (arith, c.len.ensures, r.3)
 
 pub get_case-with_two-inner-requires : goal.get_case-with_two-inner-requires
 get_case-with_two-inner-requires t c =
@@ -574,7 +575,7 @@ get_case-with_two-inner-requires t c =
     let r : (c.args.scope.count + 2 ≤ variable_limit)
     × Stored (start_of c.get_node-got.result + 1) (c.in-Parts.mid - 1) (len_of c.get_node-got.result - c.in-Parts.mid)
     × (1 ≤ c.in-Parts.mid) × (c.in-Parts.mid ≤ len_of c.get_node-got.result) = parts_stored s (fits_as o c.in-Parts.is) in
-    (r.0, stored_as _ c.start_of.ensures c.len_of.ensures r.1)
+    (r.0, stored_as _ c.start.ensures c.len.ensures r.1)
 
 pub get_case-get_node-branch-requires-in-Parts : goal.get_case-get_node-branch-requires-in-Parts
 get_case-get_node-branch-requires-in-Parts t c =
@@ -591,7 +592,7 @@ get_case-get_node-branch-requires-in-Parts t c =
     let o : c.fits.result ≡ fit_of c.args.own.kind c.shape_at.result = c.fits.ensures in
     let i : c.with_two-inner.result ≡ with_two c.args.scope (start_of c.get_node-got.result + 1) (c.in-Parts.mid - 1)
     (len_of c.get_node-got.result - c.in-Parts.mid) =
-    c.with_two-inner.ensures ∙ ap₂ (λ (x y : ℕ). with_two c.args.scope (x + 1) (c.in-Parts.mid - 1) (y - c.in-Parts.mid)) c.start_of.ensures c.len_of.ensures in
+    c.with_two-inner.ensures ∙ ap₂ (λ (x y : ℕ). with_two c.args.scope (x + 1) (c.in-Parts.mid - 1) (y - c.in-Parts.mid)) c.start.ensures c.len.ensures in
     let l = levels_as c.behind-to.ensures in
     (omega (arith, c.decreases), ready_as c.behind-to.ensures i c.number_of-node-in-Parts.ensures (parts_asks s (fits_as o c.in-Parts.is)))
 
@@ -610,7 +611,7 @@ get_case-judge-requires-in-Parts t c =
     let o : c.fits.result ≡ fit_of c.args.own.kind c.shape_at.result = c.fits.ensures in
     let i : c.with_two-inner.result ≡ with_two c.args.scope (start_of c.get_node-got.result + 1) (c.in-Parts.mid - 1)
     (len_of c.get_node-got.result - c.in-Parts.mid) =
-    c.with_two-inner.ensures ∙ ap₂ (λ (x y : ℕ). with_two c.args.scope (x + 1) (c.in-Parts.mid - 1) (y - c.in-Parts.mid)) c.start_of.ensures c.len_of.ensures in
+    c.with_two-inner.ensures ∙ ap₂ (λ (x y : ℕ). with_two c.args.scope (x + 1) (c.in-Parts.mid - 1) (y - c.in-Parts.mid)) c.start.ensures c.len.ensures in
     judgeable (ready_as c.behind-to.ensures i c.number_of-node-in-Parts.ensures (parts_asks s (fits_as o c.in-Parts.is)))
     c.get_node-branch-in-Parts.ensures.get_shows c.get_node-branch-in-Parts.ensures.sized
 
@@ -629,10 +630,10 @@ get_case-returns-in-Parts t c =
     let o : c.fits.result ≡ fit_of c.args.own.kind c.shape_at.result = c.fits.ensures in
     let i : c.with_two-inner.result ≡ with_two c.args.scope (start_of c.get_node-got.result + 1) (c.in-Parts.mid - 1)
     (len_of c.get_node-got.result - c.in-Parts.mid) =
-    c.with_two-inner.ensures ∙ ap₂ (λ (x y : ℕ). with_two c.args.scope (x + 1) (c.in-Parts.mid - 1) (y - c.in-Parts.mid)) c.start_of.ensures c.len_of.ensures in
+    c.with_two-inner.ensures ∙ ap₂ (λ (x y : ℕ). with_two c.args.scope (x + 1) (c.in-Parts.mid - 1) (y - c.in-Parts.mid)) c.start.ensures c.len.ensures in
     parts_told s (fits_as o c.in-Parts.is) (sym c.in-Parts.is ∙ o)
     (shows_as c.behind-to.ensures i c.number_of-node-in-Parts.ensures c.get_node-branch-in-Parts.ensures.get_shows)
-    (judged_as c.test_of-test-in-Parts.ensures c.judge-in-Parts.ensures) (later_as_lem _ c.steps_of-in-Parts.ensures c.later-in-Parts.ensures)
+    (judged_as c.test_of-test-in-Parts.ensures c.judge-in-Parts.ensures) (later_as_lem _ c.steps-in-Parts.ensures c.later-in-Parts.ensures)
 
 pub get_case-returns-in_default : goal.get_case-returns-in_default
 get_case-returns-in_default t c =
@@ -670,11 +671,11 @@ get_each-returns-then-unfit t c =
       sized = c.get_node-got.ensures.sized;
       done = d;
     } in
-    each_43 g (ap (λ (i : ℕ). unfit_rest 3 (get_or c.get_node-got.new.arena i 0)) (sym c.start_of-start.ensures) ∙ sym c.unfit.ensures ∙
+    each_43 g (ap (λ (i : ℕ). unfit_rest 3 (get_or c.get_node-got.new.arena i 0)) (sym c.start-start.ensures) ∙ sym c.unfit.ensures ∙
     c.if-unfit.true) c.refused.ensures
 
-pub get_each-returns-then-scope-x : goal.get_each-returns-then-scope-x
-get_each-returns-then-scope-x t c =
+pub get_each-returns-then-count-x : goal.get_each-returns-then-count-x
+get_each-returns-then-count-x t c =
     let d : is_refusal c.get_node-got.result ≡ false = sym c.is_refused.ensures ∙ c.if-is_refused.false in
     let g : EachGot (here c.requires.kind_asked) c.args.own.kind c.args.own.from c.get_node-got.result c.get_node-got.new.arena =
     record {
@@ -684,8 +685,8 @@ get_each-returns-then-scope-x t c =
       sized = c.get_node-got.ensures.sized;
       done = d;
     } in
-    each_42 g (ap (λ (i : ℕ). unfit_rest 3 (get_or c.get_node-got.new.arena i 0)) (sym c.start_of-start.ensures) ∙ sym c.unfit.ensures ∙
-    c.if-unfit.false) (omega (arith, c.number_of-x.ensures, c.if-scope-x.true)) c.refused-then-scope-x.ensures
+    each_42 g (ap (λ (i : ℕ). unfit_rest 3 (get_or c.get_node-got.new.arena i 0)) (sym c.start-start.ensures) ∙ sym c.unfit.ensures ∙
+    c.if-unfit.false) (omega (arith, c.number_of-x.ensures, c.if-count-x.true)) c.refused-then-count-x.ensures
 
 pub get_each-get_members-list-requires : goal.get_each-get_members-list-requires
 get_each-get_members-list-requires t c =
@@ -701,14 +702,14 @@ get_each-get_members-list-requires t c =
     let i : Listed (here c.requires.kind_asked) c.args.own.kind c.args.own.from c.get_node-got.result c.get_node-got.new.arena
     c.section_root-root.result = record {
       got = g;
-      fit = ap (λ (i : ℕ). unfit_rest 3 (get_or c.get_node-got.new.arena i 0)) (sym c.start_of-start.ensures) ∙ sym c.unfit.ensures ∙ c.if-unfit.false;
-      inside = omega (arith, c.number_of-x.ensures, c.if-scope-x.false);
+      fit = ap (λ (i : ℕ). unfit_rest 3 (get_or c.get_node-got.new.arena i 0)) (sym c.start-start.ensures) ∙ sym c.unfit.ensures ∙ c.if-unfit.false;
+      inside = omega (arith, c.number_of-x.ensures, c.if-count-x.false);
       root_is = c.section_root-root.ensures ∙ ap (section_at c.args.sheet.now) c.number_of.ensures;
     } in
-    let e : c.start_of-start.result + c.len_of.result ≡ start_of c.get_node-got.result + len_of c.get_node-got.result = ap₂ ◌+◌ c.start_of-start.ensures
-    c.len_of.ensures in
+    let e : c.start-start.result + c.len.result ≡ start_of c.get_node-got.result + len_of c.get_node-got.result = ap₂ ◌+◌ c.start-start.ensures
+    c.len.ensures in
     let l = levels_as c.behind-to.ensures in
-    (omega (arith, c.decreases), members_as c.behind-to.ensures c.number_of-x.ensures c.start_of-start.ensures e (members_asks i))
+    (omega (arith, c.decreases), members_as c.behind-to.ensures c.number_of-x.ensures c.start-start.ensures e (members_asks i))
 
 pub get_each-bring-list-requires : goal.get_each-bring-list-requires
 get_each-bring-list-requires t c =
@@ -724,17 +725,17 @@ get_each-bring-list-requires t c =
     let i : Listed (here c.requires.kind_asked) c.args.own.kind c.args.own.from c.get_node-got.result c.get_node-got.new.arena
     c.section_root-root.result = record {
       got = g;
-      fit = ap (λ (i : ℕ). unfit_rest 3 (get_or c.get_node-got.new.arena i 0)) (sym c.start_of-start.ensures) ∙ sym c.unfit.ensures ∙ c.if-unfit.false;
-      inside = omega (arith, c.number_of-x.ensures, c.if-scope-x.false);
+      fit = ap (λ (i : ℕ). unfit_rest 3 (get_or c.get_node-got.new.arena i 0)) (sym c.start-start.ensures) ∙ sym c.unfit.ensures ∙ c.if-unfit.false;
+      inside = omega (arith, c.number_of-x.ensures, c.if-count-x.false);
       root_is = c.section_root-root.ensures ∙ ap (section_at c.args.sheet.now) c.number_of.ensures;
     } in
-    let e : c.start_of-start.result + c.len_of.result ≡ start_of c.get_node-got.result + len_of c.get_node-got.result = ap₂ ◌+◌ c.start_of-start.ensures
-    c.len_of.ensures in
+    let e : c.start-start.result + c.len.result ≡ start_of c.get_node-got.result + len_of c.get_node-got.result = ap₂ ◌+◌ c.start-start.ensures
+    c.len.ensures in
     let m : TellsMembers (behind_here (here c.requires.kind_asked) c.get_node-got.new.arena c.get_node-got.result) c.get_members-list.new.arena
     c.get_members-list.result
     (get_or c.args.sheet.now (c.args.own.from + 3) 0) c.section_root-root.result (start_of c.get_node-got.result)
     (start_of c.get_node-got.result + len_of c.get_node-got.result) =
-    told_members_as c.behind-to.ensures c.number_of-x.ensures c.start_of-start.ensures e c.get_members-list.ensures in
+    told_members_as c.behind-to.ensures c.number_of-x.ensures c.start-start.ensures e c.get_members-list.ensures in
     list_movable i m
 
 pub get_each-returns : goal.get_each-returns
@@ -751,18 +752,18 @@ get_each-returns t c =
     let i : Listed (here c.requires.kind_asked) c.args.own.kind c.args.own.from c.get_node-got.result c.get_node-got.new.arena
     c.section_root-root.result = record {
       got = g;
-      fit = ap (λ (i : ℕ). unfit_rest 3 (get_or c.get_node-got.new.arena i 0)) (sym c.start_of-start.ensures) ∙ sym c.unfit.ensures ∙ c.if-unfit.false;
-      inside = omega (arith, c.number_of-x.ensures, c.if-scope-x.false);
+      fit = ap (λ (i : ℕ). unfit_rest 3 (get_or c.get_node-got.new.arena i 0)) (sym c.start-start.ensures) ∙ sym c.unfit.ensures ∙ c.if-unfit.false;
+      inside = omega (arith, c.number_of-x.ensures, c.if-count-x.false);
       root_is = c.section_root-root.ensures ∙ ap (section_at c.args.sheet.now) c.number_of.ensures;
     } in
-    let e : c.start_of-start.result + c.len_of.result ≡ start_of c.get_node-got.result + len_of c.get_node-got.result = ap₂ ◌+◌ c.start_of-start.ensures
-    c.len_of.ensures in
+    let e : c.start-start.result + c.len.result ≡ start_of c.get_node-got.result + len_of c.get_node-got.result = ap₂ ◌+◌ c.start-start.ensures
+    c.len.ensures in
     let m : TellsMembers (behind_here (here c.requires.kind_asked) c.get_node-got.new.arena c.get_node-got.result) c.get_members-list.new.arena
     c.get_members-list.result
     (get_or c.args.sheet.now (c.args.own.from + 3) 0) c.section_root-root.result (start_of c.get_node-got.result)
     (start_of c.get_node-got.result + len_of c.get_node-got.result) =
-    told_members_as c.behind-to.ensures c.number_of-x.ensures c.start_of-start.ensures e c.get_members-list.ensures in
-    each_told i m c.bring-list.ensures (later_as_lem _ c.steps_of.ensures c.later.ensures)
+    told_members_as c.behind-to.ensures c.number_of-x.ensures c.start-start.ensures e c.get_members-list.ensures in
+    each_told i m c.bring-list.ensures (later_as_lem _ c.steps.ensures c.later.ensures)
 
 pub get_members-loop-arena-init : goal.get_members-loop-arena-init
 get_members-loop-arena-init t c =
@@ -776,8 +777,8 @@ get_members-bounds-arena-next t c =
     × (length c.loop-arena.arena ≡ scratch_size) = (z.low, omega (arith, z.short), y.0, omega (arith, c.requires.room), z.kept.long ∙ c.requires.asked.long) in
     omega (arith, b.2, b.3, b.4)
 
-pub get_members-middle_at-mid-requires : goal.get_members-middle_at-mid-requires
-get_members-middle_at-mid-requires t c =
+pub get_members-first_bytes-mid-requires : goal.get_members-first_bytes-mid-requires
+get_members-first_bytes-mid-requires t c =
     let z = c.loop-arena.invariant.0 in
     let y = rest_inside c.requires c.loop-arena.invariant.0 in
     let b : (c.args.at.top ≤ c.loop-arena.to.top) × (c.loop-arena.to.top < scratch_size) × (c.loop-arena.next < c.args.end) × (c.args.end < scratch_size)
@@ -787,24 +788,24 @@ get_members-middle_at-mid-requires t c =
 pub get_members-overflow_cast-inner : goal.get_members-overflow_cast-inner
 get_members-overflow_cast-inner t c =
     let u : Turning (members_here c.requires) c.args.x c.args.root c.args.start c.args.end c.loop-arena.arena c.loop-arena.to c.loop-arena.next
-    c.middle_at-mid.result =
-    record { asked = c.requires; built = c.loop-arena.invariant.0; front = c.loop-arena-test.true; middle = c.middle_at-mid.ensures } in
+    c.first_bytes-mid.result =
+    record { asked = c.requires; built = c.loop-arena.invariant.0; front = c.loop-arena-test.true; middle = c.first_bytes-mid.ensures } in
     let m = member_there u in
     omega (arith, m.1)
 
 pub get_members-overflow_sub-inner : goal.get_members-overflow_sub-inner
 get_members-overflow_sub-inner t c =
     let u : Turning (members_here c.requires) c.args.x c.args.root c.args.start c.args.end c.loop-arena.arena c.loop-arena.to c.loop-arena.next
-    c.middle_at-mid.result =
-    record { asked = c.requires; built = c.loop-arena.invariant.0; front = c.loop-arena-test.true; middle = c.middle_at-mid.ensures } in
+    c.first_bytes-mid.result =
+    record { asked = c.requires; built = c.loop-arena.invariant.0; front = c.loop-arena-test.true; middle = c.first_bytes-mid.ensures } in
     let m = member_there u in
     omega (arith, m.2)
 
 pub get_members-overflow_cast-inner-in-loop-arena : goal.get_members-overflow_cast-inner-in-loop-arena
 get_members-overflow_cast-inner-in-loop-arena t c =
     let u : Turning (members_here c.requires) c.args.x c.args.root c.args.start c.args.end c.loop-arena.arena c.loop-arena.to c.loop-arena.next
-    c.middle_at-mid.result =
-    record { asked = c.requires; built = c.loop-arena.invariant.0; front = c.loop-arena-test.true; middle = c.middle_at-mid.ensures } in
+    c.first_bytes-mid.result =
+    record { asked = c.requires; built = c.loop-arena.invariant.0; front = c.loop-arena-test.true; middle = c.first_bytes-mid.ensures } in
     let m = member_there u in
     omega (arith, m.3)
 
@@ -815,13 +816,14 @@ get_members-get_node-got-requires t c =
     let b : (c.args.at.top ≤ c.loop-arena.to.top) × (c.loop-arena.to.top < scratch_size) × (c.loop-arena.next < c.args.end) × (c.args.end < scratch_size)
     × (length c.loop-arena.arena ≡ scratch_size) = (z.low, omega (arith, z.short), y.0, omega (arith, c.requires.room), z.kept.long ∙ c.requires.asked.long) in
     let u : Turning (members_here c.requires) c.args.x c.args.root c.args.start c.args.end c.loop-arena.arena c.loop-arena.to c.loop-arena.next
-    c.middle_at-mid.result =
-    record { asked = c.requires; built = c.loop-arena.invariant.0; front = c.loop-arena-test.true; middle = c.middle_at-mid.ensures } in
+    c.first_bytes-mid.result =
+    record { asked = c.requires; built = c.loop-arena.invariant.0; front = c.loop-arena-test.true; middle = c.first_bytes-mid.ensures } in
     let k : Marked 3 c.loop-arena.to.top c.loop-arena.arena (set c.loop-arena.arena c.loop-arena.to.top 3) = marked 3 _ _ (omega (arith, b.1, b.4)) in
     let m = member_there u in
-    let i : renewed c.loop-arena.inner (c.loop-arena.next + 1) (c.middle_at-mid.result - 2) (get_or c.args.scope.starts c.args.x 0)
+    let i : renewed c.loop-arena.inner (c.loop-arena.next + 1) (c.first_bytes-mid.result - 2) (get_or c.args.scope.starts c.args.x 0)
     (get_or c.args.scope.lens c.args.x 0)
-    ≡ with_member c.args.scope c.args.x (c.loop-arena.next + 1) (c.middle_at-mid.result - 1) = two_member _ _ _ (omega (arith, m.2)) c.loop-arena.invariant.1 in
+    ≡ with_member c.args.scope c.args.x (c.loop-arena.next + 1) (c.first_bytes-mid.result - 1) = two_member _ _ _ (omega
+    (arith, m.2)) c.loop-arena.invariant.1 in
     let l = levels_as c.raised-one.ensures in
     (omega (arith, c.decreases, c.loop-arena.invariant.0.level), ready_as c.raised-one.ensures i refl (turn_asks u k))
 
@@ -832,13 +834,14 @@ get_members-returns-then-is_refused t c =
     let b : (c.args.at.top ≤ c.loop-arena.to.top) × (c.loop-arena.to.top < scratch_size) × (c.loop-arena.next < c.args.end) × (c.args.end < scratch_size)
     × (length c.loop-arena.arena ≡ scratch_size) = (z.low, omega (arith, z.short), y.0, omega (arith, c.requires.room), z.kept.long ∙ c.requires.asked.long) in
     let u : Turning (members_here c.requires) c.args.x c.args.root c.args.start c.args.end c.loop-arena.arena c.loop-arena.to c.loop-arena.next
-    c.middle_at-mid.result =
-    record { asked = c.requires; built = c.loop-arena.invariant.0; front = c.loop-arena-test.true; middle = c.middle_at-mid.ensures } in
+    c.first_bytes-mid.result =
+    record { asked = c.requires; built = c.loop-arena.invariant.0; front = c.loop-arena-test.true; middle = c.first_bytes-mid.ensures } in
     let k : Marked 3 c.loop-arena.to.top c.loop-arena.arena (set c.loop-arena.arena c.loop-arena.to.top 3) = marked 3 _ _ (omega (arith, b.1, b.4)) in
     let m = member_there u in
-    let i : renewed c.loop-arena.inner (c.loop-arena.next + 1) (c.middle_at-mid.result - 2) (get_or c.args.scope.starts c.args.x 0)
+    let i : renewed c.loop-arena.inner (c.loop-arena.next + 1) (c.first_bytes-mid.result - 2) (get_or c.args.scope.starts c.args.x 0)
     (get_or c.args.scope.lens c.args.x 0)
-    ≡ with_member c.args.scope c.args.x (c.loop-arena.next + 1) (c.middle_at-mid.result - 1) = two_member _ _ _ (omega (arith, m.2)) c.loop-arena.invariant.1 in
+    ≡ with_member c.args.scope c.args.x (c.loop-arena.next + 1) (c.first_bytes-mid.result - 1) = two_member _ _ _ (omega
+    (arith, m.2)) c.loop-arena.invariant.1 in
     let v : AtTop (turn_here u k) c.bring-a.new.arena c.bring-a.result c.args.root =
     at_top (turn_asks u k) (shows_as c.raised-one.ensures i refl c.get_node-got.ensures.get_shows)
     (sized_as c.raised-one.ensures c.get_node-got.ensures.sized) (brought_as c.raised-one.ensures c.bring-a.ensures) in
@@ -852,13 +855,14 @@ get_members-behind-to-requires t c =
     let b : (c.args.at.top ≤ c.loop-arena.to.top) × (c.loop-arena.to.top < scratch_size) × (c.loop-arena.next < c.args.end) × (c.args.end < scratch_size)
     × (length c.loop-arena.arena ≡ scratch_size) = (z.low, omega (arith, z.short), y.0, omega (arith, c.requires.room), z.kept.long ∙ c.requires.asked.long) in
     let u : Turning (members_here c.requires) c.args.x c.args.root c.args.start c.args.end c.loop-arena.arena c.loop-arena.to c.loop-arena.next
-    c.middle_at-mid.result =
-    record { asked = c.requires; built = c.loop-arena.invariant.0; front = c.loop-arena-test.true; middle = c.middle_at-mid.ensures } in
+    c.first_bytes-mid.result =
+    record { asked = c.requires; built = c.loop-arena.invariant.0; front = c.loop-arena-test.true; middle = c.first_bytes-mid.ensures } in
     let k : Marked 3 c.loop-arena.to.top c.loop-arena.arena (set c.loop-arena.arena c.loop-arena.to.top 3) = marked 3 _ _ (omega (arith, b.1, b.4)) in
     let m = member_there u in
-    let i : renewed c.loop-arena.inner (c.loop-arena.next + 1) (c.middle_at-mid.result - 2) (get_or c.args.scope.starts c.args.x 0)
+    let i : renewed c.loop-arena.inner (c.loop-arena.next + 1) (c.first_bytes-mid.result - 2) (get_or c.args.scope.starts c.args.x 0)
     (get_or c.args.scope.lens c.args.x 0)
-    ≡ with_member c.args.scope c.args.x (c.loop-arena.next + 1) (c.middle_at-mid.result - 1) = two_member _ _ _ (omega (arith, m.2)) c.loop-arena.invariant.1 in
+    ≡ with_member c.args.scope c.args.x (c.loop-arena.next + 1) (c.first_bytes-mid.result - 1) = two_member _ _ _ (omega
+    (arith, m.2)) c.loop-arena.invariant.1 in
     let v : AtTop (turn_here u k) c.bring-a.new.arena c.bring-a.result c.args.root =
     at_top (turn_asks u k) (shows_as c.raised-one.ensures i refl c.get_node-got.ensures.get_shows)
     (sized_as c.raised-one.ensures c.get_node-got.ensures.sized) (brought_as c.raised-one.ensures c.bring-a.ensures) in
@@ -873,16 +877,16 @@ get_members-overflow_add-next t c =
     let b : (c.args.at.top ≤ c.loop-arena.to.top) × (c.loop-arena.to.top < scratch_size) × (c.loop-arena.next < c.args.end) × (c.args.end < scratch_size)
     × (length c.loop-arena.arena ≡ scratch_size) = (z.low, omega (arith, z.short), y.0, omega (arith, c.requires.room), z.kept.long ∙ c.requires.asked.long) in
     let u : Turning (members_here c.requires) c.args.x c.args.root c.args.start c.args.end c.loop-arena.arena c.loop-arena.to c.loop-arena.next
-    c.middle_at-mid.result =
-    record { asked = c.requires; built = c.loop-arena.invariant.0; front = c.loop-arena-test.true; middle = c.middle_at-mid.ensures } in
+    c.first_bytes-mid.result =
+    record { asked = c.requires; built = c.loop-arena.invariant.0; front = c.loop-arena-test.true; middle = c.first_bytes-mid.ensures } in
     let m = member_there u in
     record { fits = omega (arith, m.4, b.3) }
 
 pub get_members-loop-arena-smaller : goal.get_members-loop-arena-smaller
 get_members-loop-arena-smaller t c =
     let u : Turning (members_here c.requires) c.args.x c.args.root c.args.start c.args.end c.loop-arena.arena c.loop-arena.to c.loop-arena.next
-    c.middle_at-mid.result =
-    record { asked = c.requires; built = c.loop-arena.invariant.0; front = c.loop-arena-test.true; middle = c.middle_at-mid.ensures } in
+    c.first_bytes-mid.result =
+    record { asked = c.requires; built = c.loop-arena.invariant.0; front = c.loop-arena-test.true; middle = c.first_bytes-mid.ensures } in
     let m = member_there u in
     omega (arith, m.2, m.4)
 
@@ -893,13 +897,14 @@ get_members-loop-arena-preserved t c =
     let b : (c.args.at.top ≤ c.loop-arena.to.top) × (c.loop-arena.to.top < scratch_size) × (c.loop-arena.next < c.args.end) × (c.args.end < scratch_size)
     × (length c.loop-arena.arena ≡ scratch_size) = (z.low, omega (arith, z.short), y.0, omega (arith, c.requires.room), z.kept.long ∙ c.requires.asked.long) in
     let u : Turning (members_here c.requires) c.args.x c.args.root c.args.start c.args.end c.loop-arena.arena c.loop-arena.to c.loop-arena.next
-    c.middle_at-mid.result =
-    record { asked = c.requires; built = c.loop-arena.invariant.0; front = c.loop-arena-test.true; middle = c.middle_at-mid.ensures } in
+    c.first_bytes-mid.result =
+    record { asked = c.requires; built = c.loop-arena.invariant.0; front = c.loop-arena-test.true; middle = c.first_bytes-mid.ensures } in
     let k : Marked 3 c.loop-arena.to.top c.loop-arena.arena (set c.loop-arena.arena c.loop-arena.to.top 3) = marked 3 _ _ (omega (arith, b.1, b.4)) in
     let m = member_there u in
-    let i : renewed c.loop-arena.inner (c.loop-arena.next + 1) (c.middle_at-mid.result - 2) (get_or c.args.scope.starts c.args.x 0)
+    let i : renewed c.loop-arena.inner (c.loop-arena.next + 1) (c.first_bytes-mid.result - 2) (get_or c.args.scope.starts c.args.x 0)
     (get_or c.args.scope.lens c.args.x 0)
-    ≡ with_member c.args.scope c.args.x (c.loop-arena.next + 1) (c.middle_at-mid.result - 1) = two_member _ _ _ (omega (arith, m.2)) c.loop-arena.invariant.1 in
+    ≡ with_member c.args.scope c.args.x (c.loop-arena.next + 1) (c.first_bytes-mid.result - 1) = two_member _ _ _ (omega
+    (arith, m.2)) c.loop-arena.invariant.1 in
     let v : AtTop (turn_here u k) c.bring-a.new.arena c.bring-a.result c.args.root =
     at_top (turn_asks u k) (shows_as c.raised-one.ensures i refl c.get_node-got.ensures.get_shows)
     (sized_as c.raised-one.ensures c.get_node-got.ensures.sized) (brought_as c.raised-one.ensures c.bring-a.ensures) in

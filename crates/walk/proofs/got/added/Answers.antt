@@ -1,7 +1,8 @@
 -- `added` meets its contract.
 -- Assumes nothing.
-use mathlib.Core.Path.{refl, sym, ◌∙◌}
+use mathlib.Core.Path.{◌≡◌, refl, sym, ◌∙◌}
 use native.Mathlib.Omega.{arith}
+use Prim.Native.Nat.{◌+◌, ◌/◌, ◌%◌}
 use lib.ListN.{length-set}
 use Rattle.walk.specs.Get.Add.{passed_on, other, over, sums}
 use Rattle.walk.proofs.got.added.Goals as goal
@@ -50,4 +51,5 @@ returns c =
     let e = sym c.is_refused.ensures ∙ c.if-is_refused.false in
     let q = sym c.in-Number.is ∙ c.shape_at.ensures in
     let s = (c.requires e).small _ q in
-    sums e q (omega (arith, s.0, c.if-n-amount.false)) refl (rw (c.high.ensures, c.low.ensures))
+    let z : (c.in-Number.n + c.args.amount) / 256 % 256 ≡ (c.in-Number.n + c.args.amount) / 256 = omega arith in
+    sums e q (omega (arith, s.0, c.if-n-amount.false)) refl (rw (c.to_be_bytes.ensures, z))

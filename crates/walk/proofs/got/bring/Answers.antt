@@ -14,17 +14,17 @@ returns-then-is_refused c = let e = sym c.is_refused.ensures ∙ c.if-is_refused
 pub copy-requires : goal.copy-requires
 copy-requires c =
     let m = c.requires (sym c.is_refused.ensures ∙ c.if-is_refused.false) in
-    (omega (arith, m.inside, c.start_of.ensures, c.len_of-len.ensures), omega (arith, m.room, c.len_of-len.ensures))
+    (omega (arith, m.inside, c.start.ensures, c.len-len.ensures), omega (arith, m.room, c.len-len.ensures))
 
 pub returns : goal.returns
 returns c =
     let n = sym c.is_refused.ensures ∙ c.if-is_refused.false in
-    let l = c.len_of-len.ensures in
+    let l = c.len-len.ensures in
     record {
       refused = λ q. absurd (false≢true (sym n ∙ q));
       moved = λ _. record {
-        is = rw (← l, ← c.steps_of.ensures) c.done.ensures;
+        is = rw (← l, ← c.steps.ensures) c.done.ensures;
         low = (c.requires n).low;
-        copied = rw (← l, ← c.start_of.ensures) c.copy.ensures;
+        copied = rw (← l, ← c.start.ensures) c.copy.ensures;
       };
     }

@@ -18,47 +18,47 @@ pub overflow_add-mid-2 : goal.overflow_add-mid-2
 overflow_add-mid-2 c =
     let m = c.requires (sym c.is_refused.ensures ∙ c.if-is_refused.false) in
     let z = len_small c.args.first in
-    record { fits = omega (arith, m.few, c.len_of-f.ensures) }
+    record { fits = omega (arith, m.few, c.len-f.ensures) }
 
 pub bounds-arena-mid : goal.bounds-arena-mid
 bounds-arena-mid c =
     let m = c.requires (sym c.is_refused.ensures ∙ c.if-is_refused.false) in
-    omega (arith, m.inside, c.len_of-f.ensures)
+    omega (arith, m.inside, c.len-f.ensures)
 
 pub returns-then-unfit : goal.returns-then-unfit
 returns-then-unfit c =
     unfit (sym c.is_refused.ensures ∙ c.if-is_refused.false)
-    (rw (← c.len_of-f.ensures) (sym c.unfit.ensures ∙ c.if-unfit.true)) c.refused.ensures
+    (rw (← c.len-f.ensures) (sym c.unfit.ensures ∙ c.if-unfit.true)) c.refused.ensures
 
 pub overflow_add-len : goal.overflow_add-len
 overflow_add-len c =
     let z = len_small c.args.first in
-    record { fits = omega (arith, c.len_of-f.ensures) }
+    record { fits = omega (arith, c.len-f.ensures) }
 
 pub overflow_add-len-2 : goal.overflow_add-len-2
 overflow_add-len-2 c =
     let z = len_small c.args.first in
     let y = len_small c.args.second in
-    record { fits = omega (arith, c.len_of-f.ensures, c.len_of.ensures) }
+    record { fits = omega (arith, c.len-f.ensures, c.len.ensures) }
 
 pub returns-then-len-gt256 : goal.returns-then-len-gt256
 returns-then-len-gt256 c =
-    let f = c.len_of-f.ensures in
+    let f = c.len-f.ensures in
     long (sym c.is_refused.ensures ∙ c.if-is_refused.false)
     (rw (← f) (sym c.unfit.ensures ∙ c.if-unfit.false))
-    (omega (arith, f, c.len_of.ensures, c.if-len-gt256.true)) c.refused-then-len-gt256.ensures
+    (omega (arith, f, c.len.ensures, c.if-len-gt256.true)) c.refused-then-len-gt256.ensures
 
-pub overflow_add-steps_of : goal.overflow_add-steps_of
-overflow_add-steps_of c =
+pub overflow_add-steps : goal.overflow_add-steps
+overflow_add-steps c =
     let z = steps_small c.args.first in
     let y = steps_small c.args.second in
-    record { fits = omega (arith, c.steps_of.ensures, c.steps_of-2.ensures) }
+    record { fits = omega (arith, c.steps.ensures, c.steps-2.ensures) }
 
 pub returns : goal.returns
 returns c =
-    let f = c.len_of-f.ensures in
-    let s = c.len_of.ensures in
+    let f = c.len-f.ensures in
+    let s = c.len.ensures in
     fits (sym c.is_refused.ensures ∙ c.if-is_refused.false)
     (rw (← f) (sym c.unfit.ensures ∙ c.if-unfit.false))
     (omega (arith, f, s, c.if-len-gt256.false))
-    (rw (← f, ← s, ← c.steps_of.ensures, ← c.steps_of-2.ensures) c.done.ensures)
+    (rw (← f, ← s, ← c.steps.ensures, ← c.steps-2.ensures) c.done.ensures)

@@ -12,11 +12,11 @@ use Rattle.walk.proofs.got.judge.Goals.{After-says, Else-is_refused}
 there : (c : Else-is_refused) → is_refusal c.args.got ≡ false
 there c = sym c.is_refused.ensures ∙ c.if-is_refused.false
 
-start : (c : After-says) → c.start_of-start.result ≡ start_of c.args.got
-start c = c.start_of-start.ensures
+start : (c : After-says) → c.start-start.result ≡ start_of c.args.got
+start c = c.start-start.ensures
 
-len : (c : After-says) → c.len_of-len.result ≡ len_of c.args.got
-len c = c.len_of-len.ensures
+len : (c : After-says) → c.len-len.result ≡ len_of c.args.got
+len c = c.len-len.ensures
 
 pub returns-then-is_refused : goal.returns-then-is_refused
 returns-then-is_refused c = passed_on (sym c.is_refused.ensures ∙ c.if-is_refused.true) refl refl
@@ -25,12 +25,12 @@ pub overflow_add-end : goal.overflow_add-end
 overflow_add-end c =
     let z = start_small c.args.got in
     let y = len_small c.args.got in
-    record { fits = omega (arith, c.start_of-start.ensures, c.len_of-len.ensures) }
+    record { fits = omega (arith, c.start-start.ensures, c.len-len.ensures) }
 
 pub says-requires : goal.says-requires
 says-requires c =
     let m = c.requires (there (goal.at.says-requires c).Else-is_refused) in
-    (omega arith, omega (arith, m.inside, c.start_of-start.ensures, c.len_of-len.ensures))
+    (omega arith, omega (arith, m.inside, c.start-start.ensures, c.len-len.ensures))
 
 pub returns-then-not-says : goal.returns-then-not-says
 returns-then-not-says c =
@@ -60,5 +60,5 @@ pub returns : goal.returns
 returns c =
     moves (there (goal.at.returns c).Else-is_refused) (says_part _ _ _ (start (goal.at.returns c).After-says) (len (goal.at.returns c).After-says)
     c.says.ensures (c.if-not-says.false))
-    (omega (arith, start (goal.at.returns c).After-says, c.if-start-top.false)) (rw (← len (goal.at.returns c).After-says, ← c.steps_of.ensures) c.done.ensures)
+    (omega (arith, start (goal.at.returns c).After-says, c.if-start-top.false)) (rw (← len (goal.at.returns c).After-says, ← c.steps.ensures) c.done.ensures)
     (rw (← start (goal.at.returns c).After-says, ← len (goal.at.returns c).After-says) c.copy.ensures)

@@ -9,4 +9,4 @@ use Rattle.walk.proofs.got.shape_at.Goals as goal
 pub returns : goal.returns
 returns c =
     let z : start_of c.args.got + len_of c.args.got - start_of c.args.got ≡ len_of c.args.got = omega arith in
-    rw (← z) (rw (← c.start_of-start.ensures, ← c.len_of.ensures) c.shape_of.ensures)
+    rw (← z) (rw (← c.start-start.ensures, ← c.len.ensures) c.shape_of.ensures)

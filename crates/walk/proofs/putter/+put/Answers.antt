@@ -9,6 +9,9 @@ use lib.Seq.{take_all}
 use borrow.Author.Tests.{ltb-true, ltb-false}
 use Rattle.outcome.specs.Outcome.{is_refusal, done_as, start_of, len_of, steps_of, start_small, later_as_lem, len_small, steps_small}
 use Rattle.rules.specs.Numbers.{variable_limit}
+use Rattle.std.specs.Option.{unwrap_or}
+use Rattle.std.specs.Prelude.{Option}
+use Rattle.walk.specs.Members.{first_bytes_of}
 use Rattle.shapes.specs.Parts.{shape_of, middle_of, first_part, passes_bytes}
 use Rattle.shapes.specs.declared.Shape.TheVariants.{Number}
 use Rattle.sheet.specs.Table.{section_at}
@@ -54,16 +57,17 @@ put_add-returns-in_default t c =
 pub put_add-returns-then-m-amount : goal.put_add-returns-then-m-amount
 put_add-returns-then-m-amount t c =
     let n : Number c.in-Number.m ≡ shape_of c.args.view.now = sym c.in-Number.is ∙ c.shape_of.ensures in
-    let m : c.number-amount.result ≡ amount_at c.args.sheet.now c.args.own.from = sum_as c.number-amount.ensures c.byte_of.ensures c.byte_of-2.ensures in
+    let m : c.from_be_bytes-amount.result ≡ amount_at c.args.sheet.now c.args.own.from
+    = sum_as _ _ c.from_be_bytes-amount.ensures c.byte_of.ensures c.byte_of-2.ensures in
     of_add.add_52 c.requires.kind_asked c.requires.kind_value n (omega (arith, m, c.if-m-amount.true)) c.refused-then-m-amount.ensures
 
 pub put_add-put_node-requires : goal.put_add-put_node-requires
 put_add-put_node-requires t c =
     let n : Number c.in-Number.m ≡ shape_of c.args.view.now = sym c.in-Number.is ∙ c.shape_of.ensures in
-    let m : c.number-amount.result ≡ amount_at c.args.sheet.now c.args.own.from = sum_as c.number-amount.ensures c.byte_of.ensures c.byte_of-2.ensures in
-    let v : 4 ∷ c.high.result ∷ c.low.result ∷ [] ≡ of_add.less_view c.requires.kind_asked c.requires.kind_value n =
-    ap₂ (λ (x y : ℕ). 4 ∷ x ∷ y ∷ []) (c.high.ensures ∙ ap (λ (x : ℕ). (c.in-Number.m - x) / 256) m) (c.low.ensures ∙
-    ap (λ (x : ℕ). (c.in-Number.m - x) % 256) m) in (
+    let m : c.from_be_bytes-amount.result ≡ amount_at c.args.sheet.now c.args.own.from
+    = sum_as _ _ c.from_be_bytes-amount.ensures c.byte_of.ensures c.byte_of-2.ensures in
+    let v : c.number-less.result ≡ of_add.less_view c.requires.kind_asked c.requires.kind_value n =
+    c.number-less.ensures ∙ ap (λ (x : ℕ). 4 ∷ (c.in-Number.m - x) / 256 ∷ (c.in-Number.m - x) % 256 ∷ []) m in (
       omega (arith, c.decreases),
       ready_view v (ready_as {at = c.args.at} refl refl refl c.number_of-node.ensures (of_add.add_asks c.requires.kind_asked
           c.requires.kind_value n)),
@@ -72,10 +76,10 @@ put_add-put_node-requires t c =
 pub put_add-returns : goal.put_add-returns
 put_add-returns t c =
     let n : Number c.in-Number.m ≡ shape_of c.args.view.now = sym c.in-Number.is ∙ c.shape_of.ensures in
-    let m : c.number-amount.result ≡ amount_at c.args.sheet.now c.args.own.from = sum_as c.number-amount.ensures c.byte_of.ensures c.byte_of-2.ensures in
-    let v : 4 ∷ c.high.result ∷ c.low.result ∷ [] ≡ of_add.less_view c.requires.kind_asked c.requires.kind_value n =
-    ap₂ (λ (x y : ℕ). 4 ∷ x ∷ y ∷ []) (c.high.ensures ∙ ap (λ (x : ℕ). (c.in-Number.m - x) / 256) m) (c.low.ensures ∙
-    ap (λ (x : ℕ). (c.in-Number.m - x) % 256) m) in
+    let m : c.from_be_bytes-amount.result ≡ amount_at c.args.sheet.now c.args.own.from
+    = sum_as _ _ c.from_be_bytes-amount.ensures c.byte_of.ensures c.byte_of-2.ensures in
+    let v : c.number-less.result ≡ of_add.less_view c.requires.kind_asked c.requires.kind_value n =
+    c.number-less.ensures ∙ ap (λ (x : ℕ). 4 ∷ (c.in-Number.m - x) / 256 ∷ (c.in-Number.m - x) % 256 ∷ []) m in
     of_add.add_told c.requires.kind_asked c.requires.kind_value n (omega (arith, m, c.if-m-amount.false))
     (gives_view v (shows_as {at = c.args.at} refl refl refl c.number_of-node.ensures c.put_node.ensures.task_tells))
 
@@ -106,7 +110,7 @@ put_both-returns t c =
     let d : is_refusal c.put_node-one.result ≡ false = sym c.is_refused.ensures ∙ c.if-is_refused.false in
     of_two.both_told c.requires.task_asked c.put_node-one.ensures.task_tells d c.put_node-one.ensures.few
     (few_at c.after-then.ensures c.put_node-two.ensures.few) (gives_at c.after-then.ensures c.put_node-two.ensures.task_tells)
-    (later_as_lem _ c.steps_of.ensures c.later.ensures)
+    (later_as_lem _ c.steps.ensures c.later.ensures)
 
 pub put_call-returns-then-count-x : goal.put_call-returns-then-count-x
 put_call-returns-then-count-x t c =
@@ -236,11 +240,11 @@ put_two-returns t c =
     shows_as {at = c.args.at} refl refl refl c.number_of-a.ensures c.put_node-one.ensures.task_tells in
     let d : is_refusal c.put_node-one.result ≡ false = sym c.is_refused.ensures ∙ c.if-is_refused.false in
     of_two.two_told a (of_two.both_told (of_two.two_asks a) o d c.put_node-one.ensures.few (few_at c.after-then.ensures c.put_node-two.ensures.few)
-    (shows_as c.after-then.ensures refl refl c.number_of-b.ensures c.put_node-two.ensures.task_tells) (later_as_lem _ c.steps_of.ensures c.later.ensures))
+    (shows_as c.after-then.ensures refl refl c.number_of-b.ensures c.put_node-two.ensures.task_tells) (later_as_lem _ c.steps.ensures c.later.ensures))
 
-pub put_node-returns-then-code-ne0 : goal.put_node-returns-then-code-ne0
-put_node-returns-then-code-ne0 t c =
-    let g = enter_refused c.requires (entry_code _ _ c.entry-code.ensures c.if-code-ne0.true)
+pub put_node-returns-in-Err : goal.put_node-returns-in-Err
+put_node-returns-in-Err t c =
+    let g = enter_refused c.requires (entry_code _ _ _ c.in-Err.ensures)
     (left_as_lem c.refused.ensures (left_by (node_few c.requires.sheet c.requires.known) (omega (arith, c.requires.room))
     (c.leave.ensures.value, c.leave.ensures.arena_after))) in
     record { task_tells = g; few = few c.requires g }
@@ -256,12 +260,12 @@ put_node-bounds-table-node t c =
 
 pub put_node-below-to-requires : goal.put_node-below-to-requires
 put_node-below-to-requires t c =
-    let d : (c.args.at.levels ≡ 0 → ⊥) × (c.args.at.left ≡ 0 → ⊥) = both_left _ _ c.entry-code.ensures c.if-code-ne0.false in
+    let d : (c.args.at.levels ≡ 0 → ⊥) × (c.args.at.left ≡ 0 → ⊥) = both_left _ _ _ c.entry.ensures c.in_default.not-Err in
     (omega (arith, d.0), omega (arith, d.1))
 
 pub put_node-put_leaf-put-requires : goal.put_node-put_leaf-put-requires
 put_node-put_leaf-put-requires t c =
-    let d : (c.args.at.levels ≡ 0 → ⊥) × (c.args.at.left ≡ 0 → ⊥) = both_left _ _ c.entry-code.ensures c.if-code-ne0.false in
+    let d : (c.args.at.levels ≡ 0 → ⊥) × (c.args.at.left ≡ 0 → ⊥) = both_left _ _ _ c.entry.ensures c.in_default.not-Err in
     let b : PutEntered c.args.sheet.now c.args.table.now c.args.arena.now c.args.slots.now (Shown c.args.view.now) c.args.scope c.args.cells.now c.args.at.cells
     c.args.at.top c.args.at.levels c.args.at.left c.args.node
     c.byte_of-kind.result = record { asked = c.requires; deep = d.0; paid = d.1; kind = c.byte_of-kind.ensures } in
@@ -269,7 +273,7 @@ put_node-put_leaf-put-requires t c =
 
 pub put_node-returns-then-kind-lt21 : goal.put_node-returns-then-kind-lt21
 put_node-returns-then-kind-lt21 t c =
-    let d : (c.args.at.levels ≡ 0 → ⊥) × (c.args.at.left ≡ 0 → ⊥) = both_left _ _ c.entry-code.ensures c.if-code-ne0.false in
+    let d : (c.args.at.levels ≡ 0 → ⊥) × (c.args.at.left ≡ 0 → ⊥) = both_left _ _ _ c.entry.ensures c.in_default.not-Err in
     let b : PutEntered c.args.sheet.now c.args.table.now c.args.arena.now c.args.slots.now (Shown c.args.view.now) c.args.scope c.args.cells.now c.args.at.cells
     c.args.at.top c.args.at.levels c.args.at.left c.args.node
     c.byte_of-kind.result = record { asked = c.requires; deep = d.0; paid = d.1; kind = c.byte_of-kind.ensures } in
@@ -282,7 +286,7 @@ put_node-returns-then-kind-lt21 t c =
 
 pub put_node-put_two-put-requires : goal.put_node-put_two-put-requires
 put_node-put_two-put-requires t c =
-    let d : (c.args.at.levels ≡ 0 → ⊥) × (c.args.at.left ≡ 0 → ⊥) = both_left _ _ c.entry-code.ensures c.if-code-ne0.false in
+    let d : (c.args.at.levels ≡ 0 → ⊥) × (c.args.at.left ≡ 0 → ⊥) = both_left _ _ _ c.entry.ensures c.in_default.not-Err in
     let b : PutEntered c.args.sheet.now c.args.table.now c.args.arena.now c.args.slots.now (Shown c.args.view.now) c.args.scope c.args.cells.now c.args.at.cells
     c.args.at.top c.args.at.levels c.args.at.left c.args.node
     c.byte_of-kind.result = record { asked = c.requires; deep = d.0; paid = d.1; kind = c.byte_of-kind.ensures } in
@@ -299,7 +303,7 @@ put_node-put_two-put-requires t c =
 
 pub put_node-returns-then-kind-lt23 : goal.put_node-returns-then-kind-lt23
 put_node-returns-then-kind-lt23 t c =
-    let d : (c.args.at.levels ≡ 0 → ⊥) × (c.args.at.left ≡ 0 → ⊥) = both_left _ _ c.entry-code.ensures c.if-code-ne0.false in
+    let d : (c.args.at.levels ≡ 0 → ⊥) × (c.args.at.left ≡ 0 → ⊥) = both_left _ _ _ c.entry.ensures c.in_default.not-Err in
     let b : PutEntered c.args.sheet.now c.args.table.now c.args.arena.now c.args.slots.now (Shown c.args.view.now) c.args.scope c.args.cells.now c.args.at.cells
     c.args.at.top c.args.at.levels c.args.at.left c.args.node
     c.byte_of-kind.result = record { asked = c.requires; deep = d.0; paid = d.1; kind = c.byte_of-kind.ensures } in
@@ -312,7 +316,7 @@ put_node-returns-then-kind-lt23 t c =
 
 pub put_node-put_case-put-requires : goal.put_node-put_case-put-requires
 put_node-put_case-put-requires t c =
-    let d : (c.args.at.levels ≡ 0 → ⊥) × (c.args.at.left ≡ 0 → ⊥) = both_left _ _ c.entry-code.ensures c.if-code-ne0.false in
+    let d : (c.args.at.levels ≡ 0 → ⊥) × (c.args.at.left ≡ 0 → ⊥) = both_left _ _ _ c.entry.ensures c.in_default.not-Err in
     let b : PutEntered c.args.sheet.now c.args.table.now c.args.arena.now c.args.slots.now (Shown c.args.view.now) c.args.scope c.args.cells.now c.args.at.cells
     c.args.at.top c.args.at.levels c.args.at.left c.args.node
     c.byte_of-kind.result = record { asked = c.requires; deep = d.0; paid = d.1; kind = c.byte_of-kind.ensures } in
@@ -329,7 +333,7 @@ put_node-put_case-put-requires t c =
 
 pub put_node-returns-then-kind-lt26 : goal.put_node-returns-then-kind-lt26
 put_node-returns-then-kind-lt26 t c =
-    let d : (c.args.at.levels ≡ 0 → ⊥) × (c.args.at.left ≡ 0 → ⊥) = both_left _ _ c.entry-code.ensures c.if-code-ne0.false in
+    let d : (c.args.at.levels ≡ 0 → ⊥) × (c.args.at.left ≡ 0 → ⊥) = both_left _ _ _ c.entry.ensures c.in_default.not-Err in
     let b : PutEntered c.args.sheet.now c.args.table.now c.args.arena.now c.args.slots.now (Shown c.args.view.now) c.args.scope c.args.cells.now c.args.at.cells
     c.args.at.top c.args.at.levels c.args.at.left c.args.node
     c.byte_of-kind.result = record { asked = c.requires; deep = d.0; paid = d.1; kind = c.byte_of-kind.ensures } in
@@ -342,7 +346,7 @@ put_node-returns-then-kind-lt26 t c =
 
 pub put_node-put_call-put-requires : goal.put_node-put_call-put-requires
 put_node-put_call-put-requires t c =
-    let d : (c.args.at.levels ≡ 0 → ⊥) × (c.args.at.left ≡ 0 → ⊥) = both_left _ _ c.entry-code.ensures c.if-code-ne0.false in
+    let d : (c.args.at.levels ≡ 0 → ⊥) × (c.args.at.left ≡ 0 → ⊥) = both_left _ _ _ c.entry.ensures c.in_default.not-Err in
     let b : PutEntered c.args.sheet.now c.args.table.now c.args.arena.now c.args.slots.now (Shown c.args.view.now) c.args.scope c.args.cells.now c.args.at.cells
     c.args.at.top c.args.at.levels c.args.at.left c.args.node
     c.byte_of-kind.result = record { asked = c.requires; deep = d.0; paid = d.1; kind = c.byte_of-kind.ensures } in
@@ -351,7 +355,7 @@ put_node-put_call-put-requires t c =
 
 pub put_node-returns-then-kind-eq26 : goal.put_node-returns-then-kind-eq26
 put_node-returns-then-kind-eq26 t c =
-    let d : (c.args.at.levels ≡ 0 → ⊥) × (c.args.at.left ≡ 0 → ⊥) = both_left _ _ c.entry-code.ensures c.if-code-ne0.false in
+    let d : (c.args.at.levels ≡ 0 → ⊥) × (c.args.at.left ≡ 0 → ⊥) = both_left _ _ _ c.entry.ensures c.in_default.not-Err in
     let b : PutEntered c.args.sheet.now c.args.table.now c.args.arena.now c.args.slots.now (Shown c.args.view.now) c.args.scope c.args.cells.now c.args.at.cells
     c.args.at.top c.args.at.levels c.args.at.left c.args.node
     c.byte_of-kind.result = record { asked = c.requires; deep = d.0; paid = d.1; kind = c.byte_of-kind.ensures } in
@@ -364,7 +368,7 @@ put_node-returns-then-kind-eq26 t c =
 
 pub put_node-put_add-put-requires : goal.put_node-put_add-put-requires
 put_node-put_add-put-requires t c =
-    let d : (c.args.at.levels ≡ 0 → ⊥) × (c.args.at.left ≡ 0 → ⊥) = both_left _ _ c.entry-code.ensures c.if-code-ne0.false in
+    let d : (c.args.at.levels ≡ 0 → ⊥) × (c.args.at.left ≡ 0 → ⊥) = both_left _ _ _ c.entry.ensures c.in_default.not-Err in
     let b : PutEntered c.args.sheet.now c.args.table.now c.args.arena.now c.args.slots.now (Shown c.args.view.now) c.args.scope c.args.cells.now c.args.at.cells
     c.args.at.top c.args.at.levels c.args.at.left c.args.node
     c.byte_of-kind.result = record { asked = c.requires; deep = d.0; paid = d.1; kind = c.byte_of-kind.ensures } in
@@ -383,7 +387,7 @@ put_node-put_add-put-requires t c =
 
 pub put_node-returns-then-kind-lt28 : goal.put_node-returns-then-kind-lt28
 put_node-returns-then-kind-lt28 t c =
-    let d : (c.args.at.levels ≡ 0 → ⊥) × (c.args.at.left ≡ 0 → ⊥) = both_left _ _ c.entry-code.ensures c.if-code-ne0.false in
+    let d : (c.args.at.levels ≡ 0 → ⊥) × (c.args.at.left ≡ 0 → ⊥) = both_left _ _ _ c.entry.ensures c.in_default.not-Err in
     let b : PutEntered c.args.sheet.now c.args.table.now c.args.arena.now c.args.slots.now (Shown c.args.view.now) c.args.scope c.args.cells.now c.args.at.cells
     c.args.at.top c.args.at.levels c.args.at.left c.args.node
     c.byte_of-kind.result = record { asked = c.requires; deep = d.0; paid = d.1; kind = c.byte_of-kind.ensures } in
@@ -396,7 +400,7 @@ put_node-returns-then-kind-lt28 t c =
 
 pub put_node-put_each-put-requires : goal.put_node-put_each-put-requires
 put_node-put_each-put-requires t c =
-    let d : (c.args.at.levels ≡ 0 → ⊥) × (c.args.at.left ≡ 0 → ⊥) = both_left _ _ c.entry-code.ensures c.if-code-ne0.false in
+    let d : (c.args.at.levels ≡ 0 → ⊥) × (c.args.at.left ≡ 0 → ⊥) = both_left _ _ _ c.entry.ensures c.in_default.not-Err in
     let b : PutEntered c.args.sheet.now c.args.table.now c.args.arena.now c.args.slots.now (Shown c.args.view.now) c.args.scope c.args.cells.now c.args.at.cells
     c.args.at.top c.args.at.levels c.args.at.left c.args.node
     c.byte_of-kind.result = record { asked = c.requires; deep = d.0; paid = d.1; kind = c.byte_of-kind.ensures } in
@@ -405,7 +409,7 @@ put_node-put_each-put-requires t c =
 
 pub put_node-returns-then-kind-eq28 : goal.put_node-returns-then-kind-eq28
 put_node-returns-then-kind-eq28 t c =
-    let d : (c.args.at.levels ≡ 0 → ⊥) × (c.args.at.left ≡ 0 → ⊥) = both_left _ _ c.entry-code.ensures c.if-code-ne0.false in
+    let d : (c.args.at.levels ≡ 0 → ⊥) × (c.args.at.left ≡ 0 → ⊥) = both_left _ _ _ c.entry.ensures c.in_default.not-Err in
     let b : PutEntered c.args.sheet.now c.args.table.now c.args.arena.now c.args.slots.now (Shown c.args.view.now) c.args.scope c.args.cells.now c.args.at.cells
     c.args.at.top c.args.at.levels c.args.at.left c.args.node
     c.byte_of-kind.result = record { asked = c.requires; deep = d.0; paid = d.1; kind = c.byte_of-kind.ensures } in
@@ -418,7 +422,7 @@ put_node-returns-then-kind-eq28 t c =
 
 pub put_node-returns : goal.put_node-returns
 put_node-returns t c =
-    let d : (c.args.at.levels ≡ 0 → ⊥) × (c.args.at.left ≡ 0 → ⊥) = both_left _ _ c.entry-code.ensures c.if-code-ne0.false in
+    let d : (c.args.at.levels ≡ 0 → ⊥) × (c.args.at.left ≡ 0 → ⊥) = both_left _ _ _ c.entry.ensures c.in_default.not-Err in
     let b : PutEntered c.args.sheet.now c.args.table.now c.args.arena.now c.args.slots.now (Shown c.args.view.now) c.args.scope c.args.cells.now c.args.at.cells
     c.args.at.top c.args.at.levels c.args.at.left c.args.node
     c.byte_of-kind.result = record { asked = c.requires; deep = d.0; paid = d.1; kind = c.byte_of-kind.ensures } in
@@ -431,7 +435,8 @@ put_node-returns t c =
     own_as c.below-to.ensures (body_ready b) in
     let p : TaskTells c.args.sheet.now c.args.arena.now c.leave-2.new.arena c.args.slots.now c.args.slots.now c.args.scope c.args.cells.now c.args.view.now
     c.args.at c.leave-2.result (enter c.args.node) × Few c.args.at.left c.leave-2.result = body_told b (gives_at c.below-to.ensures
-    (wide_told a k c.put_wide-put.ensures)) (left_by (node_few c.requires.sheet c.requires.known) (omega (arith, c.requires.room))
+    (wide_told a k (rw c.wide_bytes-constant.ensures at c.put_bytes-put.ensures))) (left_by (node_few c.requires.sheet c.requires.known) (omega
+    (arith, c.requires.room))
     (c.leave-2.ensures.value, c.leave-2.ensures.arena_after)) in
     record { task_tells = p.0; few = p.1 }
 
@@ -489,7 +494,7 @@ put_case-returns-in-Plain t c =
       took = took _ _ r c.in-Plain.is;
     } in
     of_case.plain_told s (of_two.pair_told c.behind-to.ensures c.number_of-branch.ensures c.number_of-subject.ensures c.put_both-put.ensures)
-    (later_as_lem _ c.steps_of.ensures c.later.ensures)
+    (later_as_lem _ c.steps.ensures c.later.ensures)
 
 pub put_case-parts_of-parts-requires : goal.put_case-parts_of-parts-requires
 put_case-parts_of-parts-requires t c =
@@ -567,7 +572,7 @@ put_case-returns-in-Parts t c =
     (get_or c.args.sheet.now (c.args.own.from + 1) 0) c.get_node-got.result c.in-Parts.mid =
     c.parts_of-parts.ensures ∙ ap₂ (λ (x y : ℕ). of_under.got_parts (made_of c.args.own.kind) x y c.get_node-got.result c.in-Parts.mid)
     c.number_of-branch-in-Parts.ensures c.number_of-subject.ensures in
-    of_case.parts_told s (of_under.under_as c.behind-to.ensures q c.put_under-put.ensures) (later_as_lem _ c.steps_of-in-Parts.ensures c.later-in-Parts.ensures)
+    of_case.parts_told s (of_under.under_as c.behind-to.ensures q c.put_under-put.ensures) (later_as_lem _ c.steps-in-Parts.ensures c.later-in-Parts.ensures)
 
 pub put_case-put_switch-put-requires : goal.put_case-put_switch-put-requires
 put_case-put_switch-put-requires t c =
@@ -617,7 +622,7 @@ put_case-returns-in-Switch t c =
       takes = sym c.in-Switch.is ∙ r;
       took = took _ _ r c.in-Switch.is;
     } in
-    of_case.switch_told s (gives_at c.behind-to.ensures c.put_switch-put.ensures) (later_as_lem _ c.steps_of-in-Switch.ensures c.later-in-Switch.ensures)
+    of_case.switch_told s (gives_at c.behind-to.ensures c.put_switch-put.ensures) (later_as_lem _ c.steps-in-Switch.ensures c.later-in-Switch.ensures)
 
 pub put_case-returns-in-Refused : goal.put_case-returns-in-Refused
 put_case-returns-in-Refused t c =
@@ -627,7 +632,7 @@ put_case-returns-in-Refused t c =
     c.takes.ensures.value ∙ ap₂ (λ (x y : ℕ). take_of c.args.own.kind c.shape_at.result (passes_bytes x c.args.view.now) (passes_bytes y c.args.view.now))
     c.byte_of-first.ensures c.byte_of-second.ensures in
     let s : of_case.PutSubject (put_here c.requires.kind_asked) c.args.view.now c.args.own.node c.args.own.kind c.args.own.from c.get_node-got.result
-    c.get_node-got.new.arena c.shape_at.result (Refused c.in-Refused.code) = record {
+    c.get_node-got.new.arena c.shape_at.result (Refused c.in-Refused.refusal) = record {
       asked = c.requires.kind_asked;
       case = c.requires.case;
       gives = (as_node c.number_of-subject.ensures c.get_node-got.ensures.get_shows);
@@ -669,7 +674,7 @@ put_each-bounds-arena-old t c =
       sized = c.get_node-got.ensures.sized;
       done = sym c.is_refused.ensures ∙ c.if-is_refused.false;
     } in
-    omega (arith, of_each.start_inside s, c.start_of-old.ensures)
+    omega (arith, of_each.start_inside s, c.start-old.ensures)
 
 pub put_each-returns-then-unfit-2 : goal.put_each-returns-then-unfit-2
 put_each-returns-then-unfit-2 t c =
@@ -683,7 +688,7 @@ put_each-returns-then-unfit-2 t c =
       sized = c.get_node-got.ensures.sized;
       done = sym c.is_refused.ensures ∙ c.if-is_refused.false;
     } in
-    of_each.each_43 s (ap (λ (i : ℕ). unfit_rest 3 (get_or c.get_node-got.new.arena i 0)) (sym c.start_of-old.ensures) ∙ sym c.unfit-2.ensures ∙
+    of_each.each_43 s (ap (λ (i : ℕ). unfit_rest 3 (get_or c.get_node-got.new.arena i 0)) (sym c.start-old.ensures) ∙ sym c.unfit-2.ensures ∙
     c.if-unfit-2.true) c.refused-then-unfit-2.ensures
 
 pub put_each-returns-then-count-x : goal.put_each-returns-then-count-x
@@ -698,7 +703,7 @@ put_each-returns-then-count-x t c =
       sized = c.get_node-got.ensures.sized;
       done = sym c.is_refused.ensures ∙ c.if-is_refused.false;
     } in
-    of_each.each_42 s (ap (λ (i : ℕ). unfit_rest 3 (get_or c.get_node-got.new.arena i 0)) (sym c.start_of-old.ensures) ∙ sym c.unfit-2.ensures ∙
+    of_each.each_42 s (ap (λ (i : ℕ). unfit_rest 3 (get_or c.get_node-got.new.arena i 0)) (sym c.start-old.ensures) ∙ sym c.unfit-2.ensures ∙
     c.if-unfit-2.false) (omega (arith, c.number_of-x.ensures, c.if-count-x.true)) c.refused-then-count-x.ensures
 
 pub put_each-put_all-put-requires : goal.put_each-put_all-put-requires
@@ -717,7 +722,7 @@ put_each-put_all-put-requires t c =
     c.get_node-got.new.arena
     c.section_root-root.result = record {
       got = s;
-      fit = (ap (λ (i : ℕ). unfit_rest 3 (get_or c.get_node-got.new.arena i 0)) (sym c.start_of-old.ensures) ∙ sym c.unfit-2.ensures ∙ c.if-unfit-2.false);
+      fit = (ap (λ (i : ℕ). unfit_rest 3 (get_or c.get_node-got.new.arena i 0)) (sym c.start-old.ensures) ∙ sym c.unfit-2.ensures ∙ c.if-unfit-2.false);
       inside = omega (arith, c.number_of-x.ensures, c.if-count-x.false);
       root_is = c.section_root-root.ensures ∙ ap (section_at c.args.sheet.now) c.number_of.ensures;
     } in
@@ -726,8 +731,8 @@ put_each-put_all-put-requires t c =
       x = c.number_of-x.result;
       root = c.section_root-root.result;
       default = c.number_of-default.result;
-      old = c.start_of-old.result;
-    }) (of_each.each_by i) = of_each.by_as c.number_of-subject.ensures c.number_of-x.ensures c.number_of-default.ensures c.start_of-old.ensures in
+      old = c.start-old.result;
+    }) (of_each.each_by i) = of_each.by_as c.number_of-subject.ensures c.number_of-x.ensures c.number_of-default.ensures c.start-old.ensures in
     let l = levels_as c.behind-to.ensures in
     (omega (arith, c.decreases), (of_members.asked_as c.behind-to.ensures b (of_each.members_asks i), of_each.view_is i))
 
@@ -747,7 +752,7 @@ put_each-returns t c =
     c.get_node-got.new.arena
     c.section_root-root.result = record {
       got = s;
-      fit = (ap (λ (i : ℕ). unfit_rest 3 (get_or c.get_node-got.new.arena i 0)) (sym c.start_of-old.ensures) ∙ sym c.unfit-2.ensures ∙ c.if-unfit-2.false);
+      fit = (ap (λ (i : ℕ). unfit_rest 3 (get_or c.get_node-got.new.arena i 0)) (sym c.start-old.ensures) ∙ sym c.unfit-2.ensures ∙ c.if-unfit-2.false);
       inside = omega (arith, c.number_of-x.ensures, c.if-count-x.false);
       root_is = c.section_root-root.ensures ∙ ap (section_at c.args.sheet.now) c.number_of.ensures;
     } in
@@ -756,9 +761,9 @@ put_each-returns t c =
       x = c.number_of-x.result;
       root = c.section_root-root.result;
       default = c.number_of-default.result;
-      old = c.start_of-old.result;
-    }) (of_each.each_by i) = of_each.by_as c.number_of-subject.ensures c.number_of-x.ensures c.number_of-default.ensures c.start_of-old.ensures in
-    of_each.each_told i (of_members.told_as c.behind-to.ensures b c.put_all-put.ensures) (later_as_lem _ c.steps_of.ensures c.later.ensures)
+      old = c.start-old.result;
+    }) (of_each.each_by i) = of_each.by_as c.number_of-subject.ensures c.number_of-x.ensures c.number_of-default.ensures c.start-old.ensures in
+    of_each.each_told i (of_members.told_as c.behind-to.ensures b c.put_all-put.ensures) (later_as_lem _ c.steps.ensures c.later.ensures)
 
 pub put_rebuilt-offset_bounds-slots-c : goal.put_rebuilt-offset_bounds-slots-c
 put_rebuilt-offset_bounds-slots-c t c =
@@ -948,14 +953,14 @@ pub put_switch-overflow_add-first : goal.put_switch-overflow_add-first
 put_switch-overflow_add-first t c =
     let d : is_refusal c.defaults-got.result ≡ false = sym c.is_refused.ensures ∙ c.if-is_refused.false in
     let z = c.defaults-got.ensures.sizes d in
-    record { fits = omega (arith, c.start_of-first.ensures, c.len_of-second.ensures, z.0, z.1) }
+    record { fits = omega (arith, c.start-first.ensures, c.len-second.ensures, z.0, z.1) }
 
 pub put_switch-raised-to-requires : goal.put_switch-raised-to-requires
 put_switch-raised-to-requires t c =
     let d : is_refusal c.defaults-got.result ≡ false = sym c.is_refused.ensures ∙ c.if-is_refused.false in
     let z = c.defaults-got.ensures.sizes d in
     let e = ap (λ (x : Where). x.top) c.after-then.ensures in
-    omega (arith, c.start_of-first.ensures, c.len_of-second.ensures, z.0, z.1, c.requires.levels_bound)
+    omega (arith, c.start-first.ensures, c.len-second.ensures, z.0, z.1, c.requires.levels_bound)
 
 pub put_switch-put_under-put-requires : goal.put_switch-put_under-put-requires
 put_switch-put_under-put-requires t c =
@@ -970,23 +975,23 @@ put_switch-put_under-put-requires t c =
       left = c.args.at.left - steps_of c.defaults-got.result;
       top = c.args.at.top + (start_of c.defaults-got.result + len_of c.defaults-got.result);
       cells = c.args.at.cells;
-    } = c.raised-to.ensures ∙ ap (λ (x : Where). raised_of x (c.start_of-first.result + c.len_of-second.result)) c.after-then.ensures
+    } = c.raised-to.ensures ∙ ap (λ (x : Where). raised_of x (c.start-first.result + c.len-second.result)) c.after-then.ensures
     ∙ ap₂ (λ (f l : ℕ). record {
       levels = c.args.at.levels;
       left = c.args.at.left - steps_of c.defaults-got.result;
       top = c.args.at.top + (f + l);
       cells = c.args.at.cells;
     })
-    c.start_of-first.ensures c.len_of-second.ensures in
+    c.start-first.ensures c.len-second.ensures in
     let q : ◌≡◌ {A = PartsOf} (record {
       kind = 3;
       branch = c.number_of-branch.result;
       subject = c.number_of-subject.result;
       start = c.args.at.top;
-      first = c.start_of-first.result;
-      second = c.len_of-second.result;
+      first = c.start-first.result;
+      second = c.len-second.result;
     }) (of_switch.switch_parts w c.defaults-got.ensures d) =
-    of_under.parts_as c.number_of-branch.ensures c.number_of-subject.ensures c.start_of-first.ensures c.len_of-second.ensures in
+    of_under.parts_as c.number_of-branch.ensures c.number_of-subject.ensures c.start-first.ensures c.len-second.ensures in
     let u = of_switch.switch_under w c.defaults-got.ensures d in
     let l = levels_as p in
     (omega (arith, c.decreases), (of_under.under_ready p q u.asked, (inner_at p u.inner, of_under.some_at p q u.parts)))
@@ -1004,27 +1009,27 @@ put_switch-returns t c =
       left = c.args.at.left - steps_of c.defaults-got.result;
       top = c.args.at.top + (start_of c.defaults-got.result + len_of c.defaults-got.result);
       cells = c.args.at.cells;
-    } = c.raised-to.ensures ∙ ap (λ (x : Where). raised_of x (c.start_of-first.result + c.len_of-second.result)) c.after-then.ensures
+    } = c.raised-to.ensures ∙ ap (λ (x : Where). raised_of x (c.start-first.result + c.len-second.result)) c.after-then.ensures
     ∙ ap₂ (λ (f l : ℕ). record {
       levels = c.args.at.levels;
       left = c.args.at.left - steps_of c.defaults-got.result;
       top = c.args.at.top + (f + l);
       cells = c.args.at.cells;
     })
-    c.start_of-first.ensures c.len_of-second.ensures in
+    c.start-first.ensures c.len-second.ensures in
     let q : ◌≡◌ {A = PartsOf} (record {
       kind = 3;
       branch = c.number_of-branch.result;
       subject = c.number_of-subject.result;
       start = c.args.at.top;
-      first = c.start_of-first.result;
-      second = c.len_of-second.result;
+      first = c.start-first.result;
+      second = c.len-second.result;
     }) (of_switch.switch_parts w c.defaults-got.ensures d) =
-    of_under.parts_as c.number_of-branch.ensures c.number_of-subject.ensures c.start_of-first.ensures c.len_of-second.ensures in
+    of_under.parts_as c.number_of-branch.ensures c.number_of-subject.ensures c.start-first.ensures c.len-second.ensures in
     let u = of_switch.switch_under w c.defaults-got.ensures d in
     let o = of_under.under_as p q c.put_under-put.ensures in
     of_switch.switch_told w c.defaults-got.ensures d o (λ n. (few u.asked (o _ _ u.parts.parts)).at n)
-    (later_as_lem _ c.steps_of.ensures c.later.ensures)
+    (later_as_lem _ c.steps.ensures c.later.ensures)
 
 pub put_under-offset_bounds-slots-c : goal.put_under-offset_bounds-slots-c
 put_under-offset_bounds-slots-c t c =
@@ -1095,8 +1100,8 @@ put_under-with_two-inner-requires t c =
     } in
     of_under.under_stored a
 
-pub put_under-with_two_cells-to-requires : goal.put_under-with_two_cells-to-requires
-put_under-with_two_cells-to-requires t c =
+pub put_under-with_cells-to-requires : goal.put_under-with_cells-to-requires
+put_under-with_cells-to-requires t c =
     let r : (c.args.at.cells + 2 ≤ variable_limit) × (c.args.scope.count + 2 ≤ variable_limit) = (
       omega (
         arith,
@@ -1122,9 +1127,10 @@ put_under-put_node-one-requires t c =
       ),
       omega (arith, c.requires.inner.variables, c.requires.inner.some),
     ) in
-    let k : c.add_cells.new.cells ≡ added_two c.args.cells.now c.args.scope.count c.args.at.cells (c.args.at.cells + 1) = c.add_cells.ensures.inside r in
-    let l = levels_as c.with_two_cells-to.ensures in
-    (omega (arith, c.decreases), ready_as c.with_two_cells-to.ensures c.with_two-inner.ensures k refl (of_under.under_asks₁ a))
+    let k : c.add_cells.new.cells ≡ added_two c.args.cells.now c.args.scope.count c.args.at.cells (c.args.at.cells + 1) =
+    (rw c.from.ensures at c.add_cells.ensures).inside r in
+    let l = levels_as c.with_cells-to.ensures in
+    (omega (arith, c.decreases), ready_as c.with_cells-to.ensures c.with_two-inner.ensures k refl (of_under.under_asks₁ a))
 
 pub put_under-returns-then-is_refused : goal.put_under-returns-then-is_refused
 put_under-returns-then-is_refused t c =
@@ -1141,15 +1147,16 @@ put_under-returns-then-is_refused t c =
       ),
       omega (arith, c.requires.inner.variables, c.requires.inner.some),
     ) in
-    let k : c.add_cells.new.cells ≡ added_two c.args.cells.now c.args.scope.count c.args.at.cells (c.args.at.cells + 1) = c.add_cells.ensures.inside r in
+    let k : c.add_cells.new.cells ≡ added_two c.args.cells.now c.args.scope.count c.args.at.cells (c.args.at.cells + 1) =
+    (rw c.from.ensures at c.add_cells.ensures).inside r in
     let o : PutTold (of_under.inner_here a) (Shown c.args.view.now) c.put_node-one.new.arena c.put_node-one.new.slots c.put_node-one.result
     (enter c.args.parts.branch) =
-    shows_as c.with_two_cells-to.ensures c.with_two-inner.ensures k refl c.put_node-one.ensures.task_tells in
+    shows_as c.with_cells-to.ensures c.with_two-inner.ensures k refl c.put_node-one.ensures.task_tells in
     of_under.under_refused a o (sym c.is_refused.ensures ∙ c.if-is_refused.true)
 
 pub put_under-after-then-requires : goal.put_under-after-then-requires
 put_under-after-then-requires t c =
-    let f : Few c.args.at.left c.put_node-one.result = few_at c.with_two_cells-to.ensures c.put_node-one.ensures.few in
+    let f : Few c.args.at.left c.put_node-one.result = few_at c.with_cells-to.ensures c.put_node-one.ensures.few in
     let d : is_refusal c.put_node-one.result ≡ false = sym c.is_refused.ensures ∙ c.if-is_refused.false in
     f.at d
 
@@ -1168,10 +1175,11 @@ put_under-put_rebuilt-two-requires t c =
       ),
       omega (arith, c.requires.inner.variables, c.requires.inner.some),
     ) in
-    let k : c.add_cells.new.cells ≡ added_two c.args.cells.now c.args.scope.count c.args.at.cells (c.args.at.cells + 1) = c.add_cells.ensures.inside r in
+    let k : c.add_cells.new.cells ≡ added_two c.args.cells.now c.args.scope.count c.args.at.cells (c.args.at.cells + 1) =
+    (rw c.from.ensures at c.add_cells.ensures).inside r in
     let o : PutTold (of_under.inner_here a) (Shown c.args.view.now) c.put_node-one.new.arena c.put_node-one.new.slots c.put_node-one.result
     (enter c.args.parts.branch) =
-    shows_as c.with_two_cells-to.ensures c.with_two-inner.ensures k refl c.put_node-one.ensures.task_tells in
+    shows_as c.with_cells-to.ensures c.with_two-inner.ensures k refl c.put_node-one.ensures.task_tells in
     let d : is_refusal c.put_node-one.result ≡ false = sym c.is_refused.ensures ∙ c.if-is_refused.false in
     let l = levels_as c.after-then.ensures in (
       omega (arith, c.decreases),
@@ -1196,14 +1204,15 @@ put_under-returns t c =
       ),
       omega (arith, c.requires.inner.variables, c.requires.inner.some),
     ) in
-    let k : c.add_cells.new.cells ≡ added_two c.args.cells.now c.args.scope.count c.args.at.cells (c.args.at.cells + 1) = c.add_cells.ensures.inside r in
+    let k : c.add_cells.new.cells ≡ added_two c.args.cells.now c.args.scope.count c.args.at.cells (c.args.at.cells + 1) =
+    (rw c.from.ensures at c.add_cells.ensures).inside r in
     let o : PutTold (of_under.inner_here a) (Shown c.args.view.now) c.put_node-one.new.arena c.put_node-one.new.slots c.put_node-one.result
     (enter c.args.parts.branch) =
-    shows_as c.with_two_cells-to.ensures c.with_two-inner.ensures k refl c.put_node-one.ensures.task_tells in
+    shows_as c.with_cells-to.ensures c.with_two-inner.ensures k refl c.put_node-one.ensures.task_tells in
     let d : is_refusal c.put_node-one.result ≡ false = sym c.is_refused.ensures ∙ c.if-is_refused.false in
-    let f : Few c.args.at.left c.put_node-one.result = few_at c.with_two_cells-to.ensures c.put_node-one.ensures.few in
+    let f : Few c.args.at.left c.put_node-one.result = few_at c.with_cells-to.ensures c.put_node-one.ensures.few in
     of_under.under_told a o d f (few_at c.after-then.ensures c.put_rebuilt-two.ensures.few)
-    (of_under.rest_as c.after-then.ensures c.put_rebuilt-two.ensures.put_shows) (later_as_lem _ c.steps_of.ensures c.later.ensures)
+    (of_under.rest_as c.after-then.ensures c.put_rebuilt-two.ensures.put_shows) (later_as_lem _ c.steps.ensures c.later.ensures)
 
 pub put_one-slice_bounds-middle-count : goal.put_one-slice_bounds-middle-count
 put_one-slice_bounds-middle-count t c =
@@ -1295,9 +1304,9 @@ put_one-member-inner-requires t c =
     let h : is_refusal c.stood_for-stood.result ≡ false = sym c.is_refused.ensures ∙ c.if-is_refused.false in
     let z = of_member.stood_sizes s h in (
       r.1,
-      omega (arith, c.start_of-start.ensures, c.requires.members_asked.room, z.0, z.1, z.2),
-      omega (arith, c.len_of-len.ensures, z.0, z.1, z.2),
-      omega (arith, c.len_of-len.ensures, z.0, z.1, z.2),
+      omega (arith, c.start-start.ensures, c.requires.members_asked.room, z.0, z.1, z.2),
+      omega (arith, c.len-len.ensures, z.0, z.1, z.2),
+      omega (arith, c.len-len.ensures, z.0, z.1, z.2),
     )
 
 pub put_one-behind-requires : goal.put_one-behind-requires
@@ -1309,8 +1318,8 @@ put_one-behind-requires t c =
     let h : is_refusal c.stood_for-stood.result ≡ false = sym c.is_refused.ensures ∙ c.if-is_refused.false in
     (of_member.stood_sizes s h).3
 
-pub put_one-with_cell-to-requires : goal.put_one-with_cell-to-requires
-put_one-with_cell-to-requires t c =
+pub put_one-with_cells-to-requires : goal.put_one-with_cells-to-requires
+put_one-with_cells-to-requires t c =
     let r : (c.args.turn.at.cells + 1 ≤ 109) × (c.args.turn.by.x < variable_limit) = (
       omega (
         arith,
@@ -1348,10 +1357,10 @@ put_one-put_node-put-requires t c =
     } in
     let h : is_refusal c.stood_for-stood.result ≡ false = sym c.is_refused.ensures ∙ c.if-is_refused.false in
     let i : c.member-inner.result ≡ with_member c.args.scope c.args.turn.by.x (start_of c.stood_for-stood.result) (len_of c.stood_for-stood.result) =
-    c.member-inner.ensures ∙ ap₂ (with_member c.args.scope c.args.turn.by.x) c.start_of-start.ensures c.len_of-len.ensures in
+    c.member-inner.ensures ∙ ap₂ (with_member c.args.scope c.args.turn.by.x) c.start-start.ensures c.len-len.ensures in
     let k : c.member_cells-two.result ≡ front_two c.args.cells.now c.args.turn.at.cells (get_or c.args.cells.now c.args.turn.by.x
     0) = c.member_cells-two.ensures.inside (omega (arith, r.0), r.1) in
-    let p : c.with_cell-to.result ≡ with_cell_of (behind_of c.args.turn.at c.stood_for-stood.result) = c.with_cell-to.ensures ∙
+    let p : c.with_cells-to.result ≡ with_cell_of (behind_of c.args.turn.at c.stood_for-stood.result) = c.with_cells-to.ensures ∙
     ap with_cell_of c.behind.ensures in
     let l = levels_as p in
     (omega (arith, c.decreases), ready_as p i k refl (of_member.member_asks s h c.requires.some_view))
@@ -1377,10 +1386,10 @@ put_one-returns-then-is_refused-2 t c =
     } in
     let h : is_refusal c.stood_for-stood.result ≡ false = sym c.is_refused.ensures ∙ c.if-is_refused.false in
     let i : c.member-inner.result ≡ with_member c.args.scope c.args.turn.by.x (start_of c.stood_for-stood.result) (len_of c.stood_for-stood.result) =
-    c.member-inner.ensures ∙ ap₂ (with_member c.args.scope c.args.turn.by.x) c.start_of-start.ensures c.len_of-len.ensures in
+    c.member-inner.ensures ∙ ap₂ (with_member c.args.scope c.args.turn.by.x) c.start-start.ensures c.len-len.ensures in
     let k : c.member_cells-two.result ≡ front_two c.args.cells.now c.args.turn.at.cells (get_or c.args.cells.now c.args.turn.by.x
     0) = c.member_cells-two.ensures.inside (omega (arith, r.0), r.1) in
-    let p : c.with_cell-to.result ≡ with_cell_of (behind_of c.args.turn.at c.stood_for-stood.result) = c.with_cell-to.ensures ∙
+    let p : c.with_cells-to.result ≡ with_cell_of (behind_of c.args.turn.at c.stood_for-stood.result) = c.with_cells-to.ensures ∙
     ap with_cell_of c.behind.ensures in
     let o : PutTold (of_member.member_here s h) (Shown c.args.view.now) c.put_node-put.new.arena c.put_node-put.new.slots c.put_node-put.result
     (enter c.args.turn.by.root) =
@@ -1442,10 +1451,10 @@ put_one-overflow_add-size t c =
     } in
     let h : is_refusal c.stood_for-stood.result ≡ false = sym c.is_refused.ensures ∙ c.if-is_refused.false in
     let i : c.member-inner.result ≡ with_member c.args.scope c.args.turn.by.x (start_of c.stood_for-stood.result) (len_of c.stood_for-stood.result) =
-    c.member-inner.ensures ∙ ap₂ (with_member c.args.scope c.args.turn.by.x) c.start_of-start.ensures c.len_of-len.ensures in
+    c.member-inner.ensures ∙ ap₂ (with_member c.args.scope c.args.turn.by.x) c.start-start.ensures c.len-len.ensures in
     let k : c.member_cells-two.result ≡ front_two c.args.cells.now c.args.turn.at.cells (get_or c.args.cells.now c.args.turn.by.x
     0) = c.member_cells-two.ensures.inside (omega (arith, r.0), r.1) in
-    let p : c.with_cell-to.result ≡ with_cell_of (behind_of c.args.turn.at c.stood_for-stood.result) = c.with_cell-to.ensures ∙
+    let p : c.with_cells-to.result ≡ with_cell_of (behind_of c.args.turn.at c.stood_for-stood.result) = c.with_cells-to.ensures ∙
     ap with_cell_of c.behind.ensures in
     let o : PutTold (of_member.member_here s h) (Shown c.args.view.now) c.put_node-put.new.arena c.put_node-put.new.slots c.put_node-put.result
     (enter c.args.turn.by.root) =
@@ -1454,7 +1463,7 @@ put_one-overflow_add-size t c =
     let f : Few (c.args.turn.at.left - steps_of c.stood_for-stood.result) c.put_node-put.result = few_at p c.put_node-put.ensures.few in
     let n : c.place_of-now.result ≡ place_of (get_or c.put_node-put.new.slots c.args.turn.at.cells 0) c.args.turn.at.cells (start_of c.stood_for-stood.result)
     (len_of c.stood_for-stood.result) = c.place_of-now.ensures.inside (omega (arith, r.0))
-    ∙ ap₂ (place_of (get_or c.put_node-put.new.slots c.args.turn.at.cells 0) c.args.turn.at.cells) c.start_of-start.ensures c.len_of-len.ensures in
+    ∙ ap₂ (place_of (get_or c.put_node-put.new.slots c.args.turn.at.cells 0) c.args.turn.at.cells) c.start-start.ensures c.len-len.ensures in
     let z : (c.place_of-now.result.len ≤ 256) × (c.place_of-now.result.start + c.place_of-now.result.len ≤ length c.put_node-put.new.arena) =
     of_member.now_there s h o d f n c.requires.some_view in
     record { fits = omega (arith, z.0) }
@@ -1480,10 +1489,10 @@ put_one-returns-then-overlong t c =
     } in
     let h : is_refusal c.stood_for-stood.result ≡ false = sym c.is_refused.ensures ∙ c.if-is_refused.false in
     let i : c.member-inner.result ≡ with_member c.args.scope c.args.turn.by.x (start_of c.stood_for-stood.result) (len_of c.stood_for-stood.result) =
-    c.member-inner.ensures ∙ ap₂ (with_member c.args.scope c.args.turn.by.x) c.start_of-start.ensures c.len_of-len.ensures in
+    c.member-inner.ensures ∙ ap₂ (with_member c.args.scope c.args.turn.by.x) c.start-start.ensures c.len-len.ensures in
     let k : c.member_cells-two.result ≡ front_two c.args.cells.now c.args.turn.at.cells (get_or c.args.cells.now c.args.turn.by.x
     0) = c.member_cells-two.ensures.inside (omega (arith, r.0), r.1) in
-    let p : c.with_cell-to.result ≡ with_cell_of (behind_of c.args.turn.at c.stood_for-stood.result) = c.with_cell-to.ensures ∙
+    let p : c.with_cells-to.result ≡ with_cell_of (behind_of c.args.turn.at c.stood_for-stood.result) = c.with_cells-to.ensures ∙
     ap with_cell_of c.behind.ensures in
     let o : PutTold (of_member.member_here s h) (Shown c.args.view.now) c.put_node-put.new.arena c.put_node-put.new.slots c.put_node-put.result
     (enter c.args.turn.by.root) =
@@ -1492,7 +1501,7 @@ put_one-returns-then-overlong t c =
     let f : Few (c.args.turn.at.left - steps_of c.stood_for-stood.result) c.put_node-put.result = few_at p c.put_node-put.ensures.few in
     let n : c.place_of-now.result ≡ place_of (get_or c.put_node-put.new.slots c.args.turn.at.cells 0) c.args.turn.at.cells (start_of c.stood_for-stood.result)
     (len_of c.stood_for-stood.result) = c.place_of-now.ensures.inside (omega (arith, r.0))
-    ∙ ap₂ (place_of (get_or c.put_node-put.new.slots c.args.turn.at.cells 0) c.args.turn.at.cells) c.start_of-start.ensures c.len_of-len.ensures in
+    ∙ ap₂ (place_of (get_or c.put_node-put.new.slots c.args.turn.at.cells 0) c.args.turn.at.cells) c.start-start.ensures c.len-len.ensures in
     let l = ltb-true 256 (c.args.turn.built + (1 + c.place_of-now.result.len) + 1) (sym c.overlong.ensures ∙ c.if-overlong.true) in
     of_member.member_44 s h o d f n (omega (arith, l)) c.refused.ensures
 
@@ -1529,10 +1538,10 @@ put_one-fill-requires t c =
     } in
     let h : is_refusal c.stood_for-stood.result ≡ false = sym c.is_refused.ensures ∙ c.if-is_refused.false in
     let i : c.member-inner.result ≡ with_member c.args.scope c.args.turn.by.x (start_of c.stood_for-stood.result) (len_of c.stood_for-stood.result) =
-    c.member-inner.ensures ∙ ap₂ (with_member c.args.scope c.args.turn.by.x) c.start_of-start.ensures c.len_of-len.ensures in
+    c.member-inner.ensures ∙ ap₂ (with_member c.args.scope c.args.turn.by.x) c.start-start.ensures c.len-len.ensures in
     let k : c.member_cells-two.result ≡ front_two c.args.cells.now c.args.turn.at.cells (get_or c.args.cells.now c.args.turn.by.x
     0) = c.member_cells-two.ensures.inside (omega (arith, r.0), r.1) in
-    let p : c.with_cell-to.result ≡ with_cell_of (behind_of c.args.turn.at c.stood_for-stood.result) = c.with_cell-to.ensures ∙
+    let p : c.with_cells-to.result ≡ with_cell_of (behind_of c.args.turn.at c.stood_for-stood.result) = c.with_cells-to.ensures ∙
     ap with_cell_of c.behind.ensures in
     let o : PutTold (of_member.member_here s h) (Shown c.args.view.now) c.put_node-put.new.arena c.put_node-put.new.slots c.put_node-put.result
     (enter c.args.turn.by.root) =
@@ -1541,18 +1550,18 @@ put_one-fill-requires t c =
     let f : Few (c.args.turn.at.left - steps_of c.stood_for-stood.result) c.put_node-put.result = few_at p c.put_node-put.ensures.few in
     let n : c.place_of-now.result ≡ place_of (get_or c.put_node-put.new.slots c.args.turn.at.cells 0) c.args.turn.at.cells (start_of c.stood_for-stood.result)
     (len_of c.stood_for-stood.result) = c.place_of-now.ensures.inside (omega (arith, r.0))
-    ∙ ap₂ (place_of (get_or c.put_node-put.new.slots c.args.turn.at.cells 0) c.args.turn.at.cells) c.start_of-start.ensures c.len_of-len.ensures in
+    ∙ ap₂ (place_of (get_or c.put_node-put.new.slots c.args.turn.at.cells 0) c.args.turn.at.cells) c.start-start.ensures c.len-len.ensures in
     let z : (c.place_of-now.result.len ≤ 256) × (c.place_of-now.result.start + c.place_of-now.result.len ≤ length c.put_node-put.new.arena) =
     of_member.now_there s h o d f n c.requires.some_view in
     let e : c.args.turn.built + (1 + c.place_of-now.result.len) + 1 ≤ 256 = ltb-false 256 (c.args.turn.built + (1 + c.place_of-now.result.len) + 1)
     (sym c.overlong.ensures ∙ c.if-overlong.false) in
     (simp length-set c.requires.whole_len.0, omega (arith, e), z.1)
 
-pub put_one-overflow_add-steps_of : goal.put_one-overflow_add-steps_of
-put_one-overflow_add-steps_of t c =
+pub put_one-overflow_add-steps : goal.put_one-overflow_add-steps
+put_one-overflow_add-steps t c =
     let x = steps_small c.stood_for-stood.result in
     let y = steps_small c.put_node-put.result in
-    record { fits = omega (arith, c.steps_of.ensures, c.steps_of-2.ensures) }
+    record { fits = omega (arith, c.steps.ensures, c.steps-2.ensures) }
 
 pub put_one-returns : goal.put_one-returns
 put_one-returns t c =
@@ -1579,10 +1588,10 @@ put_one-returns t c =
     } in
     let h : is_refusal c.stood_for-stood.result ≡ false = sym c.is_refused.ensures ∙ c.if-is_refused.false in
     let i : c.member-inner.result ≡ with_member c.args.scope c.args.turn.by.x (start_of c.stood_for-stood.result) (len_of c.stood_for-stood.result) =
-    c.member-inner.ensures ∙ ap₂ (with_member c.args.scope c.args.turn.by.x) c.start_of-start.ensures c.len_of-len.ensures in
+    c.member-inner.ensures ∙ ap₂ (with_member c.args.scope c.args.turn.by.x) c.start-start.ensures c.len-len.ensures in
     let k : c.member_cells-two.result ≡ front_two c.args.cells.now c.args.turn.at.cells (get_or c.args.cells.now c.args.turn.by.x
     0) = c.member_cells-two.ensures.inside (omega (arith, r.0), r.1) in
-    let p : c.with_cell-to.result ≡ with_cell_of (behind_of c.args.turn.at c.stood_for-stood.result) = c.with_cell-to.ensures ∙
+    let p : c.with_cells-to.result ≡ with_cell_of (behind_of c.args.turn.at c.stood_for-stood.result) = c.with_cells-to.ensures ∙
     ap with_cell_of c.behind.ensures in
     let o : PutTold (of_member.member_here s h) (Shown c.args.view.now) c.put_node-put.new.arena c.put_node-put.new.slots c.put_node-put.result
     (enter c.args.turn.by.root) =
@@ -1591,11 +1600,11 @@ put_one-returns t c =
     let f : Few (c.args.turn.at.left - steps_of c.stood_for-stood.result) c.put_node-put.result = few_at p c.put_node-put.ensures.few in
     let n : c.place_of-now.result ≡ place_of (get_or c.put_node-put.new.slots c.args.turn.at.cells 0) c.args.turn.at.cells (start_of c.stood_for-stood.result)
     (len_of c.stood_for-stood.result) = c.place_of-now.ensures.inside (omega (arith, r.0))
-    ∙ ap₂ (place_of (get_or c.put_node-put.new.slots c.args.turn.at.cells 0) c.args.turn.at.cells) c.start_of-start.ensures c.len_of-len.ensures in
+    ∙ ap₂ (place_of (get_or c.put_node-put.new.slots c.args.turn.at.cells 0) c.args.turn.at.cells) c.start-start.ensures c.len-len.ensures in
     let e : c.args.turn.built + (1 + c.place_of-now.result.len) + 1 ≤ 256 = ltb-false 256 (c.args.turn.built + (1 + c.place_of-now.result.len) + 1)
     (sym c.overlong.ensures ∙ c.if-overlong.false) in
-    of_member.member_done s h o d f n (omega (arith, e)) c.requires.whole_len.0 c.fill.ensures.0 c.fill.ensures.1 m
-    (c.done.ensures ∙ ap₂ (λ (x y : ℕ). done_as c.middle-mid.result (1 + c.place_of-now.result.len) (x + y)) c.steps_of.ensures c.steps_of-2.ensures)
+    of_member.member_done s h o d f n (omega (arith, e)) c.requires.whole_len.0 c.fill.ensures.0 c.fill.ensures.1 m c.unwrap_or.ensures
+    (c.done.ensures ∙ ap₂ (λ (x y : ℕ). done_as c.unwrap_or.result (1 + c.place_of-now.result.len) (x + y)) c.steps.ensures c.steps-2.ensures)
 
 pub put_all-loop-from-init : goal.put_all-loop-from-init
 put_all-loop-from-init t c =
@@ -1634,10 +1643,10 @@ put_all-put_one-put-requires t c =
     let i : take (length c.args.view.now - c.loop-from.from) (drop c.loop-from.from c.args.view.now) ≡ drop c.loop-from.from c.args.view.now =
     take_all (length c.args.view.now - c.loop-from.from) (drop c.loop-from.from c.args.view.now) (omega (arith, length-drop c.loop-from.from c.args.view.now))
     in
-    let m : c.middle-mid.result ≡ middle_of (shape_of (drop c.loop-from.from c.args.view.now)) = c.middle-mid.ensures ∙
-    ap (λ (x : List ℕ). middle_of (shape_of x)) i in
-    let f : c.first_part-first.result.now ≡ first_part (drop c.loop-from.from c.args.view.now) c.middle-mid.result = c.first_part-first.ensures ∙
-    ap (λ (x : List ℕ). first_part x c.middle-mid.result) i in
+    let m : c.unwrap_or-mid.result ≡ first_bytes_of (shape_of (drop c.loop-from.from c.args.view.now)) = c.unwrap_or-mid.ensures
+    ∙ ap (λ (o : Option ℕ). unwrap_or o 0) (c.middle.ensures ∙ ap (λ (x : List ℕ). middle_of (shape_of x)) i) in
+    let f : c.first_part-first.result.now ≡ first_part (drop c.loop-from.from c.args.view.now) c.unwrap_or-mid.result = c.first_part-first.ensures ∙
+    ap (λ (x : List ℕ). first_part x c.unwrap_or-mid.result) i in
     let k = c.loop-from.invariant in
     let l = levels_as k.place in (
       omega (arith, c.decreases),
@@ -1656,15 +1665,15 @@ put_all-returns-then-is_refused t c =
     let i : take (length c.args.view.now - c.loop-from.from) (drop c.loop-from.from c.args.view.now) ≡ drop c.loop-from.from c.args.view.now =
     take_all (length c.args.view.now - c.loop-from.from) (drop c.loop-from.from c.args.view.now) (omega (arith, length-drop c.loop-from.from c.args.view.now))
     in
-    let m : c.middle-mid.result ≡ middle_of (shape_of (drop c.loop-from.from c.args.view.now)) = c.middle-mid.ensures ∙
-    ap (λ (x : List ℕ). middle_of (shape_of x)) i in
-    let f : c.first_part-first.result.now ≡ first_part (drop c.loop-from.from c.args.view.now) c.middle-mid.result = c.first_part-first.ensures ∙
-    ap (λ (x : List ℕ). first_part x c.middle-mid.result) i in
+    let m : c.unwrap_or-mid.result ≡ first_bytes_of (shape_of (drop c.loop-from.from c.args.view.now)) = c.unwrap_or-mid.ensures
+    ∙ ap (λ (o : Option ℕ). unwrap_or o 0) (c.middle.ensures ∙ ap (λ (x : List ℕ). middle_of (shape_of x)) i) in
+    let f : c.first_part-first.result.now ≡ first_part (drop c.loop-from.from c.args.view.now) c.unwrap_or-mid.result = c.first_part-first.ensures ∙
+    ap (λ (x : List ℕ). first_part x c.unwrap_or-mid.result) i in
     let k = c.loop-from.invariant in
     let o : of_member.MemberTold c.args.sheet.now c.loop-from.arena c.put_one-put.new.arena c.loop-from.slots c.put_one-put.new.slots c.loop-from.whole
     c.put_one-put.new.whole c.args.scope
     c.args.cells.now (record { subject = c.args.by.subject; x = c.args.by.x; root = c.args.by.root; default = c.args.by.default; old = c.loop-from.next.old })
-    (first_part (drop c.loop-from.from c.args.view.now) c.middle-mid.result) c.loop-from.built c.args.at.cells c.args.at.top c.args.at.levels
+    (first_part (drop c.loop-from.from c.args.view.now) c.unwrap_or-mid.result) c.loop-from.built c.args.at.cells c.args.at.top c.args.at.levels
     c.loop-from.to.left c.put_one-put.result =
     of_members.member_as k.place k.same f c.put_one-put.ensures in
     of_members.member_stops w c.loop-from-test.true m o (sym c.is_refused.ensures ∙ c.if-is_refused.true)
@@ -1678,15 +1687,15 @@ put_all-after-to-requires t c =
     let i : take (length c.args.view.now - c.loop-from.from) (drop c.loop-from.from c.args.view.now) ≡ drop c.loop-from.from c.args.view.now =
     take_all (length c.args.view.now - c.loop-from.from) (drop c.loop-from.from c.args.view.now) (omega (arith, length-drop c.loop-from.from c.args.view.now))
     in
-    let m : c.middle-mid.result ≡ middle_of (shape_of (drop c.loop-from.from c.args.view.now)) = c.middle-mid.ensures ∙
-    ap (λ (x : List ℕ). middle_of (shape_of x)) i in
-    let f : c.first_part-first.result.now ≡ first_part (drop c.loop-from.from c.args.view.now) c.middle-mid.result = c.first_part-first.ensures ∙
-    ap (λ (x : List ℕ). first_part x c.middle-mid.result) i in
+    let m : c.unwrap_or-mid.result ≡ first_bytes_of (shape_of (drop c.loop-from.from c.args.view.now)) = c.unwrap_or-mid.ensures
+    ∙ ap (λ (o : Option ℕ). unwrap_or o 0) (c.middle.ensures ∙ ap (λ (x : List ℕ). middle_of (shape_of x)) i) in
+    let f : c.first_part-first.result.now ≡ first_part (drop c.loop-from.from c.args.view.now) c.unwrap_or-mid.result = c.first_part-first.ensures ∙
+    ap (λ (x : List ℕ). first_part x c.unwrap_or-mid.result) i in
     let k = c.loop-from.invariant in
     let o : of_member.MemberTold c.args.sheet.now c.loop-from.arena c.put_one-put.new.arena c.loop-from.slots c.put_one-put.new.slots c.loop-from.whole
     c.put_one-put.new.whole c.args.scope
     c.args.cells.now (record { subject = c.args.by.subject; x = c.args.by.x; root = c.args.by.root; default = c.args.by.default; old = c.loop-from.next.old })
-    (first_part (drop c.loop-from.from c.args.view.now) c.middle-mid.result) c.loop-from.built c.args.at.cells c.args.at.top c.args.at.levels
+    (first_part (drop c.loop-from.from c.args.view.now) c.unwrap_or-mid.result) c.loop-from.built c.args.at.cells c.args.at.top c.args.at.levels
     c.loop-from.to.left c.put_one-put.result =
     of_members.member_as k.place k.same f c.put_one-put.ensures in
     let d : is_refusal c.put_one-put.result ≡ false = sym c.is_refused.ensures ∙ c.if-is_refused.false in
@@ -1700,7 +1709,7 @@ put_all-overflow_add-next t c =
     record { asked = c.requires.members_asked; list_shown = c.requires.some_list; turned = c.loop-from.invariant } in
     let o = of_members.old_small w in
     let k = start_small c.put_one-put.result in
-    record { fits = omega (arith, c.start_of.ensures, o) }
+    record { fits = omega (arith, c.start.ensures, o) }
 
 pub put_all-overflow_add-from : goal.put_all-overflow_add-from
 put_all-overflow_add-from t c =
@@ -1711,8 +1720,8 @@ put_all-overflow_add-from t c =
     let i : take (length c.args.view.now - c.loop-from.from) (drop c.loop-from.from c.args.view.now) ≡ drop c.loop-from.from c.args.view.now =
     take_all (length c.args.view.now - c.loop-from.from) (drop c.loop-from.from c.args.view.now) (omega (arith, length-drop c.loop-from.from c.args.view.now))
     in
-    let m : c.middle-mid.result ≡ middle_of (shape_of (drop c.loop-from.from c.args.view.now)) = c.middle-mid.ensures ∙
-    ap (λ (x : List ℕ). middle_of (shape_of x)) i in
+    let m : c.unwrap_or-mid.result ≡ first_bytes_of (shape_of (drop c.loop-from.from c.args.view.now)) = c.unwrap_or-mid.ensures
+    ∙ ap (λ (o : Option ℕ). unwrap_or o 0) (c.middle.ensures ∙ ap (λ (x : List ℕ). middle_of (shape_of x)) i) in
     let k = of_members.mid_inside w c.loop-from-test.true m in
     record { fits = omega (arith, k.1, k.2) }
 
@@ -1720,7 +1729,7 @@ pub put_all-overflow_add-built : goal.put_all-overflow_add-built
 put_all-overflow_add-built t c =
     let k = c.loop-from.invariant in
     let l = len_small c.put_one-put.result in
-    record { fits = omega (arith, c.len_of-built.ensures, k.short) }
+    record { fits = omega (arith, c.len-built.ensures, k.short) }
 
 pub put_all-loop-from-smaller : goal.put_all-loop-from-smaller
 put_all-loop-from-smaller t c =
@@ -1731,8 +1740,8 @@ put_all-loop-from-smaller t c =
     let i : take (length c.args.view.now - c.loop-from.from) (drop c.loop-from.from c.args.view.now) ≡ drop c.loop-from.from c.args.view.now =
     take_all (length c.args.view.now - c.loop-from.from) (drop c.loop-from.from c.args.view.now) (omega (arith, length-drop c.loop-from.from c.args.view.now))
     in
-    let m : c.middle-mid.result ≡ middle_of (shape_of (drop c.loop-from.from c.args.view.now)) = c.middle-mid.ensures ∙
-    ap (λ (x : List ℕ). middle_of (shape_of x)) i in
+    let m : c.unwrap_or-mid.result ≡ first_bytes_of (shape_of (drop c.loop-from.from c.args.view.now)) = c.unwrap_or-mid.ensures
+    ∙ ap (λ (o : Option ℕ). unwrap_or o 0) (c.middle.ensures ∙ ap (λ (x : List ℕ). middle_of (shape_of x)) i) in
     let k = of_members.mid_inside w c.loop-from-test.true m in
     omega (arith, k)
 
@@ -1745,15 +1754,15 @@ put_all-loop-from-preserved t c =
     let i : take (length c.args.view.now - c.loop-from.from) (drop c.loop-from.from c.args.view.now) ≡ drop c.loop-from.from c.args.view.now =
     take_all (length c.args.view.now - c.loop-from.from) (drop c.loop-from.from c.args.view.now) (omega (arith, length-drop c.loop-from.from c.args.view.now))
     in
-    let m : c.middle-mid.result ≡ middle_of (shape_of (drop c.loop-from.from c.args.view.now)) = c.middle-mid.ensures ∙
-    ap (λ (x : List ℕ). middle_of (shape_of x)) i in
-    let f : c.first_part-first.result.now ≡ first_part (drop c.loop-from.from c.args.view.now) c.middle-mid.result = c.first_part-first.ensures ∙
-    ap (λ (x : List ℕ). first_part x c.middle-mid.result) i in
+    let m : c.unwrap_or-mid.result ≡ first_bytes_of (shape_of (drop c.loop-from.from c.args.view.now)) = c.unwrap_or-mid.ensures
+    ∙ ap (λ (o : Option ℕ). unwrap_or o 0) (c.middle.ensures ∙ ap (λ (x : List ℕ). middle_of (shape_of x)) i) in
+    let f : c.first_part-first.result.now ≡ first_part (drop c.loop-from.from c.args.view.now) c.unwrap_or-mid.result = c.first_part-first.ensures ∙
+    ap (λ (x : List ℕ). first_part x c.unwrap_or-mid.result) i in
     let k = c.loop-from.invariant in
     let o : of_member.MemberTold c.args.sheet.now c.loop-from.arena c.put_one-put.new.arena c.loop-from.slots c.put_one-put.new.slots c.loop-from.whole
     c.put_one-put.new.whole c.args.scope
     c.args.cells.now (record { subject = c.args.by.subject; x = c.args.by.x; root = c.args.by.root; default = c.args.by.default; old = c.loop-from.next.old })
-    (first_part (drop c.loop-from.from c.args.view.now) c.middle-mid.result) c.loop-from.built c.args.at.cells c.args.at.top c.args.at.levels
+    (first_part (drop c.loop-from.from c.args.view.now) c.unwrap_or-mid.result) c.loop-from.built c.args.at.cells c.args.at.top c.args.at.levels
     c.loop-from.to.left c.put_one-put.result =
     of_members.member_as k.place k.same f c.put_one-put.ensures in
     let d : is_refusal c.put_one-put.result ≡ false = sym c.is_refused.ensures ∙ c.if-is_refused.false in
@@ -1763,7 +1772,7 @@ put_all-loop-from-preserved t c =
       x = c.loop-from.next.x;
       root = c.loop-from.next.root;
       default = c.loop-from.next.default;
-      old = c.loop-from.next.old + c.start_of.result;
+      old = c.loop-from.next.old + c.start.result;
     })
     (record {
       subject = c.args.by.subject;
@@ -1772,15 +1781,15 @@ put_all-loop-from-preserved t c =
       default = c.args.by.default;
       old = c.loop-from.next.old + start_of c.put_one-put.result;
     }) =
-    ap (λ (n : Members). record { subject = n.subject; x = n.x; root = n.root; default = n.default; old = c.loop-from.next.old + c.start_of.result }) k.same
+    ap (λ (n : Members). record { subject = n.subject; x = n.x; root = n.root; default = n.default; old = c.loop-from.next.old + c.start.result }) k.same
     ∙ ap (λ (z : ℕ). record {
       subject = c.args.by.subject;
       x = c.args.by.x;
       root = c.args.by.root;
       default = c.args.by.default;
       old = c.loop-from.next.old + z;
-    }) c.start_of.ensures in
-    of_members.turned_as c.after-to.ensures n refl (ap (λ (z : ℕ). c.loop-from.built + z) c.len_of-built.ensures)
+    }) c.start.ensures in
+    of_members.turned_as c.after-to.ensures n refl (ap (λ (z : ℕ). c.loop-from.built + z) c.len-built.ensures)
     (of_members.member_turned w c.loop-from-test.true m o d)
 
 pub put_all-bounds-whole-built : goal.put_all-bounds-whole-built

@@ -49,21 +49,21 @@ shape_of-arena-then-is_refused c = (returns-then-is_refused c).kept.long
 pub overflow_add-both : goal.overflow_add-both
 overflow_add-both c =
     let z = (told (goal.at.overflow_add-both c).After-two_defaults-got).sizes (done (goal.at.overflow_add-both c).Else-is_refused) in
-    record { fits = omega (arith, c.start_of.ensures, c.len_of.ensures, z.0, z.1) }
+    record { fits = omega (arith, c.start.ensures, c.len.ensures, z.0, z.1) }
 
 pub copy-requires : goal.copy-requires
 copy-requires c =
     let z = down_fits c.requires (told (goal.at.copy-requires c).After-two_defaults-got) (done (goal.at.copy-requires c).Else-is_refused) in
     let t = ap (λ (x : Where). x.top) c.raised-to.ensures in
-    let s = c.start_of.ensures in
-    let n = c.len_of.ensures in
+    let s = c.start.ensures in
+    let n = c.len.ensures in
     (omega (arith, z.0, t, s, n), omega (arith, z.1, s, n))
 
 pub returns : goal.returns
 returns c =
     let t = ap (λ (x : Where). x.top) c.raised-to.ensures in
     view_done c.requires (told (goal.at.returns c).After-two_defaults-got) (done (goal.at.returns c).Else-is_refused)
-    (copied_as t (ap₂ (λ (a b : ℕ). a + b) c.start_of.ensures c.len_of.ensures) c.copy.ensures)
+    (copied_as t (ap₂ (λ (a b : ℕ). a + b) c.start.ensures c.len.ensures) c.copy.ensures)
 
 pub shape_of-arena : goal.shape_of-arena
 shape_of-arena c = (returns c).kept.long

@@ -6,14 +6,14 @@ use Rattle.walk.specs.Put.Under.{got_parts_lem}
 use Rattle.walk.proofs.putter.parts_of.Goals as goal
 
 pub overflow_add-result : goal.overflow_add-result
-overflow_add-result c = let z = start_small c.args.got in record { fits = omega (arith, c.start_of.ensures) }
+overflow_add-result c = let z = start_small c.args.got in record { fits = omega (arith, c.start.ensures) }
 
 pub overflow_sub-result : goal.overflow_sub-result
 overflow_sub-result c = c.requires.0
 
 pub overflow_sub-result-2 : goal.overflow_sub-result-2
-overflow_sub-result-2 c = omega (arith, c.len_of.ensures, c.requires.1)
+overflow_sub-result-2 c = omega (arith, c.len.ensures, c.requires.1)
 
 pub returns : goal.returns
 returns c =
-    got_parts_lem c.args.got c.args.mid c.made.ensures c.start_of.ensures c.len_of.ensures
+    got_parts_lem c.args.got c.args.mid c.made.ensures c.start.ensures c.len.ensures

@@ -2,9 +2,9 @@
 -- Assumes nothing.
 use mathlib.Core.Path.{◌≡◌, ap}
 use native.Mathlib.Omega.{arith}
-use Prim.Native.Nat.{ℕ}
+use Prim.Native.Nat.{ℕ, ◌<◌}
 use lib.ListN.{get_or}
-use Rattle.walk.specs.Put.Leaf.{constant_told, number_told, var_42, var_writable, var_told, Writable, writable_as, write_as, write_by}
+use Rattle.walk.specs.Put.Leaf.{constant_told, number_as, number_told, var_42, var_writable, var_told, Writable, writable_as, write_as, write_by}
 use Rattle.walk.specs.Get.Enter.{node_few}
 use Rattle.walk.proofs.putter.put_leaf.Goals as goal
 use Rattle.walk.proofs.putter.put_leaf.Goals.{After-number_of-x, Else-count-x}
@@ -21,11 +21,14 @@ writable c =
     (var_writable c.requires.kind_asked (is-variable-at-Else-count-x c) (omega (arith, c.number_of-x.ensures, c.if-count-x.false)))
 
 pub returns-then-kind-eq20 : goal.returns-then-kind-eq20
-returns-then-kind-eq20 c = number_told c.requires.kind_asked c.if-kind-eq20.true c.put_number.ensures
+returns-then-kind-eq20 c =
+    let k : c.byte_of-then-kind-eq20.result < 256 = omega arith in
+    number_told c.requires.kind_asked c.if-kind-eq20.true (rw
+    (number_as c.args.sheet.now c.args.own.from c.byte_of.ensures c.byte_of-then-kind-eq20.ensures k) at c.put_bytes.ensures)
 
 pub returns-then-kind-ne16 : goal.returns-then-kind-ne16
 returns-then-kind-ne16 c =
-    constant_told c.requires.kind_asked c.requires.childless c.if-kind-ne16.true c.if-kind-eq20.false c.put_constant.ensures
+    constant_told c.requires.kind_asked c.requires.childless c.if-kind-ne16.true c.if-kind-eq20.false c.put_bytes-then-kind-ne16.ensures
 
 pub returns-then-count-x : goal.returns-then-count-x
 returns-then-count-x c =
@@ -35,17 +38,14 @@ returns-then-count-x c =
       c.if-count-x.true,
     )) c.refused.ensures
 
-pub overflow_cast-c : goal.overflow_cast-c
-overflow_cast-c c = record { fits = omega (arith, (writable (goal.at.overflow_cast-c c).Else-count-x).cell) }
-
 pub returns : goal.returns
 returns c =
     let w = c.requires.kind_asked in
     let g = write_by (writable (goal.at.returns c).Else-count-x) (node_few w.sheet w.known.0) (
-      c.write.ensures.when,
+      rw c.from-c.ensures at c.write.ensures.when,
       (
-        c.write.ensures.when_2,
-        c.write.ensures.when_3,
+        rw c.from-c.ensures at c.write.ensures.when_2,
+        rw c.from-c.ensures at c.write.ensures.when_3,
       ),
     ) in
     var_told w (is-variable (goal.at.returns c).After-number_of-x) (omega (arith, c.number_of-x.ensures, c.if-count-x.false))

@@ -146,11 +146,11 @@ returns-then-unfit c =
 pub shape_of-arena-then-unfit : goal.shape_of-arena-then-unfit
 shape_of-arena-then-unfit c = (returns-then-unfit c).kept.long
 
-pub overflow_add-steps_of : goal.overflow_add-steps_of
-overflow_add-steps_of c =
+pub overflow_add-steps : goal.overflow_add-steps
+overflow_add-steps c =
     let x = steps_small c.bring-a.result in
     let y = steps_small c.bring-b.result in
-    record { fits = omega (arith, c.steps_of.ensures, c.steps_of-2.ensures) }
+    record { fits = omega (arith, c.steps.ensures, c.steps-2.ensures) }
 
 pub returns : goal.returns
 returns c =
@@ -158,10 +158,10 @@ returns c =
     (done₂ (goal.at.returns c).Else-is_refused-2)
     (head (goal.at.returns c).After-bring-b ∙ sym c.unfit.ensures ∙ c.if-unfit.false)
     (rw (
-      c.len_of.ensures,
-      c.len_of-2.ensures,
-      c.steps_of.ensures,
-      c.steps_of-2.ensures,
+      c.len.ensures,
+      c.len-2.ensures,
+      c.steps.ensures,
+      c.steps-2.ensures,
     ) at c.done.ensures)
 
 pub shape_of-arena : goal.shape_of-arena

@@ -3,4 +3,4 @@
 use Rattle.walk.proofs.at.At.after.Goals as goal
 
 pub returns : goal.returns
-returns c = rw c.steps_of.ensures
+returns c = rw c.steps.ensures

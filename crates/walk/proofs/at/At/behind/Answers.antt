@@ -10,16 +10,16 @@ pub overflow_add-end : goal.overflow_add-end
 overflow_add-end c =
     let z = start_small c.args.got in
     let y = len_small c.args.got in
-    record { fits = omega (arith, c.start_of.ensures, c.len_of.ensures) }
+    record { fits = omega (arith, c.start.ensures, c.len.ensures) }
 
 pub returns-then-end-self : goal.returns-then-end-self
 returns-then-end-self c =
-    let e = c.start_of.ensures in
-    let f = c.len_of.ensures in
+    let e = c.start.ensures in
+    let f = c.len.ensures in
     c.after.ensures ∙ rw (top_below c.args.self.top (start_of c.args.got) (len_of c.args.got) (omega (arith, e, f, c.if-end-self.true)))
 
 pub returns : goal.returns
 returns c =
-    let e = c.start_of.ensures in
-    let f = c.len_of.ensures in
-    rw (c.steps_of.ensures, top_above c.args.self.top (start_of c.args.got) (len_of c.args.got) (omega (arith, e, f, c.if-end-self.false)), e, f)
+    let e = c.start.ensures in
+    let f = c.len.ensures in
+    rw (c.steps.ensures, top_above c.args.self.top (start_of c.args.got) (len_of c.args.got) (omega (arith, e, f, c.if-end-self.false)), e, f)

@@ -1,6 +1,0 @@
-use native.Mathlib.Omega.{arith}
-use Rattle.scopes.specs.Storing.{pasting_more}
-use Rattle.scopes.proofs.store.Goals as goal
-
-pub loop-i-preserved : goal.loop-i-preserved
-loop-i-preserved c = (omega arith, c.loop-i.invariant.1, pasting_more c.loop-i.invariant.2 (omega arith) c.loop-i-test.true)
