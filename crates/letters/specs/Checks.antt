@@ -14,9 +14,6 @@ use Rattle.words.specs.Answers.{node_line}
 use Rattle.typing.specs.Check.{Verdict, passes, refused, refused_at, check}
 use Rattle.typing.proofs.CheckLaws.{Says, all_right, used_twice, not_right}
 use Rattle.typing.proofs.Calls.{Judges, no_sheet, no_types, judged, check_judges}
-use Rattle.types.specs.declared.Checked.{Checked}
-use Rattle.types.specs.declared.Checked.TheVariants as Answer
-use Rattle.types.specs.Checked.{checked}
 use Rattle.letters.specs.LoadLaws.{sheet_small}
 use Rattle.letters.specs.LookupLaws.{fits_refusal}
 use Rattle.letters.specs.SheetLaws.{fits_node}
@@ -59,41 +56,29 @@ fits_types bs = go (leb (3 + two bs 1) (length bs))
 
 -- WHAT SHOWS IT OF THE CODE
 
--- the line of what was answered
-unfoldable pub checked_line : Checked → List ℕ
-checked_line Answer.Passes = ok_line []
-checked_line (Answer.Refused c) = refusal_line c
-checked_line (Answer.At c n) = node_line c n
-
-checked_is : (v : Verdict) → checked_line (checked v) ≡ judged_line v
-unfolding checked_line checked judged_line
-checked_is passes = refl
-checked_is (refused c) = refl
-checked_is (refused_at c n) = refl
-
 pub passes_text : 0x6F ∷ 0x6B ∷ 0x0A ∷ [] ≡ ok_line []
 unfolding ok_line words
 passes_text = refl
 
-module _ {q : Checked} where
-  pub checked_passes : q ≡ Answer.Passes → ok_line [] ≡ checked_line q
-  unfolding checked_line
-  checked_passes e = sym (rw e)
+-- an answer of the check, case by case
+module _ {v : Verdict} where
+  pub checked_passes : passes ≡ v → ok_line [] ≡ judged_line v
+  unfolding judged_line
+  checked_passes e = rw (← e)
 
-  pub checked_refused : {c : ℕ} → q ≡ Answer.Refused c → refusal_line c ≡ checked_line q
-  unfolding checked_line
-  checked_refused e = sym (rw e)
+  pub checked_refused : {c : ℕ} → refused c ≡ v → refusal_line c ≡ judged_line v
+  unfolding judged_line
+  checked_refused e = rw (← e)
 
-  pub checked_at : {c n : ℕ} → q ≡ Answer.At c n → node_line c n ≡ checked_line q
-  unfolding checked_line
-  checked_at e = sym (rw e)
+  pub checked_at : {c n : ℕ} → refused_at c n ≡ v → node_line c n ≡ judged_line v
+  unfolding judged_line
+  checked_at e = rw (← e)
 
 module _ (bs : List ℕ) {n : ℕ} (en : n ≡ two bs 1) where
   pub types_cut : length bs < 3 + n → refusal_line 60 ≡ types_line bs
   unfolding types_line
   types_cut h = sym (rw (← en, lt-leb (3 + n) (length bs) h))
 
-  pub types_whole : 3 + n ≤ length bs → {s t : List ℕ} → s ≡ part bs 3 n → t ≡ drop (3 + n) bs → {q : Checked} → q ≡ checked (check s t)
-      → checked_line q ≡ types_line bs
+  pub types_whole : 3 + n ≤ length bs → {s t : List ℕ} → s ≡ part bs 3 n → t ≡ drop (3 + n) bs → judged_line (check s t) ≡ types_line bs
   unfolding types_line
-  types_whole h {s} {t} es et eq = ap checked_line eq ∙ checked_is (check s t) ∙ sym (rw (← en, le-leb (3 + n) (length bs) h, ← es, ← et))
+  types_whole h {s} {t} es et = sym (rw (← en, le-leb (3 + n) (length bs) h, ← es, ← et))

@@ -7,10 +7,7 @@ use Rattle.value.specs.Result.{Result, ok, refusal}
 use Rattle.report.specs.Text.{words, decimal_of, refusal_line, ok_line}
 use Rattle.report.proofs.TextLaws.{ok_length, decimal_length}
 use Rattle.words.specs.Numbers.{line_limit}
-use Rattle.growth.specs.declared.Growing.{Growing}
-use Rattle.growth.specs.declared.Growing.TheVariants.{Times, Refused}
 use Rattle.growth.specs.Growth.{growth_of}
-use Rattle.growth.specs.Tool.{told}
 use Rattle.growth.proofs.Calls.{reported}
 use Rattle.letters.specs.LookupLaws.{fits_refusal}
 use Rattle.letters.specs.Small.{Small, small_number, small_unless, small_then, small_sheet}
@@ -53,23 +50,15 @@ module _ (bs : List ℕ) where
   unfolding growth_line
   growth_cut h = sym (rw (lt-leb 2 (length bs) h))
 
-  module _ (h : 2 ≤ length bs) {x : ℕ} (ex : x ≡ get_or bs 1 0) {s : List ℕ} (es : s ≡ drop 2 bs) {g : Growing} (eg : g ≡ told (growth_of s x)) where
+  module _ (h : 2 ≤ length bs) {x : ℕ} (ex : x ≡ get_or bs 1 0) {s : List ℕ} (es : s ≡ drop 2 bs) where
     whole : times_line (growth_of s x) ≡ growth_line bs
     unfolding growth_line
     whole = sym (rw (le-leb 2 (length bs) h, ← ex, ← es))
 
-    pub growth_times : {r : ℕ} → g ≡ Times r → ok_line (decimal_of r ∷ []) ≡ growth_line bs
-    unfolding times_line told
-    growth_times {r} e = go (growth_of s x) refl (sym eg ∙ e)
-      where
-        go : (a : Result ℕ) → growth_of s x ≡ a → told a ≡ Times r → ok_line (decimal_of r ∷ []) ≡ growth_line bs
-        go (ok m) q z = let w : r ≡ m = cc in ap (λ k. ok_line (decimal_of k ∷ [])) w ∙ sym (ap times_line q) ∙ whole
-        go (refusal d) q z = let w : ◌≡◌ {A = ℕ} 0 1 = cc in absurd (omega arith)
+    pub growth_times : {r : ℕ} → ok r ≡ growth_of s x → ok_line (decimal_of r ∷ []) ≡ growth_line bs
+    unfolding times_line
+    growth_times e = ap times_line e ∙ whole
 
-    pub growth_refused : {c : ℕ} → g ≡ Refused c → refusal_line c ≡ growth_line bs
-    unfolding times_line told
-    growth_refused {c} e = go (growth_of s x) refl (sym eg ∙ e)
-      where
-        go : (a : Result ℕ) → growth_of s x ≡ a → told a ≡ Refused c → refusal_line c ≡ growth_line bs
-        go (ok m) q z = let w : ◌≡◌ {A = ℕ} 0 1 = cc in absurd (omega arith)
-        go (refusal d) q z = let w : c ≡ d = cc in ap refusal_line w ∙ sym (ap times_line q) ∙ whole
+    pub growth_refused : {c : ℕ} → refusal c ≡ growth_of s x → refusal_line c ≡ growth_line bs
+    unfolding times_line
+    growth_refused e = ap times_line e ∙ whole

@@ -5,9 +5,10 @@ use Rattle.value.specs.Result.{Result, ok, refusal}
 use Rattle.report.specs.Text.{hex_of, words, refusal_line, ok_line}
 use Rattle.report.proofs.TextLaws.{hex_length, ok_length}
 use Rattle.words.specs.Numbers.{line_limit}
-use Rattle.made.specs.declared.Made.{Made}
-use Rattle.made.specs.declared.Made.TheVariants.{Done, Refused}
-use Rattle.made.specs.Made.{Makes, done_front, refused_is}
+use Rattle.std.specs.Prelude.{Ok, Err}
+use Rattle.refusal.specs.declared.Refusal.{Refusal}
+use Rattle.refusal.specs.Refusal.{number_of}
+use Rattle.made.specs.Made.{Made, Makes, done_front, refused_is}
 use Rattle.letters.specs.LookupLaws.{fits_refusal}
 
 -- bytes as a word: in hexadecimal, or as the text that they are
@@ -36,28 +37,28 @@ fits_made plain (refusal c) h k = fits_refusal c (k c refl)
 
 -- the line of what was replied, with the output
 unfoldable pub made_reply : (plain : Bool) → Made → List ℕ → List ℕ
-made_reply plain (Done n) o = ok_line (word_of plain (take n o) ∷ [])
-made_reply plain (Refused c) o = refusal_line c
+made_reply plain (Ok n) o = ok_line (word_of plain (take n o) ∷ [])
+made_reply plain (Err e) o = refusal_line (number_of e)
 
 pub made_is : (plain : Bool) {a : Result (List ℕ)} {r : Made} {o o' : List ℕ} → Makes a r o o' → made_reply plain r o' ≡ made_line plain a
 unfolding made_reply made_line
 made_is plain {a} {r} {o} {o'} m = go r refl
   where
     go : (q : Made) → r ≡ q → made_reply plain q o' ≡ made_line plain a
-    go (Done n) e =
+    go (Ok n) e =
         let f = done_front m e in
         ap (λ (bs : List ℕ). ok_line (word_of plain bs ∷ [])) f.front ∙ sym (ap (made_line plain) f.is)
-    go (Refused c) e = sym (ap (made_line plain) (refused_is m e))
+    go (Err c) e = sym (ap (made_line plain) (refused_is m e))
 
 module _ (o : List ℕ) {r : Made} where
-  pub made_plain : {n : ℕ} {plain : Bool} → r ≡ Done n → plain ≡ true → ok_line (take n o ∷ []) ≡ made_reply plain r o
+  pub made_plain : {n : ℕ} {plain : Bool} → r ≡ Ok n → plain ≡ true → ok_line (take n o ∷ []) ≡ made_reply plain r o
   unfolding made_reply word_of
   made_plain e p = rw (e, p)
 
-  pub made_hex : {n : ℕ} {plain : Bool} → r ≡ Done n → plain ≡ false → ok_line (hex_of (take n o) ∷ []) ≡ made_reply plain r o
+  pub made_hex : {n : ℕ} {plain : Bool} → r ≡ Ok n → plain ≡ false → ok_line (hex_of (take n o) ∷ []) ≡ made_reply plain r o
   unfolding made_reply word_of
   made_hex e p = rw (e, p)
 
-  pub made_refused : {c : ℕ} (plain : Bool) → r ≡ Refused c → refusal_line c ≡ made_reply plain r o
+  pub made_refused : {c : Refusal} (plain : Bool) → r ≡ Err c → refusal_line (number_of c) ≡ made_reply plain r o
   unfolding made_reply
   made_refused plain e = rw e

@@ -18,9 +18,7 @@ use Rattle.preorder.specs.Uses.{lowest_twice}
 use Rattle.preorder.specs.NumberAnswer.{Answer, done, refused, twice, sheet_answer, number_answer}
 use Rattle.preorder.proofs.NumberingCalls.{numbered_told, numbered_short}
 use Rattle.preorder.proofs.UsedTwice.{twice_told}
-use Rattle.numbering.specs.declared.Numbered.{Numbered}
-use Rattle.numbering.specs.declared.Numbered.TheVariants.{Done, Refused, Twice}
-use Rattle.numbering.specs.Replies.{reply_of, output_of}
+use Rattle.numbering.specs.Replies.{Reply, Done, Refused, Twice, reply_of, output_of}
 use Rattle.join.specs.JoinAnswer.{join_answer, join_short}
 use Rattle.joined.specs.JoinedCalls.{joined_bytes}
 use Rattle.letters.specs.Small.{Small, small_number, small_unless, small_then, small_sheet}
@@ -84,24 +82,24 @@ fits_join bs = go (leb (3 + two bs 1) (length bs))
 -- WHAT SHOWS IT OF THE CODE
 
 -- the line of what `number` replied, with its output
-unfoldable pub number_reply : Numbered → List ℕ → List ℕ
+unfoldable pub number_reply : Reply → List ℕ → List ℕ
 number_reply (Done k) o = ok_line (hex_of (take k o) ∷ [])
 number_reply (Refused c) o = refusal_line c
 number_reply (Twice k) o = node_line 81 k
 
-pub reply_line_lem : (a : Answer) (o : List ℕ) {o' : List ℕ} {r : Numbered} → r ≡ reply_of a → o' ≡ output_of a o → number_reply r o' ≡ numbered_line a
+pub reply_line_lem : (a : Answer) (o : List ℕ) {o' : List ℕ} {r : Reply} → r ≡ reply_of a → o' ≡ output_of a o → number_reply r o' ≡ numbered_line a
 unfolding number_reply numbered_line reply_of output_of
 reply_line_lem (done t) o e f = rw (e, f) (ap (λ (x : List ℕ). ok_line (hex_of x ∷ [])) (take-append_seam t (drop (length t) o)))
 reply_line_lem (refused c) o e f = rw e refl
 reply_line_lem (twice n) o e f = rw e refl
 
 module _ (bs : List ℕ) {s : List ℕ} {n : ℕ} (es : s ≡ drop 1 bs) (en : n ≡ 2048) where
-  pub number_is : (o : List ℕ) {o' : List ℕ} {r : Numbered} → (r ≡ reply_of (number_answer s n)) × (o' ≡ output_of (number_answer s n) o)
+  pub number_is : (o : List ℕ) {o' : List ℕ} {r : Reply} → (r ≡ reply_of (number_answer s n)) × (o' ≡ output_of (number_answer s n) o)
       → number_reply r o' ≡ number_line bs
   unfolding number_line
   number_is o (e, f) = reply_line_lem (number_answer s n) o e f ∙ ap₂ (λ x k. numbered_line (number_answer x k)) es en
 
-module _ (o : List ℕ) {r : Numbered} where
+module _ (o : List ℕ) {r : Reply} where
   pub number_done : {k : ℕ} → r ≡ Done k → ok_line (hex_of (take k o) ∷ []) ≡ number_reply r o
   unfolding number_reply
   number_done e = rw e

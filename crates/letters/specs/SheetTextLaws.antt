@@ -14,7 +14,6 @@ use Rattle.sheet.specs.Sheet.{Sheet, read_sheet}
 use Rattle.sheet.proofs.Written.{Bytes, drop_bytes}
 use Rattle.preorder.specs.Uses.{lowest_twice}
 use Rattle.preorder.specs.NumberAnswer.{Answer, done, refused, twice}
-use Rattle.numbering.specs.declared.Numbered.{Numbered}
 use Rattle.numbering.specs.Replies as numbering
 use Rattle.syntax.specs.Texts.{text_of, sheet_printed, printed_bytes}
 use Rattle.parsing.specs.declared.Reading.{Reading}
@@ -97,7 +96,7 @@ module _ (bs : List ℕ) {s : List ℕ} {n : ℕ} (es : s ≡ drop 1 bs) where
   unfolding read_line
   read_is en o (e, f) = said_reply (read_answer s n) o e f ∙ ap₂ (λ x k. said_line (read_answer x k)) es en
 
-  pub print_is : n ≡ 16384 → (o : List ℕ) {o' : List ℕ} {r : Numbered}
+  pub print_is : n ≡ 16384 → (o : List ℕ) {o' : List ℕ} {r : numbering.Reply}
       → (r ≡ numbering.reply_of (print_answer s n)) × (o' ≡ numbering.output_of (print_answer s n) o) → number_reply r o' ≡ print_line bs
   unfolding print_line
   print_is en o (e, f) = reply_line_lem (print_answer s n) o e f ∙ ap₂ (λ x k. numbered_line (print_answer x k)) es en

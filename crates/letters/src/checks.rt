@@ -2,7 +2,7 @@
 ghost use Rattle.report.specs.Writing.{Wrote};
 ghost use Rattle.letters.specs.Checks.{types_line};
 
-use types::Checked;
+use crate::lines::refused;
 
 /// The line of letter T.
 pub fn types_line(input: &[u8], text: &mut [u8]) -> usize
@@ -17,8 +17,10 @@ pub fn types_line(input: &[u8], text: &mut [u8]) -> usize
         inputs::rest_from(input, 3 + sheet),
     );
     match answer {
-        Checked::Passes => report::bytes(text, 0, b"ok\n"),
-        Checked::Refused(c) => report::refusal(text, 0, usize::from(c)),
-        Checked::At { refusal, node } => words::node_line(text, refusal, node),
+        Ok(()) => report::bytes(text, 0, b"ok\n"),
+        Err(misfit) => match misfit.node {
+            None => refused(misfit.refusal, text),
+            Some(node) => words::node_line(text, misfit.refusal.number(), node),
+        },
     }
 }

@@ -2,8 +2,7 @@
 ghost use Rattle.report.specs.Writing.{Wrote};
 ghost use Rattle.letters.specs.Growths.{growth_line};
 
-use crate::lines::{Number, line};
-use growth::Growing;
+use crate::lines::{Number, line, refused};
 
 /// The line of letter R.
 pub fn growth_line(input: &[u8], text: &mut [u8]) -> usize
@@ -14,7 +13,12 @@ pub fn growth_line(input: &[u8], text: &mut [u8]) -> usize
     }
     let variable = usize::from(inputs::byte_at(input, 1));
     match growth::growth(inputs::rest_from(input, 2), variable) {
-        Growing::Times(n) => line(&Number { number: n as usize }, text),
-        Growing::Refused(c) => report::refusal(text, 0, usize::from(c)),
+        Ok(n) => line(
+            &Number {
+                number: usize::from(n),
+            },
+            text,
+        ),
+        Err(e) => refused(e, text),
     }
 }

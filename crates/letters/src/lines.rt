@@ -1,10 +1,12 @@
-//! Lines that letters share: one word, and the line of what a tool made.
+//! Lines that letters share: of one word, of a refusal, and of what a tool made.
 ghost use Rattle.std.specs.Prelude.{List, [], ◌∷◌, ℕ};
-ghost use Rattle.report.specs.Text.{hex_of, decimal_of, ok_line};
+ghost use Rattle.refusal.specs.Refusal.{number_of};
+ghost use Rattle.report.specs.Text.{hex_of, decimal_of, ok_line, refusal_line};
 ghost use Rattle.report.specs.Writing.{Wrote};
 ghost use Rattle.letters.specs.Making.{made_reply};
 
 use made::Made;
+use refusal::Refusal;
 
 // What a line may have as its word.
 pub trait Say {
@@ -65,18 +67,22 @@ pub fn line<T: Say>(word: &T, text: &mut [u8]) -> usize
     report::byte(text, end, b'\n')
 }
 
-// The line of what a tool made at the front of its output: in hexadecimal, or as it stands.
-pub fn made_line(made: Made, out: &[u8], plain: bool, text: &mut [u8]) -> usize
-    ensures { Wrote (made_reply plain made out.now) 0 text.old text.new result }
+// The line of a refusal.
+pub fn refused(refusal: Refusal, text: &mut [u8]) -> usize
+    ensures { Wrote (refusal_line (number_of refusal)) 0 text.old text.new result }
+{
+    report::refusal(text, 0, usize::from(refusal.number()))
+}
+
+// The line of what a tool made at the front of its output, in hexadecimal.
+pub fn made_line(made: Made, out: &[u8], text: &mut [u8]) -> usize
+    ensures { Wrote (made_reply false made out.now) 0 text.old text.new result }
 {
     match made {
-        Made::Done(n) => {
+        Ok(n) => {
             let bytes = inputs::part_at(out, 0, n);
-            if plain {
-                return line(&Plain { bytes }, text);
-            }
             line(&Hex { bytes }, text)
         }
-        Made::Refused(c) => report::refusal(text, 0, usize::from(c)),
+        Err(e) => refused(e, text),
     }
 }

@@ -2,8 +2,7 @@
 ghost use Rattle.report.specs.Writing.{Wrote};
 ghost use Rattle.letters.specs.Lookups.{load_line, value_line};
 
-use crate::lines::{Hex, line};
-use starts::Found;
+use crate::lines::{Hex, line, refused};
 
 /// The line of letter L.
 pub fn load_line(input: &[u8], text: &mut [u8]) -> usize
@@ -17,12 +16,14 @@ pub fn load_line(input: &[u8], text: &mut [u8]) -> usize
         inputs::part_at(input, 3, sheet),
         inputs::rest_from(input, 3 + sheet),
     );
-    if loaded.refusal != 0 {
-        return report::refusal(text, 0, usize::from(loaded.refusal));
+    match loaded {
+        Ok(starts) => {
+            let mut end = report::bytes(text, 0, b"ok");
+            end = words::start_words(text, end, starts);
+            report::byte(text, end, b'\n')
+        }
+        Err(e) => refused(e, text),
     }
-    let mut end = report::bytes(text, 0, b"ok");
-    end = words::start_words(text, end, loaded.starts);
-    report::byte(text, end, b'\n')
 }
 
 /// The line of letter V.
@@ -38,14 +39,10 @@ pub fn value_line(input: &[u8], text: &mut [u8]) -> usize
     let starts = inputs::starts_in(input);
     let variable = usize::from(inputs::byte_at(input, 1));
     match starts::find(starts, plan.len(), variable) {
-        Found::At { start: _, end: _ } => {
-            line(
-                &Hex {
-                    bytes: starts::part(starts, plan, variable),
-                },
-                text,
-            )
+        Ok(_) => {
+            let bytes = starts::part(starts, plan, variable);
+            line(&Hex { bytes }, text)
         }
-        Found::Refused(c) => report::refusal(text, 0, usize::from(c)),
+        Err(e) => refused(e, text),
     }
 }

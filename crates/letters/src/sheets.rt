@@ -2,23 +2,23 @@
 ghost use Rattle.report.specs.Writing.{Wrote};
 ghost use Rattle.letters.specs.Sheets.{number_line, join_line};
 ghost use Rattle.letters.specs.SheetLaws.{number_reply};
+ghost use Rattle.numbering.specs.Replies.{told};
 
-use crate::lines::{Hex, line, made_line};
-use numbering::Numbered;
+use crate::lines::{Hex, line, made_line, refused};
+use numbering::{Fault, Numbered};
+use refusal::Refusal;
 
 // The line of what was replied about a sheet: what was made, at the front of its output, in hexadecimal; or the refusal.
 pub fn numbered_line(reply: Numbered, out: &[u8], text: &mut [u8]) -> usize
-    ensures { Wrote (number_reply reply out.now) 0 text.old text.new result }
+    ensures { Wrote (number_reply (told reply) out.now) 0 text.old text.new result }
 {
     match reply {
-        Numbered::Done(n) => line(
-            &Hex {
-                bytes: inputs::part_at(out, 0, n),
-            },
-            text,
-        ),
-        Numbered::Refused(c) => report::refusal(text, 0, usize::from(c)),
-        Numbered::Twice(n) => words::node_line(text, 81, n),
+        Ok(n) => {
+            let bytes = inputs::part_at(out, 0, n);
+            line(&Hex { bytes }, text)
+        }
+        Err(Fault::Refused(e)) => refused(e, text),
+        Err(Fault::Twice(n)) => words::node_line(text, Refusal::NodeTwice.number(), n),
     }
 }
 
@@ -45,5 +45,5 @@ pub fn join_line(input: &[u8], text: &mut [u8]) -> usize
         inputs::rest_from(input, 3 + first),
         &mut joined,
     );
-    made_line(made, &joined, false, text)
+    made_line(made, &joined, text)
 }

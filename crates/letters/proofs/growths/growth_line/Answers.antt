@@ -8,12 +8,12 @@ pub returns-then-input-lt2 : goal.returns-then-input-lt2
 returns-then-input-lt2 c =
     wrote_text c.refusal.ensures (growth_cut _ c.if-input-lt2.true)
 
-pub returns-in-Times : goal.returns-in-Times
-returns-in-Times c =
-    wrote_text c.line.ensures
-    (growth_times _ c.if-input-lt2.false (c.from-variable.ensures ∙ c.byte_at.ensures) c.rest_from.ensures c.growth.ensures c.in-Times.is)
+pub returns-in-Ok : goal.returns-in-Ok
+returns-in-Ok c =
+    wrote_text (rw c.from.ensures at c.line.ensures)
+    (growth_times _ c.if-input-lt2.false (c.from-variable.ensures ∙ c.byte_at.ensures) c.rest_from.ensures c.in-Ok.ensures)
 
-pub returns-in-Refused : goal.returns-in-Refused
-returns-in-Refused c =
-    wrote_text (rw c.from.ensures at c.refusal-in-Refused.ensures)
-    (growth_refused _ c.if-input-lt2.false (c.from-variable.ensures ∙ c.byte_at.ensures) c.rest_from.ensures c.growth.ensures c.in-Refused.is)
+pub returns-in-Err : goal.returns-in-Err
+returns-in-Err c =
+    wrote_text c.refused.ensures
+    (growth_refused _ c.if-input-lt2.false (c.from-variable.ensures ∙ c.byte_at.ensures) c.rest_from.ensures c.in-Err.ensures)
